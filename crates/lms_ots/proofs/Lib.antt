@@ -1,0 +1,2 @@
+pub mod OtsLemmas
+pub mod PlaceLemmas

@@ -1,0 +1,82 @@
+ghost use Rattle.std.specs.Prelude.{◌≡◌, ℕ, ◌-◌, ◌<◌, ◌≤◌, [], ◌∷◌, ◌++◌, length, take, drop};
+ghost use Rattle.sha2.specs.Sha256.{sha256};
+ghost use Rattle.octet_text.specs.Sha.{HoldsText};
+ghost use Rattle.lms_ots.specs.Chains.{prefix, secret_of, chain_of, public_of};
+
+use crate::places::{array_at, write_array};
+use octet_text::{Digest32, Hasher, Sha};
+use sha2::{Digest, Sha256};
+
+// The place of a hashed text that names the hash of a public key (D_PBLC, section 4.3).
+pub(crate) const D_PBLC: u16 = 0x8080;
+
+// The number that a secret value is hashed with, which no step of a chain has (Appendix A).
+pub(crate) const SECRET: u8 = 0xff;
+
+// A hasher that was given what each hashed text begins with.
+pub(crate) fn begin(i: &[u8; 16], q: u32, at: u16) -> Sha
+    ensures { HoldsText result (prefix i.now q at) }
+{
+    let mut hasher = Sha::start();
+    hasher.add(i);
+    hasher.add(&q.to_be_bytes());
+    hasher.add(&at.to_be_bytes());
+    hasher
+}
+
+// The 55 octets that a step of a chain hashes, before the number of the step is put in.
+fn step_text(i: &[u8; 16], q: u32, at: u16, value: &[u8; 32]) -> [u8; 55]
+    ensures prefix { take 22 result ≡ prefix i.now q at }
+    ensures value { drop 23 result ≡ value.now }
+{
+    let mut text = [0; 55];
+    write_array(&mut text, 0, i);
+    write_array(&mut text, 16, &q.to_be_bytes());
+    write_array(&mut text, 20, &at.to_be_bytes());
+    write_array(&mut text, 23, value);
+    text
+}
+
+// Takes a step: hashes the text with its number, and puts the digest in the value's place.
+fn step(text: &mut [u8; 55], number: u8)
+    ensures prefix { take 22 text.new ≡ take 22 text.old }
+    ensures value { drop 23 text.new ≡ sha256 (take 22 text.old ++ number ∷ drop 23 text.old) }
+{
+    text[22] = number;
+    let digest = Sha256::digest(&*text);
+    write_array(text, 23, &digest);
+}
+
+/// The secret value `x_q[at]` of a one-time key (Appendix A).
+pub fn secret(i: &[u8; 16], q: u32, at: u16, seed: &[u8; 32]) -> Digest32
+    requires { at < 34 }
+    ensures { result ≡ secret_of i.now q seed.now at }
+{
+    let mut text = step_text(i, q, at, seed);
+    step(&mut text, SECRET);
+    array_at(&text, 23)
+}
+
+/// The value that the steps `from` to `to - 1` of chain `at` make of `x` (section 4.3).
+pub fn chain(i: &[u8; 16], q: u32, at: u16, from: u8, to: u8, x: &Digest32) -> Digest32
+    requires place { at < 34 }
+    requires order { from ≤ to }
+    ensures { result ≡ chain_of i.now q at from (to - from) x.now }
+{
+    let mut text = step_text(i, q, at, x);
+    for number in from..to {
+        step(&mut text, number);
+    }
+    array_at(&text, 23)
+}
+
+/// The hash `K` of a one-time public key (section 4.3).
+pub fn public_hash(i: &[u8; 16], q: u32, seed: &[u8; 32]) -> Digest32
+    ensures { result ≡ public_of i.now q seed.now }
+{
+    let mut hasher = begin(i, q, D_PBLC);
+    for at in 0..34 {
+        hasher.add(&chain(i, q, at, 0, 255, &secret(i, q, at, seed)));
+    }
+    hasher.end()
+}

@@ -7,6 +7,7 @@ use octet_text::{Digest32, Hasher, Sha};
 
 // What the text of a leaf and of an inner node is hashed with (section 5.3).
 const D_LEAF: u16 = 0x8282;
+
 const D_INTR: u16 = 0x8383;
 
 // A hasher that was given what each hashed text begins with.

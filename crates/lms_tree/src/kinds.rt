@@ -4,6 +4,7 @@ ghost use Rattle.lms_tree.specs.Signatures.{is_kind, height_of, seal_len};
 
 // The types LMS_SHA256_M32_H5 and LMS_SHA256_M32_H10 (section 5.1).
 pub(crate) const LMS_SHA256_M32_H5: u32 = 5;
+
 pub(crate) const LMS_SHA256_M32_H10: u32 = 6;
 
 // The type LMOTS_SHA256_N32_W8 of the one-time signatures (section 4.1).

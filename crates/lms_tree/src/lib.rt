@@ -13,3 +13,5 @@ mod hashes;
 mod keys;
 mod kinds;
 mod seals;
+#[cfg(test)]
+mod tests;

@@ -1,5 +1,4 @@
-use Rattle.std.proofs.Common.{◌≡◌, length, drop, ap, ◌∙◌, arith}
-use Rattle.std.proofs.lemmas.List.{take_all, length-drop}
+use Rattle.std.proofs.Common.{◌∙◌}
 use Rattle.lms_ots.proofs.OtsLemmas.{sha256-secret_of, value-whole}
 use Rattle.lms_ots.proofs.keys.secret.Goals as goal
 

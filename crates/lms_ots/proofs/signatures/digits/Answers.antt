@@ -1,4 +1,4 @@
-use Rattle.std.proofs.Common.{◌≡◌, ◌++◌, ◌∙◌, ap, sym, List, ℕ, arith, take}
+use Rattle.std.proofs.Common.{◌++◌, ◌∙◌, ap, sym, List, ℕ, arith}
 use Rattle.std.specs.Int.{w16, to_be_bytes}
 use Rattle.std.proofs.lemmas.List.{take_all}
 use Rattle.lms_ots.specs.Chains.{digits_of, text_hash, checksum}

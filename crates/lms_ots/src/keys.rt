@@ -7,7 +7,7 @@ use crate::places::{array_at, write_array};
 use octet_text::{Digest32, Hasher, Sha};
 use sha2::{Digest, Sha256};
 
-// The place of a hashed text that names the hash of a public key (D_PBLC, section 4.3).
+// The place of a hashed text that names the hash of a public key (D_PBLC, § 4.3).
 pub(crate) const D_PBLC: u16 = 0x8080;
 
 // The number that a secret value is hashed with, which no step of a chain has (Appendix A).
@@ -57,7 +57,7 @@ pub fn secret(i: &[u8; 16], q: u32, at: u16, seed: &[u8; 32]) -> Digest32
     array_at(&text, 23)
 }
 
-/// The value that the steps `from` to `to - 1` of chain `at` make of `x` (section 4.3).
+/// The value that the steps `from` to `to - 1` of chain `at` make of `x` (§ 4.3).
 pub fn chain(i: &[u8; 16], q: u32, at: u16, from: u8, to: u8, x: &Digest32) -> Digest32
     requires place { at < 34 }
     requires order { from ≤ to }
@@ -70,7 +70,7 @@ pub fn chain(i: &[u8; 16], q: u32, at: u16, from: u8, to: u8, x: &Digest32) -> D
     array_at(&text, 23)
 }
 
-/// The hash `K` of a one-time public key (section 4.3).
+/// The hash `K` of a one-time public key (§ 4.3).
 pub fn public_hash(i: &[u8; 16], q: u32, seed: &[u8; 32]) -> Digest32
     ensures { result ≡ public_of i.now q seed.now }
 {

@@ -5,13 +5,13 @@ use crate::keys::{D_PBLC, SECRET, begin, chain, secret};
 use crate::places::{array_at, write_array};
 use octet_text::{Digest32, Hasher};
 
-// The place of a hashed text that names the hash of a signed text (D_MESG, section 4.5).
+// The place of a hashed text that names the hash of a signed text (D_MESG, § 4.5).
 const D_MESG: u16 = 0x8181;
 
 // The place of a hashed text that names the randomiser of a one-time key.
 const RANDOMISER: u16 = 0xfffd;
 
-// The type LMOTS_SHA256_N32_W8 (section 4.1).
+// The type LMOTS_SHA256_N32_W8 (§ 4.1).
 const LMOTS_SHA256_N32_W8: u32 = 4;
 
 // The randomiser `C` that a one-time key signs with.
@@ -25,7 +25,7 @@ fn randomiser(i: &[u8; 16], q: u32, seed: &[u8; 32]) -> Digest32
     hasher.end()
 }
 
-// The checksum of a digest (section 4.4).
+// The checksum of a digest (§ 4.4).
 fn checksum_of(digest: &Digest32) -> u16
     ensures { result ≡ checksum digest.now }
 {
@@ -37,7 +37,7 @@ fn checksum_of(digest: &Digest32) -> u16
 }
 
 /// The 34 digits of a text: the octets of its hash `Q` under the randomiser `c`, and of their
-/// checksum (sections 4.4 and 4.5).
+/// checksum (§ 4.4 and § 4.5).
 pub fn digits(i: &[u8; 16], q: u32, c: &Digest32, text: &[u8]) -> [u8; 34]
     ensures { result ≡ digits_of i.now q c.now text.now }
 {
@@ -51,7 +51,7 @@ pub fn digits(i: &[u8; 16], q: u32, c: &Digest32, text: &[u8]) -> [u8; 34]
     digits
 }
 
-/// Writes the one-time signature of a text, 1,124 octets (section 4.5). The randomiser is made
+/// Writes the one-time signature of a text, 1,124 octets (§ 4.5). The randomiser is made
 /// from the seed too.
 pub fn sign_ots(i: &[u8; 16], q: u32, seed: &[u8; 32], text: &[u8], out: &mut [u8])
     requires { length out.old ≡ 1124 }
@@ -68,7 +68,7 @@ pub fn sign_ots(i: &[u8; 16], q: u32, seed: &[u8; 32], text: &[u8], out: &mut [u
     }
 }
 
-/// The hash `Kc` of the public key that a one-time signature shows for a text (section 4.6,
+/// The hash `Kc` of the public key that a one-time signature shows for a text (§ 4.6,
 /// algorithm 4b). It is the key's own hash where the signature is one of the key on the text.
 pub fn candidate(i: &[u8; 16], q: u32, ots: &[u8], text: &[u8]) -> Digest32
     requires { length ots.now ≡ 1124 }

@@ -102,7 +102,7 @@ impl Model for Key {
 }
 
 impl Key {
-    /// The key of a type, 5 or 6, whose one-time keys are made from `I` and `SEED` (section 5.2,
+    /// The key of a type, 5 or 6, whose one-time keys are made from `I` and `SEED` (§ 5.2,
     /// Appendix A). All of its memory is taken before the first hash.
     pub fn build(alloc: Global, kind: u32, i: &[u8; 16], seed: &[u8; 32]) -> Result<Key, KeyError>
         ensures key { IfOk result (λ key. key ≡ record { kind = kind; i = i.now; seed = seed.now }) }
@@ -138,7 +138,7 @@ impl Key {
         1 << self.height
     }
 
-    /// The public key, 56 octets (section 5.3).
+    /// The public key, 56 octets (§ 5.3).
     pub fn public(&self) -> [u8; 56]
         ensures { result ≡ public_key self.now }
     {
@@ -151,7 +151,7 @@ impl Key {
         public
     }
 
-    /// Writes the signature of a text by the one-time key `q` (section 5.4.1). It takes no memory.
+    /// Writes the signature of a text by the one-time key `q` (§ 5.4.1). It takes no memory.
     pub fn sign_into(&self, q: u32, text: &[u8], out: &mut [u8])
         requires slot { q < 2 ^ height_of self.now.kind }
         requires room { length out.old ≡ seal_len (height_of self.now.kind) }

@@ -1,4 +1,9 @@
 pub mod Causes
 pub mod Contents
+pub mod Disk
+pub mod Journal
+pub mod JournalLaws
+pub mod MemDisk
 pub mod MemLibrary
 pub mod MemSink
+pub mod Moments

@@ -1,0 +1,7 @@
+pub mod Clashes
+pub mod Covers
+pub mod Folding
+pub mod Refusals
+pub mod Shape
+pub mod Texts
+pub mod Trees

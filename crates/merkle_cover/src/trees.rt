@@ -1,0 +1,224 @@
+ghost use Rattle.std.specs.Prelude.{◌≡◌, ◌≢◌, ℕ, ◌+◌, ◌-◌, ◌*◌, ◌^◌, ◌<◌, ◌≤◌, List, [], ◌∷◌, length, map, min, take, drop, slice_index, slice_index_or, IfOk, IfErr, OnOk, Option, Some, None, Ok};
+ghost use Rattle.std.specs.Int.{div_ceil};
+ghost use Rattle.std.specs.List.{range_with_len, flat_map};
+ghost use Rattle.merkle_cover.specs.Trees.{tree_of, level_over, leaf_count, root, IsShaped};
+ghost use Rattle.merkle_cover.specs.Covers.{cover_of, chosen_texts, fold_of, IsRising};
+ghost use Rattle.merkle_cover.specs.Refusals.{first_refusal};
+
+use crate::covers::{Walk, cover_place};
+use crate::folds::{leaf_digest, top_of};
+use crate::texts::Texts;
+use octet_text::{Digest32, Digests, Hasher, NoMemory, digest_of_pieces};
+use std::alloc::Global;
+use std::marker::{Model, PhantomData};
+use thiserror::Error;
+
+/// Why there is no tree.
+#[derive(Clone, Copy, Debug, PartialEq, Eq, Error)]
+pub enum TreeError {
+    /// The fan-out is not 2 to 32.
+    #[error("The fan-out of a tree is from 2 to 32.")]
+    Fan,
+    /// There is no leaf.
+    #[error("A tree has at least one leaf.")]
+    Empty,
+    /// There are more than 2,097,152 leaves.
+    #[error("A tree has at most 2,097,152 leaves.")]
+    TooMany,
+    /// No memory was found.
+    #[error("No memory was found.")]
+    Memory,
+}
+
+/// A tree over texts, with the digests of all its places.
+#[derive(Drop)]
+pub struct Tree<H: Hasher> {
+    fan: u8,
+    root: Digest32,
+    levels: Vec<Digests>,
+    hasher: PhantomData<H>,
+}
+
+impl<H: Hasher> Model for Tree<H> {
+    ghost use Rattle.merkle_cover.specs.Trees.{Levels, IsShaped};
+
+    ghost Value = { Levels };
+
+    ghost view = { λ t. record { fan = t.fan; root = t.root; levels = t.levels.items } };
+
+    ghost invariant = { λ t. IsShaped t.fan t.levels.items };
+}
+
+// The digests of the leaves.
+fn leaf_level<H: Hasher>(alloc: Global, leaves: &Texts) -> Result<Digests, NoMemory>
+    ensures { IfOk result (λ v. v ≡ map (λ text. H.hash (0 ∷ text)) leaves.now) }
+{
+    let mut digests = Vec::new(alloc);
+    for index in 0..leaves.count() {
+        if digests.push(leaf_digest::<H>(leaves.text(index))).is_err() {
+            return Err(NoMemory);
+        }
+    }
+    Ok(Digests::from_vec(digests))
+}
+
+// The digests of a group of a level, of which the last may be smaller.
+fn group(below: &[Digest32], place: usize, fan: usize) -> &[Digest32]
+    requires { place * fan < length below.now }
+    ensures { result.now ≡ take (min fan (length below.now - place * fan)) (drop (place * fan) below.now) }
+{
+    let rest = &below[place * fan..];
+    &rest[..fan.min(rest.len())]
+}
+
+// The digests of the level above.
+fn level_above<H: Hasher>(
+    alloc: Global,
+    below: &[Digest32],
+    fan: usize,
+) -> Result<Digests, NoMemory>
+    requires fan { 0 < fan }
+    requires fan_max { fan ≤ 32 }
+    ensures { IfOk result (λ v. v ≡ level_over H.hash fan below.now) }
+{
+    let mut digests = Vec::new(alloc);
+    for place in 0..below.len().div_ceil(fan) {
+        if digests
+            .push(digest_of_pieces::<H>(1, group(below, place, fan)))
+            .is_err()
+        {
+            return Err(NoMemory);
+        }
+    }
+    Ok(Digests::from_vec(digests))
+}
+
+fn count_of(level: &Digests) -> usize
+    ensures { result ≡ length level.now }
+{
+    level.as_slice().len()
+}
+
+fn first_digest(digests: &[Digest32]) -> Digest32
+    requires { 0 < length digests.now }
+    ensures { result ≡ slice_index_or digests.now 0 [] }
+{
+    digests[0]
+}
+
+// The tree over leaves that are neither none nor too many.
+fn tree_over<H: Hasher>(alloc: Global, leaves: &Texts, fan: u8) -> Result<Tree<H>, NoMemory>
+    requires fan { 2 ≤ fan }
+    requires fan_max { fan ≤ 32 }
+    requires leaves { 1 ≤ length leaves.now }
+    requires leaves_max { length leaves.now ≤ 2097152 }
+    ensures { IfOk result (λ tree. tree ≡ tree_of H.hash leaves.now fan) }
+{
+    let first = leaf_level::<H>(alloc, leaves)?;
+    let mut count = count_of(&first);
+    let mut levels = Vec::new(alloc);
+    if levels.push(first).is_err() {
+        return Err(NoMemory);
+    }
+    let mut last = 0;
+    while count > 1 {
+        let below: &Digests = &levels[last];
+        let next = level_above::<H>(alloc, below.as_slice(), fan as usize)?;
+        count = count_of(&next);
+        if levels.push(next).is_err() {
+            return Err(NoMemory);
+        }
+        last += 1;
+    }
+    let top: &Digests = &levels[last];
+    let root = first_digest(top.as_slice());
+    Ok(Tree {
+        fan,
+        root,
+        levels,
+        hasher: PhantomData,
+    })
+}
+
+impl<H: Hasher> Tree<H> {
+    /// The tree over the leaves, which it hashes once each, as each place above them.
+    ///
+    /// The first that holds is refused: `Fan` where the fan-out is not 2 to 32, `Empty` where there
+    /// is no leaf, `TooMany` where there are more than 2,097,152.
+    pub fn build(alloc: Global, leaves: &Texts, fan: u8) -> Result<Tree<H>, TreeError>
+        ensures ok { IfOk result (λ tree. tree ≡ tree_of H.hash leaves.now fan) }
+        ensures fan { IfOk result (λ tree. tree.fan ≡ fan) }
+        ensures good { OnOk result (first_refusal (length leaves.now) fan ≡ None) }
+        ensures refused { IfErr result (λ e. e ≢ TreeError.Memory → first_refusal (length leaves.now) fan ≡ Some e) }
+    {
+        if fan < 2 || fan > 32 {
+            return Err(TreeError::Fan);
+        }
+        let count = leaves.count();
+        if count == 0 {
+            return Err(TreeError::Empty);
+        }
+        if count > 2_097_152 {
+            return Err(TreeError::TooMany);
+        }
+        match tree_over::<H>(alloc, leaves, fan) {
+            Ok(tree) => Ok(tree),
+            Err(NoMemory) => Err(TreeError::Memory),
+        }
+    }
+
+    /// The digest of the top level's place.
+    pub fn root(&self) -> Digest32
+        ensures { result ≡ self.now.root }
+    {
+        self.root
+    }
+
+    /// The cover of chosen leaves, and no digest where none is chosen.
+    ///
+    /// Takes time in proportion to the chosen leaves and the cover's digests, times the levels.
+    pub fn cover(&self, alloc: Global, places: &[u32]) -> Result<Vec<Digest32>, NoMemory>
+        requires { IsRising (leaf_count self.now) places.now }
+        ensures cover { (texts : List (List ℕ)) → self.now ≡ tree_of H.hash texts self.now.fan
+            → IfOk result (λ v. v.items ≡ cover_of H.hash texts self.now.fan places.now) }
+        ensures folds { (texts : List (List ℕ)) → self.now ≡ tree_of H.hash texts self.now.fan → 0 < length places.now
+            → IfOk result (λ v. fold_of H.hash (length texts) self.now.fan places.now (chosen_texts texts places.now) v.items ≡ Ok (root H.hash texts self.now.fan)) }
+    {
+        let mut out = Vec::new(alloc);
+        if places.is_empty() {
+            return Ok(out);
+        }
+        let walk = Walk {
+            levels: &self.levels,
+            leaves: u64::from(self.leaves()),
+            fan: u64::from(self.fan),
+            places,
+        };
+        let (level, span) = top_of(walk.leaves, walk.fan);
+        cover_place(&walk, level, 0, span, 0, &mut out)?;
+        Ok(out)
+    }
+
+    /// How many leaves there are, 1 to 2,097,152.
+    pub fn leaves(&self) -> u32
+        ensures { result ≡ leaf_count self.now }
+    {
+        let lowest: &Digests = &self.levels[0];
+        count_of(lowest) as u32
+    }
+
+    /// The fan-out, 2 to 32.
+    pub fn fan(&self) -> u8
+        ensures { result ≡ self.now.fan }
+    {
+        self.fan
+    }
+
+    // The digests by level.
+    pub(crate) fn levels(&self) -> &[Digests]
+        ensures value { result.now ≡ self.now.levels }
+        ensures shaped { IsShaped self.now.fan self.now.levels }
+    {
+        self.levels.as_slice()
+    }
+}

@@ -1,0 +1,22 @@
+//! Road files: the text that lists a map's nodes and roads, read and printed.
+//!
+//! A file is a list of lines, and a line is a list of words, parted by spaces and tabs. Lines without words and
+//! lines whose first word begins with `#` are skipped. The first other line is `roads 1`, and each later one is
+//! `node ID X Y` or `road A B LENGTH`.
+#![tactic(auto)]
+
+mod entry;
+mod error;
+mod lines;
+mod numbers;
+mod printer;
+mod reader;
+mod words;
+
+pub use error::RoadError;
+pub use numbers::natural;
+pub use printer::print_roads;
+pub use reader::{MOST_NODES, MOST_ROADS, printed_roads_are_read, read_roads};
+
+#[cfg(test)]
+mod tests;

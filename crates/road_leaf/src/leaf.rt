@@ -60,7 +60,7 @@ pub enum LeafError {
 impl NodeLeaf {
     ghost use Rattle.road_leaf.specs.declared.leaf.LeafError.TheVariants.{Bad};
     ghost use Rattle.road_leaf.specs.declared.leaf.NodeLeaf.{NodeLeaf};
-    ghost use Rattle.road_leaf.specs.Leaves.{node_leaf, node_leaf_text, IsLeaf, IsSomeLeaf};
+    ghost use Rattle.road_leaf.specs.Leaves.{node_leaf, node_leaf_text, IsLeaf};
 
     /// The leaf of that kind that a text spells, all of it. `Bad` exactly where the text spells none.
     pub fn read(alloc: Global, text: &[u8], kind: Kind) -> Result<NodeLeaf, LeafError>
@@ -81,7 +81,7 @@ impl NodeLeaf {
 
     /// Appends the text of the leaf. A refused call leaves the octets as they were.
     pub fn write(&self, out: &mut Vec<u8>) -> Result<(), NoMemory>
-        requires { IsSomeLeaf self.now }
+        requires { length self.now.arcs < 2 ^ 16 }
         ensures ok { OnOk result (Puts out.old.items out.new.items (node_leaf_text self.now)) }
         ensures err { OnErr result (out.new.items ≡ out.old.items) }
     {

@@ -144,6 +144,11 @@ length-extra kinds.Cell (Near r x) fits = absurd fits
 few_arcs : (n : ℕ) → between 0 255 n ≡ true → n ≤ 255
 few_arcs n e = grind (arith, nat_tests)
 
+-- a leaf has at most 255 arcs
+pub few_leaf_arcs : (kind : Kind) (l : NodeLeaf) → (node_leaf kind).Fits l → length l.arcs ≤ 255
+unfolding node_leaf
+few_leaf_arcs kind l fits = few_arcs (length l.arcs) fits.1.1.1.0.0.1
+
 leaf_short : (kind : Kind) (l : NodeLeaf) → (node_leaf kind).Fits l → length ((node_leaf kind).spell l) < octets_above kind
 unfolding node_leaf
 leaf_short kind l fits =

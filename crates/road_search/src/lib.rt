@@ -3,7 +3,7 @@
 
 pub use ground::Ground;
 pub use labels::Labels;
-pub use path::{Path, shortest};
+pub use path::{Path, knows, shortest};
 pub use setting::search;
 pub use whole::{Whole, distances};
 

@@ -1,0 +1,27 @@
+#!/usr/bin/env python3
+"""Writes the road file of a grid of WIDTH by WIDTH nodes: checks/speed/grid.py WIDTH > FILE
+
+Node ids go by rows from 1. Each node has a road to its right and to its lower neighbour, of lengths
+1 to 1000 from the linear congruential generator of the C standard's example.
+"""
+import sys
+
+
+def main():
+    width = int(sys.argv[1])
+    state = 0
+    print("roads 1")
+    for row in range(width):
+        for column in range(width):
+            print("node", row * width + column + 1, column, row)
+    for row in range(width):
+        for column in range(width):
+            here = row * width + column + 1
+            for there, exists in ((here + 1, column + 1 < width), (here + width, row + 1 < width)):
+                if exists:
+                    state = (state * 1103515245 + 12345) % 2**31
+                    print("road", here, there, 1 + state // 65536 % 1000)
+
+
+if __name__ == "__main__":
+    main()

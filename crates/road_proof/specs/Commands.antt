@@ -1,0 +1,51 @@
+-- How the files let each command end.
+use Rattle.std.specs.Prelude.{◌≡◌, ℕ, List, [], IfSome, MatchResult}
+use Rattle.std.specs.declared.option.Option.{Option}
+use Rattle.std.specs.declared.result.Result.{Result}
+use Rattle.std.specs.declared.result.Result.TheVariants.{Ok, Err}
+use Rattle.road_io.specs.Causes.{Rose}
+use Rattle.road_io.specs.Contents.{Shelf}
+use Rattle.road_map.specs.Maps.{IsMap}
+use Rattle.road_map.specs.declared.parts.Parts.{Parts}
+use Rattle.road_proof.specs.Requests.{Request, Route, Root}
+use Rattle.road_proof.specs.Reading.{parts_at, IsMapFault}
+use Rattle.road_proof.specs.RouteLine.{IsRouteLine, IsFirstUnknown, AreApart}
+use Rattle.road_proof.specs.RootLine.{IsRootLine}
+use Rattle.road_proof.specs.Endings.{Answered, IsSilent, HasUntoldCause}
+use Rattle.road_proof.specs.declared.fault.Fault.{Fault}
+use Rattle.road_proof.specs.declared.fault.Fault.TheVariants.{Words, Missing, TooLong, Road, Map, Library, Sink, Memory, UnknownNode, NoRoute}
+use Rattle.road_proof.specs.declared.ended.Verdict.{Verdict}
+use Rattle.road_proof.specs.declared.ended.Verdict.TheVariants.{Done}
+
+-- `route` over the parts of a file: the line of a shortest route, or why there is none
+abbrev pub EndsRoute : ℕ → ℕ → Parts → Result Verdict Fault → List ℕ → Type 0
+EndsRoute from to parts (Ok Done) text = IsMap parts × IsRouteLine parts from to text
+EndsRoute from to parts (Err (Map fault)) text = IsMapFault parts fault × (text ≡ [])
+EndsRoute from to parts (Err (UnknownNode id)) text = IsMap parts × IsFirstUnknown parts from to id × (text ≡ [])
+EndsRoute from to parts (Err NoRoute) text = IsMap parts × AreApart parts from to × (text ≡ [])
+EndsRoute from to parts (Err fault) text = ⊥
+
+-- `root` over the parts of a file: the line of the root
+abbrev pub EndsRoot : ℕ → Parts → Result Verdict Fault → List ℕ → Type 0
+EndsRoot fan parts (Ok Done) text = IsMap parts × IsRootLine parts fan text
+EndsRoot fan parts (Err (Map fault)) text = IsMapFault parts fault × (text ≡ [])
+EndsRoot fan parts (Err fault) text = ⊥
+
+-- With which outcome the files let a command end, and which text it then writes.
+-- The first fault of a file comes before all others.
+abbrev pub Ends : Request → Shelf → Result Verdict Fault → List ℕ → Type 0
+Ends (Route roads from to) shelf outcome text =
+    MatchResult (parts_at shelf roads) (λ parts. EndsRoute from to parts outcome text) (λ first. (outcome ≡ Err first) × (text ≡ []))
+Ends (Root roads fan) shelf outcome text =
+    MatchResult (parts_at shelf roads) (λ parts. EndsRoot fan parts outcome text) (λ first. (outcome ≡ Err first) × (text ≡ []))
+
+-- what a command promises that loads files and writes to the sink
+pub record EndsByFiles (request : Request)
+    (files : Option Shelf) (library_before library_now : ℕ)
+    (old new : Option (List ℕ)) (sink_before sink_now : ℕ) (outcome : Result Verdict Fault) : Type 0 where
+  pub answered : IfSome files (λ shelf. Answered (Ends request shelf) old new outcome)
+  pub untold : HasUntoldCause files library_before library_now outcome
+  pub silent : IsSilent old new outcome
+  pub library : outcome ≡ Err Library → Rose library_before library_now
+  pub sink : outcome ≡ Err Sink → Rose sink_before sink_now
+  pub words : outcome ≡ Err Words → ⊥

@@ -1,0 +1,18 @@
+-- Where no object outside failed, the end is the one that the files call for.
+use Rattle.std.specs.Prelude.{◌≡◌, ◌≢◌, ℕ, List}
+use Rattle.std.specs.declared.result.Result.{Result}
+use Rattle.std.specs.declared.result.Result.TheVariants.{Ok, Err}
+use Rattle.road_io.specs.Causes.{Rose}
+use Rattle.road_proof.specs.declared.fault.Fault.{Fault}
+use Rattle.road_proof.specs.declared.fault.Fault.TheVariants.{Memory}
+use Rattle.road_proof.specs.declared.ended.Verdict.{Verdict}
+
+-- no object outside failed
+pub record NoneFailed (library_before library_now sink_before sink_now : ℕ) : Type 0 where
+  pub library_stays : ¬ Rose library_before library_now
+  pub sink_stays : ¬ Rose sink_before sink_now
+
+-- but for want of memory, the outcome is one that the files call for, and they call for no other
+pub record IsExact (Ends : Result Verdict Fault → List ℕ → Type 0) (outcome : Result Verdict Fault) : Type 0 where
+  pub called_for : outcome ≢ Err Memory → (text : List ℕ) × Ends outcome text
+  pub only_one : (other : Result Verdict Fault) (text : List ℕ) → outcome ≢ Err Memory → Ends other text → outcome ≡ other

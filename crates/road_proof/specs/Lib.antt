@@ -1,0 +1,9 @@
+pub mod Requests
+pub mod View
+pub mod Outcomes
+pub mod Reading
+pub mod RouteLine
+pub mod RootLine
+pub mod Endings
+pub mod Commands
+pub mod Exact

@@ -1,0 +1,56 @@
+//! How a run ends.
+
+ghost use Rattle.std.specs.Prelude.{◌≡◌};
+ghost use Rattle.road_proof.specs.Outcomes.{status_of};
+
+use crate::fault::Fault;
+
+/// How a run ends that meets no fault.
+#[derive(Clone, Copy, Debug, PartialEq, Eq)]
+pub enum Verdict {
+    /// The work was done.
+    Done,
+}
+
+/// The status of a run's end, and the fault if it met one.
+#[derive(Clone, Copy, Debug, PartialEq, Eq)]
+pub struct Ended {
+    /// The status for the shell.
+    pub status: u8,
+    /// Why the work was not done.
+    pub fault: Option<Fault>,
+}
+
+impl Ended {
+    ghost use Rattle.road_proof.specs.Outcomes.{status_of, outcome_of};
+
+    /// The end of a run with this outcome.
+    pub fn of(outcome: Result<Verdict, Fault>) -> Ended
+        ensures outcome { outcome_of result ≡ outcome }
+        ensures status { result.status ≡ status_of outcome }
+    {
+        match outcome {
+            Ok(Verdict::Done) => Ended {
+                status: 0,
+                fault: None,
+            },
+            Err(fault) => Ended {
+                status: status_of_fault(fault),
+                fault: Some(fault),
+            },
+        }
+    }
+}
+
+fn status_of_fault(fault: Fault) -> u8
+    ensures { result ≡ status_of (Err fault) }
+{
+    match fault {
+        Fault::Words => 2,
+        Fault::Missing | Fault::TooLong | Fault::Road(_) | Fault::Map(_) => 3,
+        Fault::Library => 4,
+        Fault::Sink => 6,
+        Fault::Memory => 9,
+        Fault::UnknownNode(_) | Fault::NoRoute => 11,
+    }
+}

@@ -1,0 +1,192 @@
+//! Worked cases of each command, over objects in memory.
+
+use crate::{Ended, Fault, MOST_WORDS, Words, run};
+use road_io::{MemLibrary, MemSink};
+use road_map::MapError;
+use road_reader::RoadError;
+use std::alloc::Global;
+use std::process::Abort;
+use std::test::Fail;
+
+/// Five nodes: two routes from 1 to 3, and the node 5 without roads.
+const FIVE_NODES: &str = "roads 1
+node 1 0 0
+node 2 10 0
+node 3 20 0
+node 4 10 10
+node 5 50 50
+road 1 2 4
+road 2 3 5
+road 1 4 3
+road 4 3 7
+";
+
+const ROOM: usize = 1000;
+
+fn words_of(rt: &impl Abort, alloc: Global, line: &str) -> Result<Words, Fail> {
+    let mut words = Words::new(alloc);
+    for word in line.split(' ') {
+        assert!(rt; words.count() <= MOST_WORDS);
+        words.push(word)?;
+    }
+    Ok(words)
+}
+
+/// Runs a command line over one file, and compares what it writes and how it ends.
+fn ends_with(
+    rt: &impl Abort,
+    alloc: Global,
+    text: &[u8],
+    line: &str,
+    written: &str,
+    status: u8,
+    fault: Option<Fault>,
+) -> Result<(), Fail> {
+    let words = words_of(rt, alloc, line)?;
+    let mut library = MemLibrary::new(alloc, Vec::new(alloc));
+    library.put("map.roads", text)?;
+    let mut sink = MemSink::new(alloc, ROOM, ROOM, Vec::new(alloc))?;
+    let ended = run(alloc, &words, &mut library, &mut sink);
+    assert_eq!(rt; ended, Ended { status, fault }, "at {line}");
+    assert_eq!(rt; sink.taken(), written.as_bytes(), "at {line}");
+    Ok(())
+}
+
+#[test]
+fn routes_over_five_nodes(rt: HostRuntime) -> Result<(), Fail> {
+    let unknown = Some(Fault::UnknownNode(9));
+    for (line, written, status, fault) in [
+        ("route map.roads 1 3", "9: 1 2 3\n", 0, None),
+        ("route map.roads 01 0003", "9: 1 2 3\n", 0, None),
+        ("route map.roads 1 1", "0: 1\n", 0, None),
+        ("route map.roads 1 5", "", 11, Some(Fault::NoRoute)),
+        ("route map.roads 1 9", "", 11, unknown),
+        ("route map.roads 9 8", "", 11, unknown),
+        ("route other.roads 1 3", "", 3, Some(Fault::Missing)),
+        ("route map.roads 1", "", 2, Some(Fault::Words)),
+        ("route map.roads 1 -3", "", 2, Some(Fault::Words)),
+        ("route map.roads 1 4294967296", "", 2, Some(Fault::Words)),
+        ("rout map.roads 1 3", "", 2, Some(Fault::Words)),
+    ] {
+        ends_with(
+            &rt,
+            rt.alloc(),
+            FIVE_NODES.as_bytes(),
+            line,
+            written,
+            status,
+            fault,
+        )?;
+    }
+    Ok(())
+}
+
+#[test]
+fn parallel_roads_take_the_least(rt: HostRuntime) -> Result<(), Fail> {
+    let alloc = rt.alloc();
+    let text = format!(in alloc; "{FIVE_NODES}road 2 1 2\n")?;
+    ends_with(
+        &rt,
+        alloc,
+        text.as_bytes(),
+        "route map.roads 1 3",
+        "7: 1 2 3\n",
+        0,
+        None,
+    )
+}
+
+#[test]
+fn the_root_of_one_node_is_the_digest_of_its_leaf(rt: HostRuntime) -> Result<(), Fail> {
+    let line = "root map.roads 2";
+    let written = "1 0bfc2e4d0e3dae6077c5b8426941c6b43c58ab486b1a83d6e6151142b0f24bf2\n";
+    ends_with(
+        &rt,
+        rt.alloc(),
+        b"roads 1\nnode 7 -1 2\n",
+        line,
+        written,
+        0,
+        None,
+    )?;
+    let words = Some(Fault::Words);
+    ends_with(
+        &rt,
+        rt.alloc(),
+        b"roads 1\nnode 7 -1 2\n",
+        "root map.roads 33",
+        "",
+        2,
+        words,
+    )?;
+    ends_with(
+        &rt,
+        rt.alloc(),
+        b"roads 1\nnode 7 -1 2\n",
+        "root map.roads 1",
+        "",
+        2,
+        words,
+    )
+}
+
+#[test]
+fn faulty_files_are_refused_by_their_first_fault(rt: HostRuntime) -> Result<(), Fail> {
+    let alloc = rt.alloc();
+    for (line, fault) in [
+        ("road 3 3 1", Fault::Map(MapError::SelfRoad(4))),
+        ("road 1 9 2", Fault::Map(MapError::UnknownEnd(4))),
+        ("node 1 0 0", Fault::Map(MapError::RepeatedNode(1))),
+        ("road 4", Fault::Road(RoadError::BadLine(11))),
+        ("road 4 3 4294967296", Fault::Road(RoadError::BadNumber(11))),
+    ] {
+        let text = format!(in alloc; "{FIVE_NODES}{line}\n")?;
+        ends_with(
+            &rt,
+            alloc,
+            text.as_bytes(),
+            "route map.roads 1 3",
+            "",
+            3,
+            Some(fault),
+        )?;
+    }
+    let no_title = Some(Fault::Road(RoadError::NoTitle));
+    ends_with(&rt, alloc, b"", "route map.roads 1 3", "", 3, no_title)?;
+    let empty = Some(Fault::Map(MapError::Empty));
+    ends_with(&rt, alloc, b"roads 1", "route map.roads 1 3", "", 3, empty)
+}
+
+#[test]
+fn failing_objects_end_a_run(rt: HostRuntime) -> Result<(), Fail> {
+    let alloc = rt.alloc();
+    let words = words_of(&rt, alloc, "route map.roads 1 3")?;
+    let mut library = MemLibrary::new(alloc, vec![in alloc; 0]?);
+    library.put("map.roads", FIVE_NODES.as_bytes())?;
+    let mut sink = MemSink::new(alloc, ROOM, 4, vec![in alloc; 1]?)?;
+    let first = run(alloc, &words, &mut library, &mut sink);
+    assert_eq!(rt; first.status, 4);
+    assert_eq!(rt; first.fault, Some(Fault::Library));
+    let second = run(alloc, &words, &mut library, &mut sink);
+    assert_eq!(rt; second.status, 6);
+    assert_eq!(rt; second.fault, Some(Fault::Sink));
+    assert_eq!(rt; sink.taken(), b"9: 1".as_slice());
+    Ok(())
+}
+
+#[test]
+fn faults_read_as_sentences(rt: HostRuntime) -> Result<(), Fail> {
+    let alloc = rt.alloc();
+    for (fault, text) in [
+        (Fault::UnknownNode(9), "The map has no node 9."),
+        (
+            Fault::Map(MapError::SelfRoad(4)),
+            "The road at index 4 joins a node to itself.",
+        ),
+        (Fault::Missing, "There is no file of that name."),
+    ] {
+        let shown = format!(in alloc; "{fault}")?;
+        assert_eq!(rt; shown.as_str(), text);
+    }
+    Ok(())
+}

@@ -1,0 +1,56 @@
+use Rattle.std.proofs.Common.{◌≡◌, List, ℕ, ◌<◌, get_or, arith, ◌∙◌, inl, inr}
+use Rattle.std.proofs.lemmas.Bool.{cases_eq}
+use Rattle.road_io.specs.Moments.{Image}
+use Rattle.road_io.proofs.MomentLaws.{continued, at_end}
+use Rattle.key_desk.specs.Layout.{kind_at, place_of, gate_at, AgreesOutside}
+use Rattle.key_desk.specs.Desk.{IsBlank, IsFresh}
+use Rattle.key_desk.proofs.Frame.{range_apart}
+use Rattle.key_desk.specs.Keys.{key_from}
+use Rattle.key_desk.proofs.KeyLemmas.{key_from-secret}
+use Rattle.key_desk.proofs.OnOks.{on_ok}
+use Rattle.key_desk.proofs.create.open_key.Given.{Over}
+use Rattle.key_desk.proofs.create.open_key.Goals as goal
+use Rattle.key_desk.proofs.create.open_key.Goals.{After-open_block}
+
+module _ (g : Over) (c : After-open_block g) where
+  -- behind an open gate, all is there
+  blank : (d i : List ℕ) → Image g.D.Disk c.put_block.new.disk d → AgreesOutside 0 1 d i → 0 < gate_at i 0 → IsBlank (key_from c.args.kind c.args.secret.now) i
+  blank d i now h opened =
+      let block = c.in_ok-put_block.ensures.block d now in
+      let rest = c.in_ok-put_block.ensures.rest d now in
+      let one : get_or i 1 0 ≡ get_or d 1 0 = h.same 1 (inr (omega arith)) in
+      let two : get_or i 2 0 ≡ get_or d 2 0 = h.same 2 (inr (omega arith)) in
+      let three : get_or i 3 0 ≡ get_or d 3 0 = h.same 3 (inr (omega arith)) in
+      let four : get_or i 4 0 ≡ get_or d 4 0 = h.same 4 (inr (omega arith)) in
+      let kind : kind_at i 0 ≡ kind_at d 0 = cc in
+      record {
+        block = record {
+          key_open = opened;
+          kind = kind ∙ block.0;
+          secret = range_apart 0 1 d i h 5 48 (inr (omega arith)) ∙ block.1 ∙ key_from-secret c.args.kind c.args.secret.now;
+          within = omega (arith, rest.0, h.long);
+        };
+        shut = λ slot lt. h.same (place_of slot) (inr (omega arith)) ∙ rest.1 (place_of slot) (omega arith) (omega arith);
+      }
+
+  fresh : (d i : List ℕ) → Image g.D.Disk c.put_block.new.disk d → AgreesOutside 0 1 d i → IsFresh (key_from c.args.kind c.args.secret.now) i
+  fresh d i now h = elim (cases_eq (gate_at i 0) 0) [
+    | inl shut ↦ inl (λ opened. omega (arith, opened.gate, shut))
+    | inr isnt ↦ inr (blank d i now h (omega (arith, isnt)))
+  ]
+
+pub returns-clause-moments : goal.returns-clause-moments
+returns-clause-moments g c =
+    let at = (goal.at.returns-clause-moments g c).After-open_block in
+    continued g.D.Disk c.args.disk.now c.put_block.new.disk c.open_block.new.disk (λ d i. gate_at i 0 ≡ 0) (AgreesOutside 0 1) (λ d i. IsFresh (key_from c.args.kind c.args.secret.now) i)
+    c.put_block.ensures.moments c.open_block.ensures.moments
+    (λ d i now shut. inl (λ opened. omega (arith, opened.gate, shut)))
+    (λ d e i now_d now_e shut h. fresh g at e i now_e h)
+
+pub returns-clause-blank : goal.returns-clause-blank
+returns-clause-blank g c =
+    let at = (goal.at.returns-clause-blank g c).After-open_block in
+    on_ok c.open_block.result _ _ c.open_block.ensures.open (λ opened i now.
+    let e = at_end g.D.Disk c.put_block.new.disk c.open_block.new.disk _ c.open_block.ensures.moments i now in
+    let gate : gate_at i 0 ≡ 1 = opened i now in
+    blank g at e.0 i e.1 e.2 (omega (arith, gate)))

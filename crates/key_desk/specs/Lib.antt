@@ -1,0 +1,6 @@
+pub mod Desk
+pub mod Keys
+pub mod Layout
+pub mod Stands
+pub mod View
+pub mod Runs

@@ -16,14 +16,15 @@ use Rattle.road_map.specs.Laws.{FaultLaws, ArcLaws, HasRoad}
 use Rattle.road_map.specs.declared.parts.Parts.{Parts}
 use Rattle.road_map.specs.declared.error.MapError.{MapError}
 use Rattle.road_map.specs.declared.error.MapError.TheVariants as map_errors
-use Rattle.road_proof.specs.Requests.{Request, Route, Root}
+use Rattle.road_proof.specs.Requests.{Request, Route, Root, Key}
 use Rattle.road_proof.specs.Reading.{parts_at, IsMapFault}
 use Rattle.road_proof.specs.RouteLine.{IsRouteLine, IsFirstUnknown, AreApart}
+use Rattle.road_proof.specs.KeyLine.{secret_at}
 use Rattle.road_proof.specs.Endings.{Answered}
-use Rattle.road_proof.specs.Commands.{Ends, EndsRoute, EndsRoot}
+use Rattle.road_proof.specs.Commands.{Ends, EndsRoute, EndsRoot, EndsKey}
 use Rattle.road_proof.specs.Exact.{NoneFailed, IsExact}
 use Rattle.road_proof.specs.declared.fault.Fault.{Fault}
-use Rattle.road_proof.specs.declared.fault.Fault.TheVariants.{Words, Missing, TooLong, Road, Map, Library, Sink, Memory, UnknownNode, NoRoute}
+use Rattle.road_proof.specs.declared.fault.Fault.TheVariants.{Words, Missing, TooLong, Road, Map, BadHex, Library, Sink, Disk, Memory, UnknownNode, NoRoute, Held}
 use Rattle.road_proof.specs.declared.ended.Verdict.{Verdict}
 use Rattle.road_proof.specs.declared.ended.Verdict.TheVariants.{Done}
 
@@ -127,6 +128,16 @@ one_root_end faults fan parts (Err (Map e)) (Err (Map f)) s t h k = ap (λ x. Er
 one_root_end faults fan parts (Err (Map e)) (Err f) s t h k = absurd k
 one_root_end faults fan parts (Err e) p s t h k = absurd h
 
+-- over what a disk holds, `key` has one end
+one_key_end : (content : List ℕ) (kind : ℕ) (secret : List ℕ) (o p : Result Verdict Fault) (s t : List ℕ) → EndsKey (Some content) kind secret o s → EndsKey (Some content) kind secret p t → o ≡ p
+one_key_end content kind secret (Ok Done) (Ok Done) s t h k = refl
+one_key_end content kind secret (Ok Done) (Err Held) s t h k = absurd (h.0 content refl (k.0 content refl))
+one_key_end content kind secret (Ok Done) (Err f) s t h k = absurd k
+one_key_end content kind secret (Err Held) (Ok Done) s t h k = absurd (k.0 content refl (h.0 content refl))
+one_key_end content kind secret (Err Held) (Err Held) s t h k = refl
+one_key_end content kind secret (Err Held) (Err f) s t h k = absurd k
+one_key_end content kind secret (Err e) p s t h k = absurd h
+
 -- what a file's parts, or its first fault, make the one end
 one_over : {X : Type 0} (read : Result X Fault) (E : X → Result Verdict Fault → List ℕ → Type 0) (o p : Result Verdict Fault) (s t : List ℕ)
     → ((x : X) → E x o s → E x p t → o ≡ p)
@@ -134,38 +145,43 @@ one_over : {X : Type 0} (read : Result X Fault) (E : X → Result Verdict Fault 
 one_over (Ok x) E o p s t one h k = one x h k
 one_over (Err e) E o p s t one h k = h.0 ∙ sym k.0
 
--- the files let a command end in one way
-one_end : Faults → ((parts : Parts) (u : ℕ) → ArcLaws parts u) → (request : Request) (shelf : Shelf) (o p : Result Verdict Fault) (s t : List ℕ)
-    → Ends request shelf o s → Ends request shelf p t → o ≡ p
-one_end faults arcs (Route roads from to) shelf o p s t h k =
+-- the files and the disk let a command end in one way
+one_end : Faults → ((parts : Parts) (u : ℕ) → ArcLaws parts u) → (content : List ℕ) (request : Request) (shelf : Shelf) (o p : Result Verdict Fault) (s t : List ℕ)
+    → Ends (Some content) request shelf o s → Ends (Some content) request shelf p t → o ≡ p
+one_end faults arcs content (Route roads from to) shelf o p s t h k =
     one_over (parts_at shelf roads) (EndsRoute from to) o p s t (λ parts. one_route_end faults arcs from to parts o p s t) h k
-one_end faults arcs (Root roads fan) shelf o p s t h k =
+one_end faults arcs content (Root roads fan) shelf o p s t h k =
     one_over (parts_at shelf roads) (EndsRoot fan) o p s t (λ parts. one_root_end faults fan parts o p s t) h k
+one_end faults arcs content (Key file kind) shelf o p s t h k =
+    one_over (secret_at shelf file) (EndsKey (Some content) kind) o p s t (λ secret. one_key_end content kind secret o p s t) h k
 
 -- an answer is exact where no object outside failed
-exact : Faults → ((parts : Parts) (u : ℕ) → ArcLaws parts u) → (request : Request) (shelf : Shelf) (old new : Option (List ℕ)) (outcome : Result Verdict Fault)
-    → Answered (Ends request shelf) old new outcome → (outcome ≡ Err Library → ⊥) → (outcome ≡ Err Sink → ⊥) → IsExact (Ends request shelf) outcome
-exact faults arcs request shelf old new outcome a library sink = by_end (called outcome a library sink)
+exact : Faults → ((parts : Parts) (u : ℕ) → ArcLaws parts u) → (content : List ℕ) (request : Request) (shelf : Shelf) (old new : Option (List ℕ)) (outcome : Result Verdict Fault)
+    → Answered (Ends (Some content) request shelf) old new outcome → (outcome ≡ Err Library → ⊥) → (outcome ≡ Err Sink → ⊥) → (outcome ≡ Err Disk → ⊥)
+    → IsExact (Ends (Some content) request shelf) outcome
+exact faults arcs content request shelf old new outcome a library sink disk = by_end (called outcome a library sink disk)
   where
-    called : (o : Result Verdict Fault) → Answered (Ends request shelf) old new o → (o ≡ Err Library → ⊥) → (o ≡ Err Sink → ⊥) → o ≢ Err Memory → (text : List ℕ) × Ends request shelf o text
-    called (Ok verdict) a l k m = (a.0, a.1)
-    called (Err Memory) a l k m = absurd (m refl)
-    called (Err Library) a l k m = absurd (l refl)
-    called (Err Sink) a l k m = absurd (k refl)
-    called (Err fault) a l k m = ([], a)
+    called : (o : Result Verdict Fault) → Answered (Ends (Some content) request shelf) old new o → (o ≡ Err Library → ⊥) → (o ≡ Err Sink → ⊥) → (o ≡ Err Disk → ⊥) → o ≢ Err Memory → (text : List ℕ) × Ends (Some content) request shelf o text
+    called (Ok verdict) a l k d m = (a.0, a.1)
+    called (Err Memory) a l k d m = absurd (m refl)
+    called (Err Library) a l k d m = absurd (l refl)
+    called (Err Sink) a l k d m = absurd (k refl)
+    called (Err Disk) a l k d m = absurd (d refl)
+    called (Err fault) a l k d m = ([], a)
 
-    by_end : (outcome ≢ Err Memory → (text : List ℕ) × Ends request shelf outcome text) → IsExact (Ends request shelf) outcome
+    by_end : (outcome ≢ Err Memory → (text : List ℕ) × Ends (Some content) request shelf outcome text) → IsExact (Ends (Some content) request shelf) outcome
     by_end end = record {
       called_for = end;
-      only_one = λ other text full h. one_end faults arcs request shelf outcome other (end full).0 text (end full).1 h;
+      only_one = λ other text full h. one_end faults arcs content request shelf outcome other (end full).0 text (end full).1 h;
     }
 
--- the same for the words and the library of a run
-pub exact_run : Faults → ((parts : Parts) (u : ℕ) → ArcLaws parts u) → (asked : Option Request) (files : Option Shelf) (old new : Option (List ℕ)) (outcome : Result Verdict Fault) (l l' k k' : ℕ)
-    → IfSome asked (λ request. IfSome files (λ shelf. Answered (Ends request shelf) old new outcome))
-    → (outcome ≡ Err Library → Rose l l') → (outcome ≡ Err Sink → Rose k k')
-    → NoneFailed l l' k k' → IfSome asked (λ request. IfSome files (λ shelf. IsExact (Ends request shelf) outcome))
-exact_run faults arcs None files old new outcome l l' k k' a lc kc n = tt
-exact_run faults arcs (Some request) None old new outcome l l' k k' a lc kc n = tt
-exact_run faults arcs (Some request) (Some shelf) old new outcome l l' k k' a lc kc n =
-    exact faults arcs request shelf old new outcome a (λ e. n.library_stays (lc e)) (λ e. n.sink_stays (kc e))
+-- the same for the words, the library and the disk of a run
+pub exact_run : Faults → ((parts : Parts) (u : ℕ) → ArcLaws parts u) → (asked : Option Request) (files : Option Shelf) (content : Option (List ℕ)) (old new : Option (List ℕ)) (outcome : Result Verdict Fault) (l l' k k' d d' : ℕ)
+    → IfSome asked (λ request. IfSome files (λ shelf. Answered (Ends content request shelf) old new outcome))
+    → (outcome ≡ Err Library → Rose l l') → (outcome ≡ Err Sink → Rose k k') → (outcome ≡ Err Disk → Rose d d')
+    → NoneFailed l l' k k' d d' → IfSome asked (λ request. IfSome files (λ shelf. IfSome content (λ c. IsExact (Ends (Some c) request shelf) outcome)))
+exact_run faults arcs None files content old new outcome l l' k k' d d' a lc kc dc n = tt
+exact_run faults arcs (Some request) None content old new outcome l l' k k' d d' a lc kc dc n = tt
+exact_run faults arcs (Some request) (Some shelf) None old new outcome l l' k k' d d' a lc kc dc n = tt
+exact_run faults arcs (Some request) (Some shelf) (Some c) old new outcome l l' k k' d d' a lc kc dc n =
+    exact faults arcs c request shelf old new outcome a (λ e. n.library_stays (lc e)) (λ e. n.sink_stays (kc e)) (λ e. n.disk_stays (dc e))

@@ -1,2 +1,4 @@
+pub mod Disks
 pub mod Exactly
+pub mod KeyLemmas
 pub mod RootLemmas

@@ -7,13 +7,16 @@ use Rattle.road_io.specs.Causes.{Rose}
 use Rattle.road_io.specs.Contents.{Shelf}
 use Rattle.road_map.specs.Maps.{IsMap}
 use Rattle.road_map.specs.declared.parts.Parts.{Parts}
-use Rattle.road_proof.specs.Requests.{Request, Route, Root}
+use Rattle.road_proof.specs.Requests.{Request, Route, Root, Key}
 use Rattle.road_proof.specs.Reading.{parts_at, IsMapFault}
 use Rattle.road_proof.specs.RouteLine.{IsRouteLine, IsFirstUnknown, AreApart}
 use Rattle.road_proof.specs.RootLine.{IsRootLine}
+use Rattle.std.specs.Option.{ForSome}
+use Rattle.key_desk.specs.Layout.{IsOpen}
+use Rattle.road_proof.specs.KeyLine.{secret_at, key_line}
 use Rattle.road_proof.specs.Endings.{Answered, IsSilent, HasUntoldCause}
 use Rattle.road_proof.specs.declared.fault.Fault.{Fault}
-use Rattle.road_proof.specs.declared.fault.Fault.TheVariants.{Words, Missing, TooLong, Road, Map, Library, Sink, Memory, UnknownNode, NoRoute}
+use Rattle.road_proof.specs.declared.fault.Fault.TheVariants.{Words, Missing, TooLong, Road, Map, BadHex, Library, Sink, Disk, Memory, UnknownNode, NoRoute, Held}
 use Rattle.road_proof.specs.declared.ended.Verdict.{Verdict}
 use Rattle.road_proof.specs.declared.ended.Verdict.TheVariants.{Done}
 
@@ -31,21 +34,30 @@ EndsRoot fan parts (Ok Done) text = IsMap parts × IsRootLine parts fan text
 EndsRoot fan parts (Err (Map fault)) text = IsMapFault parts fault × (text ≡ [])
 EndsRoot fan parts (Err fault) text = ⊥
 
--- With which outcome the files let a command end, and which text it then writes.
+-- `key` with a secret: the line of the public key where the disk holds no key, and a refusal where it does
+abbrev pub EndsKey : Option (List ℕ) → ℕ → List ℕ → Result Verdict Fault → List ℕ → Type 0
+EndsKey content kind secret (Ok Done) text = ForSome content (λ c. IsOpen c → ⊥) × (text ≡ key_line kind secret)
+EndsKey content kind secret (Err Held) text = ForSome content IsOpen × (text ≡ [])
+EndsKey content kind secret (Err fault) text = ⊥
+
+-- With which outcome the files, and what the disk holds, let a command end, and which text it then writes.
 -- The first fault of a file comes before all others.
-abbrev pub Ends : Request → Shelf → Result Verdict Fault → List ℕ → Type 0
-Ends (Route roads from to) shelf outcome text =
+abbrev pub Ends : Option (List ℕ) → Request → Shelf → Result Verdict Fault → List ℕ → Type 0
+Ends content (Route roads from to) shelf outcome text =
     MatchResult (parts_at shelf roads) (λ parts. EndsRoute from to parts outcome text) (λ first. (outcome ≡ Err first) × (text ≡ []))
-Ends (Root roads fan) shelf outcome text =
+Ends content (Root roads fan) shelf outcome text =
     MatchResult (parts_at shelf roads) (λ parts. EndsRoot fan parts outcome text) (λ first. (outcome ≡ Err first) × (text ≡ []))
+Ends content (Key file kind) shelf outcome text =
+    MatchResult (secret_at shelf file) (λ secret. EndsKey content kind secret outcome text) (λ first. (outcome ≡ Err first) × (text ≡ []))
 
 -- what a command promises that loads files and writes to the sink
 pub record EndsByFiles (request : Request)
     (files : Option Shelf) (library_before library_now : ℕ)
     (old new : Option (List ℕ)) (sink_before sink_now : ℕ) (outcome : Result Verdict Fault) : Type 0 where
-  pub answered : IfSome files (λ shelf. Answered (Ends request shelf) old new outcome)
+  pub answered : (content : Option (List ℕ)) → IfSome files (λ shelf. Answered (Ends content request shelf) old new outcome)
   pub untold : HasUntoldCause files library_before library_now outcome
   pub silent : IsSilent old new outcome
   pub library : outcome ≡ Err Library → Rose library_before library_now
   pub sink : outcome ≡ Err Sink → Rose sink_before sink_now
+  pub disk : outcome ≡ Err Disk → ⊥
   pub words : outcome ≡ Err Words → ⊥

@@ -7,16 +7,17 @@ use Rattle.std.specs.Io.KnownBytes.{Appends, Keeps}
 use Rattle.road_io.specs.Causes.{Rose}
 use Rattle.road_io.specs.Contents.{Shelf, AppendsFront}
 use Rattle.road_proof.specs.declared.fault.Fault.{Fault}
-use Rattle.road_proof.specs.declared.fault.Fault.TheVariants.{Words, Missing, TooLong, Road, Map, Library, Sink, Memory, UnknownNode, NoRoute}
+use Rattle.road_proof.specs.declared.fault.Fault.TheVariants.{Words, Missing, TooLong, Road, Map, BadHex, Library, Sink, Disk, Memory, UnknownNode, NoRoute, Held}
 use Rattle.road_proof.specs.declared.ended.Verdict.{Verdict}
 
 -- Ends says with which outcome the files let a command end, and which text it then writes.
--- The outcome is such a one, or want of memory or the library's failure, and the sink has taken its text,
+-- The outcome is such a one, or want of memory, or the library's or the disk's failure, and the sink has taken its text,
 -- or a front of such a text where it failed.
 abbrev pub Answered : (Result Verdict Fault → List ℕ → Type 0) → Option (List ℕ) → Option (List ℕ) → Result Verdict Fault → Type 0
 Answered Ends old new (Ok verdict) = (text : List ℕ) × Ends (Ok verdict) text × Appends old new text
 Answered Ends old new (Err Memory) = Unit {0}
 Answered Ends old new (Err Library) = Unit {0}
+Answered Ends old new (Err Disk) = Unit {0}
 Answered Ends old new (Err Sink) = (verdict : Verdict) × (text : List ℕ) × Ends (Ok verdict) text × AppendsFront old new text
 Answered Ends old new (Err fault) = Ends (Err fault) []
 

@@ -8,9 +8,10 @@ use Rattle.road_proof.specs.declared.fault.Fault.TheVariants.{Memory}
 use Rattle.road_proof.specs.declared.ended.Verdict.{Verdict}
 
 -- no object outside failed
-pub record NoneFailed (library_before library_now sink_before sink_now : ℕ) : Type 0 where
+pub record NoneFailed (library_before library_now sink_before sink_now disk_before disk_now : ℕ) : Type 0 where
   pub library_stays : ¬ Rose library_before library_now
   pub sink_stays : ¬ Rose sink_before sink_now
+  pub disk_stays : ¬ Rose disk_before disk_now
 
 -- but for want of memory, the outcome is one that the files call for, and they call for no other
 pub record IsExact (Ends : Result Verdict Fault → List ℕ → Type 0) (outcome : Result Verdict Fault) : Type 0 where

@@ -4,6 +4,8 @@ pub mod Outcomes
 pub mod Reading
 pub mod RouteLine
 pub mod RootLine
+pub mod KeyLine
+pub mod OwnerKey
 pub mod Endings
 pub mod Commands
 pub mod Exact

@@ -13,7 +13,7 @@ use Rattle.road_map.specs.declared.error.MapError.TheVariants as map_errors
 use Rattle.road_reader.specs.RoadText.{roads_of}
 use Rattle.road_reader.specs.declared.error.RoadError.{RoadError}
 use Rattle.road_proof.specs.declared.fault.Fault.{Fault}
-use Rattle.road_proof.specs.declared.fault.Fault.TheVariants.{Words, Missing, TooLong, Road, Map, Library, Sink, Memory, UnknownNode, NoRoute}
+use Rattle.road_proof.specs.declared.fault.Fault.TheVariants.{Words, Missing, TooLong, Road, Map, BadHex, Library, Sink, Disk, Memory, UnknownNode, NoRoute, Held}
 
 -- ---- what the files say
 
@@ -68,6 +68,7 @@ abbrev pub IsOfFiles : Fault → Type 0
 IsOfFiles Missing = Unit {0}
 IsOfFiles TooLong = Unit {0}
 IsOfFiles (Road fault) = Unit {0}
+IsOfFiles BadHex = Unit {0}
 IsOfFiles Library = Unit {0}
 IsOfFiles Memory = Unit {0}
 IsOfFiles fault = ⊥

@@ -47,10 +47,12 @@ fn status_of_fault(fault: Fault) -> u8
 {
     match fault {
         Fault::Words => 2,
-        Fault::Missing | Fault::TooLong | Fault::Road(_) | Fault::Map(_) => 3,
+        Fault::Missing | Fault::TooLong | Fault::Road(_) | Fault::Map(_) | Fault::BadHex => 3,
         Fault::Library => 4,
         Fault::Sink => 6,
+        Fault::Disk => 7,
         Fault::Memory => 9,
         Fault::UnknownNode(_) | Fault::NoRoute => 11,
+        Fault::Held => 12,
     }
 }

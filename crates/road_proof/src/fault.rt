@@ -22,12 +22,18 @@ pub enum Fault {
     /// The first reason why a road file's parts make no map.
     #[error("{0}")]
     Map(MapError),
+    /// A hex file is not exactly its digits and one line end at most.
+    #[error("The file is not exactly the hex digits that it should have.")]
+    BadHex,
     /// The library failed.
     #[error("The file could not be read.")]
     Library,
     /// The sink failed.
     #[error("The output could not be written.")]
     Sink,
+    /// The disk failed.
+    #[error("The owner's disk failed.")]
+    Disk,
     /// No memory was found.
     #[error("There is not enough memory.")]
     Memory,
@@ -37,4 +43,7 @@ pub enum Fault {
     /// No walk joins the two ends.
     #[error("No route joins the two nodes.")]
     NoRoute,
+    /// The disk holds a key already, which a new one may not replace.
+    #[error("The owner's disk holds a key already.")]
+    Held,
 }

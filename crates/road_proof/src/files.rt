@@ -1,7 +1,11 @@
 //! Files, and the maps that they spell.
 
 ghost use Rattle.std.specs.Prelude.{◌≡◌, ◌≤◌, IfOk, vec_len};
+ghost use Rattle.std.specs.Option.{ok_or};
 ghost use Rattle.road_proof.specs.Reading.{Loads, LoadsMap, octets_in, parts_at};
+ghost use Rattle.road_proof.specs.KeyLine.{secret_at, without_line_end, as_octets};
+ghost use Rattle.hex.specs.Hex.{decode_sized};
+ghost use Rattle.std.specs.Str.Lines.{strip_carriage_return};
 
 use crate::fault::Fault;
 use road_io::{Library, LoadError};
@@ -47,5 +51,51 @@ pub fn load_map<L: Library>(alloc: Global, library: &mut L, name: &str) -> Resul
         Ok(map) => Ok(map),
         Err(MapError::Memory) => Err(Fault::Memory),
         Err(fault) => Err(Fault::Map(fault)),
+    }
+}
+
+/// The octets of a secret that a hex file spells.
+pub fn load_secret<L: Library>(
+    alloc: Global,
+    library: &mut L,
+    name: &str,
+) -> Result<[u8; 48], Fault>
+    ensures { Loads (λ secret. secret) (λ shelf. secret_at shelf name.now) (L.files library.old) (L.faults library.old) (L.faults library.new) result }
+{
+    let octets = load_file(alloc, library, name)?;
+    match secret_of(&octets) {
+        Some(secret) => Ok(secret),
+        None => Err(Fault::BadHex),
+    }
+}
+
+/// The octets that 96 hex digits spell, with one line end behind them at most.
+fn secret_of(text: &[u8]) -> Option<[u8; 48]>
+    ensures { ok_or result Fault.BadHex ≡ as_octets (decode_sized (without_line_end text.now) 48) }
+{
+    let mut secret = [0; 48];
+    match hex::decode_to_slice(without_line_end(text), &mut secret) {
+        Ok(()) => Some(secret),
+        Err(_) => None,
+    }
+}
+
+/// A text without the line end that may close it.
+fn without_line_end(text: &[u8]) -> &[u8]
+    ensures { result.now ≡ without_line_end text.now }
+{
+    match text.split_last() {
+        Some((last, front)) if *last == b'\n' => without_return(front),
+        _ => text,
+    }
+}
+
+/// A line without the carriage return at its end, if it has one.
+fn without_return(line: &[u8]) -> &[u8]
+    ensures { result.now ≡ strip_carriage_return line.now }
+{
+    match line.split_last() {
+        Some((last, front)) if *last == b'\r' => front,
+        _ => line,
     }
 }

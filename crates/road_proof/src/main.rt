@@ -7,6 +7,8 @@ mod command;
 mod ended;
 mod fault;
 mod files;
+mod key;
+mod kind;
 mod line;
 mod program;
 mod root;
@@ -16,8 +18,9 @@ mod words;
 pub use command::{Command, command_of};
 pub use ended::{Ended, Verdict};
 pub use fault::Fault;
+pub use kind::KeyKind;
 pub use program::run;
-use road_io::{FileLibrary, StdSink};
+use road_io::{FileDisk, FileLibrary, StdSink};
 use std::env;
 use std::process::ExitCode;
 pub use words::Words;
@@ -25,7 +28,8 @@ pub use words::Words;
 /// What standard error says after a command line that fits no command.
 const COMMANDS: &str = "commands:
   route ROADS S T    writes the length and the nodes of a shortest route from S to T
-  root ROADS FAN     writes the count of nodes, and the root of the tree over their leaves";
+  root ROADS FAN     writes the count of nodes, and the root of the tree over their leaves
+  key SECRET KIND    makes the owner's key, h5 or h10, in owner.desk and writes its public key";
 
 /// The most words that a command line may have.
 const MOST_WORDS: u32 = 4_294_967_294;
@@ -45,7 +49,8 @@ fn main(rt: HostRuntime) -> ExitCode {
     }
     let mut library = FileLibrary::new(rt);
     let mut sink = StdSink::new(rt);
-    let ended = run(alloc, &words, &mut library, &mut sink);
+    let mut disk = FileDisk::new(rt, "owner.desk");
+    let ended = run(alloc, &words, &mut library, &mut sink, &mut disk);
     if let Some(fault) = ended.fault {
         let _ = eprintln!(rt; "{fault}");
         if fault == Fault::Words {

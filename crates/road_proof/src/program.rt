@@ -1,8 +1,15 @@
 //! The whole program.
 
-ghost use Rattle.std.specs.Prelude.{◌≡◌, ◌↔◌, None, IfSome};
+ghost use Rattle.std.specs.Prelude.{◌≡◌, ◌≢◌, ◌↔◌, None, Some, IfSome};
+ghost use Rattle.std.specs.Option.{ForSome};
 ghost use Rattle.road_io.specs.Causes.{Rose};
+ghost use Rattle.road_io.specs.Disk.{Stays};
+ghost use Rattle.road_io.specs.Moments.{AtEachMoment};
+ghost use Rattle.key_desk.specs.Layout.{IsOpen};
+ghost use Rattle.key_desk.specs.Stands.{KeepsStanding};
 ghost use Rattle.road_proof.specs.Requests.{request_of};
+ghost use Rattle.road_proof.specs.KeyLine.{secret_at};
+ghost use Rattle.road_proof.specs.OwnerKey.{MakesKey, IfKey, UnlessKey};
 ghost use Rattle.road_proof.specs.Outcomes.{outcome_of, status_of};
 ghost use Rattle.road_proof.specs.Endings.{Answered, IsSilent, HasUntoldCause};
 ghost use Rattle.road_proof.specs.Commands.{Ends};
@@ -11,52 +18,71 @@ ghost use Rattle.road_proof.specs.Exact.{NoneFailed, IsExact};
 use crate::command::{Command, command_of};
 use crate::ended::{Ended, Verdict};
 use crate::fault::Fault;
+use crate::key::key;
 use crate::root::root;
 use crate::route::route;
 use crate::words::Words;
-use road_io::{Library, Sink};
+use road_io::{Disk, Library, Sink};
 use road_map::map_laws;
 use std::alloc::Global;
 
 /// Does all that the program does, and answers how it ended.
-pub fn run<L: Library, K: Sink>(
+pub fn run<L: Library, K: Sink, D: Disk>(
     alloc: Global,
     words: &Words,
     library: &mut L,
     sink: &mut K,
+    disk: &mut D,
 ) -> Ended
     ensures status { result.status ≡ status_of (outcome_of result) }
     ensures words { (outcome_of result ≡ Err Fault.Words) ↔ (request_of words.now ≡ None) }
     ensures answered { IfSome (request_of words.now) (λ request. IfSome (L.files library.old) (λ shelf.
-        Answered (Ends request shelf) (K.taken sink.old) (K.taken sink.new) (outcome_of result))) }
-    ensures exact { NoneFailed (L.faults library.old) (L.faults library.new) (K.faults sink.old) (K.faults sink.new) →
-        IfSome (request_of words.now) (λ request. IfSome (L.files library.old) (λ shelf. IsExact (Ends request shelf) (outcome_of result))) }
+        Answered (Ends (D.content disk.old) request shelf) (K.taken sink.old) (K.taken sink.new) (outcome_of result))) }
+    ensures exact { NoneFailed (L.faults library.old) (L.faults library.new) (K.faults sink.old) (K.faults sink.new) (D.faults disk.old) (D.faults disk.new) →
+        IfSome (request_of words.now) (λ request. IfSome (L.files library.old) (λ shelf. IfSome (D.content disk.old) (λ content.
+        IsExact (Ends (Some content) request shelf) (outcome_of result)))) }
     ensures untold { HasUntoldCause (L.files library.old) (L.faults library.old) (L.faults library.new) (outcome_of result) }
     ensures silent { IsSilent (K.taken sink.old) (K.taken sink.new) (outcome_of result) }
     ensures library { outcome_of result ≡ Err Fault.Library → Rose (L.faults library.old) (L.faults library.new) }
     ensures sink { outcome_of result ≡ Err Fault.Sink → Rose (K.faults sink.old) (K.faults sink.new) }
+    ensures disk { outcome_of result ≡ Err Fault.Disk → Rose (D.faults disk.old) (D.faults disk.new) }
+    ensures key_made { outcome_of result ≡ Ok Verdict.Done → IfKey (request_of words.now) (λ secret kind. IfSome (L.files library.old) (λ shelf.
+        MakesKey D.Disk disk.new kind (secret_at shelf secret))) }
+    ensures key_held { ForSome (D.content disk.old) IsOpen → AtEachMoment D.Disk disk.old disk.new Stays }
+    ensures key_kept { IfKey (request_of words.now) (λ secret kind. ForSome (D.content disk.old) (λ c. IsOpen c → outcome_of result ≢ Ok Verdict.Done)) }
+    ensures disk_kept { UnlessKey (request_of words.now) (AtEachMoment D.Disk disk.old disk.new Stays) }
+    ensures stands { KeepsStanding D.Disk disk.old disk.new }
 {
     map_laws();
-    Ended::of(work(alloc, words, library, sink))
+    Ended::of(work(alloc, words, library, sink, disk))
 }
 
-fn work<L: Library, K: Sink>(
+fn work<L: Library, K: Sink, D: Disk>(
     alloc: Global,
     words: &Words,
     library: &mut L,
     sink: &mut K,
+    disk: &mut D,
 ) -> Result<Verdict, Fault>
     ensures words { (result ≡ Err Fault.Words) ↔ (request_of words.now ≡ None) }
     ensures answered { IfSome (request_of words.now) (λ request. IfSome (L.files library.old) (λ shelf.
-        Answered (Ends request shelf) (K.taken sink.old) (K.taken sink.new) result)) }
+        Answered (Ends (D.content disk.old) request shelf) (K.taken sink.old) (K.taken sink.new) result)) }
     ensures untold { HasUntoldCause (L.files library.old) (L.faults library.old) (L.faults library.new) result }
     ensures silent { IsSilent (K.taken sink.old) (K.taken sink.new) result }
     ensures library { result ≡ Err Fault.Library → Rose (L.faults library.old) (L.faults library.new) }
     ensures sink { result ≡ Err Fault.Sink → Rose (K.faults sink.old) (K.faults sink.new) }
+    ensures disk { result ≡ Err Fault.Disk → Rose (D.faults disk.old) (D.faults disk.new) }
+    ensures key_made { result ≡ Ok Verdict.Done → IfKey (request_of words.now) (λ secret kind. IfSome (L.files library.old) (λ shelf.
+        MakesKey D.Disk disk.new kind (secret_at shelf secret))) }
+    ensures key_held { ForSome (D.content disk.old) IsOpen → AtEachMoment D.Disk disk.old disk.new Stays }
+    ensures key_kept { IfKey (request_of words.now) (λ secret kind. ForSome (D.content disk.old) (λ c. IsOpen c → result ≢ Ok Verdict.Done)) }
+    ensures disk_kept { UnlessKey (request_of words.now) (AtEachMoment D.Disk disk.old disk.new Stays) }
+    ensures stands { KeepsStanding D.Disk disk.old disk.new }
 {
     match command_of(words) {
         None => Err(Fault::Words),
         Some(Command::Route { roads, from, to }) => route(alloc, library, sink, roads, from, to),
         Some(Command::Root { roads, fan }) => root(alloc, library, sink, roads, fan),
+        Some(Command::Key { secret, kind }) => key(alloc, library, sink, disk, secret, kind),
     }
 }

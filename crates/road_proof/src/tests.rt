@@ -1,7 +1,7 @@
 //! Worked cases of each command, over objects in memory.
 
 use crate::{Ended, Fault, MOST_WORDS, Words, run};
-use road_io::{MemLibrary, MemSink};
+use road_io::{MemDisk, MemLibrary, MemSink};
 use road_map::MapError;
 use road_reader::RoadError;
 use std::alloc::Global;
@@ -32,6 +32,12 @@ fn words_of(rt: &impl Abort, alloc: Global, line: &str) -> Result<Words, Fail> {
     Ok(words)
 }
 
+/// An empty disk, with room for a key of 32 slots.
+fn new_disk(alloc: Global) -> Result<MemDisk, Fail> {
+    let disk = MemDisk::new(alloc, 4160, 10_000, Vec::new(alloc), None)?;
+    Ok(disk)
+}
+
 /// Runs a command line over one file, and compares what it writes and how it ends.
 fn ends_with(
     rt: &impl Abort,
@@ -46,7 +52,8 @@ fn ends_with(
     let mut library = MemLibrary::new(alloc, Vec::new(alloc));
     library.put("map.roads", text)?;
     let mut sink = MemSink::new(alloc, ROOM, ROOM, Vec::new(alloc))?;
-    let ended = run(alloc, &words, &mut library, &mut sink);
+    let mut disk = new_disk(alloc)?;
+    let ended = run(alloc, &words, &mut library, &mut sink, &mut disk);
     assert_eq!(rt; ended, Ended { status, fault }, "at {line}");
     assert_eq!(rt; sink.taken(), written.as_bytes(), "at {line}");
     Ok(())
@@ -164,10 +171,11 @@ fn failing_objects_end_a_run(rt: HostRuntime) -> Result<(), Fail> {
     let mut library = MemLibrary::new(alloc, vec![in alloc; 0]?);
     library.put("map.roads", FIVE_NODES.as_bytes())?;
     let mut sink = MemSink::new(alloc, ROOM, 4, vec![in alloc; 1]?)?;
-    let first = run(alloc, &words, &mut library, &mut sink);
+    let mut disk = new_disk(alloc)?;
+    let first = run(alloc, &words, &mut library, &mut sink, &mut disk);
     assert_eq!(rt; first.status, 4);
     assert_eq!(rt; first.fault, Some(Fault::Library));
-    let second = run(alloc, &words, &mut library, &mut sink);
+    let second = run(alloc, &words, &mut library, &mut sink, &mut disk);
     assert_eq!(rt; second.status, 6);
     assert_eq!(rt; second.fault, Some(Fault::Sink));
     assert_eq!(rt; sink.taken(), b"9: 1".as_slice());
@@ -188,5 +196,69 @@ fn faults_read_as_sentences(rt: HostRuntime) -> Result<(), Fail> {
         let shown = format!(in alloc; "{fault}")?;
         assert_eq!(rt; shown.as_str(), text);
     }
+    Ok(())
+}
+
+/// The hex digits of 48 zero octets.
+const ZEROS: &str =
+    "000000000000000000000000000000000000000000000000000000000000000000000000000000000000000000000000";
+
+/// The public key of the kind h5 that an independent implementation makes of 48 zero octets.
+const PUBLIC: &str =
+    "000000050000000400000000000000000000000000000000829887511085dc8b9946d97b20163fe2ab4385e734979f535139cabe33cd694f";
+
+#[test]
+fn a_key_is_made_once(rt: HostRuntime) -> Result<(), Fail> {
+    let alloc = rt.alloc();
+    let words = words_of(&rt, alloc, "key secret h5")?;
+    let mut library = MemLibrary::new(alloc, Vec::new(alloc));
+    let secret = format!(in alloc; "{ZEROS}\r\n")?;
+    library.put("secret", secret.as_bytes())?;
+    let mut sink = MemSink::new(alloc, ROOM, ROOM, Vec::new(alloc))?;
+    let mut disk = new_disk(alloc)?;
+    let made = run(alloc, &words, &mut library, &mut sink, &mut disk);
+    assert_eq!(rt;
+        made,
+        Ended {
+            status: 0,
+            fault: None
+        }
+    );
+    let written = format!(in alloc; "{PUBLIC}\n")?;
+    assert_eq!(rt; sink.taken(), written.as_bytes());
+    let again = run(alloc, &words, &mut library, &mut sink, &mut disk);
+    assert_eq!(rt; again.status, 12);
+    assert_eq!(rt; again.fault, Some(Fault::Held));
+    assert_eq!(rt; sink.taken(), written.as_bytes());
+    Ok(())
+}
+
+#[test]
+fn secrets_are_exactly_their_digits(rt: HostRuntime) -> Result<(), Fail> {
+    let alloc = rt.alloc();
+    let bad = Some(Fault::BadHex);
+    for end in ["0", "g", "\n\n", " ", "\r"] {
+        let text = format!(in alloc; "{ZEROS}{end}")?;
+        ends_with(&rt, alloc, text.as_bytes(), "key map.roads h5", "", 3, bad)?;
+    }
+    ends_with(&rt, alloc, b"", "key map.roads h5", "", 3, bad)?;
+    ends_with(
+        &rt,
+        alloc,
+        b"",
+        "key map.roads h6",
+        "",
+        2,
+        Some(Fault::Words),
+    )?;
+    let mut disk = MemDisk::new(alloc, 4160, 10_000, vec![in alloc; 0]?, None)?;
+    let words = words_of(&rt, alloc, "key secret h5")?;
+    let mut library = MemLibrary::new(alloc, Vec::new(alloc));
+    library.put("secret", ZEROS.as_bytes())?;
+    let mut sink = MemSink::new(alloc, ROOM, ROOM, Vec::new(alloc))?;
+    let ended = run(alloc, &words, &mut library, &mut sink, &mut disk);
+    assert_eq!(rt; ended.status, 7);
+    assert_eq!(rt; ended.fault, Some(Fault::Disk));
+    assert_eq!(rt; sink.taken(), b"".as_slice());
     Ok(())
 }

@@ -1,0 +1,24 @@
+use Rattle.road_proof.proofs.Disks.{no_step}
+use Rattle.road_proof.proofs.KeyLemmas.{asked_of}
+use Rattle.road_proof.proofs.program.work.Goals as goal
+
+pub returns-in-None-clause-stands : goal.returns-in-None-clause-stands
+returns-in-None-clause-stands g c = no_step g.D.Disk c.args.disk.now
+
+pub returns-in-Some-Route-clause-stands : goal.returns-in-Some-Route-clause-stands
+returns-in-Some-Route-clause-stands g c = no_step g.D.Disk c.args.disk.now
+
+pub returns-in-Some-Root-clause-stands : goal.returns-in-Some-Root-clause-stands
+returns-in-Some-Root-clause-stands g c = no_step g.D.Disk c.args.disk.now
+
+pub returns-in-Some-Route-clause-answered : goal.returns-in-Some-Route-clause-answered
+returns-in-Some-Route-clause-answered g c =
+    asked_of _ _ (rw c.in-Some-Route.field-0-is at c.in-Some-Route.ensures) _ _ _ _ _ (c.route.ensures.answered (g.D.Disk.content c.args.disk.now))
+
+pub returns-in-Some-Root-clause-answered : goal.returns-in-Some-Root-clause-answered
+returns-in-Some-Root-clause-answered g c =
+    asked_of _ _ (rw c.in-Some-Root.field-0-is at c.in-Some-Root.ensures) _ _ _ _ _ (c.root.ensures.answered (g.D.Disk.content c.args.disk.now))
+
+pub returns-in-Some-Key-clause-answered : goal.returns-in-Some-Key-clause-answered
+returns-in-Some-Key-clause-answered g c =
+    asked_of _ _ (rw c.in-Some-Key.field-0-is at c.in-Some-Key.ensures) _ _ _ _ _ c.key.ensures.answered

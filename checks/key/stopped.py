@@ -1,0 +1,69 @@
+#!/usr/bin/env python3
+"""Stops `key` at random moments, and looks at what it left: checks/key/stopped.py PROGRAM [TIMES]
+
+Each time a fresh folder gets a random secret, `key` is started and killed after a random delay.
+Then `owner.desk` is read by the format in docs/FORMATS.md: its gate is closed, or its block is that
+of the secret and no slot is spent. Last, `key` is run again: it makes the key where the gate was
+closed, and refuses with status 12 where it was open, and then it leaves the file as it was.
+"""
+import os
+import random
+import subprocess
+import sys
+import tempfile
+import time
+
+SLOTS = {"h5": 32, "h10": 1024}
+TYPES = {"h5": 5, "h10": 6}
+
+
+def is_open(image):
+    return len(image) >= 64 and image[0] != 0
+
+
+def is_whole(image, secret, kind):
+    """The block is the secret's, each slot lies within the file, and none is spent."""
+    block = TYPES[kind].to_bytes(4, "big") + secret
+    return (len(image) == 64 + 128 * SLOTS[kind] and image[1:53] == block
+            and all(image[64 + 128 * slot] == 0 for slot in range(SLOTS[kind])))
+
+
+def read_desk(folder):
+    try:
+        with open(f"{folder}/owner.desk", "rb") as file:
+            return file.read()
+    except FileNotFoundError:
+        return b""
+
+
+def main():
+    program = os.path.abspath(sys.argv[1])
+    times = int(sys.argv[2]) if len(sys.argv) > 2 else 100
+    opened = 0
+    for number in range(times):
+        kind = "h5"
+        secret = os.urandom(48)
+        with tempfile.TemporaryDirectory() as folder:
+            with open(f"{folder}/secret", "w", encoding="ascii") as file:
+                file.write(secret.hex() + "\n")
+            words = [program, "key", "secret", kind]
+            first = subprocess.Popen(words, cwd=folder, stdout=subprocess.PIPE, stderr=subprocess.PIPE)
+            time.sleep(random.random() * 0.2)
+            first.kill()
+            first.communicate()
+            image = read_desk(folder)
+            assert not is_open(image) or is_whole(image, secret, kind), (number, image[:64].hex())
+            again = subprocess.run(words, cwd=folder, capture_output=True, text=True, check=False)
+            if is_open(image):
+                opened += 1
+                assert again.returncode == 12 and again.stdout == "", again
+                assert read_desk(folder) == image
+            else:
+                assert again.returncode == 0 and len(again.stdout) == 113, again
+                assert is_whole(read_desk(folder), secret, kind)
+                assert again.stdout.startswith("0000000500000004" + secret[:16].hex())
+    print(f"{times} times stopped: {opened} with the whole key, {times - opened} with none")
+
+
+if __name__ == "__main__":
+    main()

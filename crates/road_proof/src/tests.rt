@@ -203,6 +203,10 @@ fn faults_read_as_sentences(rt: HostRuntime) -> Result<(), Fail> {
 const ZEROS: &str =
     "000000000000000000000000000000000000000000000000000000000000000000000000000000000000000000000000";
 
+/// One digit too few.
+const SHORT: &str =
+    "00000000000000000000000000000000000000000000000000000000000000000000000000000000000000000000000";
+
 /// The public key of the kind h5 that an independent implementation makes of 48 zero octets.
 const PUBLIC: &str =
     "000000050000000400000000000000000000000000000000829887511085dc8b9946d97b20163fe2ab4385e734979f535139cabe33cd694f";
@@ -242,6 +246,7 @@ fn secrets_are_exactly_their_digits(rt: HostRuntime) -> Result<(), Fail> {
         ends_with(&rt, alloc, text.as_bytes(), "key map.roads h5", "", 3, bad)?;
     }
     ends_with(&rt, alloc, b"", "key map.roads h5", "", 3, bad)?;
+    ends_with(&rt, alloc, SHORT.as_bytes(), "key map.roads h5", "", 3, bad)?;
     ends_with(
         &rt,
         alloc,

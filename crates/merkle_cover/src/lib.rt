@@ -4,12 +4,14 @@
 
 pub use clashes::{TwoTexts, clash};
 pub use folds::{FoldError, are_rising, fold};
+pub use laws::cover_laws;
 pub use texts::Texts;
 pub use trees::{Tree, TreeError};
 
 mod clashes;
 mod covers;
 mod folds;
+mod laws;
 #[cfg(test)]
 mod tests;
 mod texts;

@@ -1,5 +1,5 @@
 -- Passing walks over a map and walks in it.
-use Rattle.std.proofs.Common.{◌≡◌, ℕ, ◌+◌, ◌^◌, ◌≤◌, ◌<◌, Bool, true, false, cond, nat_eq, Option, None, Some, IfSome, IsSome, List, [], ◌∷◌, ◌⊎◌, inl, inr, refl, arith, ap, sym, ◌∙◌, subst, map, length}
+use Rattle.std.proofs.Common.{◌≡◌, ℕ, ◌+◌, ◌^◌, ◌≤◌, ◌<◌, Bool, true, false, cond, nat_eq, Option, None, Some, IfSome, IsSome, List, [], ◌∷◌, ◌⊎◌, inl, inr, refl, arith, ap, sym, ◌∙◌, subst, length}
 use Rattle.std.specs.List.{Contains, list_any}
 use Rattle.std.specs.Cmp.{nat_eq_equiv}
 use Rattle.std.proofs.lemmas.Map.Views.{list_any-from_Contains, Contains-from_any}
@@ -71,7 +71,7 @@ arcs_for parts known u p (hop ∷ hops) here h =
       shorter = omega (arith, s.near, rest.shorter);
     }
 
-along_arcs : (parts : Parts) (u p : ℕ) (walk : List Arc) → Passes (map_ways parts) u p walk → AlongArcs parts.roads u walk
+pub along_arcs : (parts : Parts) (u p : ℕ) (walk : List Arc) → Passes (map_ways parts) u p walk → AlongArcs parts.roads u walk
 along_arcs parts u p [] h = tt
 along_arcs parts u p (a ∷ walk) h = ((leaves_out parts u a h.0).0, along_arcs parts a.to (p + a.length) walk h.2)
 
@@ -83,7 +83,7 @@ reaches_joins parts s limit t d known r =
     record { walk = record { start = s; hops = h.hops }; known = known; starts = refl; follows = h.follows; ends = h.ends ∙ p.ends; sums = h.sums ∙ p.sums }
 
 -- each walk of the map below the limit has a passing one that is no longer
-joins_reaches : (parts : Parts) → RoadsKnown parts → (s limit t d : ℕ) → d < limit → Joins parts s t d → (m : ℕ) × Reaches (map_ways parts) s limit t m × (m ≤ d)
+pub joins_reaches : (parts : Parts) → RoadsKnown parts → (s limit t d : ℕ) → d < limit → Joins parts s t d → (m : ℕ) × Reaches (map_ways parts) s limit t m × (m ≤ d)
 joins_reaches parts known s limit t d lt j =
     let here : Follows parts.roads s j.walk.hops = subst (λ u. Follows parts.roads u j.walk.hops) j.starts j.follows in
     let a : ArcsFor parts s 0 j.walk.hops = arcs_for parts known s 0 j.walk.hops j.known here in
@@ -136,7 +136,7 @@ way-shortest parts known short few s limit t o route here high h w = record {
 
 pub ways-shortest : (parts : Parts) → RoadsKnown parts → ShortRoads parts.roads → length parts.nodes ≤ 65536 → (s limit t : ℕ) (o : Option ℕ) (r : Option (List ℕ)) → Knows parts s → 2 ^ 48 ≤ limit → IsLeastPassing (map_ways parts) s limit t o → IfSome r (IsWay (map_ways parts) s limit t o) → IfSome r (IsShortestWay parts s t o)
 ways-shortest parts known short few s limit t o None here high h w = tt
-ways-shortest parts known short few s limit t o (Some route) here high h w = record { d = w.d; long = w.long; shortest = way-shortest parts known short few s limit t o route here high h w }
+ways-shortest parts known short few s limit t o (Some route) here high h w = record { d = w.d; long = w.long; shortest = way-shortest parts known short few s limit t o route here high h w; distinct = w.distinct }
 
 -- each labelled id has arcs
 pub none-missing : (parts : Parts) → RoadsKnown parts → (s limit : ℕ) → Knows parts s → (length : ℕ → Option ℕ) (missing : Option ℕ) → ((v : ℕ) → IsLeastPassing (map_ways parts) s limit v (length v)) → IsLeast (λ v. IsSome (length v) × ((map_ways parts).arcs v ≡ None)) missing → missing ≡ None

@@ -1,5 +1,5 @@
 -- The turns of a search over its maps.
-use Rattle.std.proofs.Common.{◌≡◌, ℕ, ◌+◌, ◌^◌, ◌≤◌, ◌<◌, ◌≢◌, Option, None, Some, IsSome, is_some, List, ◌⊎◌, inl, inr, refl, arith, sym, ◌∙◌, ap, true, false, cond, eqb, nat_eq, min}
+use Rattle.std.proofs.Common.{◌≡◌, ℕ, ◌+◌, ◌^◌, ◌≤◌, ◌<◌, ◌≢◌, Option, None, Some, IsSome, is_some, List, inl, inr, refl, arith, sym, ◌∙◌, ap, true, false, cond, eqb, nat_eq}
 use Rattle.std.proofs.lemmas.Bool.{cases_eq}
 use Rattle.std.proofs.lemmas.Map.Entries.{length-keys_of}
 use Rattle.std.proofs.lemmas.Map.Views.{Contains-from_any, IsSome-lookup_from_Contains}

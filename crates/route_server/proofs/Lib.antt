@@ -1,0 +1,12 @@
+pub mod Distinct
+pub mod Places
+pub mod Fits
+pub mod TextLemmas
+pub mod Known
+pub mod HeaderLemmas
+pub mod PickLemmas
+pub mod Answering
+pub mod Brought
+pub mod DijFits
+pub mod KeepLemmas
+pub mod OneHeader

@@ -1,0 +1,11 @@
+//! The owner's part: a map and its hints are signed and published.
+#![tactic(auto)]
+
+pub use errors::PublishError;
+pub use publishing::{publish, publish_text};
+
+mod errors;
+mod publishing;
+#[cfg(test)]
+mod tests;
+mod widths;

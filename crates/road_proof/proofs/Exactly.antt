@@ -21,7 +21,7 @@ use Rattle.road_proof.specs.Reading.{parts_at, IsMapFault}
 use Rattle.road_proof.specs.RouteLine.{IsRouteLine, IsFirstUnknown, AreApart}
 use Rattle.road_proof.specs.KeyLine.{secret_at}
 use Rattle.road_proof.specs.Endings.{Answered}
-use Rattle.road_proof.specs.Commands.{Ends, EndsRoute, EndsRoot, EndsKey}
+use Rattle.road_proof.specs.Commands.{Ends, IsTold, EndsRoute, EndsRoot, EndsKey}
 use Rattle.road_proof.specs.Exact.{NoneFailed, IsExact}
 use Rattle.road_proof.specs.declared.fault.Fault.{Fault}
 use Rattle.road_proof.specs.declared.fault.Fault.TheVariants.{Words, Missing, TooLong, Road, Map, BadHex, Library, Sink, Disk, Memory, UnknownNode, NoRoute, Held}
@@ -145,23 +145,24 @@ one_over : {X : Type 0} (read : Result X Fault) (E : X → Result Verdict Fault 
 one_over (Ok x) E o p s t one h k = one x h k
 one_over (Err e) E o p s t one h k = h.0 ∙ sym k.0
 
--- the files and the disk let a command end in one way
-one_end : Faults → ((parts : Parts) (u : ℕ) → ArcLaws parts u) → (content : List ℕ) (request : Request) (shelf : Shelf) (o p : Result Verdict Fault) (s t : List ℕ)
-    → Ends (Some content) request shelf o s → Ends (Some content) request shelf p t → o ≡ p
-one_end faults arcs content (Route roads from to) shelf o p s t h k =
+-- the files, and the disk where it must be told, let a command end in one way
+one_end : Faults → ((parts : Parts) (u : ℕ) → ArcLaws parts u) → (content : Option (List ℕ)) (request : Request) → IsTold request content → (shelf : Shelf) (o p : Result Verdict Fault) (s t : List ℕ)
+    → Ends content request shelf o s → Ends content request shelf p t → o ≡ p
+one_end faults arcs content (Route roads from to) told shelf o p s t h k =
     one_over (parts_at shelf roads) (EndsRoute from to) o p s t (λ parts. one_route_end faults arcs from to parts o p s t) h k
-one_end faults arcs content (Root roads fan) shelf o p s t h k =
+one_end faults arcs content (Root roads fan) told shelf o p s t h k =
     one_over (parts_at shelf roads) (EndsRoot fan) o p s t (λ parts. one_root_end faults fan parts o p s t) h k
-one_end faults arcs content (Key file kind) shelf o p s t h k =
+one_end faults arcs (Some content) (Key file kind) told shelf o p s t h k =
     one_over (secret_at shelf file) (EndsKey (Some content) kind) o p s t (λ secret. one_key_end content kind secret o p s t) h k
+one_end faults arcs None (Key file kind) told shelf o p s t h k = absurd (told refl)
 
 -- an answer is exact where no object outside failed
-exact : Faults → ((parts : Parts) (u : ℕ) → ArcLaws parts u) → (content : List ℕ) (request : Request) (shelf : Shelf) (old new : Option (List ℕ)) (outcome : Result Verdict Fault)
-    → Answered (Ends (Some content) request shelf) old new outcome → (outcome ≡ Err Library → ⊥) → (outcome ≡ Err Sink → ⊥) → (outcome ≡ Err Disk → ⊥)
-    → IsExact (Ends (Some content) request shelf) outcome
-exact faults arcs content request shelf old new outcome a library sink disk = by_end (called outcome a library sink disk)
+exact : Faults → ((parts : Parts) (u : ℕ) → ArcLaws parts u) → (content : Option (List ℕ)) (request : Request) (shelf : Shelf) (old new : Option (List ℕ)) (outcome : Result Verdict Fault)
+    → Answered (Ends content request shelf) old new outcome → (outcome ≡ Err Library → ⊥) → (outcome ≡ Err Sink → ⊥) → (outcome ≡ Err Disk → ⊥)
+    → IsTold request content → IsExact (Ends content request shelf) outcome
+exact faults arcs content request shelf old new outcome a library sink disk told = by_end (called outcome a library sink disk)
   where
-    called : (o : Result Verdict Fault) → Answered (Ends (Some content) request shelf) old new o → (o ≡ Err Library → ⊥) → (o ≡ Err Sink → ⊥) → (o ≡ Err Disk → ⊥) → o ≢ Err Memory → (text : List ℕ) × Ends (Some content) request shelf o text
+    called : (o : Result Verdict Fault) → Answered (Ends content request shelf) old new o → (o ≡ Err Library → ⊥) → (o ≡ Err Sink → ⊥) → (o ≡ Err Disk → ⊥) → o ≢ Err Memory → (text : List ℕ) × Ends content request shelf o text
     called (Ok verdict) a l k d m = (a.0, a.1)
     called (Err Memory) a l k d m = absurd (m refl)
     called (Err Library) a l k d m = absurd (l refl)
@@ -169,19 +170,18 @@ exact faults arcs content request shelf old new outcome a library sink disk = by
     called (Err Disk) a l k d m = absurd (d refl)
     called (Err fault) a l k d m = ([], a)
 
-    by_end : (outcome ≢ Err Memory → (text : List ℕ) × Ends (Some content) request shelf outcome text) → IsExact (Ends (Some content) request shelf) outcome
+    by_end : (outcome ≢ Err Memory → (text : List ℕ) × Ends content request shelf outcome text) → IsExact (Ends content request shelf) outcome
     by_end end = record {
       called_for = end;
-      only_one = λ other text full h. one_end faults arcs content request shelf outcome other (end full).0 text (end full).1 h;
+      only_one = λ other text full h. one_end faults arcs content request told shelf outcome other (end full).0 text (end full).1 h;
     }
 
 -- the same for the words, the library and the disk of a run
 pub exact_run : Faults → ((parts : Parts) (u : ℕ) → ArcLaws parts u) → (asked : Option Request) (files : Option Shelf) (content : Option (List ℕ)) (old new : Option (List ℕ)) (outcome : Result Verdict Fault) (l l' k k' d d' : ℕ)
     → IfSome asked (λ request. IfSome files (λ shelf. Answered (Ends content request shelf) old new outcome))
     → (outcome ≡ Err Library → Rose l l') → (outcome ≡ Err Sink → Rose k k') → (outcome ≡ Err Disk → Rose d d')
-    → NoneFailed l l' k k' d d' → IfSome asked (λ request. IfSome files (λ shelf. IfSome content (λ c. IsExact (Ends (Some c) request shelf) outcome)))
+    → NoneFailed l l' k k' d d' → IfSome asked (λ request. IfSome files (λ shelf. IsTold request content → IsExact (Ends content request shelf) outcome))
 exact_run faults arcs None files content old new outcome l l' k k' d d' a lc kc dc n = tt
 exact_run faults arcs (Some request) None content old new outcome l l' k k' d d' a lc kc dc n = tt
-exact_run faults arcs (Some request) (Some shelf) None old new outcome l l' k k' d d' a lc kc dc n = tt
-exact_run faults arcs (Some request) (Some shelf) (Some c) old new outcome l l' k k' d d' a lc kc dc n =
-    exact faults arcs c request shelf old new outcome a (λ e. n.library_stays (lc e)) (λ e. n.sink_stays (kc e)) (λ e. n.disk_stays (dc e))
+exact_run faults arcs (Some request) (Some shelf) content old new outcome l l' k k' d d' a lc kc dc n =
+    exact faults arcs content request shelf old new outcome a (λ e. n.library_stays (lc e)) (λ e. n.sink_stays (kc e)) (λ e. n.disk_stays (dc e))

@@ -1,5 +1,5 @@
 -- How the files let each command end.
-use Rattle.std.specs.Prelude.{◌≡◌, ℕ, List, [], IfSome, MatchResult}
+use Rattle.std.specs.Prelude.{◌≡◌, ◌≢◌, ℕ, None, List, [], IfSome, MatchResult}
 use Rattle.std.specs.declared.option.Option.{Option}
 use Rattle.std.specs.declared.result.Result.{Result}
 use Rattle.std.specs.declared.result.Result.TheVariants.{Ok, Err}
@@ -49,6 +49,12 @@ Ends content (Root roads fan) shelf outcome text =
     MatchResult (parts_at shelf roads) (λ parts. EndsRoot fan parts outcome text) (λ first. (outcome ≡ Err first) × (text ≡ []))
 Ends content (Key file kind) shelf outcome text =
     MatchResult (secret_at shelf file) (λ secret. EndsKey content kind secret outcome text) (λ first. (outcome ≡ Err first) × (text ≡ []))
+
+-- What must be told of the disk, so that an end is exact: its content, for a command that uses the disk.
+abbrev pub IsTold : Request → Option (List ℕ) → Type 0
+IsTold (Key file kind) content = content ≢ None
+IsTold (Route roads from to) content = Unit {0}
+IsTold (Root roads fan) content = Unit {0}
 
 -- what a command promises that loads files and writes to the sink
 pub record EndsByFiles (request : Request)

@@ -12,7 +12,7 @@ ghost use Rattle.road_proof.specs.KeyLine.{secret_at};
 ghost use Rattle.road_proof.specs.OwnerKey.{MakesKey, IfKey, UnlessKey};
 ghost use Rattle.road_proof.specs.Outcomes.{outcome_of, status_of};
 ghost use Rattle.road_proof.specs.Endings.{Answered, IsSilent, HasUntoldCause};
-ghost use Rattle.road_proof.specs.Commands.{Ends};
+ghost use Rattle.road_proof.specs.Commands.{Ends, IsTold};
 ghost use Rattle.road_proof.specs.Exact.{NoneFailed, IsExact};
 
 use crate::command::{Command, command_of};
@@ -39,8 +39,8 @@ pub fn run<L: Library, K: Sink, D: Disk>(
     ensures answered { IfSome (request_of words.now) (λ request. IfSome (L.files library.old) (λ shelf.
         Answered (Ends (D.content disk.old) request shelf) (K.taken sink.old) (K.taken sink.new) (outcome_of result))) }
     ensures exact { NoneFailed (L.faults library.old) (L.faults library.new) (K.faults sink.old) (K.faults sink.new) (D.faults disk.old) (D.faults disk.new) →
-        IfSome (request_of words.now) (λ request. IfSome (L.files library.old) (λ shelf. IfSome (D.content disk.old) (λ content.
-        IsExact (Ends (Some content) request shelf) (outcome_of result)))) }
+        IfSome (request_of words.now) (λ request. IfSome (L.files library.old) (λ shelf. IsTold request (D.content disk.old) →
+        IsExact (Ends (D.content disk.old) request shelf) (outcome_of result))) }
     ensures untold { HasUntoldCause (L.files library.old) (L.faults library.old) (L.faults library.new) (outcome_of result) }
     ensures silent { IsSilent (K.taken sink.old) (K.taken sink.new) (outcome_of result) }
     ensures library { outcome_of result ≡ Err Fault.Library → Rose (L.faults library.old) (L.faults library.new) }

@@ -11,7 +11,7 @@ use Rattle.road_io.specs.Moments.{EachImage, AtEachMoment}
 use Rattle.book_model.specs.declared.settings.Settings.{Settings}
 use Rattle.lms_tree.specs.Signatures.{KeyOf, number_at, seal_len, height_of}
 use Rattle.key_desk.specs.Desk.{IsSignature}
-use Rattle.key_desk.specs.Layout.{gate_at, place_of, IsSigned, OutsideSlot, SignsAtMost}
+use Rattle.key_desk.specs.Layout.{slots_of, gate_at, place_of, IsSigned, OutsideSlot, SignsAtMost}
 use Rattle.proof_octets.specs.declared.header.Header.{Header}
 use Rattle.proof_octets.specs.declared.publication.Publication.{Publication}
 use Rattle.proof_octets.specs.Headers.{header_text}
@@ -122,6 +122,10 @@ part_written room len text items out is same within whole =
           ∙ at ∙ sym (append_assoc (take 110 items) out (drop (110 + room) items)),
     )
 
+-- the slot that a signature names is one of the key's
+slot_so : (key now : KeyOf) (q : ℕ) (signature : List ℕ) → now ≡ key → q < slots_of now.kind → number_at signature 0 ≡ q → number_at signature 0 < slots_of key.kind
+slot_so key now q signature same within number = subst (λ n. n < slots_of key.kind) (sym number) (subst (λ (k : KeyOf). q < slots_of k.kind) same within)
+
 -- a signature of the header, at its slot
 pub signed_so : (key now : KeyOf) (q : ℕ) (header : Header) (text signature : List ℕ) → now ≡ key → text ≡ header_text header → IsSignature now q text signature
     → (number_at signature 0 ≡ q) × IsSignature key (number_at signature 0) (header_text header) signature
@@ -145,22 +149,23 @@ module _ {D : Type 0} (g : Ghosts D) (old new : D) where
 
 -- the publication that is made of parts, a header and its signature
 pub published_so : Ranges → (hash : List ℕ → List ℕ) (parts left : Parts) (s : Settings) (header : Header) (made signature : List ℕ) (key now : KeyOf) (q : ℕ) (text : List ℕ)
-    → IsSignable hash parts s header left → made ≡ signature → length signature ≤ 1452 → now ≡ key → text ≡ header_text header → IsSignature now q text signature → IsPublication hash key parts s (publication_with header left s made)
-published_so ranges hash parts left s header made signature key now q text is same short keys of good = record {
+    → IsSignable hash parts s header left → made ≡ signature → length signature ≤ 1452 → now ≡ key → q < slots_of now.kind → text ≡ header_text header → IsSignature now q text signature → IsPublication hash key parts s (publication_with header left s made)
+published_so ranges hash parts left s header made signature key now q text is same short keys within of good = record {
   of_parts = is.same;
   of_settings = refl;
   has_header = is.has;
+  slot = subst (λ x. number_at x 0 < slots_of key.kind) (sym same) (slot_so key now q signature keys within good.number);
   signed = subst (λ x. IsSignature key (number_at x 0) (header_text header) x) (sym same) (signed_so key now q header text signature keys of good).1;
   fits = fits_with ranges hash parts left s header made is (rw same short);
 }
 
 -- the text of that publication
 pub text_so : (hash : List ℕ → List ℕ) (parts : Parts) (s : Settings) (room : ℕ) (header : Header) (old new signature : List ℕ) (key now : KeyOf) (q : ℕ) (text : List ℕ) {D : Type 0} (g : Ghosts D) (before after : D)
-    → IsUnsigned hash parts s room header old → (length signature ≡ room) × (new ≡ take 110 old ++ signature ++ drop (110 + room) old) → now ≡ key → text ≡ header_text header → IsSignature now q text signature
+    → IsUnsigned hash parts s room header old → (length signature ≡ room) × (new ≡ take 110 old ++ signature ++ drop (110 + room) old) → now ≡ key → q < slots_of now.kind → text ≡ header_text header → IsSignature now q text signature
     → EachImage g before (λ i. gate_at i (place_of q) ≡ 0) → EachImage g after (λ i. IsSigned i q text) → IsPublishedText g before after hash key parts s new
-text_so hash parts s room header old new signature key now q text g before after is at keys of good free stands = record {
+text_so hash parts s room header old new signature key now q text g before after is at keys within of good free stands = record {
   publication = publication_with header parts s signature;
-  is = record { of_parts = refl; of_settings = refl; has_header = is.has; signed = (signed_so key now q header text signature keys of good).1; fits = is.fits signature at.0 };
+  is = record { of_parts = refl; of_settings = refl; has_header = is.has; slot = slot_so key now q signature keys within good.number; signed = (signed_so key now q header text signature keys of good).1; fits = is.fits signature at.0 };
   on_disk = sealed_so g before after (publication_with header parts s signature) q text good.number of free stands;
   spelled = at.1 ∙ sym (is.spells signature at.0);
 }

@@ -12,7 +12,7 @@ use Rattle.lms_tree.specs.Signatures.{KeyOf, number_at}
 use Rattle.key_desk.specs.Desk.{IsSignature, count_of}
 use Rattle.key_desk.specs.declared.desk.Desk.{Desk as View}
 use Rattle.key_desk.specs.declared.desk.Count.TheVariants as counts
-use Rattle.key_desk.specs.Layout.{gate_at, place_of, IsSigned, OutsideSlot, SignsAtMost}
+use Rattle.key_desk.specs.Layout.{slots_of, gate_at, place_of, IsSigned, OutsideSlot, SignsAtMost}
 use Rattle.proof_octets.specs.declared.header.Header.{Header}
 use Rattle.proof_octets.specs.declared.publication.Publication.{Publication}
 use Rattle.proof_octets.specs.Headers.{header_text}
@@ -33,6 +33,7 @@ pub record IsPublication (hash : List ℕ → List ℕ) (key : KeyOf) (parts : P
   pub of_parts : p.parts ≡ parts
   pub of_settings : p.settings ≡ s
   pub has_header : HasHeader hash sha256 parts s p.header
+  pub slot : slot_of p < slots_of key.kind
   pub signed : IsSignature key (slot_of p) (header_text p.header) p.signature
   pub fits : publication.Fits p
 

@@ -6,7 +6,7 @@ pub returns-in-Ok-sign-clause-published : goal.returns-in-Ok-sign-clause-publish
 returns-in-Ok-sign-clause-published g c =
     text_so _ _ _ c.sig_len-length.result c.in-Ok.unsigned.header c.in-Ok.unsigned.text.items _ c.sign.new.out _ _ _ _ g.D.Disk _ _ c.in-Ok.ensures.unsigned
     (part_written c.sig_len-length.result c.in-Ok.unsigned.text.len c.deref_mut.result.now c.in-Ok.unsigned.text.items c.sign.new.out c.deref_mut.ensures.value c.sign.auto.out c.in-Ok.ensures.unsigned.long c.in-Ok.unsigned.text.ok.0)
-    c.in-Ok-sign.ensures.same c.write.ensures c.in-Ok-sign.ensures.signature c.in-Ok-sign.ensures.was_free c.in-Ok-sign.ensures.signed.signed
+    c.in-Ok-sign.ensures.same c.in-Ok-sign.ensures.signed.within c.write.ensures c.in-Ok-sign.ensures.signature c.in-Ok-sign.ensures.was_free c.in-Ok-sign.ensures.signed.signed
 
 pub returns-in-Ok-sign-clause-moments : goal.returns-in-Ok-sign-clause-moments
 returns-in-Ok-sign-clause-moments g c =

@@ -1,5 +1,5 @@
 -- Where no object outside failed, a command ends as its files call for.
-use Rattle.std.proofs.Common.{◌≡◌, ◌≢◌, ◌⊎◌, ℕ, ◌+◌, List, [], ◌∷◌, refl, sym, ap, subst, ◌∙◌, inl, inr, IfSome, MatchResult}
+use Rattle.std.proofs.Common.{◌≡◌, ◌≢◌, ◌⊎◌, ℕ, ◌+◌, List, [], ◌∷◌, refl, sym, ap, subst, ◌∙◌, inl, inr, IfSome, MatchResult, arith}
 use Rattle.std.proofs.lemmas.Bool.{cases_eq}
 use Rattle.std.specs.declared.option.Option.{Option}
 use Rattle.std.specs.declared.option.Option.TheVariants.{None, Some}
@@ -16,27 +16,36 @@ use Rattle.road_map.specs.Laws.{FaultLaws, ArcLaws, HasRoad}
 use Rattle.road_map.specs.declared.parts.Parts.{Parts}
 use Rattle.road_map.specs.declared.error.MapError.{MapError}
 use Rattle.road_map.specs.declared.error.MapError.TheVariants as map_errors
-use Rattle.road_proof.specs.Requests.{Request, Route, Root, Key}
-use Rattle.road_proof.specs.Reading.{parts_at, IsMapFault}
+use Rattle.road_command.specs.Requests.{Request, Route, Root, Key, Publish, Prove, Check}
+use Rattle.road_proof.specs.Reading.{octets_at, parts_at, publication_at, IsMapFault}
 use Rattle.road_proof.specs.RouteLine.{IsRouteLine, IsFirstUnknown, AreApart}
-use Rattle.road_proof.specs.KeyLine.{secret_at}
+use Rattle.road_proof.specs.HexFiles.{secret_at, public_key_at}
 use Rattle.road_proof.specs.Endings.{Answered}
 use Rattle.road_proof.specs.Commands.{Ends, IsTold, EndsRoute, EndsRoot, EndsKey}
+use Rattle.book_model.specs.declared.items.Query.{Query}
+use Rattle.book_model.specs.declared.settings.Settings.{Settings}
+use Rattle.proof_octets.specs.declared.header.Header.{Header}
+use Rattle.proof_octets.specs.declared.publication.Publication.{Publication}
+use Rattle.route_owner.specs.Published.{slot_of}
+use Rattle.sha2.specs.Sha256.{sha256}
+use Rattle.route_client.specs.declared.accepted.Accepted.{Accepted}
+use Rattle.route_client.specs.declared.errors.CheckError.{CheckError}
+use Rattle.route_client.specs.Verdicts.{IsVerdict}
+use Rattle.road_proof.specs.Checking.{EndsCheck}
+use Rattle.road_proof.specs.Installing.{EndsBuilding}
+use Rattle.road_proof.specs.Proving.{EndsReply, EndsProve}
+use Rattle.road_proof.specs.Publishing.{EndsOpening, EndsSigning, EndsPublish, IsSignedFrom, AllSpent}
+use Rattle.road_proof.proofs.OneBuilding.{Faults, OneMaking, not_map, one_map_fault, one_building, one_installing}
 use Rattle.road_proof.specs.Exact.{NoneFailed, IsExact}
 use Rattle.road_proof.specs.declared.fault.Fault.{Fault}
-use Rattle.road_proof.specs.declared.fault.Fault.TheVariants.{Words, Missing, TooLong, Road, Map, BadHex, Library, Sink, Disk, Memory, UnknownNode, NoRoute, Held}
+use Rattle.road_proof.specs.declared.fault.Fault.TheVariants.{Words, Missing, TooLong, Road, Map, Plan, Malformed, HeaderWrong, BadHex, OtherKey, Library, Sink, Disk, KeysUsedUp, Memory, UnknownNode, NoRoute, Held, NoKey, BadBlock, OtherPublication}
 use Rattle.road_proof.specs.declared.ended.Verdict.{Verdict}
-use Rattle.road_proof.specs.declared.ended.Verdict.TheVariants.{Done}
+use Rattle.road_proof.specs.declared.ended.Verdict.TheVariants.{Done, Refused}
 
--- the laws of the faults of all parts
-abbrev Faults : Type 0
-Faults = (parts : Parts) → FaultLaws parts
-
-not_map : Faults → (parts : Parts) (fault : MapError) → IsMap parts → IsMapFault parts fault → ⊥
-not_map laws parts fault is h = h.1 ((laws parts).none is fault h.0)
-
-one_map_fault : Faults → (parts : Parts) (e f : MapError) → IsMapFault parts e → IsMapFault parts f → e ≡ f
-one_map_fault laws parts e f h k = (laws parts).one e f h.0 k.0 h.1 k.1
+-- octets have one verdict at most
+abbrev pub OneVerdict : Type 0
+OneVerdict = (hash : List ℕ → List ℕ) (key octets : List ℕ) (q : Query) (least : ℕ) (v w : Result Accepted CheckError)
+    → IsVerdict hash key octets q least v → IsVerdict hash key octets q least w → v ≡ w
 
 -- a shortest route joins two known ends
 knows_start : (parts : Parts) (from to : ℕ) (text : List ℕ) → IsRouteLine parts from to text → Knows parts from
@@ -85,7 +94,7 @@ hops_along parts laws u (a ∷ arcs) h =
     }
 
 -- a shortest route is a walk
-shortest_joins : (parts : Parts) → ((u : ℕ) → ArcLaws parts u) → (from to d : ℕ) (route : List ℕ) → IsShortest parts from to route d → Joins parts from to d
+pub shortest_joins : (parts : Parts) → ((u : ℕ) → ArcLaws parts u) → (from to d : ℕ) (route : List ℕ) → IsShortest parts from to route d → Joins parts from to d
 shortest_joins parts laws from to d route h =
     let w : HopsAlong parts.roads from h.arcs = hops_along parts laws from h.arcs h.along in
     record { walk = record { start = from; hops = w.hops }; known = h.known.0; starts = refl; follows = w.follows; ends = w.ends ∙ h.ends; sums = w.sums ∙ h.sums }
@@ -100,43 +109,43 @@ one_route_end faults arcs from to parts (Ok Done) (Ok Done) s t h k = refl
 one_route_end faults arcs from to parts (Ok Done) (Err (Map f)) s t h k = absurd (not_map faults parts f h.0 k.0)
 one_route_end faults arcs from to parts (Ok Done) (Err (UnknownNode b)) s t h k = absurd (both_known parts from to b (knows_start parts from to s h.1) (knows_end parts from to s h.1) k.1)
 one_route_end faults arcs from to parts (Ok Done) (Err NoRoute) s t h k = absurd (not_apart parts (arcs parts) from to s k.1 h.1)
-one_route_end faults arcs from to parts (Ok Done) (Err f) s t h k = absurd k
+one_route_end faults arcs from to parts (Ok Done) p s t h k = absurd k
 one_route_end faults arcs from to parts (Err (Map e)) (Ok Done) s t h k = absurd (not_map faults parts e k.0 h.0)
 one_route_end faults arcs from to parts (Err (Map e)) (Err (Map f)) s t h k = ap (λ x. Err (Map x)) (one_map_fault faults parts e f h.0 k.0)
 one_route_end faults arcs from to parts (Err (Map e)) (Err (UnknownNode b)) s t h k = absurd (not_map faults parts e k.0 h.0)
 one_route_end faults arcs from to parts (Err (Map e)) (Err NoRoute) s t h k = absurd (not_map faults parts e k.0 h.0)
-one_route_end faults arcs from to parts (Err (Map e)) (Err f) s t h k = absurd k
+one_route_end faults arcs from to parts (Err (Map e)) p s t h k = absurd k
 one_route_end faults arcs from to parts (Err (UnknownNode a)) (Ok Done) s t h k = absurd (both_known parts from to a (knows_start parts from to t k.1) (knows_end parts from to t k.1) h.1)
 one_route_end faults arcs from to parts (Err (UnknownNode a)) (Err (Map f)) s t h k = absurd (not_map faults parts f h.0 k.0)
 one_route_end faults arcs from to parts (Err (UnknownNode a)) (Err (UnknownNode b)) s t h k = ap (λ x. Err (UnknownNode x)) (one_unknown parts from to a b h.1 k.1)
 one_route_end faults arcs from to parts (Err (UnknownNode a)) (Err NoRoute) s t h k = absurd (both_known parts from to a k.1.start k.1.end h.1)
-one_route_end faults arcs from to parts (Err (UnknownNode a)) (Err f) s t h k = absurd k
+one_route_end faults arcs from to parts (Err (UnknownNode a)) p s t h k = absurd k
 one_route_end faults arcs from to parts (Err NoRoute) (Ok Done) s t h k = absurd (not_apart parts (arcs parts) from to t h.1 k.1)
 one_route_end faults arcs from to parts (Err NoRoute) (Err (Map f)) s t h k = absurd (not_map faults parts f h.0 k.0)
 one_route_end faults arcs from to parts (Err NoRoute) (Err (UnknownNode b)) s t h k = absurd (both_known parts from to b h.1.start h.1.end k.1)
 one_route_end faults arcs from to parts (Err NoRoute) (Err NoRoute) s t h k = refl
-one_route_end faults arcs from to parts (Err NoRoute) (Err f) s t h k = absurd k
-one_route_end faults arcs from to parts (Err e) p s t h k = absurd h
+one_route_end faults arcs from to parts (Err NoRoute) p s t h k = absurd k
+one_route_end faults arcs from to parts o p s t h k = absurd h
 
 -- over parts, `root` has one end
 one_root_end : Faults → (fan : ℕ) (parts : Parts) (o p : Result Verdict Fault) (s t : List ℕ) → EndsRoot fan parts o s → EndsRoot fan parts p t → o ≡ p
 one_root_end faults fan parts (Ok Done) (Ok Done) s t h k = refl
 one_root_end faults fan parts (Ok Done) (Err (Map f)) s t h k = absurd (not_map faults parts f h.0 k.0)
-one_root_end faults fan parts (Ok Done) (Err f) s t h k = absurd k
+one_root_end faults fan parts (Ok Done) p s t h k = absurd k
 one_root_end faults fan parts (Err (Map e)) (Ok Done) s t h k = absurd (not_map faults parts e k.0 h.0)
 one_root_end faults fan parts (Err (Map e)) (Err (Map f)) s t h k = ap (λ x. Err (Map x)) (one_map_fault faults parts e f h.0 k.0)
-one_root_end faults fan parts (Err (Map e)) (Err f) s t h k = absurd k
-one_root_end faults fan parts (Err e) p s t h k = absurd h
+one_root_end faults fan parts (Err (Map e)) p s t h k = absurd k
+one_root_end faults fan parts o p s t h k = absurd h
 
 -- over what a disk holds, `key` has one end
 one_key_end : (content : List ℕ) (kind : ℕ) (secret : List ℕ) (o p : Result Verdict Fault) (s t : List ℕ) → EndsKey (Some content) kind secret o s → EndsKey (Some content) kind secret p t → o ≡ p
 one_key_end content kind secret (Ok Done) (Ok Done) s t h k = refl
 one_key_end content kind secret (Ok Done) (Err Held) s t h k = absurd (h.0 content refl (k.0 content refl))
-one_key_end content kind secret (Ok Done) (Err f) s t h k = absurd k
+one_key_end content kind secret (Ok Done) p s t h k = absurd k
 one_key_end content kind secret (Err Held) (Ok Done) s t h k = absurd (k.0 content refl (h.0 content refl))
 one_key_end content kind secret (Err Held) (Err Held) s t h k = refl
-one_key_end content kind secret (Err Held) (Err f) s t h k = absurd k
-one_key_end content kind secret (Err e) p s t h k = absurd h
+one_key_end content kind secret (Err Held) p s t h k = absurd k
+one_key_end content kind secret o p s t h k = absurd h
 
 -- what a file's parts, or its first fault, make the one end
 one_over : {X : Type 0} (read : Result X Fault) (E : X → Result Verdict Fault → List ℕ → Type 0) (o p : Result Verdict Fault) (s t : List ℕ)
@@ -145,22 +154,97 @@ one_over : {X : Type 0} (read : Result X Fault) (E : X → Result Verdict Fault 
 one_over (Ok x) E o p s t one h k = one x h k
 one_over (Err e) E o p s t one h k = h.0 ∙ sym k.0
 
+-- over an installed publication, `prove` has one end
+one_reply : (p : Publication) (q : Query) (o e : Result Verdict Fault) (s t : List ℕ) → EndsReply q p o s → EndsReply q p e t → o ≡ e
+one_reply p q (Ok Done) (Ok Done) s t h k = refl
+one_reply p q (Ok Done) (Err (UnknownNode id)) s t h k = absurd (both_known p.parts q.from q.to id h.0.walk.known h.0.end k.0)
+one_reply p q (Ok Done) (Err NoRoute) s t h k = absurd (k.0.apart h.0.length h.0.walk)
+one_reply p q (Ok Done) e s t h k = absurd k
+one_reply p q (Err (UnknownNode id)) (Ok Done) s t h k = absurd (both_known p.parts q.from q.to id k.0.walk.known k.0.end h.0)
+one_reply p q (Err (UnknownNode id)) (Err (UnknownNode b)) s t h k = ap (λ x. Err (UnknownNode x)) (one_unknown p.parts q.from q.to id b h.0 k.0)
+one_reply p q (Err (UnknownNode id)) (Err NoRoute) s t h k = absurd (both_known p.parts q.from q.to id k.0.start k.0.end h.0)
+one_reply p q (Err (UnknownNode id)) e s t h k = absurd k
+one_reply p q (Err NoRoute) (Ok Done) s t h k = absurd (h.0.apart k.0.length k.0.walk)
+one_reply p q (Err NoRoute) (Err (UnknownNode id)) s t h k = absurd (both_known p.parts q.from q.to id h.0.start h.0.end k.0)
+one_reply p q (Err NoRoute) (Err NoRoute) s t h k = refl
+one_reply p q (Err NoRoute) e s t h k = absurd k
+one_reply p q o e s t h k = absurd h
+
+-- over a key and octets, `check` has one end
+one_check : OneVerdict → (key octets : List ℕ) (q : Query) (least : ℕ) (o e : Result Verdict Fault) (s t : List ℕ) → EndsCheck key octets q least o s → EndsCheck key octets q least e t → o ≡ e
+one_check one key octets q least (Ok Done) (Ok Done) s t h k = refl
+one_check one key octets q least (Ok Done) (Ok Refused) s t h k = absurd (differ h.0 k.0 (one sha256 key octets q least (Ok h.0) (Err k.0) h.1 k.2))
+  where
+    differ : (x : Accepted) (e : CheckError) → Ok x ≡ Err e → ⊥
+    differ x e is = cc
+one_check one key octets q least (Ok Done) e s t h k = absurd k
+one_check one key octets q least (Ok Refused) (Ok Done) s t h k = absurd (differ k.0 h.0 (one sha256 key octets q least (Ok k.0) (Err h.0) k.1 h.2))
+  where
+    differ : (x : Accepted) (e : CheckError) → Ok x ≡ Err e → ⊥
+    differ x e is = cc
+one_check one key octets q least (Ok Refused) (Ok Refused) s t h k = refl
+one_check one key octets q least (Ok Refused) e s t h k = absurd k
+one_check one key octets q least o e s t h k = absurd h
+
+-- over parts that have a header, `publish` has one end
+one_signing : (content : List ℕ) (parts : Parts) (st : Settings) (h : Header) (o e : Result Verdict Fault) (s t : List ℕ) → EndsSigning (Some content) parts st h o s → EndsSigning (Some content) parts st h e t → o ≡ e
+one_signing content parts st h (Ok Done) (Ok Done) s t a b = refl
+one_signing content parts st h (Ok Done) (Err KeysUsedUp) s t a b = absurd (used content st h a.0 (a.1.signed content refl) (b.0 content refl))
+  where
+    used : (content : List ℕ) (st : Settings) (h : Header) (p : Publication) → IsSignedFrom content h p → AllSpent content → ⊥
+    used content st h p is all = omega (arith, is.unused, all (slot_of p) is.slot)
+one_signing content parts st h (Ok Done) e s t a b = absurd b
+one_signing content parts st h (Err KeysUsedUp) (Ok Done) s t a b = absurd (used content st h b.0 (b.1.signed content refl) (a.0 content refl))
+  where
+    used : (content : List ℕ) (st : Settings) (h : Header) (p : Publication) → IsSignedFrom content h p → AllSpent content → ⊥
+    used content st h p is all = omega (arith, is.unused, all (slot_of p) is.slot)
+one_signing content parts st h (Err KeysUsedUp) (Err KeysUsedUp) s t a b = refl
+one_signing content parts st h (Err KeysUsedUp) e s t a b = absurd b
+one_signing content parts st h o e s t a b = absurd a
+
+-- over what a disk holds, a desk opens in one way
+one_opening : (content : List ℕ) (Next : Result Verdict Fault → List ℕ → Type 0) (o e : Result Verdict Fault) (s t : List ℕ) → (Next o s → Next e t → o ≡ e)
+    → EndsOpening (Some content) Next o s → EndsOpening (Some content) Next e t → o ≡ e
+one_opening content Next o e s t one (inl a) (inl b) = a.0 ∙ sym b.0
+one_opening content Next o e s t one (inl a) (inr (inl b)) = absurd (a.1 content refl (b.1 content refl).0)
+one_opening content Next o e s t one (inl a) (inr (inr b)) = absurd (a.1 content refl (b.0 content refl).open_gate)
+one_opening content Next o e s t one (inr (inl a)) (inl b) = absurd (b.1 content refl (a.1 content refl).0)
+one_opening content Next o e s t one (inr (inl a)) (inr (inl b)) = a.0 ∙ sym b.0
+one_opening content Next o e s t one (inr (inl a)) (inr (inr b)) = absurd ((b.0 content refl).good_block (a.1 content refl).1)
+one_opening content Next o e s t one (inr (inr a)) (inl b) = absurd (b.1 content refl (a.0 content refl).open_gate)
+one_opening content Next o e s t one (inr (inr a)) (inr (inl b)) = absurd ((a.0 content refl).good_block (b.1 content refl).1)
+one_opening content Next o e s t one (inr (inr a)) (inr (inr b)) = one a.1 b.1
+
+one_publish_end : OneMaking → (content : List ℕ) (st : Settings) (parts : Parts) (o e : Result Verdict Fault) (s t : List ℕ)
+    → EndsPublish (Some content) st parts o s → EndsPublish (Some content) st parts e t → o ≡ e
+one_publish_end makings content st parts o e s t =
+    one_opening content (EndsBuilding parts st (EndsSigning (Some content) parts st)) o e s t
+    (one_building (EndsSigning (Some content) parts st) o e s t makings parts st (λ h. one_signing content parts st h o e s t))
+
 -- the files, and the disk where it must be told, let a command end in one way
-one_end : Faults → ((parts : Parts) (u : ℕ) → ArcLaws parts u) → (content : Option (List ℕ)) (request : Request) → IsTold request content → (shelf : Shelf) (o p : Result Verdict Fault) (s t : List ℕ)
+one_end : Faults → ((parts : Parts) (u : ℕ) → ArcLaws parts u) → OneMaking → OneVerdict → (content : Option (List ℕ)) (request : Request) → IsTold request content → (shelf : Shelf) (o p : Result Verdict Fault) (s t : List ℕ)
     → Ends content request shelf o s → Ends content request shelf p t → o ≡ p
-one_end faults arcs content (Route roads from to) told shelf o p s t h k =
+one_end faults arcs makings verdicts content (Route roads from to) told shelf o p s t h k =
     one_over (parts_at shelf roads) (EndsRoute from to) o p s t (λ parts. one_route_end faults arcs from to parts o p s t) h k
-one_end faults arcs content (Root roads fan) told shelf o p s t h k =
+one_end faults arcs makings verdicts content (Root roads fan) told shelf o p s t h k =
     one_over (parts_at shelf roads) (EndsRoot fan) o p s t (λ parts. one_root_end faults fan parts o p s t) h k
-one_end faults arcs (Some content) (Key file kind) told shelf o p s t h k =
+one_end faults arcs makings verdicts (Some content) (Key file kind) told shelf o p s t h k =
     one_over (secret_at shelf file) (EndsKey (Some content) kind) o p s t (λ secret. one_key_end content kind secret o p s t) h k
-one_end faults arcs None (Key file kind) told shelf o p s t h k = absurd (told refl)
+one_end faults arcs makings verdicts None (Key file kind) told shelf o p s t h k = absurd (told refl)
+one_end faults arcs makings verdicts (Some content) (Publish roads settings) told shelf o p s t h k =
+    one_over (parts_at shelf roads) (EndsPublish (Some content) settings) o p s t (λ parts. one_publish_end makings content settings parts o p s t) h k
+one_end faults arcs makings verdicts None (Publish roads settings) told shelf o p s t h k = absurd (told refl)
+one_end faults arcs makings verdicts content (Prove file q) told shelf o p s t h k =
+    one_over (publication_at shelf file) (EndsProve q) o p s t (λ b. one_installing makings b (EndsReply q b) o p s t (one_reply b q o p s t)) h k
+one_end faults arcs makings verdicts content (Check key reply q least) told shelf o p s t h k =
+    one_over (public_key_at shelf key) (λ k o s. MatchResult (octets_at shelf reply) (λ octets. EndsCheck k octets q least o s) (λ first. (o ≡ Err first) × (s ≡ []))) o p s t
+    (λ k. one_over (octets_at shelf reply) (λ octets. EndsCheck k octets q least) o p s t (λ octets. one_check verdicts k octets q least o p s t)) h k
 
 -- an answer is exact where no object outside failed
-exact : Faults → ((parts : Parts) (u : ℕ) → ArcLaws parts u) → (content : Option (List ℕ)) (request : Request) (shelf : Shelf) (old new : Option (List ℕ)) (outcome : Result Verdict Fault)
+exact : Faults → ((parts : Parts) (u : ℕ) → ArcLaws parts u) → OneMaking → OneVerdict → (content : Option (List ℕ)) (request : Request) (shelf : Shelf) (old new : Option (List ℕ)) (outcome : Result Verdict Fault)
     → Answered (Ends content request shelf) old new outcome → (outcome ≡ Err Library → ⊥) → (outcome ≡ Err Sink → ⊥) → (outcome ≡ Err Disk → ⊥)
     → IsTold request content → IsExact (Ends content request shelf) outcome
-exact faults arcs content request shelf old new outcome a library sink disk told = by_end (called outcome a library sink disk)
+exact faults arcs makings verdicts content request shelf old new outcome a library sink disk told = by_end (called outcome a library sink disk)
   where
     called : (o : Result Verdict Fault) → Answered (Ends content request shelf) old new o → (o ≡ Err Library → ⊥) → (o ≡ Err Sink → ⊥) → (o ≡ Err Disk → ⊥) → o ≢ Err Memory → (text : List ℕ) × Ends content request shelf o text
     called (Ok verdict) a l k d m = (a.0, a.1)
@@ -168,20 +252,22 @@ exact faults arcs content request shelf old new outcome a library sink disk told
     called (Err Library) a l k d m = absurd (l refl)
     called (Err Sink) a l k d m = absurd (k refl)
     called (Err Disk) a l k d m = absurd (d refl)
+    called (Err (UnknownNode id)) a l k d m = (a.0, a.1)
+    called (Err NoRoute) a l k d m = (a.0, a.1)
     called (Err fault) a l k d m = ([], a)
 
     by_end : (outcome ≢ Err Memory → (text : List ℕ) × Ends content request shelf outcome text) → IsExact (Ends content request shelf) outcome
     by_end end = record {
       called_for = end;
-      only_one = λ other text full h. one_end faults arcs content request told shelf outcome other (end full).0 text (end full).1 h;
+      only_one = λ other text full h. one_end faults arcs makings verdicts content request told shelf outcome other (end full).0 text (end full).1 h;
     }
 
 -- the same for the words, the library and the disk of a run
-pub exact_run : Faults → ((parts : Parts) (u : ℕ) → ArcLaws parts u) → (asked : Option Request) (files : Option Shelf) (content : Option (List ℕ)) (old new : Option (List ℕ)) (outcome : Result Verdict Fault) (l l' k k' d d' : ℕ)
+pub exact_run : Faults → ((parts : Parts) (u : ℕ) → ArcLaws parts u) → OneMaking → OneVerdict → (asked : Option Request) (files : Option Shelf) (content : Option (List ℕ)) (old new : Option (List ℕ)) (outcome : Result Verdict Fault) (l l' k k' d d' : ℕ)
     → IfSome asked (λ request. IfSome files (λ shelf. Answered (Ends content request shelf) old new outcome))
     → (outcome ≡ Err Library → Rose l l') → (outcome ≡ Err Sink → Rose k k') → (outcome ≡ Err Disk → Rose d d')
     → NoneFailed l l' k k' d d' → IfSome asked (λ request. IfSome files (λ shelf. IsTold request content → IsExact (Ends content request shelf) outcome))
-exact_run faults arcs None files content old new outcome l l' k k' d d' a lc kc dc n = tt
-exact_run faults arcs (Some request) None content old new outcome l l' k k' d d' a lc kc dc n = tt
-exact_run faults arcs (Some request) (Some shelf) content old new outcome l l' k k' d d' a lc kc dc n =
-    exact faults arcs content request shelf old new outcome a (λ e. n.library_stays (lc e)) (λ e. n.sink_stays (kc e)) (λ e. n.disk_stays (dc e))
+exact_run faults arcs makings verdicts None files content old new outcome l l' k k' d d' a lc kc dc n = tt
+exact_run faults arcs makings verdicts (Some request) None content old new outcome l l' k k' d d' a lc kc dc n = tt
+exact_run faults arcs makings verdicts (Some request) (Some shelf) content old new outcome l l' k k' d d' a lc kc dc n =
+    exact faults arcs makings verdicts content request shelf old new outcome a (λ e. n.library_stays (lc e)) (λ e. n.sink_stays (kc e)) (λ e. n.disk_stays (dc e))

@@ -1,4 +1,11 @@
+pub mod OneBuilding
 pub mod Disks
 pub mod Exactly
+pub mod Written
+pub mod MapLemmas
 pub mod KeyLemmas
 pub mod RootLemmas
+pub mod ProveLemmas
+pub mod PublishLemmas
+pub mod CheckLemmas
+pub mod HonestLemmas

@@ -1,11 +1,14 @@
 -- Files, and what they say: a value, or the first fault.
-use Rattle.std.specs.Prelude.{◌≡◌, ◌≢◌, ℕ, nat_lt, List, length, IfSome, IfNone, IfErr, if◌then◌else◌}
+use Rattle.std.specs.Prelude.{◌≡◌, ◌≢◌, ◌≤◌, ℕ, nat_lt, List, length, IfSome, IfNone, IfErr, if◌then◌else◌}
 use Rattle.std.specs.declared.option.Option.{Option}
 use Rattle.std.specs.declared.option.Option.TheVariants.{None, Some}
 use Rattle.std.specs.declared.result.Result.{Result}
 use Rattle.std.specs.declared.result.Result.TheVariants.{Ok, Err}
 use Rattle.road_io.specs.Causes.{Rose}
 use Rattle.road_io.specs.Contents.{Shelf}
+use Rattle.octet_text.specs.Format.{whole}
+use Rattle.proof_octets.specs.declared.publication.Publication.{Publication}
+use Rattle.proof_octets.specs.Publications.{publication}
 use Rattle.road_map.specs.Maps.{IsMap, Charted, Fault as FaultOf}
 use Rattle.road_map.specs.declared.parts.Parts.{Parts}
 use Rattle.road_map.specs.declared.error.MapError.{MapError}
@@ -13,7 +16,7 @@ use Rattle.road_map.specs.declared.error.MapError.TheVariants as map_errors
 use Rattle.road_reader.specs.RoadText.{roads_of}
 use Rattle.road_reader.specs.declared.error.RoadError.{RoadError}
 use Rattle.road_proof.specs.declared.fault.Fault.{Fault}
-use Rattle.road_proof.specs.declared.fault.Fault.TheVariants.{Words, Missing, TooLong, Road, Map, BadHex, Library, Sink, Disk, Memory, UnknownNode, NoRoute, Held}
+use Rattle.road_proof.specs.declared.fault.Fault.TheVariants.{Words, Missing, TooLong, Road, Map, Plan, Malformed, HeaderWrong, BadHex, OtherKey, Library, Sink, Disk, KeysUsedUp, Memory, UnknownNode, NoRoute, Held, NoKey, BadBlock, OtherPublication}
 
 -- ---- what the files say
 
@@ -21,6 +24,10 @@ use Rattle.road_proof.specs.declared.fault.Fault.TheVariants.{Words, Missing, To
 abbrev pub octets_in : Option (List ℕ) → Result (List ℕ) Fault
 octets_in None = Err Missing
 octets_in (Some octets) = if nat_lt 268435456 (length octets) then Err TooLong else Ok octets
+
+-- the octets of the file of this name
+abbrev pub octets_at : Shelf → List ℕ → Result (List ℕ) Fault
+octets_at shelf name = octets_in (shelf name)
 
 abbrev pub as_parts : Result Parts RoadError → Result Parts Fault
 as_parts (Ok parts) = Ok parts
@@ -32,7 +39,19 @@ parts_in (Err fault) = Err fault
 
 -- the parts that the road file of this name lists
 abbrev pub parts_at : Shelf → List ℕ → Result Parts Fault
-parts_at shelf name = parts_in (octets_in (shelf name))
+parts_at shelf name = parts_in (octets_at shelf name)
+
+abbrev pub as_publication : Result Publication ℕ → Result Publication Fault
+as_publication (Ok p) = Ok p
+as_publication (Err at) = Err (Malformed at)
+
+abbrev pub publication_in : Result (List ℕ) Fault → Result Publication Fault
+publication_in (Ok text) = as_publication (whole publication text)
+publication_in (Err fault) = Err fault
+
+-- the publication that the file of this name spells
+abbrev pub publication_at : Shelf → List ℕ → Result Publication Fault
+publication_at shelf name = publication_in (octets_at shelf name)
 
 -- the first reason why parts make no map
 abbrev pub IsMapFault : Parts → MapError → Type 0
@@ -68,6 +87,7 @@ abbrev pub IsOfFiles : Fault → Type 0
 IsOfFiles Missing = Unit {0}
 IsOfFiles TooLong = Unit {0}
 IsOfFiles (Road fault) = Unit {0}
+IsOfFiles (Malformed at) = Unit {0}
 IsOfFiles BadHex = Unit {0}
 IsOfFiles Library = Unit {0}
 IsOfFiles Memory = Unit {0}
@@ -85,6 +105,7 @@ pub record Loads {X Y : Type 0} (view : X → Y) (meaning : Shelf → Result Y F
   pub too_long : IfNone files (result ≡ Err TooLong → Rose before now)
   pub library : result ≡ Err Library → Rose before now
   pub others : IfErr result IsOfFiles
+  pub later : before ≤ now
 
 -- what a function promises that loads a road file and makes its map
 pub record LoadsMap (meaning : Shelf → Result Parts Fault) (files : Option Shelf) (before now : ℕ) (result : Result Charted Fault) : Type 0 where

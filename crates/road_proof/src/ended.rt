@@ -10,6 +10,10 @@ use crate::fault::Fault;
 pub enum Verdict {
     /// The work was done.
     Done,
+    /// A reply was refused, which a line says.
+    Refused,
+    /// A reply is evidence, which a line holds.
+    Evidence,
 }
 
 /// The status of a run's end, and the fault if it met one.
@@ -30,8 +34,8 @@ impl Ended {
         ensures status { result.status ≡ status_of outcome }
     {
         match outcome {
-            Ok(Verdict::Done) => Ended {
-                status: 0,
+            Ok(verdict) => Ended {
+                status: status_of_verdict(verdict),
                 fault: None,
             },
             Err(fault) => Ended {
@@ -42,17 +46,37 @@ impl Ended {
     }
 }
 
+fn status_of_verdict(verdict: Verdict) -> u8
+    ensures { result ≡ status_of (Ok verdict) }
+{
+    match verdict {
+        Verdict::Done => 0,
+        Verdict::Refused => 1,
+        Verdict::Evidence => 10,
+    }
+}
+
 fn status_of_fault(fault: Fault) -> u8
     ensures { result ≡ status_of (Err fault) }
 {
     match fault {
         Fault::Words => 2,
-        Fault::Missing | Fault::TooLong | Fault::Road(_) | Fault::Map(_) | Fault::BadHex => 3,
+        Fault::Missing
+        | Fault::TooLong
+        | Fault::Road(_)
+        | Fault::Map(_)
+        | Fault::Plan(_)
+        | Fault::Malformed(_)
+        | Fault::HeaderWrong
+        | Fault::BadHex
+        | Fault::OtherKey => 3,
         Fault::Library => 4,
         Fault::Sink => 6,
         Fault::Disk => 7,
+        Fault::KeysUsedUp => 8,
         Fault::Memory => 9,
         Fault::UnknownNode(_) | Fault::NoRoute => 11,
-        Fault::Held => 12,
+        Fault::Held | Fault::NoKey | Fault::BadBlock => 12,
+        Fault::OtherPublication => 14,
     }
 }

@@ -1,6 +1,6 @@
 //! The command `key`.
 
-ghost use Rattle.std.specs.Prelude.{◌≡◌, ◌≢◌, ◌++◌, codes, IfOk, IfSome, OnOk};
+ghost use Rattle.std.specs.Prelude.{◌≡◌, ◌≢◌, ◌++◌, codes, Some, IfOk, IfSome, OnOk};
 ghost use Rattle.std.specs.Option.{ForSome};
 ghost use Rattle.hex.specs.Hex.{encode_lower};
 ghost use Rattle.road_io.specs.Causes.{Rose};
@@ -10,17 +10,19 @@ ghost use Rattle.key_desk.specs.Desk.{IsBlank};
 ghost use Rattle.key_desk.specs.Keys.{key_from};
 ghost use Rattle.key_desk.specs.Layout.{IsOpen};
 ghost use Rattle.key_desk.specs.Stands.{KeepsStanding};
-ghost use Rattle.road_proof.specs.Requests.{Key};
-ghost use Rattle.road_proof.specs.KeyLine.{type_of, secret_at, key_line};
+ghost use Rattle.road_command.specs.Requests.{Key};
+ghost use Rattle.road_command.specs.View.{type_of};
+ghost use Rattle.road_proof.specs.KeyLine.{key_line};
+ghost use Rattle.road_proof.specs.HexFiles.{secret_at};
 ghost use Rattle.road_proof.specs.Commands.{Ends};
 ghost use Rattle.road_proof.specs.Endings.{Answered, HasUntoldCause, IsSilent};
 ghost use Rattle.road_proof.specs.OwnerKey.{MakesKey};
 
 use crate::ended::Verdict;
 use crate::fault::Fault;
-use crate::files::load_secret;
-use crate::kind::KeyKind;
+use crate::files::load_hex;
 use key_desk::{Desk, StartError};
+use road_command::KeyKind;
 use road_io::{Disk, Library, Sink, write_all};
 use std::alloc::Global;
 
@@ -36,7 +38,7 @@ pub fn key<L: Library, K: Sink, D: Disk>(
     ensures answered { IfSome (L.files library.old) (λ shelf.
         Answered (Ends (D.content disk.old) (Key secret.now (type_of kind)) shelf) (K.taken sink.old) (K.taken sink.new) result) }
     ensures untold { HasUntoldCause (L.files library.old) (L.faults library.old) (L.faults library.new) result }
-    ensures silent { IsSilent (K.taken sink.old) (K.taken sink.new) result }
+    ensures silent { IsSilent (Some (Key secret.now (type_of kind))) (K.taken sink.old) (K.taken sink.new) result }
     ensures library { result ≡ Err Fault.Library → Rose (L.faults library.old) (L.faults library.new) }
     ensures sink { result ≡ Err Fault.Sink → Rose (K.faults sink.old) (K.faults sink.new) }
     ensures disk { result ≡ Err Fault.Disk → Rose (D.faults disk.old) (D.faults disk.new) }
@@ -46,7 +48,7 @@ pub fn key<L: Library, K: Sink, D: Disk>(
     ensures kept { ForSome (D.content disk.old) (λ c. IsOpen c → result ≢ Ok Verdict.Done) }
     ensures stands { KeepsStanding D.Disk disk.old disk.new }
 {
-    let secret = load_secret(alloc, library, secret)?;
+    let secret: [u8; 48] = load_hex(alloc, library, secret)?;
     let line = match make_key(alloc, disk, &secret, kind) {
         Ok(line) => line,
         Err(KeyError::Held) => return Err(Fault::Held),

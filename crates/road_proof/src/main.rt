@@ -3,36 +3,37 @@
 //! `run` does all that the program does, over any library and any sink. `main` hands it the real ones.
 #![tactic(auto)]
 
-mod command;
+mod check;
 mod ended;
 mod fault;
 mod files;
 mod key;
-mod kind;
-mod line;
 mod program;
+mod prove;
+mod publish;
 mod root;
 mod route;
-mod words;
 
-pub use command::{Command, command_of};
 pub use ended::{Ended, Verdict};
 pub use fault::Fault;
-pub use kind::KeyKind;
 pub use program::run;
+use road_command::{MOST_WORDS, Words};
 use road_io::{FileDisk, FileLibrary, StdSink};
 use std::env;
 use std::process::ExitCode;
-pub use words::Words;
 
 /// What standard error says after a command line that fits no command.
 const COMMANDS: &str = "commands:
   route ROADS S T    writes the length and the nodes of a shortest route from S to T
   root ROADS FAN     writes the count of nodes, and the root of the tree over their leaves
-  key SECRET KIND    makes the owner's key, h5 or h10, in owner.desk and writes its public key";
-
-/// The most words that a command line may have.
-const MOST_WORDS: u32 = 4_294_967_294;
+  key SECRET KIND    makes the owner's key, h5 or h10, in owner.desk and writes its public key
+  publish ROADS METHOD VERSION ORDER SEED FAN P1 P2 P3
+                     signs the map with its hints and writes the publication; METHOD is dij,
+                     ORDER is id, SEED and P1 to P3 are 0
+  prove PUB S T      writes a reply that shows a shortest route from S to T
+  check PUBKEY REPLY S T LEAST
+                     writes what a client says of a reply: that it accepts a route of version LEAST
+                     or later, or why it does not";
 
 fn main(rt: HostRuntime) -> ExitCode {
     let alloc = rt.alloc();
@@ -60,5 +61,7 @@ fn main(rt: HostRuntime) -> ExitCode {
     ExitCode::from(ended.status)
 }
 
+#[cfg(test)]
+mod parties_tests;
 #[cfg(test)]
 mod tests;

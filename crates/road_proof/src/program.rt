@@ -7,23 +7,30 @@ ghost use Rattle.road_io.specs.Disk.{Stays};
 ghost use Rattle.road_io.specs.Moments.{AtEachMoment};
 ghost use Rattle.key_desk.specs.Layout.{IsOpen};
 ghost use Rattle.key_desk.specs.Stands.{KeepsStanding};
-ghost use Rattle.road_proof.specs.Requests.{request_of};
-ghost use Rattle.road_proof.specs.KeyLine.{secret_at};
-ghost use Rattle.road_proof.specs.OwnerKey.{MakesKey, IfKey, UnlessKey};
+ghost use Rattle.road_command.specs.Requests.{request_of};
+ghost use Rattle.road_proof.specs.HexFiles.{secret_at};
+ghost use Rattle.road_proof.specs.OwnerKey.{MakesKey, IfKey, UnlessSigning, UnlessPublish};
+ghost use Rattle.road_proof.specs.Signing.{IfPublish, SealsWhatItWrites, SignsAtMostOne};
 ghost use Rattle.road_proof.specs.Outcomes.{outcome_of, status_of};
 ghost use Rattle.road_proof.specs.Endings.{Answered, IsSilent, HasUntoldCause};
+ghost use Rattle.road_proof.specs.Accepting.{AcceptsHonest};
 ghost use Rattle.road_proof.specs.Commands.{Ends, IsTold};
 ghost use Rattle.road_proof.specs.Exact.{NoneFailed, IsExact};
 
-use crate::command::{Command, command_of};
+use crate::check::check;
 use crate::ended::{Ended, Verdict};
 use crate::fault::Fault;
 use crate::key::key;
+use crate::prove::prove;
+use crate::publish::publish;
 use crate::root::root;
 use crate::route::route;
-use crate::words::Words;
+use road_command::{Command, Words, command_of};
 use road_io::{Disk, Library, Sink};
 use road_map::map_laws;
+use route_client::verdict_laws;
+use route_laws::honest_laws;
+use route_server::server_laws;
 use std::alloc::Global;
 
 /// Does all that the program does, and answers how it ended.
@@ -42,18 +49,24 @@ pub fn run<L: Library, K: Sink, D: Disk>(
         IfSome (request_of words.now) (λ request. IfSome (L.files library.old) (λ shelf. IsTold request (D.content disk.old) →
         IsExact (Ends (D.content disk.old) request shelf) (outcome_of result))) }
     ensures untold { HasUntoldCause (L.files library.old) (L.faults library.old) (L.faults library.new) (outcome_of result) }
-    ensures silent { IsSilent (K.taken sink.old) (K.taken sink.new) (outcome_of result) }
+    ensures silent { IsSilent (request_of words.now) (K.taken sink.old) (K.taken sink.new) (outcome_of result) }
     ensures library { outcome_of result ≡ Err Fault.Library → Rose (L.faults library.old) (L.faults library.new) }
     ensures sink { outcome_of result ≡ Err Fault.Sink → Rose (K.faults sink.old) (K.faults sink.new) }
     ensures disk { outcome_of result ≡ Err Fault.Disk → Rose (D.faults disk.old) (D.faults disk.new) }
     ensures key_made { outcome_of result ≡ Ok Verdict.Done → IfKey (request_of words.now) (λ secret kind. IfSome (L.files library.old) (λ shelf.
         MakesKey D.Disk disk.new kind (secret_at shelf secret))) }
-    ensures key_held { ForSome (D.content disk.old) IsOpen → AtEachMoment D.Disk disk.old disk.new Stays }
+    ensures key_held { UnlessPublish (request_of words.now) (ForSome (D.content disk.old) IsOpen → AtEachMoment D.Disk disk.old disk.new Stays) }
     ensures key_kept { IfKey (request_of words.now) (λ secret kind. ForSome (D.content disk.old) (λ c. IsOpen c → outcome_of result ≢ Ok Verdict.Done)) }
-    ensures disk_kept { UnlessKey (request_of words.now) (AtEachMoment D.Disk disk.old disk.new Stays) }
+    ensures disk_kept { UnlessSigning (request_of words.now) (AtEachMoment D.Disk disk.old disk.new Stays) }
+    ensures sealed { IfPublish (request_of words.now) (λ roads settings. SealsWhatItWrites D.Disk disk.old disk.new (K.taken sink.old) (K.taken sink.new) (outcome_of result)) }
+    ensures signs { IfPublish (request_of words.now) (λ roads settings. SignsAtMostOne D.Disk disk.old disk.new (L.files library.old) roads settings) }
+    ensures honest { AcceptsHonest (request_of words.now) (L.files library.old) (K.taken sink.old) (K.taken sink.new) (outcome_of result) }
     ensures stands { KeepsStanding D.Disk disk.old disk.new }
 {
     map_laws();
+    server_laws();
+    verdict_laws();
+    honest_laws();
     Ended::of(work(alloc, words, library, sink, disk))
 }
 
@@ -68,15 +81,17 @@ fn work<L: Library, K: Sink, D: Disk>(
     ensures answered { IfSome (request_of words.now) (λ request. IfSome (L.files library.old) (λ shelf.
         Answered (Ends (D.content disk.old) request shelf) (K.taken sink.old) (K.taken sink.new) result)) }
     ensures untold { HasUntoldCause (L.files library.old) (L.faults library.old) (L.faults library.new) result }
-    ensures silent { IsSilent (K.taken sink.old) (K.taken sink.new) result }
+    ensures silent { IsSilent (request_of words.now) (K.taken sink.old) (K.taken sink.new) result }
     ensures library { result ≡ Err Fault.Library → Rose (L.faults library.old) (L.faults library.new) }
     ensures sink { result ≡ Err Fault.Sink → Rose (K.faults sink.old) (K.faults sink.new) }
     ensures disk { result ≡ Err Fault.Disk → Rose (D.faults disk.old) (D.faults disk.new) }
     ensures key_made { result ≡ Ok Verdict.Done → IfKey (request_of words.now) (λ secret kind. IfSome (L.files library.old) (λ shelf.
         MakesKey D.Disk disk.new kind (secret_at shelf secret))) }
-    ensures key_held { ForSome (D.content disk.old) IsOpen → AtEachMoment D.Disk disk.old disk.new Stays }
+    ensures key_held { UnlessPublish (request_of words.now) (ForSome (D.content disk.old) IsOpen → AtEachMoment D.Disk disk.old disk.new Stays) }
     ensures key_kept { IfKey (request_of words.now) (λ secret kind. ForSome (D.content disk.old) (λ c. IsOpen c → result ≢ Ok Verdict.Done)) }
-    ensures disk_kept { UnlessKey (request_of words.now) (AtEachMoment D.Disk disk.old disk.new Stays) }
+    ensures disk_kept { UnlessSigning (request_of words.now) (AtEachMoment D.Disk disk.old disk.new Stays) }
+    ensures sealed { IfPublish (request_of words.now) (λ roads settings. SealsWhatItWrites D.Disk disk.old disk.new (K.taken sink.old) (K.taken sink.new) result) }
+    ensures signs { IfPublish (request_of words.now) (λ roads settings. SignsAtMostOne D.Disk disk.old disk.new (L.files library.old) roads settings) }
     ensures stands { KeepsStanding D.Disk disk.old disk.new }
 {
     match command_of(words) {
@@ -84,5 +99,19 @@ fn work<L: Library, K: Sink, D: Disk>(
         Some(Command::Route { roads, from, to }) => route(alloc, library, sink, roads, from, to),
         Some(Command::Root { roads, fan }) => root(alloc, library, sink, roads, fan),
         Some(Command::Key { secret, kind }) => key(alloc, library, sink, disk, secret, kind),
+        Some(Command::Publish { roads, settings }) => {
+            publish(alloc, library, sink, disk, roads, &settings)
+        }
+        Some(Command::Prove { publication, query }) => {
+            prove(alloc, library, sink, publication, query)
+        }
+        Some(
+            Command::Check {
+                key,
+                reply,
+                query,
+                least,
+            },
+        ) => check(alloc, library, sink, key, reply, query, least),
     }
 }

@@ -1,6 +1,7 @@
 //! Worked cases of each command, over objects in memory.
 
-use crate::{Ended, Fault, MOST_WORDS, Words, run};
+use crate::{Ended, Fault, run};
+use road_command::{MOST_WORDS, Words};
 use road_io::{MemDisk, MemLibrary, MemSink};
 use road_map::MapError;
 use road_reader::RoadError;
@@ -9,7 +10,7 @@ use std::process::Abort;
 use std::test::Fail;
 
 /// Five nodes: two routes from 1 to 3, and the node 5 without roads.
-const FIVE_NODES: &str = "roads 1
+pub const FIVE_NODES: &str = "roads 1
 node 1 0 0
 node 2 10 0
 node 3 20 0
@@ -23,7 +24,7 @@ road 4 3 7
 
 const ROOM: usize = 1000;
 
-fn words_of(rt: &impl Abort, alloc: Global, line: &str) -> Result<Words, Fail> {
+pub fn words_of(rt: &impl Abort, alloc: Global, line: &str) -> Result<Words, Fail> {
     let mut words = Words::new(alloc);
     for word in line.split(' ') {
         assert!(rt; words.count() <= MOST_WORDS);
@@ -200,7 +201,7 @@ fn faults_read_as_sentences(rt: HostRuntime) -> Result<(), Fail> {
 }
 
 /// The hex digits of 48 zero octets.
-const ZEROS: &str =
+pub const ZEROS: &str =
     "000000000000000000000000000000000000000000000000000000000000000000000000000000000000000000000000";
 
 /// One digit too few.

@@ -14,7 +14,7 @@ mod reader;
 mod words;
 
 pub use error::RoadError;
-pub use numbers::natural;
+pub use numbers::{natural, wide_natural};
 pub use printer::print_roads;
 pub use reader::{MOST_NODES, MOST_ROADS, printed_roads_are_read, read_roads};
 

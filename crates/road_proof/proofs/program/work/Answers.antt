@@ -22,3 +22,21 @@ returns-in-Some-Root-clause-answered g c =
 pub returns-in-Some-Key-clause-answered : goal.returns-in-Some-Key-clause-answered
 returns-in-Some-Key-clause-answered g c =
     asked_of _ _ (rw c.in-Some-Key.field-0-is at c.in-Some-Key.ensures) _ _ _ _ _ c.key.ensures.answered
+
+pub returns-in-Some-Prove-clause-stands : goal.returns-in-Some-Prove-clause-stands
+returns-in-Some-Prove-clause-stands g c = no_step g.D.Disk c.args.disk.now
+
+pub returns-in-Some-Prove-clause-answered : goal.returns-in-Some-Prove-clause-answered
+returns-in-Some-Prove-clause-answered g c =
+    asked_of _ _ (rw c.in-Some-Prove.field-0-is at c.in-Some-Prove.ensures) _ _ _ _ _ (c.prove.ensures.answered (g.D.Disk.content c.args.disk.now))
+
+pub returns-in-Some-Check-clause-stands : goal.returns-in-Some-Check-clause-stands
+returns-in-Some-Check-clause-stands g c = no_step g.D.Disk c.args.disk.now
+
+pub returns-in-Some-Check-clause-answered : goal.returns-in-Some-Check-clause-answered
+returns-in-Some-Check-clause-answered g c =
+    asked_of _ _ (rw c.in-Some-Check.field-0-is at c.in-Some-Check.ensures) _ _ _ _ _ (c.check.ensures.answered (g.D.Disk.content c.args.disk.now))
+
+pub returns-in-Some-Publish-clause-answered : goal.returns-in-Some-Publish-clause-answered
+returns-in-Some-Publish-clause-answered g c =
+    asked_of _ _ (rw c.in-Some-Publish.field-0-is at c.in-Some-Publish.ensures) _ _ _ _ _ c.publish.ensures.answered

@@ -1,0 +1,24 @@
+use Rattle.std.proofs.Common.{◌≡◌, ℕ, ◌≢◌, false, List, [], ◌∷◌, None, refl, subst, get_or, Bool, true}
+use Rattle.std.specs.Prelude.{codes}
+use Rattle.std.specs.Str.{bytes_eq}
+use Rattle.std.proofs.lemmas.Slice.Eq.{bytes_eq-Decides}
+use Rattle.std.specs.Bool.{Decides}
+use Rattle.road_command.specs.Requests.{request_of}
+use Rattle.road_command.proofs.command.command_of.Goals as goal
+
+by_not : {P : Type 0} → (b : Bool) → Decides b P → ¬ P → b ≡ false
+by_not true d n = absurd (n (d.0 refl))
+by_not false d n = refl
+
+not_word : (verb word : List ℕ) → verb ≢ word → bytes_eq verb word ≡ false
+not_word verb word other = by_not (bytes_eq verb word) (bytes_eq-Decides verb word) other
+
+-- words whose first is none of the commands' names
+no_command : (words : List (List ℕ)) (verb : List ℕ) → verb ≡ get_or words 0 [] → verb ≢ codes "route" → verb ≢ codes "root" → verb ≢ codes "key" → verb ≢ codes "publish" → verb ≢ codes "prove" → verb ≢ codes "check"
+    → None ≡ request_of words
+no_command [] verb is a b c d e f = refl
+no_command (first ∷ words) verb is a b c d e f =
+    subst (λ v. None ≡ request_of (v ∷ words)) is (rw (not_word verb (codes "route") a, not_word verb (codes "root") b, not_word verb (codes "key") c, not_word verb (codes "publish") d, not_word verb (codes "prove") e, not_word verb (codes "check") f) refl)
+
+pub returns-in_default : goal.returns-in_default
+returns-in_default c = let h = c.in_default in no_command c.args.words.now c.word.result.now c.word.ensures h.not-route h.not-root h.not-key h.not-publish h.not-prove h.not-check

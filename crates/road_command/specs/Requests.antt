@@ -1,0 +1,132 @@
+-- What words ask for: the command line's grammar.
+use Rattle.std.specs.Prelude.{ℕ, nat_le, ◌&&◌, List, [], ◌∷◌, codes, if◌then◌else◌, Option, Some, None}
+use Rattle.std.specs.Str.{bytes_eq}
+use Rattle.road_reader.specs.Fields.{natural_of, wide_natural_of, ◌>>=◌}
+use Rattle.book_model.specs.declared.items.Query.{Query}
+use Rattle.book_model.specs.declared.settings.Settings.{Settings}
+
+-- a command with its words read; a name stands as its octets
+pub data Request : Type 0 where
+  Route : List ℕ → ℕ → ℕ → Request
+  Root : List ℕ → ℕ → Request
+  Key : List ℕ → ℕ → Request
+  Publish : List ℕ → Settings → Request
+  Prove : List ℕ → Query → Request
+  Check : List ℕ → List ℕ → Query → ℕ → Request
+
+-- ---- single words
+
+-- a fan-out, from 2 to 32
+abbrev pub fan_of : List ℕ → Option ℕ
+fan_of word = do
+  fan ← natural_of word
+  if nat_le 2 fan && nat_le fan 32 then Some fan else None
+
+-- the number of a key's type
+abbrev pub kind_of : List ℕ → Option ℕ
+kind_of word = if bytes_eq word (codes "h5") then Some 5 else if bytes_eq word (codes "h10") then Some 6 else None
+
+-- the code of a method
+abbrev pub method_of : List ℕ → Option ℕ
+method_of word =
+    if bytes_eq word (codes "dij") then Some 1
+    else if bytes_eq word (codes "full") then Some 2
+    else if bytes_eq word (codes "ldm") then Some 3
+    else if bytes_eq word (codes "hyp") then Some 4
+    else None
+
+-- the number of a leaf order
+abbrev pub order_of : List ℕ → Option ℕ
+order_of word =
+    if bytes_eq word (codes "id") then Some 0
+    else if bytes_eq word (codes "breadth") then Some 1
+    else if bytes_eq word (codes "depth") then Some 2
+    else if bytes_eq word (codes "hilbert") then Some 3
+    else if bytes_eq word (codes "kd") then Some 4
+    else if bytes_eq word (codes "shuffled") then Some 5
+    else None
+
+-- the ids of two ends
+abbrev pub query_of : List ℕ → List ℕ → Option Query
+query_of from to = do
+  from ← natural_of from
+  to ← natural_of to
+  Some (record { from = from; to = to })
+
+-- a method's three parameters
+abbrev pub parameters_of : List ℕ → List ℕ → List ℕ → Option (ℕ × ℕ × ℕ)
+parameters_of p1 p2 p3 = do
+  p1 ← wide_natural_of p1
+  p2 ← wide_natural_of p2
+  p3 ← wide_natural_of p3
+  Some (p1, p2, p3)
+
+-- the settings with these parameters
+abbrev pub settings_of : List ℕ → List ℕ → List ℕ → List ℕ → List ℕ → ℕ × ℕ × ℕ → Option Settings
+settings_of method version order seed fan p = do
+  method ← method_of method
+  version ← wide_natural_of version
+  order ← order_of order
+  seed ← wide_natural_of seed
+  fan ← fan_of fan
+  Some (record { method = method; version = version; order = order; seed = seed; fan = fan; p1 = p.0; p2 = p.1; p3 = p.2 })
+
+-- ---- the words behind a command's name
+
+-- a road file's name, and the ids of both ends
+abbrev pub route_words : List (List ℕ) → Option Request
+route_words (roads ∷ from ∷ to ∷ []) = do
+  from ← natural_of from
+  to ← natural_of to
+  Some (Route roads from to)
+route_words _ = None
+
+-- a road file's name, and a fan-out
+abbrev pub root_words : List (List ℕ) → Option Request
+root_words (roads ∷ fan ∷ []) = do
+  fan ← fan_of fan
+  Some (Root roads fan)
+root_words _ = None
+
+-- a secret file's name, and a kind of key
+abbrev pub key_words : List (List ℕ) → Option Request
+key_words (secret ∷ kind ∷ []) = do
+  kind ← kind_of kind
+  Some (Key secret kind)
+key_words _ = None
+
+-- a road file's name, the method, the version, the leaf order, its seed, the fan-out, and the method's
+-- three parameters
+abbrev pub publish_words : List (List ℕ) → Option Request
+publish_words (roads ∷ method ∷ version ∷ order ∷ seed ∷ fan ∷ p1 ∷ p2 ∷ p3 ∷ []) = do
+  parameters ← parameters_of p1 p2 p3
+  settings ← settings_of method version order seed fan parameters
+  Some (Publish roads settings)
+publish_words _ = None
+
+-- a publication file's name, and the ids of both ends
+abbrev pub prove_words : List (List ℕ) → Option Request
+prove_words (publication ∷ from ∷ to ∷ []) = do
+  query ← query_of from to
+  Some (Prove publication query)
+prove_words _ = None
+
+-- the names of files of a public key and of a reply, the ids of both ends, and the least version that is taken
+abbrev pub check_words : List (List ℕ) → Option Request
+check_words (key ∷ reply ∷ from ∷ to ∷ least ∷ []) = do
+  query ← query_of from to
+  least ← wide_natural_of least
+  Some (Check key reply query least)
+check_words _ = None
+
+-- the command that words ask for, if they fit one
+abbrev pub request_of : List (List ℕ) → Option Request
+request_of [] = None
+request_of (verb ∷ words) =
+    if bytes_eq verb (codes "route") then route_words words
+    else if bytes_eq verb (codes "root") then root_words words
+    else if bytes_eq verb (codes "key") then key_words words
+    else if bytes_eq verb (codes "publish") then publish_words words
+    else if bytes_eq verb (codes "prove") then prove_words words
+    else if bytes_eq verb (codes "check") then check_words words
+    else None

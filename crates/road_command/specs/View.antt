@@ -1,0 +1,21 @@
+-- A command as what was asked for, without where its words lie in memory.
+use Rattle.std.specs.Prelude.{ℕ}
+use Rattle.road_command.specs.Requests.{Request}
+use Rattle.road_command.specs.Requests as request
+use Rattle.road_command.specs.declared.command.Command.{Command}
+use Rattle.road_command.specs.declared.command.Command.TheVariants as command
+use Rattle.road_command.specs.declared.kind.KeyKind.{KeyKind}
+use Rattle.road_command.specs.declared.kind.KeyKind.TheVariants.{H5, H10}
+
+-- the standard's number of a kind of key's type
+abbrev pub type_of : KeyKind → ℕ
+type_of H5 = 5
+type_of H10 = 6
+
+abbrev pub shown : Command → Request
+shown (command.Route roads from to) = request.Route roads.now from to
+shown (command.Root roads fan) = request.Root roads.now fan
+shown (command.Key secret kind) = request.Key secret.now (type_of kind)
+shown (command.Publish roads settings) = request.Publish roads.now settings
+shown (command.Prove publication query) = request.Prove publication.now query
+shown (command.Check key reply query least) = request.Check key.now reply.now query least

@@ -1,0 +1,165 @@
+//! The commands, and which of them words ask for.
+
+ghost use Rattle.std.specs.Prelude.{◌≡◌, ◌<◌, length, drop};
+ghost use Rattle.std.specs.Option.{option_map};
+ghost use Rattle.road_command.specs.Requests.{request_of, route_words, root_words, key_words, publish_words, prove_words, check_words};
+ghost use Rattle.road_command.specs.View.{shown};
+
+use crate::kind::KeyKind;
+use crate::reading::{fan, kind, parameters, query, settings};
+use crate::words::Words;
+use book_model::{Query, Settings};
+use road_reader::{natural, wide_natural};
+
+/// A command, with its words read.
+#[derive(Clone, Copy, Debug, PartialEq, Eq)]
+pub enum Command<'a> {
+    /// Write a shortest route between two nodes of a file's map.
+    Route {
+        roads: &'a str,
+        from: u32,
+        to: u32,
+    },
+    /// Write how many nodes a file's map has, and the root of the tree over their plain leaves.
+    Root {
+        roads: &'a str,
+        fan: u8,
+    },
+    /// Make the owner's key from a secret file, and write its public key.
+    Key {
+        secret: &'a str,
+        kind: KeyKind,
+    },
+    /// Sign a file's map with its hints, and write the publication.
+    Publish {
+        roads: &'a str,
+        settings: Settings,
+    },
+    /// Answer a query over a publication, and write the reply.
+    Prove {
+        publication: &'a str,
+        query: Query,
+    },
+    /// Check a reply to a query with a public key, and a least version that is taken, and write the verdict.
+    Check {
+        key: &'a str,
+        reply: &'a str,
+        query: Query,
+        least: u64,
+    },
+}
+
+/// The command that the words ask for, if they fit one.
+pub fn command_of(words: &Words) -> Option<Command<'_>>
+    ensures { option_map shown result ≡ request_of words.now }
+{
+    if words.count() == 0 {
+        return None;
+    }
+    match words.word(0) {
+        "route" => route_of(words),
+        "root" => root_of(words),
+        "key" => key_of(words),
+        "publish" => publish_of(words),
+        "prove" => prove_of(words),
+        "check" => check_of(words),
+        _ => None,
+    }
+}
+
+fn route_of(words: &Words) -> Option<Command<'_>>
+    requires { 0 < length words.now }
+    ensures { option_map shown result ≡ route_words (drop 1 words.now) }
+{
+    if words.count() != 4 {
+        return None;
+    }
+    let from = natural(words.word(2).as_bytes())?;
+    let to = natural(words.word(3).as_bytes())?;
+    Some(Command::Route {
+        roads: words.word(1),
+        from,
+        to,
+    })
+}
+
+fn root_of(words: &Words) -> Option<Command<'_>>
+    requires { 0 < length words.now }
+    ensures { option_map shown result ≡ root_words (drop 1 words.now) }
+{
+    if words.count() != 3 {
+        return None;
+    }
+    let fan = fan(words.word(2))?;
+    Some(Command::Root {
+        roads: words.word(1),
+        fan,
+    })
+}
+
+fn key_of(words: &Words) -> Option<Command<'_>>
+    requires { 0 < length words.now }
+    ensures { option_map shown result ≡ key_words (drop 1 words.now) }
+{
+    if words.count() != 3 {
+        return None;
+    }
+    let kind = kind(words.word(2))?;
+    Some(Command::Key {
+        secret: words.word(1),
+        kind,
+    })
+}
+
+fn publish_of(words: &Words) -> Option<Command<'_>>
+    requires { 0 < length words.now }
+    ensures { option_map shown result ≡ publish_words (drop 1 words.now) }
+{
+    if words.count() != 10 {
+        return None;
+    }
+    let parameters = parameters(words.word(7), words.word(8), words.word(9))?;
+    let settings = settings(
+        words.word(2),
+        words.word(3),
+        words.word(4),
+        words.word(5),
+        words.word(6),
+        parameters,
+    )?;
+    Some(Command::Publish {
+        roads: words.word(1),
+        settings,
+    })
+}
+
+fn prove_of(words: &Words) -> Option<Command<'_>>
+    requires { 0 < length words.now }
+    ensures { option_map shown result ≡ prove_words (drop 1 words.now) }
+{
+    if words.count() != 4 {
+        return None;
+    }
+    let query = query(words.word(2), words.word(3))?;
+    Some(Command::Prove {
+        publication: words.word(1),
+        query,
+    })
+}
+
+fn check_of(words: &Words) -> Option<Command<'_>>
+    requires { 0 < length words.now }
+    ensures { option_map shown result ≡ check_words (drop 1 words.now) }
+{
+    if words.count() != 6 {
+        return None;
+    }
+    let query = query(words.word(3), words.word(4))?;
+    let least = wide_natural(words.word(5).as_bytes())?;
+    Some(Command::Check {
+        key: words.word(1),
+        reply: words.word(2),
+        query,
+        least,
+    })
+}

@@ -1,0 +1,96 @@
+//! Command lines that fit a command, and some that fit none.
+
+use crate::{Command, KeyKind, MOST_WORDS, Words, command_of};
+use book_model::{Query, Settings};
+use std::alloc::Global;
+use std::process::Abort;
+use std::test::Fail;
+
+fn words_of(rt: &impl Abort, alloc: Global, line: &str) -> Result<Words, Fail> {
+    let mut words = Words::new(alloc);
+    for word in line.split(' ') {
+        assert!(rt; words.count() <= MOST_WORDS);
+        words.push(word)?;
+    }
+    Ok(words)
+}
+
+#[test]
+fn each_command_line_is_read(rt: HostRuntime) -> Result<(), Fail> {
+    let settings = Settings {
+        method: 3,
+        version: 18_446_744_073_709_551_615,
+        order: 5,
+        seed: 7,
+        fan: 32,
+        p1: 4,
+        p2: 12,
+        p3: 2,
+    };
+    let query = Query { from: 1, to: 3 };
+    for (line, command) in [
+        (
+            "root a.roads 2",
+            Command::Root {
+                roads: "a.roads",
+                fan: 2,
+            },
+        ),
+        (
+            "key s.hex h10",
+            Command::Key {
+                secret: "s.hex",
+                kind: KeyKind::H10,
+            },
+        ),
+        (
+            "publish a.roads ldm 18446744073709551615 shuffled 7 32 4 12 2",
+            Command::Publish {
+                roads: "a.roads",
+                settings,
+            },
+        ),
+        (
+            "prove a.pub 1 3",
+            Command::Prove {
+                publication: "a.pub",
+                query,
+            },
+        ),
+        (
+            "check k.hex a.reply 1 3 18446744073709551615",
+            Command::Check {
+                key: "k.hex",
+                reply: "a.reply",
+                query,
+                least: 18_446_744_073_709_551_615,
+            },
+        ),
+    ] {
+        let words = words_of(&rt, rt.alloc(), line)?;
+        assert_eq!(rt; command_of(&words), Some(command), "at {line}");
+    }
+    Ok(())
+}
+
+#[test]
+fn other_command_lines_fit_no_command(rt: HostRuntime) -> Result<(), Fail> {
+    for line in [
+        "publish a.roads dij 18446744073709551616 id 0 2 0 0 0",
+        "publish a.roads dij 1 ids 0 2 0 0 0",
+        "publish a.roads dijkstra 1 id 0 2 0 0 0",
+        "publish a.roads dij 1 id 0 1 0 0 0",
+        "publish a.roads dij 1 id 0 2 0 0",
+        "prove a.pub 1",
+        "prove a.pub 1 4294967296",
+        "check k r 1 3",
+        "check k r 1 3 18446744073709551616",
+        "audit k p r 1 3",
+        "serve a.pub",
+        "",
+    ] {
+        let words = words_of(&rt, rt.alloc(), line)?;
+        assert_eq!(rt; command_of(&words), None, "at {line}");
+    }
+    Ok(())
+}

@@ -1,0 +1,3 @@
+pub mod EvidenceLine
+pub mod RouteLine
+pub mod VerdictLine

@@ -1,0 +1,53 @@
+-- The lines of a client's verdict.
+use Rattle.std.specs.Prelude.{ℕ, List, ◌++◌, codes}
+use Rattle.std.specs.Fmt.{decimal}
+use Rattle.lms_tree.specs.declared.seals.SealError.{SealError}
+use Rattle.lms_tree.specs.declared.seals.SealError.TheVariants.{BadKey, BadForm, NoMatch}
+use Rattle.proof_method.specs.declared.refusal.Refusal.{Refusal}
+use Rattle.proof_method.specs.declared.refusal.Refusal.TheVariants as judged
+use Rattle.route_client.specs.declared.errors.CoverFault.{CoverFault}
+use Rattle.route_client.specs.declared.errors.CoverFault.TheVariants.{Place, Short, Long, Differs}
+use Rattle.route_client.specs.declared.errors.CheckError.{CheckError}
+use Rattle.route_client.specs.declared.errors.CheckError.TheVariants.{NotAnswer, Malformed, Stale, BadSignature, BadCover, Judged, Memory}
+use Rattle.road_line.specs.RouteLine.{route_line}
+
+-- an accepted route and its length
+abbrev pub accepted_line : ℕ → List ℕ → List ℕ
+accepted_line length route = codes "accepted " ++ route_line length route
+
+-- ---- refusals by their names
+
+abbrev pub seal_name : SealError → List ℕ
+seal_name BadKey = codes "BadKey"
+seal_name BadForm = codes "BadForm"
+seal_name NoMatch = codes "NoMatch"
+
+abbrev pub cover_name : CoverFault → List ℕ
+cover_name Place = codes "Place"
+cover_name Short = codes "Short"
+cover_name Long = codes "Long"
+cover_name Differs = codes "Differs"
+
+-- why the items don't show a shortest route, with its numbers
+abbrev pub judged_words : Refusal → List ℕ
+judged_words (judged.RepeatedNode id) = codes "RepeatedNode " ++ decimal id
+judged_words (judged.BadRoute hop) = codes "BadRoute " ++ decimal hop
+judged_words (judged.MissingTuple id) = codes "MissingTuple " ++ decimal id
+judged_words (judged.MissingPair a b) = codes "MissingPair " ++ decimal a ++ codes " " ++ decimal b
+judged_words (judged.Shorter length) = codes "Shorter " ++ decimal length
+judged_words (judged.Disagrees distance) = codes "Disagrees " ++ decimal distance
+judged_words judged.Memory = codes "Memory"
+
+-- the test that a reply did not pass, with its numbers and names
+abbrev pub refused_words : CheckError → List ℕ
+refused_words (NotAnswer kind) = codes "NotAnswer " ++ decimal kind
+refused_words (Malformed at) = codes "Malformed " ++ decimal at
+refused_words (Stale version) = codes "Stale " ++ decimal version
+refused_words (BadSignature why) = codes "BadSignature " ++ seal_name why
+refused_words (BadCover tree why) = codes "BadCover " ++ decimal tree ++ codes " " ++ cover_name why
+refused_words (Judged why) = judged_words why
+refused_words Memory = codes "Memory"
+
+-- a refused reply
+abbrev pub refused_line : CheckError → List ℕ
+refused_line e = codes "refused " ++ refused_words e ++ codes "\n"

@@ -1,0 +1,116 @@
+//! The lines of a client's verdict.
+
+ghost use Rattle.std.specs.Prelude.{◌≡◌, ◌++◌, codes, IfOk, OnOk, string_bytes};
+ghost use Rattle.std.specs.Fmt.{decimal};
+ghost use Rattle.road_line.specs.VerdictLine.{accepted_line, refused_line, refused_words, judged_words, seal_name, cover_name};
+
+use crate::route_line::print_route;
+use lms_tree::SealError;
+use octet_text::NoMemory;
+use proof_method::Refusal;
+use route_client::{CheckError, CoverFault};
+use std::alloc::{AllocError, Global};
+
+/// The line of an accepted route.
+pub fn line_of_accepted(alloc: Global, length: u64, route: &[u32]) -> Result<Vec<u8>, NoMemory>
+    ensures { IfOk result (λ text. text.items ≡ accepted_line length route.now) }
+{
+    match accepted(alloc, length, route) {
+        Ok(text) => Ok(text.into_bytes()),
+        Err(_) => Err(NoMemory),
+    }
+}
+
+fn accepted(alloc: Global, length: u64, route: &[u32]) -> Result<String, AllocError>
+    ensures { IfOk result (λ text. string_bytes text ≡ accepted_line length route.now) }
+{
+    let mut text = String::from_str(alloc, "accepted ")?;
+    print_route(&mut text, length, route)?;
+    Ok(text)
+}
+
+/// The line of a refused reply: the name of the test that it did not pass, with its fields.
+pub fn line_of_refused(alloc: Global, why: CheckError) -> Result<Vec<u8>, NoMemory>
+    ensures { IfOk result (λ text. text.items ≡ refused_line why) }
+{
+    match refused(alloc, why) {
+        Ok(text) => Ok(text.into_bytes()),
+        Err(_) => Err(NoMemory),
+    }
+}
+
+fn refused(alloc: Global, why: CheckError) -> Result<String, AllocError>
+    ensures { IfOk result (λ text. string_bytes text ≡ refused_line why) }
+{
+    let mut text = String::from_str(alloc, "refused ")?;
+    print_refusal(&mut text, why)?;
+    writeln!(text)?;
+    Ok(text)
+}
+
+fn print_refusal(text: &mut String, why: CheckError) -> Result<(), AllocError>
+    ensures { OnOk result (string_bytes text.new ≡ string_bytes text.old ++ refused_words why) }
+{
+    match why {
+        CheckError::NotAnswer(kind) => write!(text, "NotAnswer {kind}"),
+        CheckError::Malformed(at) => write!(text, "Malformed {at}"),
+        CheckError::Stale(version) => write!(text, "Stale {version}"),
+        CheckError::BadSignature(why) => {
+            let name = name_of_seal(why);
+            print_bad_signature(text, name)
+        }
+        CheckError::BadCover(tree, why) => {
+            let name = name_of_cover(why);
+            write!(text, "BadCover {tree} {name}")
+        }
+        CheckError::Judged(why) => print_judged(text, why),
+        CheckError::Memory => text.push_str("Memory"),
+    }
+}
+
+fn print_judged(text: &mut String, why: Refusal) -> Result<(), AllocError>
+    ensures { OnOk result (string_bytes text.new ≡ string_bytes text.old ++ judged_words why) }
+{
+    match why {
+        Refusal::RepeatedNode(id) => write!(text, "RepeatedNode {id}"),
+        Refusal::BadRoute(hop) => write!(text, "BadRoute {hop}"),
+        Refusal::MissingTuple(id) => write!(text, "MissingTuple {id}"),
+        Refusal::MissingPair(a, b) => print_missing_pair(text, a, b),
+        Refusal::Shorter(length) => write!(text, "Shorter {length}"),
+        Refusal::Disagrees(distance) => write!(text, "Disagrees {distance}"),
+        Refusal::Memory => text.push_str("Memory"),
+    }
+}
+
+fn print_missing_pair(text: &mut String, a: u32, b: u32) -> Result<(), AllocError>
+    ensures { OnOk result (string_bytes text.new ≡ string_bytes text.old ++ (codes "MissingPair " ++ decimal a ++ codes " " ++ decimal b)) }
+{
+    write!(text, "MissingPair {a} {b}")
+}
+
+fn print_bad_signature(text: &mut String, name: &str) -> Result<(), AllocError>
+    ensures { OnOk result (string_bytes text.new ≡ string_bytes text.old ++ (codes "BadSignature " ++ name.now)) }
+{
+    write!(text, "BadSignature {name}")
+}
+
+fn name_of_seal(why: SealError) -> &'static str
+    ensures { result.now ≡ seal_name why }
+{
+    match why {
+        SealError::BadKey => "BadKey",
+        SealError::BadForm => "BadForm",
+        SealError::NoMatch => "NoMatch",
+    }
+}
+
+fn name_of_cover(why: CoverFault) -> &'static str
+    ensures { result.now ≡ cover_name why }
+{
+    match why {
+        CoverFault::Place => "Place",
+        CoverFault::Short => "Short",
+        CoverFault::Long => "Long",
+        CoverFault::Differs => "Differs",
+    }
+}

@@ -1,0 +1,116 @@
+-- What `publish` does to the owner's disk.
+use Rattle.std.specs.Prelude.{◌≡◌, ◌⊎◌, ℕ, List, IfSome, IfOk}
+use Rattle.std.specs.declared.option.Option.{Option}
+use Rattle.std.specs.declared.option.Option.TheVariants.{None, Some}
+use Rattle.std.specs.declared.result.Result.{Result}
+use Rattle.std.specs.declared.result.Result.TheVariants.{Ok, Err}
+use Rattle.std.specs.Option.{ForSome}
+use Rattle.std.specs.Io.KnownBytes.{Appends}
+use Rattle.sha2.specs.Sha256.{sha256}
+use Rattle.road_map.specs.declared.parts.Parts.{Parts}
+use Rattle.book_model.specs.declared.settings.Settings.{Settings}
+use Rattle.road_io.specs.declared.disk.Disk.{Ghosts}
+use Rattle.road_io.specs.Disk.{Stays}
+use Rattle.road_io.specs.Moments.{EachImage, AtEachMoment}
+use Rattle.road_io.specs.Contents.{Shelf, AppendsFront}
+use Rattle.key_desk.specs.Layout.{IsOpen, IsBadBlock, gate_at, place_of, IsSigned}
+use Rattle.proof_octets.specs.declared.header.Header.{Header}
+use Rattle.proof_octets.specs.declared.publication.Publication.{Publication}
+use Rattle.proof_octets.specs.Headers.{header_text}
+use Rattle.proof_octets.specs.Publications.{publication_text}
+use Rattle.route_server.specs.Headers.{HasHeader, Makes}
+use Rattle.route_server.specs.declared.errors.BuildError.TheVariants as build
+use Rattle.route_owner.specs.Published.{slot_of, SignsHeader}
+use Rattle.road_command.specs.Requests.{Request, Route, Root, Key, Publish, Prove, Check}
+use Rattle.road_proof.specs.Reading.{parts_at}
+use Rattle.road_proof.specs.Publishing.{IsUsable, AllSpent, IsPublicationOf}
+use Rattle.road_proof.specs.declared.publish.NotPublished.{NotPublished}
+use Rattle.road_proof.specs.declared.publish.NotPublished.TheVariants as why
+use Rattle.road_proof.specs.declared.fault.Fault.{Fault}
+use Rattle.road_proof.specs.declared.fault.Fault.TheVariants.{Map, Plan, Sink, Disk, KeysUsedUp, Memory, NoKey, BadBlock}
+use Rattle.road_proof.specs.declared.ended.Verdict.{Verdict}
+use Rattle.road_proof.specs.declared.ended.Verdict.TheVariants.{Done}
+
+-- ---- one signing
+
+-- A publication's header stands in every image, in the slot that its signature names, and that slot was not spent
+-- in what the disk read.
+pub record StandsOnDisk {D : Type 0} (g : Ghosts D) (old new : D) (p : Publication) : Type 0 where
+  pub was_free : ForSome (g.content old) (λ c. gate_at c (place_of (slot_of p)) ≡ 0)
+  pub stands : EachImage g new (λ i. IsSigned i (slot_of p) (header_text p.header))
+
+-- the text of a publication whose header stands on the disk
+pub record IsSealedText {D : Type 0} (g : Ghosts D) (old new : D) (parts : Parts) (s : Settings) (text : List ℕ) : Type 0 where
+  pub publication : Publication
+  pub header : Header
+  pub of_book : HasHeader sha256 sha256 parts s header
+  pub usable : ForSome (g.content old) IsUsable
+  pub is : IsPublicationOf (g.content old) parts s header publication
+  pub on_disk : StandsOnDisk g old new publication
+  pub spelled : text ≡ publication_text publication
+
+-- why nothing was signed, unless memory ran out or the disk failed: the desk opens first
+abbrev pub WhyNotPublished : Option (List ℕ) → Parts → Settings → NotPublished → Type 0
+WhyNotPublished content parts s why.NoKey = ForSome content (λ c. ¬ IsOpen c)
+WhyNotPublished content parts s why.BadBlock = ForSome content (λ c. IsOpen c × IsBadBlock c)
+WhyNotPublished content parts s (why.Map e) = ForSome content IsUsable × Makes sha256 sha256 parts s (Err (build.Map e))
+WhyNotPublished content parts s (why.Plan e) = ForSome content IsUsable × Makes sha256 sha256 parts s (Err (build.Plan e))
+WhyNotPublished content parts s why.KeysUsedUp = ForSome content IsUsable × ForSome content AllSpent × ((h : Header) × HasHeader sha256 sha256 parts s h)
+WhyNotPublished content parts s why.Disk = Unit {0}
+WhyNotPublished content parts s why.Memory = Unit {0}
+
+-- how a run says it
+abbrev pub not_published_fault : NotPublished → Fault
+not_published_fault why.NoKey = NoKey
+not_published_fault why.BadBlock = BadBlock
+not_published_fault (why.Map e) = Map e
+not_published_fault (why.Plan e) = Plan e
+not_published_fault why.KeysUsedUp = KeysUsedUp
+not_published_fault why.Disk = Disk
+not_published_fault why.Memory = Memory
+
+-- no image changes, or one slot alone, by the header of parts and settings
+abbrev pub SignsAtMostHeader : {D : Type 0} → Ghosts D → D → D → Parts → Settings → Type 0
+SignsAtMostHeader g old new parts s = AtEachMoment g old new Stays ⊎ SignsHeader g old new sha256 parts s
+
+-- ---- a run
+
+-- what was written is all of a text where the work was done, and a front of it where the sink failed; this is
+-- said of no other end
+abbrev pub Wrote : Result Verdict Fault → Option (List ℕ) → Option (List ℕ) → List ℕ → Type 0
+Wrote (Ok verdict) old new text = Appends old new text
+Wrote outcome old new text = AppendsFront old new text
+
+-- this holds of an end at which something may have been written
+abbrev pub OnWriting : Result Verdict Fault → Type 0 → Type 0
+OnWriting (Ok verdict) P = P
+OnWriting (Err Sink) P = P
+OnWriting (Err fault) P = Unit {0}
+
+-- what was written is of a publication whose header stands on the disk
+pub record WroteSealed {D : Type 0} (g : Ghosts D) (old new : D) (taken_before taken_now : Option (List ℕ)) (outcome : Result Verdict Fault) : Type 0 where
+  pub publication : Publication
+  pub on_disk : StandsOnDisk g old new publication
+  pub written : Wrote outcome taken_before taken_now (publication_text publication)
+
+abbrev pub SealsWhatItWrites : {D : Type 0} → Ghosts D → D → D → Option (List ℕ) → Option (List ℕ) → Result Verdict Fault → Type 0
+SealsWhatItWrites g old new taken_before taken_now outcome = OnWriting outcome (WroteSealed g old new taken_before taken_now outcome)
+
+-- no image changes, or one slot alone, by the header of the file's parts and the settings
+pub record SignsFile {D : Type 0} (g : Ghosts D) (old new : D) (files : Option Shelf) (roads : List ℕ) (s : Settings) : Type 0 where
+  pub parts : Parts
+  pub of_file : IfSome files (λ shelf. parts_at shelf roads ≡ Ok parts)
+  pub one : SignsHeader g old new sha256 parts s
+
+abbrev pub SignsAtMostOne : {D : Type 0} → Ghosts D → D → D → Option Shelf → List ℕ → Settings → Type 0
+SignsAtMostOne g old new files roads s = AtEachMoment g old new Stays ⊎ SignsFile g old new files roads s
+
+-- this holds of the road file's name and the settings, if words ask for a publication
+abbrev pub IfPublish : Option Request → (List ℕ → Settings → Type 0) → Type 0
+IfPublish (Some (Publish roads settings)) P = P roads settings
+IfPublish (Some (Route roads from to)) P = Unit {0}
+IfPublish (Some (Root roads fan)) P = Unit {0}
+IfPublish (Some (Key secret kind)) P = Unit {0}
+IfPublish (Some (Prove publication q)) P = Unit {0}
+IfPublish (Some (Check key reply q least)) P = Unit {0}
+IfPublish None P = Unit {0}

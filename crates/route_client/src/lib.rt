@@ -19,4 +19,10 @@ mod signed_answer;
 #[cfg(test)]
 mod signed_border_answer;
 #[cfg(test)]
+mod signed_full_answer;
+#[cfg(test)]
+mod signed_ldm_answer;
+#[cfg(test)]
+mod signed_zero_answers;
+#[cfg(test)]
 mod tests;

@@ -1,22 +1,18 @@
 -- Parts and settings make one thing at most.
-use Rattle.std.proofs.Common.{◌≡◌, ◌≢◌, ◌==◌, ℕ, Option, None, Some, List, [], ◌∷◌, length, map, Result, Ok, Err, refl, arith, ap, sym, ◌∙◌, subst}
+use Rattle.std.proofs.Common.{◌≡◌, ◌==◌, ℕ, Option, None, Some, List, [], ◌∷◌, Result, Ok, Err, refl, arith, ap, sym, ◌∙◌, subst}
 use Rattle.std.specs.List.{Contains, cons_option, filter_map}
 use Rattle.std.specs.Option.{option_map}
 use Rattle.road_map.specs.declared.parts.Node.{Node}
 use Rattle.road_map.specs.declared.parts.Parts.{Parts}
-use Rattle.road_map.specs.declared.error.MapError.{MapError}
-use Rattle.road_map.specs.declared.error.MapError.TheVariants as map_errors
-use Rattle.road_map.specs.Maps.{IsMap, Fault}
 use Rattle.road_map.specs.ArcsOut.{arcs_out}
 use Rattle.road_map.specs.Laws.{FaultLaws}
 use Rattle.road_map.proofs.Among.{Contains-here, Contains-there}
 use Rattle.road_leaf.specs.declared.leaf.Extra.{Extra}
-use Rattle.road_leaf.specs.declared.leaf.NodeLeaf.{NodeLeaf}
 use Rattle.road_leaf.specs.declared.pair.PairLeaf.{PairLeaf}
 use Rattle.book_model.specs.Nodes.{node_at}
 use Rattle.book_model.specs.declared.settings.Settings.{Settings}
 use Rattle.book_model.specs.declared.settings.Numbers.{Numbers}
-use Rattle.book_model.specs.Books.{Kind, Book, kind_of, leaf, leaf_by, leaf_of, leaves_of, leaf_order, IsBookOf}
+use Rattle.book_model.specs.Books.{Kind, Book, kind_of, leaf_by, leaf_of, leaves_of, leaf_order, IsBookOf}
 use Rattle.proof_method.proofs.Picks.{mapped_same}
 use Rattle.proof_method.proofs.RouteLaws.{find_some}
 use Rattle.proof_octets.specs.declared.header.Header.{Header}

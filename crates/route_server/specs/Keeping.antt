@@ -1,5 +1,5 @@
 -- Books that are held.
-use Rattle.std.specs.Prelude.{◌≡◌, ℕ, ◌<◌, ◌==◌, if◌then◌else◌, Option, None, Some, Result, Ok, Err, List, [], ◌∷◌, length, slice_get, slice_index, replicate}
+use Rattle.std.specs.Prelude.{◌≡◌, ℕ, ◌==◌, if◌then◌else◌, Option, None, Some, Result, Ok, Err, List, [], ◌∷◌, length, slice_get, slice_index, replicate}
 use Rattle.sha2.specs.Sha256.{sha256}
 use Rattle.road_map.specs.declared.parts.Node.{Node}
 use Rattle.road_map.specs.Maps.{Charted, IsMap, IsById}
@@ -7,7 +7,7 @@ use Rattle.road_leaf.specs.declared.leaf.NodeLeaf.{NodeLeaf}
 use Rattle.road_leaf.specs.declared.pair.PairLeaf.{PairLeaf}
 use Rattle.book_model.specs.declared.settings.Settings.{Settings}
 use Rattle.book_model.specs.declared.settings.Numbers.{Numbers}
-use Rattle.book_model.specs.Books.{Kind, Book, leaves_of, leaf_order, IsBookOf}
+use Rattle.book_model.specs.Books.{Kind, Book, leaves_of, leaf_order}
 use Rattle.proof_method.specs.Vectors.{HasVectors}
 use Rattle.proof_method.specs.Gathering.{IsOrderOf}
 use Rattle.proof_octets.specs.declared.header.Header.{Header}

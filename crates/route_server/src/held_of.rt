@@ -7,16 +7,16 @@ ghost use Rattle.book_model.specs.Books.{kind_of, method_fault};
 ghost use Rattle.merkle_cover.specs.Trees.{tree_of};
 ghost use Rattle.route_server.specs.Built.{book_fault};
 ghost use Rattle.route_server.specs.Fitting.{BooksFit};
-ghost use Rattle.route_server.specs.Headers.{Makes};
+ghost use Rattle.route_server.specs.Headers.{Makes, header_with};
 ghost use Rattle.route_server.specs.Keeping.{IsKept, header_in, texts_in};
 
 use crate::errors::BuildError;
 use crate::leaf_tree::LeafTree;
 use crate::order::{leaf_order, place_of, places_in};
 use crate::planting::{count_and_root, plant_nodes, plant_pairs};
-use book_model::Settings;
+use book_model::{Numbers, Settings};
 use merkle_cover::{Texts, Tree};
-use octet_text::{Hasher, Octets};
+use octet_text::{Digest32, Hasher, Octets};
 use proof_method::Method;
 use proof_octets::Header;
 use road_map::{Ids, Map, Parts};
@@ -43,6 +43,30 @@ impl<H: Hasher, M: Method> Model for HeldOf<H, M> {
     ghost view = { λ h. kept_as (M.charted h.book) h.settings h.order (M.shown h.book) h.signature };
 
     ghost invariant = { λ h. IsHeldBook M.kind (M.charted h.book) h.settings h.order h.places.items (M.shown h.book) h.nodes h.pairs };
+}
+
+// The header of settings, counts and roots.
+fn header_with(
+    settings: &Settings,
+    nodes: u32,
+    node_root: Digest32,
+    pairs: u32,
+    pair_root: Digest32,
+    numbers: Numbers,
+) -> Header
+    ensures { result ≡ header_with settings.now nodes node_root pairs pair_root numbers }
+{
+    Header {
+        method: settings.method,
+        order: settings.order,
+        fan: settings.fan,
+        version: settings.version,
+        nodes,
+        node_root,
+        pairs,
+        pair_root,
+        numbers,
+    }
 }
 
 impl<H: Hasher, M: Method> HeldOf<H, M> {
@@ -105,17 +129,14 @@ impl<H: Hasher, M: Method> HeldOf<H, M> {
         ensures { result ≡ header_in H.hash self.now }
     {
         let (pairs, pair_root) = count_and_root(self.pairs.as_ref());
-        Header {
-            method: self.settings.method,
-            order: self.settings.order,
-            fan: self.settings.fan,
-            version: self.settings.version,
-            nodes: self.nodes.count(),
-            node_root: self.nodes.root(),
+        header_with(
+            &self.settings,
+            self.nodes.count(),
+            self.nodes.root(),
             pairs,
             pair_root,
-            numbers: M::numbers(&self.book),
-        }
+            M::numbers(&self.book),
+        )
     }
 
     /// The map.

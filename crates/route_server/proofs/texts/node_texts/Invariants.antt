@@ -1,4 +1,4 @@
-use Rattle.std.proofs.Common.{◌≡◌, ◌≤◌, ◌*◌, length, take}
+use Rattle.std.proofs.Common.{take}
 use Rattle.book_model.specs.Books.{leaves_of}
 use Rattle.route_server.specs.Headers.{node_texts}
 use Rattle.route_server.proofs.TextLemmas.{AreTexts}

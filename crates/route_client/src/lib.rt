@@ -5,6 +5,7 @@ pub use accepted::Accepted;
 pub use checking::check;
 pub use errors::{CheckError, CoverFault};
 pub use laws::verdict_laws;
+pub use leaf_texts::{node_texts, pair_texts};
 
 mod accepted;
 mod checking;

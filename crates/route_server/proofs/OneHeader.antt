@@ -41,21 +41,32 @@ leaves_same parts e f (id ∷ order) same =
     ap (λ o. cons_option o (filter_map (leaf_of parts e) order)) (leaf_same parts e f id (λ n is. let here : n.id ≡ id = node_id parts.nodes id n is in ap e here ∙ same id (Contains-here id order) ∙ ap f (sym here)))
     ∙ ap (cons_option (leaf_of parts f id)) (leaves_same parts e f order (λ x h. same x (Contains-there id x order h)))
 
-kind_same : (n : ℕ) (k l : Kind) → kind_of n ≡ Some k → kind_of n ≡ Some l → k ≡ l
+pub kind_same : (n : ℕ) (k l : Kind) → kind_of n ≡ Some k → kind_of n ≡ Some l → k ≡ l
 kind_same n k l e f = cc
 
--- books of the same parts and settings have the same header
+-- books of the same parts and settings have the same leaves and pairs
+pub record SameLeaves (order : List ℕ) (b c : Book) : Type 0 where
+  pub nodes : leaves_of b order ≡ leaves_of c order
+  pub pairs : b.pairs ≡ c.pairs
+
+pub same_leaves : (kind : Kind) (parts : Parts) (s : Settings) (order : List ℕ) (b c : Book) → IsBookOf kind parts s order b → IsBookOf kind parts s order c → SameLeaves order b c
+same_leaves kind parts s order b c is other = record {
+  nodes =
+      ap (λ p. filter_map (leaf_of p b.extra_of) order) is.of_parts
+      ∙ leaves_same parts b.extra_of c.extra_of order (mapped_same b.extra_of c.extra_of order (is.adds ∙ sym other.adds))
+      ∙ ap (λ p. filter_map (leaf_of p c.extra_of) order) (sym other.of_parts);
+  pairs = is.has_pairs ∙ sym other.has_pairs;
+}
+
+-- and the same header
 header_same : (hash : List ℕ → List ℕ) (kind : Kind) (parts : Parts) (s : Settings) (order : List ℕ) (b c : Book) → IsBookOf kind parts s order b → IsBookOf kind parts s order c → book_header hash s order b ≡ book_header hash s order c
 header_same hash kind parts s order b c is other =
-    let leaves : leaves_of b order ≡ leaves_of c order =
-    ap (λ p. filter_map (leaf_of p b.extra_of) order) is.of_parts
-    ∙ leaves_same parts b.extra_of c.extra_of order (mapped_same b.extra_of c.extra_of order (is.adds ∙ sym other.adds))
-    ∙ ap (λ p. filter_map (leaf_of p c.extra_of) order) (sym other.of_parts) in
+    let same = same_leaves kind parts s order b c is other in
     let first : b.numbers.first ≡ c.numbers.first = is.first ∙ sym other.first in
     let second : b.numbers.second ≡ c.numbers.second = is.second ∙ sym other.second in
     let numbers : b.numbers ≡ c.numbers = ap (λ x. record { first = x; second = b.numbers.second }) first ∙ ap (λ x. record { first = c.numbers.first; second = x }) second in
-    ap (λ l. header_of hash s l b.pairs b.numbers) leaves
-    ∙ ap (λ (p : List PairLeaf). header_of hash s (leaves_of c order) p b.numbers) (is.has_pairs ∙ sym other.has_pairs)
+    ap (λ l. header_of hash s l b.pairs b.numbers) same.nodes
+    ∙ ap (λ (p : List PairLeaf). header_of hash s (leaves_of c order) p b.numbers) same.pairs
     ∙ ap (λ (n : Numbers). header_of hash s (leaves_of c order) c.pairs n) numbers
 
 one_header : (hash sha : List ℕ → List ℕ) (parts : Parts) (s : Settings) (h j : Header) → HasHeader hash sha parts s h → HasHeader hash sha parts s j → h ≡ j

@@ -1,13 +1,14 @@
 -- Books that are held.
-use Rattle.std.specs.Prelude.{◌≡◌, ℕ, ◌<◌, ◌==◌, if◌then◌else◌, Option, None, Some, Result, Ok, Err, List, [], ◌∷◌, length, slice_get, slice_index, replicate}
+use Rattle.std.specs.Prelude.{◌≡◌, ℕ, ◌<◌, ◌==◌, if◌then◌else◌, Option, None, Some, Result, Ok, Err, List, [], ◌∷◌, length, slice_get, slice_index, replicate, All}
 use Rattle.sha2.specs.Sha256.{sha256}
 use Rattle.road_map.specs.declared.parts.Node.{Node}
 use Rattle.road_map.specs.Maps.{Charted, IsMap, IsById}
 use Rattle.road_leaf.specs.declared.leaf.NodeLeaf.{NodeLeaf}
 use Rattle.road_leaf.specs.declared.pair.PairLeaf.{PairLeaf}
+use Rattle.road_leaf.specs.Leaves.{node_leaf, pair_leaf}
 use Rattle.book_model.specs.declared.settings.Settings.{Settings}
 use Rattle.book_model.specs.declared.settings.Numbers.{Numbers}
-use Rattle.book_model.specs.Books.{Kind, Book, leaves_of, leaf_order, IsBookOf}
+use Rattle.book_model.specs.Books.{Kind, Book, kind_of, leaves_of, leaf_order, IsBookOf}
 use Rattle.proof_method.specs.Vectors.{HasVectors}
 use Rattle.proof_method.specs.Gathering.{IsOrderOf}
 use Rattle.proof_octets.specs.declared.header.Header.{Header}
@@ -16,7 +17,7 @@ use Rattle.merkle_cover.specs.Trees.{root}
 use Rattle.merkle_cover.specs.Covers.{cover_of}
 use Rattle.route_server.specs.declared.errors.BuildError.{BuildError}
 use Rattle.route_server.specs.Built.{book_fault}
-use Rattle.route_server.specs.Fitting.{FitsFormats}
+use Rattle.route_server.specs.Fitting.{FitsFormats, kind_of_leaves}
 use Rattle.route_server.specs.Headers.{node_texts, pair_texts, header_of, IsBook}
 use Rattle.route_server.specs.LeafTrees.{Leaves}
 
@@ -65,6 +66,13 @@ pub record IsKept (k : Kept) : Type 0 where
   pub nodes : k.nodes ≡ leaves_of book k.order
   pub pairs : k.pairs ≡ book.pairs
   pub numbers : k.numbers ≡ book.numbers
+
+-- each leaf of what is held has a spelling, as the method's leaves have
+pub record HasSpellings (k : Kept) : Type 0 where
+  pub kind : Kind
+  pub method : kind_of k.settings.method ≡ Some kind
+  pub nodes : All (node_leaf (kind_of_leaves kind k.numbers)).Fits k.nodes
+  pub pairs : All pair_leaf.Fits k.pairs
 
 -- the place in leaf order of each node, by its place among the nodes by id
 pub record HasPlaces (nodes : List Node) (order places : List ℕ) : Type 0 where

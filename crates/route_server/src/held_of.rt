@@ -8,7 +8,7 @@ ghost use Rattle.merkle_cover.specs.Trees.{tree_of};
 ghost use Rattle.route_server.specs.Built.{book_fault};
 ghost use Rattle.route_server.specs.Fitting.{BooksFit};
 ghost use Rattle.route_server.specs.Headers.{Makes};
-ghost use Rattle.route_server.specs.Keeping.{IsKept, header_in, texts_in};
+ghost use Rattle.route_server.specs.Keeping.{HasSpellings, IsKept, header_in, texts_in};
 
 use crate::errors::BuildError;
 use crate::leaf_tree::LeafTree;
@@ -55,6 +55,7 @@ impl<H: Hasher, M: Method> HeldOf<H, M> {
         requires own { book_fault map.parts settings.now ≡ method_fault M.kind map.parts settings.now }
         requires fit { BooksFit M.kind }
         ensures kept { IfOk result IsKept }
+        ensures spelled { IfOk result HasSpellings }
         ensures map { IfOk result (λ held. held.map ≡ map) }
         ensures settings { IfOk result (λ held. held.settings ≡ settings.now) }
         ensures refused { IfErr result (λ e. Makes H.hash sha256 map.parts settings.now (Err e)) }

@@ -1,0 +1,103 @@
+-- What an answer shows over a publication's own trees.
+-- Source: Merkle, A Digital Signature Based on a Conventional Encryption Function, CRYPTO 1987: what folds to a
+-- tree's root and is not the tree's own shows two texts with one digest.
+use Rattle.std.specs.Prelude.{◌≡◌, ◌≢◌, ◌⊎◌, ℕ, List, length, Ok}
+use Rattle.road_map.specs.Routes.{IsShortest}
+use Rattle.book_model.specs.declared.items.Query.{Query}
+use Rattle.book_model.specs.Books.{Kind, Book, leaves_of, leaf_order}
+use Rattle.merkle_cover.specs.Clashes.{AreHashed}
+use Rattle.merkle_cover.specs.Covers.{IsRising, chosen_texts, cover_of}
+use Rattle.merkle_cover.specs.declared.clashes.TwoTexts.{TwoTexts}
+use Rattle.lms_tree.specs.Signatures.{verified}
+use Rattle.proof_method.specs.Gathering.{IsAuthentic}
+use Rattle.proof_octets.specs.declared.publication.Publication.{Publication}
+use Rattle.proof_octets.specs.declared.reply.Answer as answers
+use Rattle.proof_octets.specs.Headers.{header_text}
+use Rattle.route_client.specs.declared.accepted.Accepted.{Accepted}
+use Rattle.route_server.specs.Headers.{node_texts, pair_texts, IsBook}
+
+-- ---- the parts of an answer
+
+-- what is brought of a tree over these leaves: places, the texts of the leaves there, and the cover of the others
+pub record Part : Type 0 where
+  pub leaves : List (List ℕ)
+  pub fan : ℕ
+  pub places : List ℕ
+  pub texts : List (List ℕ)
+  pub cover : List (List ℕ)
+
+-- what an answer brings of the tree over the node leaves of a publication's book
+abbrev pub node_part : (List ℕ → List ℕ) → Publication → Book → answers.Answer → Part
+node_part sha p book a = record {
+  leaves = node_texts (leaves_of book (leaf_order sha p.parts p.settings));
+  fan = p.settings.fan;
+  places = a.node_places;
+  texts = node_texts a.items.nodes;
+  cover = a.node_cover;
+}
+
+-- and of the tree over its pair leaves
+abbrev pub pair_part : Publication → Book → answers.Answer → Part
+pair_part p book a = record {
+  leaves = pair_texts book.pairs;
+  fan = p.settings.fan;
+  places = a.pair_places;
+  texts = pair_texts a.items.pairs;
+  cover = a.pair_cover;
+}
+
+-- ---- right answers
+
+-- each text is that of the leaf at its place, and the cover is the tree's; where there is no place, it is empty
+pub record IsTreesOwn (hash : List ℕ → List ℕ) (part : Part) : Type 0 where
+  pub rising : IsRising (length part.leaves) part.places
+  pub texts : part.texts ≡ chosen_texts part.leaves part.places
+  pub cover : part.cover ≡ cover_of hash part.leaves part.fan part.places
+
+-- all that an answer brings is of the trees of the publication's book
+pub record IsOwn (hash sha : List ℕ → List ℕ) (p : Publication) (a : answers.Answer) : Type 0 where
+  pub kind : Kind
+  pub book : Book
+  pub is_book : IsBook sha p.parts p.settings kind book
+  pub nodes : IsTreesOwn hash (node_part sha p book a)
+  pub pairs : IsTreesOwn hash (pair_part p book a)
+
+-- so its items are leaves of the book, and the accepted route is a shortest one in the publication's map
+pub record IsRight (hash sha : List ℕ → List ℕ) (p : Publication) (q : Query) (x : Accepted) (a : answers.Answer) : Type 0 where
+  pub own : IsOwn hash sha p a
+  pub authentic : IsAuthentic own.book a.items
+  pub shortest : IsShortest p.parts q.from q.to x.route x.length
+
+-- ---- collisions
+
+-- what is brought is not the tree's own, and at one place the tree hashes the left text, and the fold of what is
+-- brought the right one
+pub record Clashes (hash : List ℕ → List ℕ) (part : Part) (two : TwoTexts) : Type 0 where
+  pub not_own : ¬ IsTreesOwn hash part
+  pub hashed : AreHashed hash part.leaves part.fan part.places part.texts part.cover two.left two.right
+
+-- a clash in the first tree, or in the second where what is brought of the first is its own
+abbrev pub ClashesFirst : (List ℕ → List ℕ) → Part → Part → TwoTexts → Type 0
+ClashesFirst hash one other two = Clashes hash one two ⊎ (IsTreesOwn hash one × Clashes hash other two)
+
+-- two different texts with one digest
+pub record AreCollision (hash : List ℕ → List ℕ) (two : TwoTexts) : Type 0 where
+  pub differ : two.left ≢ two.right
+  pub one_digest : hash two.left ≡ hash two.right
+
+-- two such texts, where an answer brings what is not of the trees of the publication's book, the node tree first
+pub record Collides (hash sha : List ℕ → List ℕ) (p : Publication) (a : answers.Answer) (two : TwoTexts) : Type 0 where
+  pub collision : AreCollision hash two
+  pub not_own : ¬ IsOwn hash sha p a
+  pub kind : Kind
+  pub book : Book
+  pub is_book : IsBook sha p.parts p.settings kind book
+  pub clash : ClashesFirst hash (node_part sha p book a) (pair_part p book a) two
+
+-- ---- forged headers
+
+-- the header of an answer and the signature that it brings, which is verified on the header under the key
+pub record BringsHeader (key : List ℕ) (a : answers.Answer) (header signature : List ℕ) : Type 0 where
+  pub header_is : header ≡ header_text a.header
+  pub signature_is : signature ≡ a.signature
+  pub good : verified key header signature ≡ Ok tt

@@ -1,0 +1,112 @@
+//! A reply against a publication's book.
+ghost use Rattle.std.specs.Prelude.{◌≡◌, ◌↔◌, length, IfOk, IfSome, IsNone, Ok};
+ghost use Rattle.route_client.specs.Rooms.{IsRead};
+ghost use Rattle.route_client.specs.Verdicts.{nodes_covered, pairs_covered};
+ghost use Rattle.route_server.specs.Keeping.{header_in};
+ghost use Rattle.route_audit.specs.Comparing.{part_under, node_part_of, pair_part_of, FoldsUnder, Compares};
+ghost use Rattle.route_audit.specs.Evidence.{AreCollision, Clashes, IsTreesOwn};
+
+use crate::Finding;
+use merkle_cover::{Texts, TwoTexts, clash};
+use octet_text::{Digest32, Hasher, NoMemory};
+use proof_octets::Answer;
+use route_client::{node_texts, pair_texts};
+use route_server::Held;
+use std::alloc::Global;
+
+// Two texts with one digest, where what is brought of a tree of a book, 1 that of nodes or 2 that of pairs,
+// folds to the tree's root and is not the tree's own.
+fn clash_under<H: Hasher>(
+    alloc: Global,
+    held: &Held<H>,
+    which: u8,
+    places: &[u32],
+    texts: &Texts,
+    cover: &[Digest32],
+) -> Result<Option<TwoTexts>, NoMemory>
+    requires texts { length texts.now ≡ length places.now }
+    requires folds { FoldsUnder H.hash which (part_under held.now which places.now texts.now cover.now) }
+    ensures own { IfOk result (λ r. IsNone r ↔ IsTreesOwn H.hash (part_under held.now which places.now texts.now cover.now)) }
+    ensures collision { IfOk result (λ r. IfSome r (AreCollision H.hash)) }
+    ensures clash { IfOk result (λ r. IfSome r (Clashes H.hash (part_under held.now which places.now texts.now cover.now))) }
+{
+    if places.is_empty() {
+        return Ok(None);
+    }
+    let Some(tree) = held.tree(which) else {
+        unreachable!()
+    };
+    let Some(leaves) = held.leaves(which) else {
+        unreachable!()
+    };
+    clash(alloc, tree, leaves, places, texts, cover)
+}
+
+// Where the node items and the node cover are not those of the node tree.
+fn clash_of_nodes<H: Hasher>(
+    alloc: Global,
+    held: &Held<H>,
+    answer: &Answer,
+) -> Result<Option<TwoTexts>, NoMemory>
+    requires read { IsRead answer.now }
+    requires same { answer.now.header ≡ header_in H.hash held.now }
+    requires covered { nodes_covered H.hash answer.now ≡ Ok tt }
+    ensures own { IfOk result (λ r. IsNone r ↔ IsTreesOwn H.hash (node_part_of held.now answer.now)) }
+    ensures collision { IfOk result (λ r. IfSome r (AreCollision H.hash)) }
+    ensures clash { IfOk result (λ r. IfSome r (Clashes H.hash (node_part_of held.now answer.now))) }
+{
+    let texts = node_texts(alloc, answer.items.nodes.as_slice())?;
+    clash_under::<H>(
+        alloc,
+        held,
+        1,
+        answer.node_places.as_slice(),
+        &texts,
+        answer.node_cover.as_slice(),
+    )
+}
+
+// Where the pair items and the pair cover are not those of the pair tree.
+fn clash_of_pairs<H: Hasher>(
+    alloc: Global,
+    held: &Held<H>,
+    answer: &Answer,
+) -> Result<Option<TwoTexts>, NoMemory>
+    requires read { IsRead answer.now }
+    requires same { answer.now.header ≡ header_in H.hash held.now }
+    requires covered { pairs_covered H.hash answer.now ≡ Ok tt }
+    ensures own { IfOk result (λ r. IsNone r ↔ IsTreesOwn H.hash (pair_part_of held.now answer.now)) }
+    ensures collision { IfOk result (λ r. IfSome r (AreCollision H.hash)) }
+    ensures clash { IfOk result (λ r. IfSome r (Clashes H.hash (pair_part_of held.now answer.now))) }
+{
+    let texts = pair_texts(alloc, answer.items.pairs.as_slice())?;
+    clash_under::<H>(
+        alloc,
+        held,
+        2,
+        answer.pair_places.as_slice(),
+        &texts,
+        answer.pair_cover.as_slice(),
+    )
+}
+
+/// What an accepted answer is evidence of over the book whose header it carries.
+pub fn compare<H: Hasher>(
+    alloc: Global,
+    held: &Held<H>,
+    answer: &Answer,
+) -> Result<Finding, NoMemory>
+    requires read { IsRead answer.now }
+    requires same { answer.now.header ≡ header_in H.hash held.now }
+    requires nodes { nodes_covered H.hash answer.now ≡ Ok tt }
+    requires pairs { pairs_covered H.hash answer.now ≡ Ok tt }
+    ensures { IfOk result (Compares H.hash (node_part_of held.now answer.now) (pair_part_of held.now answer.now)) }
+{
+    if let Some(two) = clash_of_nodes::<H>(alloc, held, answer)? {
+        return Ok(Finding::Collision(two));
+    }
+    if let Some(two) = clash_of_pairs::<H>(alloc, held, answer)? {
+        return Ok(Finding::Collision(two));
+    }
+    Ok(Finding::Right)
+}

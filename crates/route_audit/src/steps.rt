@@ -1,0 +1,89 @@
+//! The steps of an audit before a reply is compared with a publication.
+ghost use Rattle.std.specs.Prelude.{◌≡◌, ◌≢◌, ◌<◌, ◌^◌, length, IfOk, IfErr, Ok};
+ghost use Rattle.std.specs.Bool.{OnTrue, OnFalse};
+ghost use Rattle.sha2.specs.Sha256.{sha256};
+ghost use Rattle.lms_tree.specs.Signatures.{public_key};
+ghost use Rattle.route_client.specs.Rooms.{IsRead};
+ghost use Rattle.route_client.specs.Verdicts.{IsVerdict};
+ghost use Rattle.route_client.specs.declared.accepted.Accepted.{Accepted};
+ghost use Rattle.route_server.specs.Installing.{Installs};
+ghost use Rattle.route_server.specs.Keeping.{HasSpellings};
+ghost use Rattle.route_audit.specs.Comparing.{IsAnswerTo, IsNotInstalled, IsRefused};
+
+use crate::AuditError;
+use book_model::Query;
+use key_desk::Desk;
+use octet_text::{Hasher, ReadError};
+use proof_octets::{Answer, Header, Publication, Reply};
+use route_client::{CheckError, check, verdict_laws};
+use route_server::{Held, InstallError};
+use std::alloc::Global;
+
+/// Whether a public key is the desk's.
+pub fn is_key_of(desk: &Desk, public: &[u8]) -> bool
+    ensures same { OnTrue result (public.now ≡ public_key desk.now.key) }
+    ensures apart { OnFalse result (public.now ≢ public_key desk.now.key) }
+{
+    let key = desk.public();
+    key.as_slice() == public
+}
+
+/// Whether two headers are the same.
+pub fn is_same_header(left: &Header, right: &Header) -> bool
+    ensures same { OnTrue result (left.now ≡ right.now) }
+    ensures apart { OnFalse result (left.now ≢ right.now) }
+{
+    left == right
+}
+
+// Whether the client accepts octets as a reply to a query.
+fn test_reply<H: Hasher>(
+    alloc: Global,
+    public: &[u8],
+    reply: &[u8],
+    query: Query,
+) -> Result<(), AuditError>
+    requires { length reply.now < 2 ^ 32 }
+    ensures accepted { IfOk result (λ _. (x : Accepted) × IsVerdict H.hash public.now reply.now query 0 (Ok x)) }
+    ensures refused { IfErr result (IsRefused H.hash public.now reply.now query) }
+{
+    match check::<H>(alloc, public, reply, query, 0) {
+        Ok(_) => Ok(()),
+        Err(CheckError::Memory) => Err(AuditError::Memory),
+        Err(refusal) => Err(AuditError::Refused(refusal)),
+    }
+}
+
+/// The answer that octets spell, where the client accepts them as a reply to a query, whatever its version.
+pub fn accepted_answer<H: Hasher>(
+    alloc: Global,
+    public: &[u8],
+    reply: &[u8],
+    query: Query,
+) -> Result<Answer, AuditError>
+    requires { length reply.now < 2 ^ 32 }
+    ensures accepted { IfOk result (IsAnswerTo H.hash public.now reply.now query) }
+    ensures read { IfOk result IsRead }
+    ensures refused { IfErr result (IsRefused H.hash public.now reply.now query) }
+{
+    verdict_laws();
+    test_reply::<H>(alloc, public, reply, query)?;
+    match Reply::read(alloc, reply) {
+        Ok(Reply::Answer(answer)) => Ok(answer),
+        Err(ReadError::Memory) => Err(AuditError::Memory),
+        _ => unreachable!(),
+    }
+}
+
+/// The book of a publication.
+pub fn install<H: Hasher>(alloc: Global, publication: Publication) -> Result<Held<H>, AuditError>
+    ensures installed { IfOk result (λ held. Installs H.hash sha256 publication (Ok held)) }
+    ensures spelled { IfOk result HasSpellings }
+    ensures refused { IfErr result (IsNotInstalled H.hash sha256 publication) }
+{
+    match Held::install(alloc, publication) {
+        Ok(held) => Ok(held),
+        Err(InstallError::Memory) => Err(AuditError::Memory),
+        Err(refusal) => Err(AuditError::Install(refusal)),
+    }
+}

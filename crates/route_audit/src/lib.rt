@@ -10,3 +10,5 @@ mod comparing;
 mod errors;
 mod finding;
 mod steps;
+#[cfg(test)]
+mod tests;

@@ -1,0 +1,227 @@
+//! What no clause says: a reply over a map of five nodes is right, of another publication, refused, forged, or
+//! shows two leaves with one digest. The hash sums octets, so that two leaves have one digest where their octets
+//! are in another order.
+ghost use Rattle.std.specs.Prelude.{◌≤◌, length};
+ghost use Rattle.key_desk.specs.Desk.{Fits};
+
+use crate::{AuditError, Finding, audit};
+use book_model::{Query, Settings};
+use key_desk::Desk;
+use lms_tree::Key;
+use octet_text::{Octets, Toy};
+use proof_method::Refusal;
+use proof_octets::{Header, Publication};
+use road_io::{Disk, MemDisk};
+use road_map::{Node, Nodes, Parts, Road, Roads};
+use route_client::CheckError;
+use route_server::Held;
+use std::alloc::Global;
+use std::test::Fail;
+
+const ASKED: Query = Query { from: 1, to: 3 };
+
+/// The text that is hashed for the leaf of node 2, which stands at (10, 0).
+const SECOND: [u8; 32] = [
+    0, 0x4e, 0, 0, 0, 2, 0, 0, 0, 10, 0, 0, 0, 0, 0, 2, 0, 0, 0, 1, 0, 0, 0, 4, 0, 0, 0, 3, 0, 0,
+    0, 5,
+];
+
+/// The same where node 2 stands at (0, 10).
+const SECOND_MOVED: [u8; 32] = [
+    0, 0x4e, 0, 0, 0, 2, 0, 0, 0, 0, 0, 0, 0, 10, 0, 2, 0, 0, 0, 1, 0, 0, 0, 4, 0, 0, 0, 3, 0, 0,
+    0, 5,
+];
+
+/// DIJ with fan-out 2.
+fn settings(version: u64) -> Settings {
+    Settings {
+        method: 1,
+        version,
+        order: 0,
+        seed: 0,
+        fan: 2,
+        p1: 0,
+        p2: 0,
+        p3: 0,
+    }
+}
+
+/// Five nodes: two routes from 1 to 3, and the node 5 without roads.
+fn five_nodes(alloc: Global) -> Result<Parts, Fail> {
+    let mut nodes = Vec::new(alloc);
+    for (id, x, y) in [(1, 0, 0), (2, 10, 0), (3, 20, 0), (4, 10, 10), (5, 50, 50)] {
+        nodes.push(Node { id, x, y })?;
+    }
+    let mut roads = Vec::new(alloc);
+    for (a, b, length) in [(1, 2, 4), (2, 3, 5), (1, 4, 3), (4, 3, 7)] {
+        roads.push(Road { a, b, length })?;
+    }
+    Ok(Parts {
+        nodes: Nodes::from_vec(nodes),
+        roads: Roads::from_vec(roads),
+    })
+}
+
+fn header_of(alloc: Global, version: u64) -> Result<Header, Fail> {
+    let held = Held::<Toy>::build(alloc, five_nodes(alloc)?, &settings(version))?;
+    Ok(held.header())
+}
+
+/// The publication of a version with this signature.
+fn publication(alloc: Global, version: u64, signature: Vec<u8>) -> Result<Publication, Fail> {
+    Ok(Publication {
+        header: header_of(alloc, version)?,
+        signature: Octets::from_vec(signature),
+        settings: settings(version),
+        parts: five_nodes(alloc)?,
+    })
+}
+
+/// The octets of the reply over the publication of a version with this signature.
+fn reply(alloc: Global, version: u64, signature: Vec<u8>) -> Result<Vec<u8>, Fail> {
+    let held = Held::<Toy>::install(alloc, publication(alloc, version, signature)?)?;
+    if held.signature().len() > 1452 {
+        return Ok(Vec::new(alloc));
+    }
+    let octets = held.answer(alloc, ASKED)?;
+    Ok(octets)
+}
+
+/// The same, signed by the desk.
+fn signed_reply<D: Disk>(
+    alloc: Global,
+    desk: &mut Desk,
+    disk: &mut D,
+    version: u64,
+) -> Result<Vec<u8>, Fail>
+    requires { Fits D.Disk desk.old disk.old }
+    ensures { Fits D.Disk desk.new disk.new }
+{
+    let header = header_of(alloc, version)?;
+    let mut signature = Vec::from_elem(alloc, 0u8, desk.sig_len() as usize)?;
+    desk.sign(disk, &header.write(), &mut signature)?;
+    reply(alloc, version, signature)
+}
+
+/// The audit of octets under the desk's key, against the publication of a version.
+fn audited<D: Disk>(
+    alloc: Global,
+    desk: &mut Desk,
+    disk: &mut D,
+    octets: &[u8],
+    version: u64,
+) -> Result<Result<Finding, AuditError>, Fail>
+    requires { Fits D.Disk desk.old disk.old }
+    ensures { Fits D.Disk desk.new disk.new }
+{
+    if octets.len() > 10_000 {
+        return Ok(Err(AuditError::Memory));
+    }
+    let public = desk.public();
+    let publication = publication(alloc, version, Vec::new(alloc))?;
+    Ok(audit::<Toy, D>(alloc, &public, octets, ASKED, publication, desk, disk))
+}
+
+/// The octets with others from a place up to another.
+fn spliced(
+    alloc: Global,
+    octets: &[u8],
+    from: usize,
+    to: usize,
+    others: &[u8],
+) -> Result<Vec<u8>, Fail> {
+    let mut out = Vec::new(alloc);
+    if from <= to && to <= octets.len() {
+        out.extend_from_slice(&octets[..from])?;
+        out.extend_from_slice(others)?;
+        out.extend_from_slice(&octets[to..])?;
+    }
+    Ok(out)
+}
+
+/// The reply without the leaf of node 4, whose digest stands in the cover.
+fn without_four(alloc: Global, octets: &[u8]) -> Result<Vec<u8>, Fail> {
+    let mut cover = [0; 36];
+    cover[3] = 2;
+    cover[35] = 118;
+    let covered = spliced(alloc, octets, 1571, 1575, &cover)?;
+    let fewer = spliced(alloc, &covered, 1530, 1567, &[])?;
+    spliced(alloc, &fewer, 1415, 1419, &[0, 0, 0, 3])
+}
+
+#[test]
+fn a_reply_is_right_or_refused_or_of_another_publication(rt: HostRuntime) -> Result<(), Fail> {
+    let alloc = rt.alloc();
+    let mut disk = MemDisk::new(alloc, 4160, 100_000, Vec::new(alloc), None)?;
+    let mut desk = Desk::create(alloc, &mut disk, 5, &[0; 48])?;
+    let octets = signed_reply(alloc, &mut desk, &mut disk, 3)?;
+    let right = audited(alloc, &mut desk, &mut disk, &octets, 3)?;
+    assert!(rt; matches!(&right, Ok(Finding::Right)));
+    let other = audited(alloc, &mut desk, &mut disk, &octets, 4)?;
+    assert_eq!(rt; other.err(), Some(AuditError::OtherPublication));
+    let fewer = without_four(alloc, &octets)?;
+    let refused = audited(alloc, &mut desk, &mut disk, &fewer, 3)?;
+    let missing = CheckError::Judged(Refusal::MissingTuple(4));
+    assert_eq!(rt; refused.err(), Some(AuditError::Refused(missing)));
+    let unsigned = publication(alloc, 3, Vec::new(alloc))?;
+    let other_key = audit::<Toy, MemDisk>(
+        alloc,
+        &[0; 56],
+        &[],
+        ASKED,
+        unsigned,
+        &mut desk,
+        &mut disk,
+    );
+    assert_eq!(rt; other_key.err(), Some(AuditError::OtherKey));
+    Ok(())
+}
+
+#[test]
+fn a_moved_node_with_the_same_digest_is_a_collision(rt: HostRuntime) -> Result<(), Fail> {
+    let alloc = rt.alloc();
+    let mut disk = MemDisk::new(alloc, 4160, 100_000, Vec::new(alloc), None)?;
+    let mut desk = Desk::create(alloc, &mut disk, 5, &[0; 48])?;
+    let mut octets = signed_reply(alloc, &mut desk, &mut disk, 3)?;
+    if octets.len() > 1474 {
+        octets[1470] = 0;
+        octets[1474] = 10;
+    }
+    let found = audited(alloc, &mut desk, &mut disk, &octets, 3)?;
+    match &found {
+        Ok(Finding::Collision(two)) => {
+            assert_eq!(rt; two.left.as_slice(), SECOND.as_slice());
+            assert_eq!(rt; two.right.as_slice(), SECOND_MOVED.as_slice());
+        }
+        _ => assert!(rt; false),
+    }
+    Ok(())
+}
+
+#[test]
+fn a_header_that_the_desk_never_signed_is_forged(rt: HostRuntime) -> Result<(), Fail> {
+    let alloc = rt.alloc();
+    let mut disk = MemDisk::new(alloc, 4160, 100_000, Vec::new(alloc), None)?;
+    let mut desk = Desk::create(alloc, &mut disk, 5, &[0; 48])?;
+    let key = Key::build(alloc, 5, &[0; 16], &[0; 32])?;
+    let header = header_of(alloc, 9)?;
+    let mut signature = Vec::from_elem(alloc, 0u8, 1292)?;
+    key.sign_into(31, &header.write(), &mut signature);
+    let mut copy = Vec::new(alloc);
+    copy.extend_from_slice(&signature)?;
+    let octets = reply(alloc, 9, copy)?;
+    let found = audited(alloc, &mut desk, &mut disk, &octets, 3)?;
+    match &found {
+        Ok(
+            Finding::Forged {
+                header: forged,
+                signature: seal,
+            },
+        ) => {
+            assert_eq!(rt; forged.as_slice(), header.write().as_slice());
+            assert_eq!(rt; seal.as_slice(), signature.as_slice());
+        }
+        _ => assert!(rt; false),
+    }
+    Ok(())
+}

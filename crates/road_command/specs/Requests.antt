@@ -13,6 +13,7 @@ pub data Request : Type 0 where
   Publish : List ℕ → Settings → Request
   Prove : List ℕ → Query → Request
   Check : List ℕ → List ℕ → Query → ℕ → Request
+  Audit : List ℕ → List ℕ → List ℕ → Query → Request
 
 -- ---- single words
 
@@ -119,6 +120,13 @@ check_words (key ∷ reply ∷ from ∷ to ∷ least ∷ []) = do
   Some (Check key reply query least)
 check_words _ = None
 
+-- the names of files of a public key, a publication and a reply, and the ids of both ends
+abbrev pub audit_words : List (List ℕ) → Option Request
+audit_words (key ∷ publication ∷ reply ∷ from ∷ to ∷ []) = do
+  query ← query_of from to
+  Some (Audit key publication reply query)
+audit_words _ = None
+
 -- the command that words ask for, if they fit one
 abbrev pub request_of : List (List ℕ) → Option Request
 request_of [] = None
@@ -129,4 +137,5 @@ request_of (verb ∷ words) =
     else if bytes_eq verb (codes "publish") then publish_words words
     else if bytes_eq verb (codes "prove") then prove_words words
     else if bytes_eq verb (codes "check") then check_words words
+    else if bytes_eq verb (codes "audit") then audit_words words
     else None

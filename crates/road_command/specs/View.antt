@@ -19,3 +19,4 @@ shown (command.Key secret kind) = request.Key secret.now (type_of kind)
 shown (command.Publish roads settings) = request.Publish roads.now settings
 shown (command.Prove publication query) = request.Prove publication.now query
 shown (command.Check key reply query least) = request.Check key.now reply.now query least
+shown (command.Audit key publication reply query) = request.Audit key.now publication.now reply.now query

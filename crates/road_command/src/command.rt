@@ -2,7 +2,7 @@
 
 ghost use Rattle.std.specs.Prelude.{◌≡◌, ◌<◌, length, drop};
 ghost use Rattle.std.specs.Option.{option_map};
-ghost use Rattle.road_command.specs.Requests.{request_of, route_words, root_words, key_words, publish_words, prove_words, check_words};
+ghost use Rattle.road_command.specs.Requests.{request_of, route_words, root_words, key_words, publish_words, prove_words, check_words, audit_words};
 ghost use Rattle.road_command.specs.View.{shown};
 
 use crate::kind::KeyKind;
@@ -47,6 +47,13 @@ pub enum Command<'a> {
         query: Query,
         least: u64,
     },
+    /// Find out what an accepted reply is evidence of, with the owner's disk and a publication.
+    Audit {
+        key: &'a str,
+        publication: &'a str,
+        reply: &'a str,
+        query: Query,
+    },
 }
 
 /// The command that the words ask for, if they fit one.
@@ -63,6 +70,7 @@ pub fn command_of(words: &Words) -> Option<Command<'_>>
         "publish" => publish_of(words),
         "prove" => prove_of(words),
         "check" => check_of(words),
+        "audit" => audit_of(words),
         _ => None,
     }
 }
@@ -161,5 +169,21 @@ fn check_of(words: &Words) -> Option<Command<'_>>
         reply: words.word(2),
         query,
         least,
+    })
+}
+
+fn audit_of(words: &Words) -> Option<Command<'_>>
+    requires { 0 < length words.now }
+    ensures { option_map shown result ≡ audit_words (drop 1 words.now) }
+{
+    if words.count() != 6 {
+        return None;
+    }
+    let query = query(words.word(4), words.word(5))?;
+    Some(Command::Audit {
+        key: words.word(1),
+        publication: words.word(2),
+        reply: words.word(3),
+        query,
     })
 }

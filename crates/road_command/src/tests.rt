@@ -66,6 +66,15 @@ fn each_command_line_is_read(rt: HostRuntime) -> Result<(), Fail> {
                 least: 18_446_744_073_709_551_615,
             },
         ),
+        (
+            "audit k.hex a.pub a.reply 1 3",
+            Command::Audit {
+                key: "k.hex",
+                publication: "a.pub",
+                reply: "a.reply",
+                query,
+            },
+        ),
     ] {
         let words = words_of(&rt, rt.alloc(), line)?;
         assert_eq!(rt; command_of(&words), Some(command), "at {line}");
@@ -85,7 +94,7 @@ fn other_command_lines_fit_no_command(rt: HostRuntime) -> Result<(), Fail> {
         "prove a.pub 1 4294967296",
         "check k r 1 3",
         "check k r 1 3 18446744073709551616",
-        "audit k p r 1 3",
+        "audit k p r 1",
         "serve a.pub",
         "",
     ] {

@@ -1,5 +1,5 @@
 -- Where no object outside failed, a command ends as its files call for.
-use Rattle.std.proofs.Common.{◌≡◌, ◌≢◌, ◌⊎◌, ℕ, ◌+◌, List, [], ◌∷◌, refl, sym, ap, subst, ◌∙◌, inl, inr, IfSome, MatchResult, arith}
+use Rattle.std.proofs.Common.{◌≡◌, ◌≢◌, ℕ, ◌+◌, List, [], ◌∷◌, refl, sym, ap, subst, ◌∙◌, inl, inr, IfSome, MatchResult, arith}
 use Rattle.std.proofs.lemmas.Bool.{cases_eq}
 use Rattle.std.specs.declared.option.Option.{Option}
 use Rattle.std.specs.declared.option.Option.TheVariants.{None, Some}
@@ -8,16 +8,13 @@ use Rattle.std.specs.declared.result.Result.TheVariants.{Ok, Err}
 use Rattle.road_io.specs.Causes.{Rose}
 use Rattle.road_io.specs.Contents.{Shelf}
 use Rattle.road_map.specs.Walks.{Hop, Follows, end_from, total, Knows, Joins}
-use Rattle.road_map.specs.Maps.{IsMap, Fault as FaultOf}
 use Rattle.road_map.specs.Routes.{IsShortest, AlongArcs, last_stop, walk_length}
 use Rattle.road_map.specs.declared.arc.Arc.{Arc}
 use Rattle.road_map.specs.declared.parts.Road.{Road as RoadOf}
-use Rattle.road_map.specs.Laws.{FaultLaws, ArcLaws, HasRoad}
+use Rattle.road_map.specs.Laws.{ArcLaws, HasRoad}
 use Rattle.road_map.specs.declared.parts.Parts.{Parts}
-use Rattle.road_map.specs.declared.error.MapError.{MapError}
-use Rattle.road_map.specs.declared.error.MapError.TheVariants as map_errors
-use Rattle.road_command.specs.Requests.{Request, Route, Root, Key, Publish, Prove, Check}
-use Rattle.road_proof.specs.Reading.{octets_at, parts_at, publication_at, IsMapFault}
+use Rattle.road_command.specs.Requests.{Request, Route, Root, Key, Publish, Prove, Check, Audit}
+use Rattle.road_proof.specs.Reading.{octets_at, parts_at, publication_at}
 use Rattle.road_proof.specs.RouteLine.{IsRouteLine, IsFirstUnknown, AreApart}
 use Rattle.road_proof.specs.HexFiles.{secret_at, public_key_at}
 use Rattle.road_proof.specs.Endings.{Answered}
@@ -26,26 +23,23 @@ use Rattle.book_model.specs.declared.items.Query.{Query}
 use Rattle.book_model.specs.declared.settings.Settings.{Settings}
 use Rattle.proof_octets.specs.declared.header.Header.{Header}
 use Rattle.proof_octets.specs.declared.publication.Publication.{Publication}
+use Rattle.proof_octets.specs.declared.reply.Answer as answers
 use Rattle.route_owner.specs.Published.{slot_of}
 use Rattle.sha2.specs.Sha256.{sha256}
 use Rattle.route_client.specs.declared.accepted.Accepted.{Accepted}
 use Rattle.route_client.specs.declared.errors.CheckError.{CheckError}
-use Rattle.route_client.specs.Verdicts.{IsVerdict}
 use Rattle.road_proof.specs.Checking.{EndsCheck}
-use Rattle.road_proof.specs.Installing.{EndsBuilding}
+use Rattle.road_proof.specs.Auditing.{EndsOwnersKey, EndsClient, EndsSigned, EndsSameHeader, EndsComparing, EndsAudit}
+use Rattle.road_proof.specs.Installing.{EndsBuilding, EndsInstalling}
 use Rattle.road_proof.specs.Proving.{EndsReply, EndsProve}
 use Rattle.road_proof.specs.Publishing.{EndsOpening, EndsSigning, EndsPublish, IsSignedFrom, AllSpent}
+use Rattle.road_proof.proofs.ExactAudit.{OneVerdict, AcceptanceIsVerdict, one_owner, one_client, one_signed, one_same, one_comparing}
 use Rattle.road_proof.proofs.OneBuilding.{Faults, OneMaking, not_map, one_map_fault, one_building, one_installing}
 use Rattle.road_proof.specs.Exact.{NoneFailed, IsExact}
 use Rattle.road_proof.specs.declared.fault.Fault.{Fault}
-use Rattle.road_proof.specs.declared.fault.Fault.TheVariants.{Words, Missing, TooLong, Road, Map, Plan, Malformed, HeaderWrong, BadHex, OtherKey, Library, Sink, Disk, KeysUsedUp, Memory, UnknownNode, NoRoute, Held, NoKey, BadBlock, OtherPublication}
+use Rattle.road_proof.specs.declared.fault.Fault.TheVariants.{Map, Library, Sink, Disk, KeysUsedUp, Memory, UnknownNode, NoRoute, Held}
 use Rattle.road_proof.specs.declared.ended.Verdict.{Verdict}
 use Rattle.road_proof.specs.declared.ended.Verdict.TheVariants.{Done, Refused}
-
--- octets have one verdict at most
-abbrev pub OneVerdict : Type 0
-OneVerdict = (hash : List ℕ → List ℕ) (key octets : List ℕ) (q : Query) (least : ℕ) (v w : Result Accepted CheckError)
-    → IsVerdict hash key octets q least v → IsVerdict hash key octets q least w → v ≡ w
 
 -- a shortest route joins two known ends
 knows_start : (parts : Parts) (from to : ℕ) (text : List ℕ) → IsRouteLine parts from to text → Knows parts from
@@ -221,8 +215,31 @@ one_publish_end makings content st parts o e s t =
     one_opening content (EndsBuilding parts st (EndsSigning (Some content) parts st)) o e s t
     (one_building (EndsSigning (Some content) parts st) o e s t makings parts st (λ h. one_signing content parts st h o e s t))
 
+-- over what a disk holds, an audit has one end
+one_audit : OneMaking → OneVerdict → AcceptanceIsVerdict → (content key : List ℕ) (b : Publication) (octets : List ℕ) (q : Query) (o e : Result Verdict Fault) (s t : List ℕ)
+    → EndsAudit (Some content) key b octets q o s → EndsAudit (Some content) key b octets q e t → o ≡ e
+one_audit makings one verdict content key b octets q o e s t =
+    one_opening content Owner o e s t (one_owner o e s t content key Client (one_client o e s t one verdict key octets q Install install))
+  where
+    Compare : Accepted → answers.Answer → Result Verdict Fault → List ℕ → Type 0
+    Compare x a = EndsComparing b q x a
+
+    Install : Accepted → answers.Answer → Result Verdict Fault → List ℕ → Type 0
+    Install x a = EndsInstalling b (EndsSigned (Some content) key a (EndsSameHeader b a (EndsComparing b q x a)))
+
+    Client : Result Verdict Fault → List ℕ → Type 0
+    Client = EndsClient key octets q Install
+
+    Owner : Result Verdict Fault → List ℕ → Type 0
+    Owner = EndsOwnersKey (Some content) key Client
+
+    install : (x : Accepted) (a : answers.Answer) → Install x a o s → Install x a e t → o ≡ e
+    install x a =
+        one_installing makings b (EndsSigned (Some content) key a (EndsSameHeader b a (EndsComparing b q x a))) o e s t
+        (one_signed o e s t content key a (EndsSameHeader b a (EndsComparing b q x a)) (one_same o e s t b a (EndsComparing b q x a) (one_comparing o e s t b q x a)))
+
 -- the files, and the disk where it must be told, let a command end in one way
-one_end : Faults → ((parts : Parts) (u : ℕ) → ArcLaws parts u) → OneMaking → OneVerdict → (content : Option (List ℕ)) (request : Request) → IsTold request content → (shelf : Shelf) (o p : Result Verdict Fault) (s t : List ℕ)
+one_end : Faults → ((parts : Parts) (u : ℕ) → ArcLaws parts u) → OneMaking → OneVerdict × AcceptanceIsVerdict → (content : Option (List ℕ)) (request : Request) → IsTold request content → (shelf : Shelf) (o p : Result Verdict Fault) (s t : List ℕ)
     → Ends content request shelf o s → Ends content request shelf p t → o ≡ p
 one_end faults arcs makings verdicts content (Route roads from to) told shelf o p s t h k =
     one_over (parts_at shelf roads) (EndsRoute from to) o p s t (λ parts. one_route_end faults arcs from to parts o p s t) h k
@@ -238,10 +255,16 @@ one_end faults arcs makings verdicts content (Prove file q) told shelf o p s t h
     one_over (publication_at shelf file) (EndsProve q) o p s t (λ b. one_installing makings b (EndsReply q b) o p s t (one_reply b q o p s t)) h k
 one_end faults arcs makings verdicts content (Check key reply q least) told shelf o p s t h k =
     one_over (public_key_at shelf key) (λ k o s. MatchResult (octets_at shelf reply) (λ octets. EndsCheck k octets q least o s) (λ first. (o ≡ Err first) × (s ≡ []))) o p s t
-    (λ k. one_over (octets_at shelf reply) (λ octets. EndsCheck k octets q least) o p s t (λ octets. one_check verdicts k octets q least o p s t)) h k
+    (λ k. one_over (octets_at shelf reply) (λ octets. EndsCheck k octets q least) o p s t (λ octets. one_check verdicts.0 k octets q least o p s t)) h k
+one_end faults arcs makings verdicts (Some content) (Audit key publication reply q) told shelf o p s t h k =
+    one_over (public_key_at shelf key) (λ k o s. MatchResult (publication_at shelf publication)
+    (λ b. MatchResult (octets_at shelf reply) (λ octets. EndsAudit (Some content) k b octets q o s) (λ first. (o ≡ Err first) × (s ≡ []))) (λ first. (o ≡ Err first) × (s ≡ []))) o p s t
+    (λ k. one_over (publication_at shelf publication) (λ b o s. MatchResult (octets_at shelf reply) (λ octets. EndsAudit (Some content) k b octets q o s) (λ first. (o ≡ Err first) × (s ≡ []))) o p s t
+    (λ b. one_over (octets_at shelf reply) (λ octets. EndsAudit (Some content) k b octets q) o p s t (λ octets. one_audit makings verdicts.0 verdicts.1 content k b octets q o p s t))) h k
+one_end faults arcs makings verdicts None (Audit key publication reply q) told shelf o p s t h k = absurd (told refl)
 
 -- an answer is exact where no object outside failed
-exact : Faults → ((parts : Parts) (u : ℕ) → ArcLaws parts u) → OneMaking → OneVerdict → (content : Option (List ℕ)) (request : Request) (shelf : Shelf) (old new : Option (List ℕ)) (outcome : Result Verdict Fault)
+exact : Faults → ((parts : Parts) (u : ℕ) → ArcLaws parts u) → OneMaking → OneVerdict × AcceptanceIsVerdict → (content : Option (List ℕ)) (request : Request) (shelf : Shelf) (old new : Option (List ℕ)) (outcome : Result Verdict Fault)
     → Answered (Ends content request shelf) old new outcome → (outcome ≡ Err Library → ⊥) → (outcome ≡ Err Sink → ⊥) → (outcome ≡ Err Disk → ⊥)
     → IsTold request content → IsExact (Ends content request shelf) outcome
 exact faults arcs makings verdicts content request shelf old new outcome a library sink disk told = by_end (called outcome a library sink disk)
@@ -263,7 +286,7 @@ exact faults arcs makings verdicts content request shelf old new outcome a libra
     }
 
 -- the same for the words, the library and the disk of a run
-pub exact_run : Faults → ((parts : Parts) (u : ℕ) → ArcLaws parts u) → OneMaking → OneVerdict → (asked : Option Request) (files : Option Shelf) (content : Option (List ℕ)) (old new : Option (List ℕ)) (outcome : Result Verdict Fault) (l l' k k' d d' : ℕ)
+pub exact_run : Faults → ((parts : Parts) (u : ℕ) → ArcLaws parts u) → OneMaking → OneVerdict × AcceptanceIsVerdict → (asked : Option Request) (files : Option Shelf) (content : Option (List ℕ)) (old new : Option (List ℕ)) (outcome : Result Verdict Fault) (l l' k k' d d' : ℕ)
     → IfSome asked (λ request. IfSome files (λ shelf. Answered (Ends content request shelf) old new outcome))
     → (outcome ≡ Err Library → Rose l l') → (outcome ≡ Err Sink → Rose k k') → (outcome ≡ Err Disk → Rose d d')
     → NoneFailed l l' k k' d d' → IfSome asked (λ request. IfSome files (λ shelf. IsTold request content → IsExact (Ends content request shelf) outcome))

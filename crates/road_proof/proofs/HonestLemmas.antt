@@ -1,10 +1,9 @@
 -- `check` accepts honest replies.
-use Rattle.std.proofs.Common.{◌≡◌, ◌≢◌, ℕ, List, [], sym, subst, IfSome, MatchResult}
+use Rattle.std.proofs.Common.{◌≡◌, ℕ, List, [], subst, IfSome, MatchResult}
 use Rattle.std.specs.declared.option.Option.{Option}
 use Rattle.std.specs.declared.option.Option.TheVariants.{None, Some}
 use Rattle.std.specs.declared.result.Result.{Result}
 use Rattle.std.specs.declared.result.Result.TheVariants.{Ok, Err}
-use Rattle.std.specs.Io.KnownBytes.{Appends}
 use Rattle.sha2.specs.Sha256.{sha256}
 use Rattle.road_io.specs.Contents.{Shelf}
 use Rattle.road_map.specs.Routes.{IsShortest}
@@ -12,12 +11,10 @@ use Rattle.book_model.specs.declared.items.Query.{Query}
 use Rattle.proof_octets.specs.declared.publication.Publication.{Publication}
 use Rattle.route_client.specs.declared.accepted.Accepted.{Accepted}
 use Rattle.route_client.specs.declared.errors.CheckError.{CheckError}
-use Rattle.route_client.specs.Verdicts.{IsVerdict, Accepts}
+use Rattle.route_client.specs.Verdicts.{IsVerdict}
 use Rattle.route_laws.specs.Honest.{AnswersAreAccepted, AreAccepted}
-use Rattle.road_command.specs.Requests.{Request, Route, Root, Key, Publish, Prove, Check}
-use Rattle.road_line.specs.VerdictLine.{accepted_line}
+use Rattle.road_command.specs.Requests.{Request, Route, Root, Key, Publish, Prove, Check, Audit}
 use Rattle.road_proof.specs.Reading.{octets_at}
-use Rattle.road_proof.specs.HexFiles.{public_key_at}
 use Rattle.road_proof.specs.Checking.{EndsCheck}
 use Rattle.road_proof.specs.Endings.{Answered}
 use Rattle.road_proof.specs.Commands.{Ends}
@@ -26,12 +23,8 @@ use Rattle.road_proof.specs.declared.fault.Fault.{Fault}
 use Rattle.road_proof.specs.declared.fault.Fault.TheVariants.{Library, Sink, Disk, Memory, UnknownNode, NoRoute}
 use Rattle.road_proof.specs.declared.ended.Verdict.{Verdict}
 use Rattle.road_proof.specs.declared.ended.Verdict.TheVariants.{Done, Refused, Evidence}
-use Rattle.road_proof.proofs.Exactly.{OneVerdict}
+use Rattle.road_proof.proofs.ExactAudit.{OneVerdict, AcceptanceIsVerdict}
 use Rattle.road_proof.proofs.CheckLemmas.{OfReply}
-
--- what is accepted has that verdict
-abbrev pub AcceptanceIsVerdict : Type 0
-AcceptanceIsVerdict = (hash : List ℕ → List ℕ) (key octets : List ℕ) (q : Query) (least : ℕ) (x : Accepted) → Accepts hash key octets q least x → IsVerdict hash key octets q least (Ok x)
 
 module _ (one : OneVerdict) (verdict : AcceptanceIsVerdict) (laws : AnswersAreAccepted) (content : Option (List ℕ)) (shelf : Shelf) (key reply : List ℕ) (q : Query) (least : ℕ) (p : Publication) (file : IsHonestFile shelf key reply q least p) where
   accepted : AreAccepted sha256 file.key file.octets q least p.parts
@@ -79,4 +72,5 @@ accepts_honest one verdict laws (Some (Root roads fan)) files content old new o 
 accepts_honest one verdict laws (Some (Key secret kind)) files content old new o a = tt
 accepts_honest one verdict laws (Some (Publish roads settings)) files content old new o a = tt
 accepts_honest one verdict laws (Some (Prove publication q)) files content old new o a = tt
+accepts_honest one verdict laws (Some (Audit key publication reply q)) files content old new o a = tt
 accepts_honest one verdict laws None files content old new o a = tt

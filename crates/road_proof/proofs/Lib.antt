@@ -1,5 +1,6 @@
 pub mod OneBuilding
 pub mod Disks
+pub mod ExactAudit
 pub mod Exactly
 pub mod Written
 pub mod MapLemmas
@@ -9,3 +10,5 @@ pub mod ProveLemmas
 pub mod PublishLemmas
 pub mod CheckLemmas
 pub mod HonestLemmas
+pub mod AuditLemmas
+pub mod HeadlineLemmas

@@ -1,14 +1,13 @@
 -- How `prove` ends.
-use Rattle.std.proofs.Common.{◌≡◌, ◌≢◌, ◌⊎◌, inl, inr, ℕ, List, [], ◌∷◌, Some, slice_get, refl, sym, ap, subst, ◌∙◌, IfSome, MatchResult}
+use Rattle.std.proofs.Common.{◌≡◌, ◌≢◌, inl, inr, ℕ, List, [], Some, slice_get, refl, sym, ap, subst, ◌∙◌, IfSome, MatchResult}
 use Rattle.std.specs.declared.option.Option.{Option}
-use Rattle.std.specs.declared.option.Option.TheVariants.{None}
 use Rattle.std.specs.declared.result.Result.{Result}
 use Rattle.std.specs.declared.result.Result.TheVariants.{Ok, Err}
 use Rattle.std.specs.Io.KnownBytes.{Appends}
 use Rattle.sha2.specs.Sha256.{sha256}
 use Rattle.road_io.specs.Causes.{Rose}
 use Rattle.road_io.specs.Contents.{Shelf, AppendsFront}
-use Rattle.road_map.specs.Walks.{Knows, Joins}
+use Rattle.road_map.specs.Walks.{Knows}
 use Rattle.road_map.specs.Laws.{ArcLaws}
 use Rattle.road_map.specs.declared.parts.Parts.{Parts}
 use Rattle.book_model.specs.declared.items.Query.{Query}
@@ -21,8 +20,6 @@ use Rattle.proof_octets.specs.declared.reply.Reply.{Reply}
 use Rattle.proof_octets.specs.declared.reply.Reply.TheVariants as replies
 use Rattle.proof_octets.specs.Replies as formats
 use Rattle.route_server.specs.Honesty.{IsHonest, Replies}
-use Rattle.road_map.specs.declared.error.MapError.{MapError}
-use Rattle.book_model.specs.declared.settings.PlanError.{PlanError}
 use Rattle.route_server.specs.Headers.{Makes}
 use Rattle.route_server.specs.declared.errors.BuildError.{BuildError}
 use Rattle.route_server.specs.declared.errors.BuildError.TheVariants as build
@@ -30,9 +27,9 @@ use Rattle.road_proof.specs.declared.prove.NotInstalled.{NotInstalled}
 use Rattle.road_proof.specs.declared.prove.NotInstalled.TheVariants as why
 use Rattle.road_command.specs.Requests.{Prove}
 use Rattle.road_proof.specs.Reading.{publication_at}
-use Rattle.road_proof.specs.RouteLine.{IsFirstUnknown, AreApart}
-use Rattle.road_proof.specs.Installing.{EndsInstalling, IsInstallable, WhyNotInstalled, not_built_as, not_installed_fault}
-use Rattle.road_proof.specs.Proving.{AreJoined, EndsReply, EndsProve}
+use Rattle.road_proof.specs.RouteLine.{IsFirstUnknown}
+use Rattle.road_proof.specs.Installing.{IsInstallable, WhyNotInstalled, not_built_as, not_installed_fault}
+use Rattle.road_proof.specs.Proving.{EndsReply, EndsProve}
 use Rattle.road_proof.specs.Commands.{Ends, EndsByFiles}
 use Rattle.road_proof.specs.declared.fault.Fault.{Fault}
 use Rattle.road_proof.specs.declared.fault.Fault.TheVariants.{Map, Plan, HeaderWrong, Sink, UnknownNode, NoRoute}

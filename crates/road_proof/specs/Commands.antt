@@ -8,7 +8,7 @@ use Rattle.road_io.specs.Causes.{Rose}
 use Rattle.road_io.specs.Contents.{Shelf}
 use Rattle.road_map.specs.Maps.{IsMap}
 use Rattle.road_map.specs.declared.parts.Parts.{Parts}
-use Rattle.road_command.specs.Requests.{Request, Route, Root, Key, Publish, Prove, Check}
+use Rattle.road_command.specs.Requests.{Request, Route, Root, Key, Publish, Prove, Check, Audit}
 use Rattle.road_proof.specs.Reading.{octets_at, parts_at, publication_at, IsMapFault}
 use Rattle.road_proof.specs.RouteLine.{IsRouteLine, IsFirstUnknown, AreApart}
 use Rattle.road_proof.specs.RootLine.{IsRootLine}
@@ -19,9 +19,10 @@ use Rattle.road_proof.specs.KeyLine.{key_line}
 use Rattle.road_proof.specs.Publishing.{EndsPublish}
 use Rattle.road_proof.specs.Proving.{EndsProve}
 use Rattle.road_proof.specs.Checking.{EndsCheck}
+use Rattle.road_proof.specs.Auditing.{EndsAudit}
 use Rattle.road_proof.specs.Endings.{Answered, IsSilent, HasUntoldCause}
 use Rattle.road_proof.specs.declared.fault.Fault.{Fault}
-use Rattle.road_proof.specs.declared.fault.Fault.TheVariants.{Words, Missing, TooLong, Road, Map, Plan, Malformed, HeaderWrong, BadHex, OtherKey, Library, Sink, Disk, KeysUsedUp, Memory, UnknownNode, NoRoute, Held, NoKey, BadBlock, OtherPublication}
+use Rattle.road_proof.specs.declared.fault.Fault.TheVariants.{Words, Map, Library, Sink, Disk, UnknownNode, NoRoute, Held}
 use Rattle.road_proof.specs.declared.ended.Verdict.{Verdict}
 use Rattle.road_proof.specs.declared.ended.Verdict.TheVariants.{Done}
 
@@ -62,11 +63,18 @@ Ends content (Check key reply q least) shelf outcome text =
     MatchResult (public_key_at shelf key)
     (λ k. MatchResult (octets_at shelf reply) (λ octets. EndsCheck k octets q least outcome text) (λ first. (outcome ≡ Err first) × (text ≡ [])))
     (λ first. (outcome ≡ Err first) × (text ≡ []))
+Ends content (Audit key publication reply q) shelf outcome text =
+    MatchResult (public_key_at shelf key)
+    (λ k. MatchResult (publication_at shelf publication)
+    (λ p. MatchResult (octets_at shelf reply) (λ octets. EndsAudit content k p octets q outcome text) (λ first. (outcome ≡ Err first) × (text ≡ [])))
+    (λ first. (outcome ≡ Err first) × (text ≡ [])))
+    (λ first. (outcome ≡ Err first) × (text ≡ []))
 
 -- what must be told of the disk, so that an end is exact: its content, for a command that uses the disk
 abbrev pub IsTold : Request → Option (List ℕ) → Type 0
 IsTold (Key file kind) content = content ≢ None
 IsTold (Publish roads settings) content = content ≢ None
+IsTold (Audit key publication reply q) content = content ≢ None
 IsTold request content = Unit {0}
 
 -- what a command promises that loads files and writes to the sink

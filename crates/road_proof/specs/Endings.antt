@@ -9,7 +9,7 @@ use Rattle.std.specs.Io.KnownBytes.{Appends, Keeps}
 use Rattle.road_io.specs.Causes.{Rose}
 use Rattle.road_io.specs.Contents.{Shelf, AppendsFront}
 use Rattle.road_proof.specs.declared.fault.Fault.{Fault}
-use Rattle.road_proof.specs.declared.fault.Fault.TheVariants.{Words, Missing, TooLong, Road, Map, Plan, Malformed, HeaderWrong, BadHex, OtherKey, Library, Sink, Disk, KeysUsedUp, Memory, UnknownNode, NoRoute, Held, NoKey, BadBlock, OtherPublication}
+use Rattle.road_proof.specs.declared.fault.Fault.TheVariants.{Missing, TooLong, Library, Sink, Disk, Memory, UnknownNode, NoRoute}
 use Rattle.road_proof.specs.declared.ended.Verdict.{Verdict}
 
 -- Ends says with which outcome the files let a command end, and which text it then writes.

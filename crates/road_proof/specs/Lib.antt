@@ -8,9 +8,11 @@ pub mod OwnerKey
 pub mod Installing
 pub mod Proving
 pub mod Checking
+pub mod Auditing
 pub mod Publishing
 pub mod Signing
 pub mod Endings
 pub mod Commands
 pub mod Exact
 pub mod Accepting
+pub mod Headline

@@ -1,5 +1,5 @@
 -- What a run does to the owner's disk.
-use Rattle.std.specs.Prelude.{◌≡◌, ℕ, List, IfOk}
+use Rattle.std.specs.Prelude.{ℕ, List, IfOk}
 use Rattle.std.specs.declared.option.Option.{Option}
 use Rattle.std.specs.declared.option.Option.TheVariants.{None, Some}
 use Rattle.std.specs.declared.result.Result.{Result}
@@ -7,7 +7,7 @@ use Rattle.road_io.specs.declared.disk.Disk.{Ghosts}
 use Rattle.road_io.specs.Moments.{EachImage}
 use Rattle.key_desk.specs.Keys.{key_from}
 use Rattle.key_desk.specs.Desk.{IsBlank}
-use Rattle.road_command.specs.Requests.{Request, Route, Root, Key, Publish, Prove, Check}
+use Rattle.road_command.specs.Requests.{Request, Route, Root, Key, Publish, Prove, Check, Audit}
 use Rattle.road_proof.specs.declared.fault.Fault.{Fault}
 
 -- in every image the gate is open, the block is that of the secret and the type, and no slot is spent
@@ -22,6 +22,7 @@ UnlessSigning (Some (Route roads from to)) P = P
 UnlessSigning (Some (Root roads fan)) P = P
 UnlessSigning (Some (Prove publication q)) P = P
 UnlessSigning (Some (Check key reply q least)) P = P
+UnlessSigning (Some (Audit key publication reply q)) P = P
 UnlessSigning None P = P
 
 -- this holds, unless words ask for a publication
@@ -32,6 +33,7 @@ UnlessPublish (Some (Route roads from to)) P = P
 UnlessPublish (Some (Root roads fan)) P = P
 UnlessPublish (Some (Prove publication q)) P = P
 UnlessPublish (Some (Check key reply q least)) P = P
+UnlessPublish (Some (Audit key publication reply q)) P = P
 UnlessPublish None P = P
 
 -- this holds of the secret's name and the type, if words ask for a key
@@ -42,4 +44,5 @@ IfKey (Some (Root roads fan)) P = Unit {0}
 IfKey (Some (Publish roads settings)) P = Unit {0}
 IfKey (Some (Prove publication q)) P = Unit {0}
 IfKey (Some (Check key reply q least)) P = Unit {0}
+IfKey (Some (Audit key publication reply q)) P = Unit {0}
 IfKey None P = Unit {0}

@@ -1,5 +1,5 @@
 -- What `publish` does to the owner's disk.
-use Rattle.std.specs.Prelude.{◌≡◌, ◌⊎◌, ℕ, List, IfSome, IfOk}
+use Rattle.std.specs.Prelude.{◌≡◌, ◌⊎◌, ℕ, List, IfSome}
 use Rattle.std.specs.declared.option.Option.{Option}
 use Rattle.std.specs.declared.option.Option.TheVariants.{None, Some}
 use Rattle.std.specs.declared.result.Result.{Result}
@@ -21,7 +21,7 @@ use Rattle.proof_octets.specs.Publications.{publication_text}
 use Rattle.route_server.specs.Headers.{HasHeader, Makes}
 use Rattle.route_server.specs.declared.errors.BuildError.TheVariants as build
 use Rattle.route_owner.specs.Published.{slot_of, SignsHeader}
-use Rattle.road_command.specs.Requests.{Request, Route, Root, Key, Publish, Prove, Check}
+use Rattle.road_command.specs.Requests.{Request, Route, Root, Key, Publish, Prove, Check, Audit}
 use Rattle.road_proof.specs.Reading.{parts_at}
 use Rattle.road_proof.specs.Publishing.{IsUsable, AllSpent, IsPublicationOf}
 use Rattle.road_proof.specs.declared.publish.NotPublished.{NotPublished}
@@ -29,7 +29,6 @@ use Rattle.road_proof.specs.declared.publish.NotPublished.TheVariants as why
 use Rattle.road_proof.specs.declared.fault.Fault.{Fault}
 use Rattle.road_proof.specs.declared.fault.Fault.TheVariants.{Map, Plan, Sink, Disk, KeysUsedUp, Memory, NoKey, BadBlock}
 use Rattle.road_proof.specs.declared.ended.Verdict.{Verdict}
-use Rattle.road_proof.specs.declared.ended.Verdict.TheVariants.{Done}
 
 -- ---- one signing
 
@@ -113,4 +112,5 @@ IfPublish (Some (Root roads fan)) P = Unit {0}
 IfPublish (Some (Key secret kind)) P = Unit {0}
 IfPublish (Some (Prove publication q)) P = Unit {0}
 IfPublish (Some (Check key reply q least)) P = Unit {0}
+IfPublish (Some (Audit key publication reply q)) P = Unit {0}
 IfPublish None P = Unit {0}

@@ -3,6 +3,7 @@
 //! `run` does all that the program does, over any library and any sink. `main` hands it the real ones.
 #![tactic(auto)]
 
+mod audit;
 mod check;
 mod ended;
 mod fault;
@@ -33,7 +34,9 @@ const COMMANDS: &str = "commands:
   prove PUB S T      writes a reply that shows a shortest route from S to T
   check PUBKEY REPLY S T LEAST
                      writes what a client says of a reply: that it accepts a route of version LEAST
-                     or later, or why it does not";
+                     or later, or why it does not
+  audit PUBKEY PUB REPLY S T
+                     writes what a reply is evidence of, by owner.desk and a publication";
 
 fn main(rt: HostRuntime) -> ExitCode {
     let alloc = rt.alloc();

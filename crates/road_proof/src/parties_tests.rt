@@ -9,6 +9,7 @@ use std::process::Abort;
 use std::test::Fail;
 
 /// The files that the commands read, and the owner's disk.
+#[derive(Drop)]
 struct World {
     library: MemLibrary,
     disk: MemDisk,
@@ -44,10 +45,14 @@ fn written(
     Ok(sink.taken().to_vec(alloc)?)
 }
 
+/// The hex digits of a public key that is not the owner's.
+const OTHER_KEY: &str =
+    "0000000500000004000000000000000000000000000000000000000000000000000000000000000000000000000000000000000000000000";
+
 const PUBLISH: &str = "publish map.roads dij 3 id 0 2 0 0 0";
 
 #[test]
-fn a_route_is_published_proved_and_checked(rt: HostRuntime) -> Result<(), Fail> {
+fn a_route_is_published_proved_checked_and_audited(rt: HostRuntime) -> Result<(), Fail> {
     let alloc = rt.alloc();
     let mut world = new_world(alloc, Vec::new(alloc))?;
     let no_key = Some(Fault::NoKey);
@@ -61,6 +66,10 @@ fn a_route_is_published_proved_and_checked(rt: HostRuntime) -> Result<(), Fail> 
     let reply = written(&rt, alloc, &mut world, "prove pub 1 3", 0, None)?;
     assert_eq!(rt; reply.len(), 1611);
     world.library.put("reply", &reply)?;
+    let later = "publish map.roads dij 4 id 0 2 0 0 0";
+    let later = written(&rt, alloc, &mut world, later, 0, None)?;
+    world.library.put("later", &later)?;
+    world.library.put("other", OTHER_KEY.as_bytes())?;
     let unknown = Some(Fault::UnknownNode(9));
     let settings = Some(Fault::Plan(PlanError::Settings(3)));
     for (line, text, status, fault) in [
@@ -74,6 +83,15 @@ fn a_route_is_published_proved_and_checked(rt: HostRuntime) -> Result<(), Fail> 
         ("prove pub 9 8", "\x01", 11, unknown),
         ("prove reply 1 3", "", 3, Some(Fault::Malformed(0))),
         ("publish map.roads dij 3 id 0 2 1 0 0", "", 3, settings),
+        ("audit key pub reply 1 3", "right\n", 0, None),
+        ("audit key pub pub 1 3", "refused Malformed 0\n", 1, None),
+        ("audit other pub reply 1 3", "", 3, Some(Fault::OtherKey)),
+        (
+            "audit key later reply 1 3",
+            "",
+            14,
+            Some(Fault::OtherPublication),
+        ),
     ] {
         let out = written(&rt, alloc, &mut world, line, status, fault)?;
         assert_eq!(rt; out.as_slice(), text.as_bytes(), "at {line}");

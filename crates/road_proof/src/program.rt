@@ -14,9 +14,11 @@ ghost use Rattle.road_proof.specs.Signing.{IfPublish, SealsWhatItWrites, SignsAt
 ghost use Rattle.road_proof.specs.Outcomes.{outcome_of, status_of};
 ghost use Rattle.road_proof.specs.Endings.{Answered, IsSilent, HasUntoldCause};
 ghost use Rattle.road_proof.specs.Accepting.{AcceptsHonest};
+ghost use Rattle.road_proof.specs.Headline.{WritesFindings, AuditsAccepted};
 ghost use Rattle.road_proof.specs.Commands.{Ends, IsTold};
 ghost use Rattle.road_proof.specs.Exact.{NoneFailed, IsExact};
 
+use crate::audit::audit;
 use crate::check::check;
 use crate::ended::{Ended, Verdict};
 use crate::fault::Fault;
@@ -61,6 +63,8 @@ pub fn run<L: Library, K: Sink, D: Disk>(
     ensures sealed { IfPublish (request_of words.now) (λ roads settings. SealsWhatItWrites D.Disk disk.old disk.new (K.taken sink.old) (K.taken sink.new) (outcome_of result)) }
     ensures signs { IfPublish (request_of words.now) (λ roads settings. SignsAtMostOne D.Disk disk.old disk.new (L.files library.old) roads settings) }
     ensures honest { AcceptsHonest (request_of words.now) (L.files library.old) (K.taken sink.old) (K.taken sink.new) (outcome_of result) }
+    ensures finds { WritesFindings D.Disk disk.new (request_of words.now) (L.files library.old) (K.taken sink.old) (K.taken sink.new) (outcome_of result) }
+    ensures headline { AuditsAccepted D.Disk (D.content disk.old) disk.new (request_of words.now) (L.files library.old) (K.taken sink.old) (K.taken sink.new) (outcome_of result) }
     ensures stands { KeepsStanding D.Disk disk.old disk.new }
 {
     map_laws();
@@ -92,6 +96,7 @@ fn work<L: Library, K: Sink, D: Disk>(
     ensures disk_kept { UnlessSigning (request_of words.now) (AtEachMoment D.Disk disk.old disk.new Stays) }
     ensures sealed { IfPublish (request_of words.now) (λ roads settings. SealsWhatItWrites D.Disk disk.old disk.new (K.taken sink.old) (K.taken sink.new) result) }
     ensures signs { IfPublish (request_of words.now) (λ roads settings. SignsAtMostOne D.Disk disk.old disk.new (L.files library.old) roads settings) }
+    ensures finds { WritesFindings D.Disk disk.new (request_of words.now) (L.files library.old) (K.taken sink.old) (K.taken sink.new) result }
     ensures stands { KeepsStanding D.Disk disk.old disk.new }
 {
     match command_of(words) {
@@ -113,5 +118,13 @@ fn work<L: Library, K: Sink, D: Disk>(
                 least,
             },
         ) => check(alloc, library, sink, key, reply, query, least),
+        Some(
+            Command::Audit {
+                key,
+                publication,
+                reply,
+                query,
+            },
+        ) => audit(alloc, library, sink, disk, key, publication, reply, query),
     }
 }

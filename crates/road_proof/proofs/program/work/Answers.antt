@@ -40,3 +40,7 @@ returns-in-Some-Check-clause-answered g c =
 pub returns-in-Some-Publish-clause-answered : goal.returns-in-Some-Publish-clause-answered
 returns-in-Some-Publish-clause-answered g c =
     asked_of _ _ (rw c.in-Some-Publish.field-0-is at c.in-Some-Publish.ensures) _ _ _ _ _ c.publish.ensures.answered
+
+pub returns-in-Some-Audit-clause-answered : goal.returns-in-Some-Audit-clause-answered
+returns-in-Some-Audit-clause-answered g c =
+    asked_of _ _ (rw c.in-Some-Audit.field-0-is at c.in-Some-Audit.ensures) _ _ _ _ _ c.audit.ensures.answered

@@ -5,3 +5,5 @@ pub mod PartLaws
 pub mod Printed
 pub mod Numerals
 pub mod RoundTrip
+pub mod GridLaws
+pub mod GridMaps

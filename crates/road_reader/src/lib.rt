@@ -5,15 +5,21 @@
 //! `node ID X Y` or `road A B LENGTH`.
 #![tactic(auto)]
 
+mod draw;
 mod entry;
 mod error;
+mod grid;
+mod laws;
 mod lines;
 mod numbers;
 mod printer;
 mod reader;
 mod words;
 
-pub use error::RoadError;
+pub use draw::Draw;
+pub use error::{GridError, RoadError};
+pub use grid::grid_roads;
+pub use laws::grid_laws;
 pub use numbers::{natural, wide_natural};
 pub use printer::print_roads;
 pub use reader::{MOST_NODES, MOST_ROADS, printed_roads_are_read, read_roads};

@@ -8,7 +8,7 @@ use crate::{AuditError, Finding, audit};
 use book_model::{Query, Settings};
 use key_desk::Desk;
 use lms_tree::Key;
-use octet_text::{Octets, Toy};
+use octet_text::{NoMemory, Octets, Toy};
 use proof_method::Refusal;
 use proof_octets::{Header, Publication};
 use road_io::{Disk, MemDisk};
@@ -77,14 +77,27 @@ fn publication(alloc: Global, version: u64, signature: Vec<u8>) -> Result<Public
     })
 }
 
+/// The publication of a version with this signature, installed.
+fn installed(alloc: Global, version: u64, signature: Vec<u8>) -> Result<Held<Toy>, Fail> {
+    let publication = publication(alloc, version, signature)?;
+    Ok(Held::install(alloc, publication)?)
+}
+
+/// The octets of the reply over what is held.
+fn answer(alloc: Global, held: &Held<Toy>) -> Result<Vec<u8>, NoMemory> {
+    if held.signature().len() > 1452 {
+        return Err(NoMemory);
+    }
+    held.answer(alloc, ASKED)
+}
+
 /// The octets of the reply over the publication of a version with this signature.
 fn reply(alloc: Global, version: u64, signature: Vec<u8>) -> Result<Vec<u8>, Fail> {
-    let held = Held::<Toy>::install(alloc, publication(alloc, version, signature)?)?;
-    if held.signature().len() > 1452 {
-        return Ok(Vec::new(alloc));
+    let held = installed(alloc, version, signature)?;
+    match answer(alloc, &held) {
+        Ok(octets) => Ok(octets),
+        Err(error) => Err(Fail::from(error)),
     }
-    let octets = held.answer(alloc, ASKED)?;
-    Ok(octets)
 }
 
 /// The same, signed by the desk.

@@ -1,0 +1,7 @@
+mod RowLaws
+mod PickLaws
+mod Powers
+pub mod CodeLaws
+mod NearLaws
+pub mod CountLaws
+mod FarthestLaws

@@ -1,0 +1,179 @@
+//! Codes of distances.
+
+ghost use Rattle.std.specs.Prelude.{◌≡◌, ℕ, ◌^◌, ◌/◌, ◌<◌, ◌≤◌, ◌⊎◌, Option, Some, List, Err, IfOk, OnOk, IfSome, Contains, map, length, nat_eq, slice_get};
+ghost use Rattle.std.specs.HashMap.{get};
+ghost use Rattle.std.specs.Map.{lookup};
+ghost use Rattle.road_map.specs.Walks.{Knows, distance};
+ghost use Rattle.book_model.specs.Orders.{by_id};
+ghost use Rattle.book_model.specs.Landmarks.{no_code, step_of, code_of};
+ghost use Rattle.book_model.specs.Books.{landmarks};
+ghost use Rattle.landmarks.specs.Rows.{rows_of, row_of, greatest_row, code_in, IsCodable, AreCodable, AreShort};
+ghost use Rattle.landmarks.specs.Tables.{Codes as AreCodes, IsTable};
+ghost use Rattle.landmarks.specs.declared.coding.CodeError.TheVariants as code_error;
+
+use crate::lengths::{Lengths, greatest_in, ids_of, lengths_from};
+use crate::picking::picks;
+use crate::table::{CodeTable, NO_CODE};
+use octet_text::NoMemory;
+use road_leaf::Codes;
+use road_map::{Map, map_laws};
+use road_search::Survey;
+use std::alloc::Global;
+use std::collections::HashMap;
+use thiserror::Error;
+
+/// Why there are no codes.
+#[derive(Clone, Copy, Debug, PartialEq, Eq, Error)]
+pub enum CodeError {
+    /// The bits of a code are not 1 to 16.
+    #[error("A code cannot have so many bits.")]
+    Bits,
+    /// No memory was found.
+    #[error("No memory was found.")]
+    Memory,
+}
+
+impl From<NoMemory> for CodeError {
+    ghost from_gives = { λ _ e. e ≡ code_error.Memory };
+
+    fn from(_none: NoMemory) -> CodeError {
+        CodeError::Memory
+    }
+}
+
+/// The greatest of all lengths, 0 where there is none.
+fn greatest_of_rows(rows: &[Lengths]) -> u64
+    ensures { result ≡ greatest_row rows.now }
+{
+    let mut most = 0;
+    for row in rows {
+        most = most.max(greatest_in(row.as_slice()));
+    }
+    most
+}
+
+/// The least step at which the codes of all lengths up to the greatest have so many bits, and one
+/// more code is left.
+fn step_for(most: u64, bits: u8) -> u64
+    requires most { most < 2 ^ 48 }
+    requires low { 1 ≤ bits }
+    requires high { bits ≤ 16 }
+    ensures { result ≡ step_of most bits }
+{
+    let parts = (1u64 << bits) - 1;
+    most / parts + 1
+}
+
+/// The code of a length.
+fn code_for(step: u64, length: Option<u64>) -> u16
+    requires step { 0 < step }
+    requires fits { IfSome length (λ d. d / step < no_code) }
+    ensures { result ≡ code_of step length }
+{
+    match length {
+        None => NO_CODE,
+        Some(length) => (length / step) as u16,
+    }
+}
+
+/// The code of the length at a place.
+fn code_at(step: u64, row: &[Option<u64>], place: usize) -> u16
+    requires step { 0 < step }
+    requires codable { IsCodable step place row.now }
+    ensures { result ≡ code_in step place row.now }
+{
+    code_for(step, row[place])
+}
+
+/// The codes at a place, one from each row.
+fn codes_at(alloc: Global, step: u64, rows: &[Lengths], place: usize) -> Result<Codes, NoMemory>
+    requires step { 0 < step }
+    requires codable { (k : ℕ) (row : List (Option ℕ)) → slice_get rows.now k ≡ Some row → IsCodable step place row }
+    ensures { IfOk result (λ codes. codes ≡ map (code_in step place) rows.now) }
+{
+    let mut codes = Vec::with_capacity(alloc, rows.len())?;
+    for row in rows {
+        codes.push(code_at(step, row.as_slice(), place))?;
+    }
+    Ok(Codes::from_vec(codes))
+}
+
+/// The codes of all ids, from rows of the lengths to them.
+fn coded(
+    alloc: Global,
+    step: u64,
+    ids: &[u32],
+    rows: &[Lengths],
+) -> Result<HashMap<u32, Codes>, NoMemory>
+    requires step { 0 < step }
+    requires codable { AreCodable step (length ids.now) rows.now }
+    ensures { IfOk result (λ codes. (dist : ℕ → ℕ → Option ℕ) (chosen : List ℕ) → rows.now ≡ rows_of dist ids.now chosen → AreCodes dist step chosen ids.now (get nat_eq codes)) }
+{
+    let mut codes = HashMap::new(alloc);
+    for (place, id) in ids.iter().enumerate() {
+        codes.insert(*id, codes_at(alloc, step, rows, place)?)?;
+    }
+    Ok(codes)
+}
+
+/// The table of the codes of all ids, from rows of the lengths to them.
+fn table_of(alloc: Global, ids: &[u32], rows: &[Lengths], bits: u8) -> Result<CodeTable, NoMemory>
+    requires low { 1 ≤ bits }
+    requires high { bits ≤ 16 }
+    requires short { AreShort (length ids.now) rows.now }
+    ensures step { IfOk result (λ table. table.step ≡ step_of (greatest_row rows.now) bits) }
+    ensures codes { IfOk result (λ table. (dist : ℕ → ℕ → Option ℕ) (chosen : List ℕ) → rows.now ≡ rows_of dist ids.now chosen → AreCodes dist table.step chosen ids.now (λ v. lookup (nat_eq v) table.entries)) }
+{
+    let step = step_for(greatest_of_rows(rows), bits);
+    let codes = coded(alloc, step, ids, rows)?;
+    Ok(CodeTable::new(step, codes))
+}
+
+/// The distances from some nodes to all, by rising id, a row for each. One search for each row, over
+/// the whole map; all use the same room.
+fn rows_from(alloc: Global, map: &Map, chosen: &[u32]) -> Result<Vec<Lengths>, NoMemory>
+    requires { (id : ℕ) → Contains chosen.now id → Knows map.now.parts id }
+    ensures { IfOk result (λ rows. rows.items ≡ rows_of (distance map.now.parts) (by_id map.now.parts.nodes) chosen.now) }
+{
+    let mut survey = Survey::of(alloc, map)?;
+    let mut rows = Vec::with_capacity(alloc, chosen.len())?;
+    for id in chosen {
+        rows.push(lengths_from(alloc, map, &mut survey, *id)?)?;
+    }
+    Ok(rows)
+}
+
+/// The codes of all nodes for these landmarks. A search from each landmark finds the distances.
+///
+/// `Bits` exactly where the bits are not 1 to 16.
+pub fn codes(alloc: Global, map: &Map, chosen: &[u32], bits: u8) -> Result<CodeTable, CodeError>
+    requires { (id : ℕ) → Contains chosen.now id → Knows map.now.parts id }
+    ensures table { IfOk result (IsTable map.now.parts chosen.now bits) }
+    ensures good { OnOk result ((1 ≤ bits) × (bits ≤ 16)) }
+    ensures refused { result ≡ Err CodeError.Bits → (bits ≡ 0) ⊎ (16 < bits) }
+{
+    if bits == 0 || bits > 16 {
+        return Err(CodeError::Bits);
+    }
+    map_laws();
+    let _parts = map.parts();
+    let ids = ids_of(alloc, map)?;
+    let rows = rows_from(alloc, map, chosen)?;
+    let table = table_of(alloc, &ids, &rows, bits)?;
+    Ok(table)
+}
+
+/// The codes of all nodes for that many landmarks, as `pick` picks them, or for all nodes, where
+/// there are no more. One search from each landmark serves both.
+pub fn landmark_codes(alloc: Global, map: &Map, count: u32, bits: u8) -> Result<CodeTable, NoMemory>
+    requires low { 1 ≤ bits }
+    requires high { bits ≤ 16 }
+    ensures { IfOk result (IsTable map.now.parts (landmarks map.now.parts count) bits) }
+{
+    map_laws();
+    let _parts = map.parts();
+    let ids = ids_of(alloc, map)?;
+    let picked = picks(alloc, map, &ids, count)?;
+    let table = table_of(alloc, &ids, &picked.rows, bits)?;
+    Ok(table)
+}

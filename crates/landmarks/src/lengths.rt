@@ -1,0 +1,131 @@
+//! Lengths from landmarks to all nodes.
+
+ghost use Rattle.std.specs.Prelude.{◌≡◌, ℕ, Option, None, IfOk, map, length};
+ghost use Rattle.road_map.specs.Least.{lesser};
+ghost use Rattle.road_map.specs.Walks.{Knows, distance, ids};
+ghost use Rattle.book_model.specs.Orders.{by_id};
+ghost use Rattle.book_model.specs.Landmarks.{greatest_of};
+ghost use Rattle.landmarks.specs.Rows.{row_of, lessers, Gives};
+
+use book_model::book_laws;
+use octet_text::NoMemory;
+use road_map::Map;
+use road_search::Survey;
+use std::alloc::Global;
+use std::marker::Model;
+
+/// Lengths of walks to some nodes, in the order of these: none where there is no walk.
+#[derive(Drop)]
+pub struct Lengths {
+    items: Vec<Option<u64>>,
+}
+
+impl Model for Lengths {
+    ghost use Rattle.std.specs.Prelude.{List, Option, ℕ};
+
+    ghost Value = { List (Option ℕ) };
+
+    ghost view = { λ l. l.items.items };
+}
+
+impl Lengths {
+    /// The lengths.
+    pub fn as_slice(&self) -> &[Option<u64>]
+        ensures { result.now ≡ self.now }
+    {
+        &self.items
+    }
+}
+
+/// The ids of a map's nodes, rising.
+pub fn ids_of(alloc: Global, map: &Map) -> Result<Vec<u32>, NoMemory>
+    ensures { IfOk result (λ ids. ids.items ≡ by_id map.now.parts.nodes) }
+{
+    book_laws();
+    let _parts = map.parts();
+    let mut ids = Vec::new(alloc);
+    for position in 0..map.count() {
+        ids.push(map.node(position).id)?;
+    }
+    Ok(ids)
+}
+
+/// No length to any of these nodes.
+pub fn no_lengths(alloc: Global, ids: &[u32]) -> Result<Lengths, NoMemory>
+    ensures { IfOk result (λ lengths. lengths ≡ map (λ _. None) ids.now) }
+{
+    let mut items = Vec::new(alloc);
+    for _id in ids {
+        items.push(None)?;
+    }
+    Ok(Lengths { items })
+}
+
+/// The lengths that a survey has measured to all nodes, by rising id.
+fn lengths_of(alloc: Global, survey: &Survey<'_>, count: u32) -> Result<Lengths, NoMemory>
+    requires { length survey.now.map.order ≡ count }
+    ensures { IfOk result (λ lengths. (f : ℕ → Option ℕ) → Gives survey.now f → lengths ≡ map f (ids survey.now.map.order)) }
+{
+    let mut items = Vec::with_capacity(alloc, count as usize)?;
+    for position in 0..count {
+        items.push(survey.length(position))?;
+    }
+    Ok(Lengths { items })
+}
+
+/// The distances from a node to all nodes, by rising id.
+pub fn lengths_from(
+    alloc: Global,
+    map: &Map,
+    survey: &mut Survey<'_>,
+    from: u32,
+) -> Result<Lengths, NoMemory>
+    requires known { Knows map.now.parts from }
+    requires same { survey.old.map ≡ map.now }
+    ensures same { survey.new.map ≡ map.now }
+    ensures row { IfOk result (λ lengths. lengths ≡ row_of (distance map.now.parts) (by_id map.now.parts.nodes) from) }
+{
+    book_laws();
+    let _parts = map.parts();
+    let position = map.position(from).unwrap();
+    survey.measure(alloc, position)?;
+    lengths_of(alloc, survey, map.count())
+}
+
+/// The lesser of two lengths, where none is longer than any.
+fn lesser_of(a: Option<u64>, b: Option<u64>) -> Option<u64>
+    ensures { result ≡ lesser a b }
+{
+    match (a, b) {
+        (None, other) => other,
+        (some, None) => some,
+        (Some(m), Some(n)) => Some(m.min(n)),
+    }
+}
+
+/// The lesser of two lengths to each node.
+pub fn nearer(
+    alloc: Global,
+    near: &[Option<u64>],
+    other: &[Option<u64>],
+) -> Result<Lengths, NoMemory>
+    requires { length near.now ≡ length other.now }
+    ensures { IfOk result (λ lengths. lengths ≡ lessers near.now other.now) }
+{
+    let mut items = Vec::new(alloc);
+    for (i, length) in near.iter().enumerate() {
+        items.push(lesser_of(*length, other[i]))?;
+    }
+    Ok(Lengths { items })
+}
+
+/// The greatest of some lengths, 0 where there is none.
+pub fn greatest_in(lengths: &[Option<u64>]) -> u64
+    ensures { result ≡ greatest_of lengths.now }
+{
+    let mut most = 0;
+    for length in lengths {
+        most = most.max(length.unwrap_or(0));
+    }
+    most
+}

@@ -1,0 +1,107 @@
+//! References: nodes whose codes stand for those of others.
+
+ghost use Rattle.std.specs.Prelude.{◌≡◌, [], IfOk, OnOk, reverse};
+ghost use Rattle.book_model.specs.Landmarks.{gap_at, gap_of, extra_of, kept_after, extras_of};
+ghost use Rattle.landmarks.specs.Tables.{codes_in};
+ghost use Rattle.landmarks.specs.Near.{near_gap, near_in};
+
+use crate::table::{CodeTable, NO_CODE};
+use octet_text::NoMemory;
+use road_leaf::{Codes, Extra};
+use std::alloc::{AllocError, Global};
+
+/// How many of the last nodes that kept their own codes may stand for a node.
+const CANDIDATES: usize = 64;
+
+/// The difference of two codes, none where just one of them says that there is no walk.
+fn gap_at(a: u16, b: u16) -> Option<u16>
+    ensures { result ≡ gap_at a b }
+{
+    match (a == NO_CODE, b == NO_CODE) {
+        (true, true) => Some(0),
+        (false, false) => Some(a.abs_diff(b)),
+        _ => None,
+    }
+}
+
+/// The greatest difference of two lists of codes, if they lack a walk at the same landmarks and none
+/// is above the threshold. Stops at the first landmark that decides.
+fn near_gap(xs: &[u16], ys: &[u16], threshold: u16) -> Option<u16>
+    ensures { result ≡ near_gap threshold (gap_of xs.now ys.now) }
+{
+    let mut widest = 0;
+    for i in 0..xs.len().min(ys.len()) {
+        let gap = gap_at(xs[i], ys[i])?;
+        if gap > threshold {
+            return None;
+        }
+        widest = gap.max(widest);
+    }
+    Some(widest)
+}
+
+/// The first of these nodes from the end whose codes are near to these ones, and how near.
+fn find_near(table: &CodeTable, recent: &[u32], codes: &[u16], threshold: u16) -> Option<(u32, u16)>
+    ensures { result ≡ near_in (codes_in table.now) threshold codes.now (reverse recent.now) }
+{
+    for i in 0..recent.len() {
+        let id = recent[recent.len() - 1 - i];
+        if let Some(gap) = near_gap(codes, table.codes_of(id), threshold) {
+            return Some((id, gap));
+        }
+    }
+    None
+}
+
+/// What a node's leaf says of its codes: the latest of the last 64 nodes that kept their own and are
+/// near enough, or else its own codes.
+fn extra_for(
+    alloc: Global,
+    table: &CodeTable,
+    kept: &[u32],
+    id: u32,
+    threshold: u16,
+) -> Result<Extra, NoMemory>
+    ensures { IfOk result (λ extra. extra ≡ extra_of (codes_in table.now) threshold (reverse kept.now) id) }
+{
+    let codes = table.codes_of(id);
+    let recent = &kept[kept.len().saturating_sub(CANDIDATES)..];
+    match find_near(table, recent, codes, threshold) {
+        Some((reference, error)) => Ok(Extra::Near { reference, error }),
+        None => Ok(Extra::Own(Codes::from_vec(codes.to_vec(alloc)?))),
+    }
+}
+
+/// Notes a node that keeps its own codes.
+fn keep(kept: &mut Vec<u32>, extra: &Extra, id: u32) -> Result<(), AllocError>
+    ensures { OnOk result (reverse kept.new.items ≡ kept_after extra.now id (reverse kept.old.items)) }
+{
+    if let Extra::Own(_) = extra {
+        kept.push(id)?;
+    }
+    Ok(())
+}
+
+/// What the leaves of nodes say of their codes, in the order of the leaves.
+///
+/// The candidates of a node are the last 64 nodes before it that kept their own codes. It refers to
+/// the latest whose codes lack a walk at just the same landmarks and differ by at most the threshold
+/// at every other one, with the greatest difference as its error; else it keeps its own. Takes at
+/// most 64 comparisons of codes a node, each of which ends at the first landmark that decides.
+pub fn compress(
+    alloc: Global,
+    table: &CodeTable,
+    order: &[u32],
+    threshold: u16,
+) -> Result<Vec<Extra>, NoMemory>
+    ensures { IfOk result (λ extras. extras.items ≡ extras_of (codes_in table.now) threshold [] order.now) }
+{
+    let mut extras = Vec::with_capacity(alloc, order.len())?;
+    let mut kept = Vec::new(alloc);
+    for id in order {
+        let extra = extra_for(alloc, table, &kept, *id, threshold)?;
+        keep(&mut kept, &extra, *id)?;
+        extras.push(extra)?;
+    }
+    Ok(extras)
+}

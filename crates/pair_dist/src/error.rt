@@ -1,0 +1,35 @@
+//! Why there is no table.
+
+ghost use Rattle.std.specs.Prelude.{◌≡◌};
+ghost use Rattle.pair_dist.specs.declared.error.PairError.TheVariants as pair_error;
+
+use octet_text::NoMemory;
+use std::alloc::AllocError;
+use thiserror::Error;
+
+/// Why there is no table of the pairs of some nodes.
+#[derive(Clone, Copy, Debug, PartialEq, Eq, Error)]
+pub enum PairError {
+    /// More than 2,048 nodes were chosen.
+    #[error("More than 2,048 nodes are too many for a table of their pairs.")]
+    TooMany,
+    /// No memory was found.
+    #[error("No memory was found.")]
+    Memory,
+}
+
+impl From<NoMemory> for PairError {
+    ghost from_gives = { λ _ e. e ≡ pair_error.Memory };
+
+    fn from(_none: NoMemory) -> PairError {
+        PairError::Memory
+    }
+}
+
+impl From<AllocError> for PairError {
+    ghost from_gives = { λ _ e. e ≡ pair_error.Memory };
+
+    fn from(_none: AllocError) -> PairError {
+        PairError::Memory
+    }
+}

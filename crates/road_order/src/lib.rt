@@ -1,0 +1,23 @@
+//! The six orders of a map's ids in which the leaves of its nodes may stand.
+#![tactic(auto)]
+
+pub use by_kind::order;
+pub use error::OrderError;
+pub use laws::order_laws;
+
+mod breadth;
+mod by_id;
+mod by_kind;
+mod curve;
+mod depth;
+mod error;
+mod frame;
+mod hilbert;
+mod kd;
+mod keyed;
+mod label;
+mod laws;
+mod neighbour;
+mod shuffled;
+#[cfg(test)]
+mod tests;

@@ -1,0 +1,182 @@
+-- Walks from position to position of a map.
+use Rattle.std.proofs.Common.{◌≡◌, ◌≢◌, ℕ, zero, suc, pos, ◌+◌, ◌<◌, Option, None, Some, IfNone, IsSome, List, [], ◌∷◌, ◌++◌, ◌⊎◌, inl, inr, length, slice_get, get_or, refl, arith, ap, sym, ◌∙◌, subst, lit≤}
+use Rattle.std.specs.List.{Contains}
+use Rattle.std.proofs.lemmas.Option.{slice_get-get_or, slice_get_within, get_or_from_slice_get}
+use Rattle.std.proofs.lemmas.Map.Keys.{below_from_sorted}
+use Rattle.std.proofs.lemmas.List.{length-append}
+use Rattle.road_map.specs.declared.arc.Arc.{Arc}
+use Rattle.road_map.specs.declared.parts.Node.{Node}
+use Rattle.road_map.specs.declared.parts.Parts.{Parts}
+use Rattle.road_map.specs.declared.parts.Road.{Road}
+use Rattle.road_map.specs.ArcsOut.{arcs_out}
+use Rattle.road_map.specs.Walks.{ids, Knows, distance}
+use Rattle.road_map.specs.Laws.{DistanceLaws}
+use Rattle.road_map.specs.Maps.{IsMap, IsById}
+use Rattle.road_map.specs.Routes.{last_stop, walk_length, stops}
+use Rattle.road_map.proofs.Among.{Contains-none, Contains-here, Contains-there, Contains-cases, place_at, place_map, Contains-from_map}
+use Rattle.road_map.proofs.ArcLaws.{arcs_out-sound, HopOf}
+use Rattle.road_map.proofs.WalkLaws.{hop_end-known}
+use Rattle.road_map.proofs.ChartLaws.{roads_known}
+use Rattle.road_search.specs.Passing.{Passes, Reaches, IsLeastPassing}
+use Rattle.road_search.specs.OverMap.{map_ways}
+use Rattle.road_search.specs.Nets.{IsPlace, Placed, IsNet, net_ways}
+use Rattle.road_search.proofs.OverMapLaws.{leaves_out, out_leaves}
+use Rattle.road_search.proofs.WholeLaws.{known_at, whole_same}
+
+-- ---- making a net
+
+-- a known id has a position
+pub place_there : (nodes order : List Node) → IsById nodes order → (id : ℕ) → Contains (ids nodes) id → (o : Option ℕ) → IfNone o ((k : ℕ) (n : Node) → slice_get order k ≡ Some n → n.id ≢ id) → IsSome o
+place_there nodes order by id known (Some p) none = refl
+place_there nodes order by id known None none = absurd (
+    let n : (n : Node) × Contains nodes n × (n.id ≡ id) = Contains-from_map (λ (m : Node). m.id) nodes id known in
+    let p : (p : ℕ) × (slice_get order p ≡ Some n.0) = place_at order n.0 ((by.same n.0).0 n.1) in
+    none p.0 n.0 p.1 n.2)
+
+-- one arc more
+pub Placed-snoc : (order : List Node) (arcs bs : List Arc) (a b : Arc) → Placed order arcs bs → b.length ≡ a.length → IsPlace order a.to b.to → Placed order (arcs ++ a ∷ []) (bs ++ b ∷ [])
+Placed-snoc order [] [] a b h same at = (same, at, tt)
+Placed-snoc order [] (y ∷ ys) a b h same at = absurd h
+Placed-snoc order (x ∷ xs) [] a b h same at = absurd h
+Placed-snoc order (x ∷ xs) (y ∷ ys) a b h same at = (h.0, h.1, Placed-snoc order xs ys a b h.2 same at)
+
+-- arcs of a map lead to known nodes
+pub arc_known : (parts : Parts) → IsMap parts → (u : ℕ) (a : Arc) → Contains (arcs_out parts.roads u) a → Knows parts a.to
+arc_known parts m u a c =
+    let o : HopOf parts.roads u a = arcs_out-sound parts.roads u a c in
+    subst (Knows parts) o.leads (hop_end-known parts (roads_known parts m.joined) o.hop.road o.hop.back o.among)
+
+abbrev pub a_node : Node
+a_node = record { id = 0; x = pos 0; y = pos 0 }
+
+pub long_more : (rows new : List (List Arc)) (i : ℕ) (row : List Arc) → new ≡ rows ++ row ∷ [] → length rows ≡ i → length new ≡ i + 1
+long_more rows new i row is long = let l : length new ≡ length rows + 1 = ap length is ∙ length-append rows (row ∷ []) in omega (arith, l, long)
+
+-- an element of a list with one more at its end
+pub last_or_before : {X : Type 0} (xs : List X) (x : X) (p : ℕ) (r : X) → slice_get (xs ++ x ∷ []) p ≡ Some r → (slice_get xs p ≡ Some r) ⊎ ((p ≡ length xs) × (x ≡ r))
+last_or_before [] x zero r h = inr (refl, (let same : Some x ≡ Some r = h in cc))
+last_or_before [] x (suc p) r h = cc
+last_or_before (y ∷ xs) x zero r h = inl h
+last_or_before (y ∷ xs) x (suc p) r h = elim (last_or_before xs x p r h) [ inl e ↦ inl e | inr e ↦ inr (ap suc e.0, e.1) ]
+
+-- the arcs of one position more
+pub net_more : (order : List Node) (roads : List Road) (rows new : List (List Arc)) (i : ℕ) (row : List Arc) → new ≡ rows ++ row ∷ [] → length rows ≡ i
+    → ((p : ℕ) (n : Node) (r : List Arc) → slice_get order p ≡ Some n → slice_get rows p ≡ Some r → Placed order (arcs_out roads n.id) r)
+    → ((n : Node) → slice_get order i ≡ Some n → Placed order (arcs_out roads n.id) row)
+    → (p : ℕ) (n : Node) (r : List Arc) → slice_get order p ≡ Some n → slice_get new p ≡ Some r → Placed order (arcs_out roads n.id) r
+net_more order roads rows new i row is long before here p n r at stands = elim (last_or_before rows row p r (subst (λ xs. slice_get xs p ≡ Some r) is stands)) [
+  | inl old ↦ before p n r at old
+  | inr last ↦ subst (Placed order (arcs_out roads n.id)) last.1 (here n (subst (λ k. slice_get order k ≡ Some n) (last.0 ∙ long) at))
+]
+
+-- ---- walks
+
+-- an arc of a row, and the arc of the map that it stands for
+record Pair (order : List Node) (arcs row : List Arc) (a b : Arc) : Type 0 where
+  among : Contains arcs a
+  stands : Contains row b
+  long : b.length ≡ a.length
+  leads : IsPlace order a.to b.to
+
+further : (order : List Node) (x y a b : Arc) (arcs row : List Arc) → Pair order arcs row a b → Pair order (x ∷ arcs) (y ∷ row) a b
+further order x y a b arcs row p = record { among = Contains-there x a arcs p.among; stands = Contains-there y b row p.stands; long = p.long; leads = p.leads }
+
+in_row : (order : List Node) (arcs row : List Arc) → Placed order arcs row → (b : Arc) → Contains row b → (a : Arc) × Pair order arcs row a b
+in_row order [] [] h b c = absurd (Contains-none b c)
+in_row order [] (y ∷ ys) h b c = absurd h
+in_row order (x ∷ xs) [] h b c = absurd h
+in_row order (x ∷ xs) (y ∷ ys) h b c = elim (Contains-cases y b ys c) [
+  | inl e ↦ (x, subst (Pair order (x ∷ xs) (y ∷ ys) x) e (record { among = Contains-here x xs; stands = Contains-here y ys; long = h.0; leads = h.1 }))
+  | inr d ↦ let p = in_row order xs ys h.2 b d in (p.0, further order x y p.0 b xs ys p.1)
+]
+
+in_arcs : (order : List Node) (arcs row : List Arc) → Placed order arcs row → (a : Arc) → Contains arcs a → (b : Arc) × Pair order arcs row a b
+in_arcs order [] row h a c = absurd (Contains-none a c)
+in_arcs order (x ∷ xs) [] h a c = absurd h
+in_arcs order (x ∷ xs) (y ∷ ys) h a c = elim (Contains-cases x a xs c) [
+  | inl e ↦ (y, subst (λ z. Pair order (x ∷ xs) (y ∷ ys) z y) e (record { among = Contains-here x xs; stands = Contains-here y ys; long = h.0; leads = h.1 }))
+  | inr d ↦ let p = in_arcs order xs ys h.2 a d in (p.0, further order x y a p.0 xs ys p.1)
+]
+
+order_of : (m n : ℕ) → (m < n) ⊎ ((m ≡ n) ⊎ (n < m))
+order_of m n = grind arith
+
+module _ (parts : Parts) (order : List Node) (rows : List (List Arc)) (m : IsMap parts) (by : IsById parts.nodes order) (net : IsNet parts order rows) where
+  known : (u p : ℕ) → IsPlace order u p → Knows parts u
+  known u p at = known_at parts.nodes order u p at.0 by at.1 at.2
+
+  -- a walk over the net, and the one over the map
+  record Same (u p len : ℕ) (over_map over_net : List Arc) : Type 0 where
+    in_map : Passes (map_ways parts) u len over_map
+    in_net : Passes (net_ways rows) p len over_net
+    long : walk_length over_net ≡ walk_length over_map
+    ends : IsPlace order (last_stop u over_map) (last_stop p over_net)
+
+  longer : (u p len : ℕ) (row : List Arc) (a b : Arc) (walk net_walk : List Arc) → Knows parts u → slice_get rows p ≡ Some row → Pair order (arcs_out parts.roads u) row a b → Same a.to b.to (len + b.length) walk net_walk → Same u p len (a ∷ walk) (b ∷ net_walk)
+  longer u p len row a b walk net_walk there entry pair rest = record {
+    in_map = (out_leaves parts u a there pair.among, refl, subst (λ k. Passes (map_ways parts) a.to (len + k) walk) pair.long rest.in_map);
+    in_net = (record { out = row; entry = entry; among = pair.stands }, refl, rest.in_net);
+    long = (let l : b.length ≡ a.length = pair.long in let r : walk_length net_walk ≡ walk_length walk = rest.long in omega (arith, l, r));
+    ends = rest.ends;
+  }
+
+  placed_row : (u p : ℕ) (row : List Arc) → IsPlace order u p → slice_get rows p ≡ Some row → Placed order (arcs_out parts.roads u) row
+  placed_row u p row at entry = subst (λ i. Placed order (arcs_out parts.roads i) row) at.2 (net.each p at.0 row at.1 entry)
+
+  to_map : (u p len : ℕ) (net_walk : List Arc) → IsPlace order u p → Passes (net_ways rows) p len net_walk → (walk : List Arc) × Same u p len walk net_walk
+  to_map u p len [] at h = ([], record { in_map = tt; in_net = tt; long = refl; ends = at })
+  to_map u p len (b ∷ net_walk) at h =
+      let pair = in_row order (arcs_out parts.roads u) h.0.out (placed_row u p h.0.out at h.0.entry) b h.0.among in
+      let rest = to_map pair.0.to b.to (len + b.length) net_walk pair.1.leads h.2 in
+      (pair.0 ∷ rest.0, longer u p len h.0.out pair.0 b rest.0 net_walk (known u p at) h.0.entry pair.1 rest.1)
+
+  row_at : (u p : ℕ) → IsPlace order u p → (row : List Arc) × (slice_get rows p ≡ Some row)
+  row_at u p at = (get_or rows p [], slice_get-get_or rows p [] (let lt : p < length order = slice_get_within order p at.0 at.1 in omega (arith, lt, net.long)))
+
+  to_net : (u p len : ℕ) (walk : List Arc) → IsPlace order u p → Passes (map_ways parts) u len walk → (net_walk : List Arc) × Same u p len walk net_walk
+  to_net u p len [] at h = ([], record { in_map = tt; in_net = tt; long = refl; ends = at })
+  to_net u p len (a ∷ walk) at h =
+      let row = row_at u p at in
+      let pair = in_arcs order (arcs_out parts.roads u) row.0 (placed_row u p row.0 at row.1) a (leaves_out parts u a h.0).0 in
+      let rest = to_net a.to pair.0.to (len + pair.0.length) walk pair.1.leads (subst (λ k. Passes (map_ways parts) a.to (len + k) walk) (sym pair.1.long) h.2) in
+      (pair.0 ∷ rest.0, longer u p len row.0 a pair.0 walk rest.0 (known u p at) row.1 pair.1 rest.1)
+
+  -- a position has one id, and an id one position
+  one_id : (s t q : ℕ) → IsPlace order s q → IsPlace order t q → s ≡ t
+  one_id s t q x y = let same : Some x.0 ≡ Some y.0 = sym x.1 ∙ y.1 in let node : x.0 ≡ y.0 = cc in sym x.2 ∙ (ap (λ (n : Node). n.id) node ∙ y.2)
+
+  apart : (t p q : ℕ) → IsPlace order t p → IsPlace order t q → p < q → ⊥
+  apart t p q x y lt =
+      let i : slice_get (ids order) p ≡ Some x.0.id = place_map (λ (n : Node). n.id) order p x.0 x.1 in
+      let j : slice_get (ids order) q ≡ Some y.0.id = place_map (λ (n : Node). n.id) order q y.0 y.1 in
+      let less : get_or (ids order) p 0 < get_or (ids order) q 0 = below_from_sorted (ids order) p q 0 by.rising lt (slice_get_within (ids order) q y.0.id j) in
+      let first : get_or (ids order) p 0 ≡ x.0.id = get_or_from_slice_get (ids order) p x.0.id 0 i in
+      let second : get_or (ids order) q 0 ≡ y.0.id = get_or_from_slice_get (ids order) q y.0.id 0 j in
+      omega (arith, less, first, second, x.2, y.2)
+
+  one_place : (t p q : ℕ) → IsPlace order t p → IsPlace order t q → p ≡ q
+  one_place t p q x y = elim (order_of p q) [
+    | inl lt ↦ absurd (apart t p q x y lt)
+    | inr (inl e) ↦ e
+    | inr (inr lt) ↦ absurd (apart t q p y x lt)
+  ]
+
+  reach_map : (s t p q limit d : ℕ) → IsPlace order s p → IsPlace order t q → Reaches (net_ways rows) p limit q d → Reaches (map_ways parts) s limit t d
+  reach_map s t p q limit d from to r =
+      let w = to_map s p 0 r.1.walk from r.1.passes in
+      let end : IsPlace order (last_stop s w.0) q = subst (IsPlace order (last_stop s w.0)) r.1.ends w.1.ends in
+      (stops s w.0, record { walk = w.0; passes = w.1.in_map; visits = refl; ends = one_id (last_stop s w.0) t q end to; sums = sym w.1.long ∙ r.1.sums; below = r.1.below })
+
+  reach_net : (s t p q limit d : ℕ) → IsPlace order s p → IsPlace order t q → Reaches (map_ways parts) s limit t d → Reaches (net_ways rows) p limit q d
+  reach_net s t p q limit d from to r =
+      let w = to_net s p 0 r.1.walk from r.1.passes in
+      let end : IsPlace order t (last_stop p w.0) = subst (λ i. IsPlace order i (last_stop p w.0)) r.1.ends w.1.ends in
+      (stops p w.0, record { walk = w.0; passes = w.1.in_net; visits = refl; ends = one_place t (last_stop p w.0) q end to; sums = w.1.long ∙ r.1.sums; below = r.1.below })
+
+  least_map : (s t p q limit : ℕ) (o : Option ℕ) → IsPlace order s p → IsPlace order t q → IsLeastPassing (net_ways rows) p limit q o → IsLeastPassing (map_ways parts) s limit t o
+  least_map s t p q limit None from to h = λ d r. h d (reach_net s t p q limit d from to r)
+  least_map s t p q limit (Some d) from to h = (reach_map s t p q limit d from to h.0, λ e r. h.1 e (reach_net s t p q limit e from to r))
+
+  -- what a search over the net finds is the distance
+  pub net_distance : DistanceLaws parts → (s t p q : ℕ) (o : Option ℕ) → IsPlace order s p → IsPlace order t q → IsLeastPassing (net_ways rows) p 18446744073709551615 q o → o ≡ distance parts s t
+  net_distance laws s t p q o from to h = whole_same parts m laws s 18446744073709551615 t o (known s p from) (lit≤ tt) (least_map s t p q 18446744073709551615 o from to h)

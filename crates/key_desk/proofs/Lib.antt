@@ -14,3 +14,4 @@ pub mod KeyLemmas
 pub mod RunLaws
 pub mod Tickets
 pub mod Blanks
+mod FreeSlots

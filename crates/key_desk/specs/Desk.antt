@@ -1,5 +1,6 @@
 -- What a desk and its disk have in common, and what a state of signing knows.
-use Rattle.std.specs.Prelude.{◌≡◌, ◌≢◌, ◌⊎◌, ℕ, ◌<◌, ◌≤◌, true, List, ◌++◌, take, drop, length, slice_index_or, Ok}
+use Rattle.std.specs.Prelude.{◌≡◌, ◌≢◌, ◌⊎◌, ℕ, ◌<◌, ◌≤◌, true, false, Bool, List, ◌++◌, take, drop, length, slice_index_or, Ok}
+use Rattle.std.specs.List.{count_by}
 use Rattle.road_io.specs.declared.disk.Disk.{Ghosts}
 use Rattle.road_io.specs.Moments.{Image, EachImage}
 use Rattle.key_desk.specs.declared.desk.Desk.{Desk}
@@ -13,6 +14,14 @@ use Rattle.key_desk.specs.Layout.{slots_of, place_of, gate_at, text_at, kind_at,
 -- how the desk counts a slot
 abbrev pub count_of : Desk → SlotId → Count
 count_of desk slot = slice_index_or desk.counts slot TheVariants.Spent
+
+-- how many slots the desk counts as free
+abbrev pub is_free : Count → Bool
+is_free TheVariants.Free = true
+is_free count = false
+
+abbrev pub free_slots : Desk → ℕ
+free_slots desk = count_by is_free desk.counts
 
 -- the image has this key's open block, and all its slots
 pub record HasKey (key : KeyOf) (image : List ℕ) : Type 0 where

@@ -1,6 +1,7 @@
 -- The octets of an owner's disk: a key block of 64 octets, and then slots of 128 octets. Such a key with
 -- its slots is an area, and every place is counted from the area's base. There is one area, at base 0.
 use Rattle.std.specs.Prelude.{◌≡◌, ◌⊎◌, ℕ, zero, suc, ◌+◌, ◌*◌, ◌<◌, ◌≤◌, ◌==◌, ◌&&◌, Bool, nat_lt, nat_le, min, List, [], ◌∷◌, length, get_or, take, drop, if◌then◌else◌}
+use Rattle.std.specs.List.{count_by, range_with_len}
 
 -- which slot: its number in the one area
 abbrev pub SlotId : Type 0
@@ -99,6 +100,10 @@ pub record SignsAtMost (slot : SlotId) (text : List ℕ) (d i : List ℕ) : Type
   pub adds : (s : SlotId) (t : List ℕ) → IsSigned i s t → IsSigned d s t ⊎ ((s ≡ slot) × (t ≡ text))
 
 -- ---- a key on the disk
+
+-- how many one-time keys are left: the slots whose gate is closed
+abbrev pub keys_left : List ℕ → ℕ
+keys_left image = count_by (λ slot. gate_at image (place_of slot) == 0) (range_with_len 0 (slots_of (kind_at image 0)))
 
 -- the key gate is open: there are 64 octets at least, and the first is not zero
 pub record IsOpen (image : List ℕ) : Type 0 where

@@ -6,6 +6,7 @@ ghost use Rattle.key_desk.specs.Layout.{SlotId, slots_of, place_of, gate_at, tex
 ghost use Rattle.key_desk.specs.Stands.{KeepsStanding};
 ghost use Rattle.lms_tree.specs.Signatures.{height_of, public_key, seal_len};
 
+use crate::start::slots_of;
 use crate::store::{open_gate, put_text};
 use lms_tree::{Key, sig_len};
 use road_io::{Disk, Failed};
@@ -80,6 +81,13 @@ impl Desk {
             // No key has another type: its signatures would have no path.
             None => 1132,
         }
+    }
+
+    /// How many one-time keys there are, used ones among them.
+    pub fn size(&self) -> u32
+        ensures { result ≡ slots_of self.now.key.kind }
+    {
+        slots_of(self.key.kind())
     }
 
     // Writes the signature of a text by the one-time key of a slot.

@@ -5,6 +5,7 @@ mod create;
 mod desk;
 mod find;
 mod laws;
+mod left;
 mod start;
 mod store;
 

@@ -4,7 +4,7 @@ ghost use Rattle.std.specs.Option.{ForSome};
 ghost use Rattle.road_io.specs.Causes.{HasCause, Rose};
 ghost use Rattle.road_io.specs.Disk.{Stays};
 ghost use Rattle.road_io.specs.Moments.{Image, EachImage, AtEachMoment};
-ghost use Rattle.key_desk.specs.Layout.{slots_of, place_of, gate_at, text_at, kind_at, secret_at, IsOpen, IsBadBlock};
+ghost use Rattle.key_desk.specs.Layout.{slots_of, place_of, gate_at, text_at, kind_at, secret_at, keys_left, IsOpen, IsBadBlock};
 ghost use Rattle.key_desk.specs.Stands.{KeepsStanding};
 ghost use Rattle.key_desk.specs.Keys.{key_from};
 
@@ -133,13 +133,14 @@ fn read_gates<D: Disk>(alloc: Global, disk: &mut D, slots: u32) -> Result<Vec<Co
 }
 
 impl Desk {
-    ghost use Rattle.key_desk.specs.Desk.{count_of, Fits};
+    ghost use Rattle.key_desk.specs.Desk.{count_of, free_slots, Fits};
 
     /// Opens the desk over the key that the disk holds. It changes no image.
     pub fn reopen<D: Disk>(alloc: Global, disk: &mut D) -> Result<Desk, StartError>
         ensures fits { IfOk result (λ desk. Fits D.Disk desk disk.new) }
         ensures opened { IfOk result (λ desk. desk.is_open ≡ true) }
         ensures counts { IfOk result (λ desk. (s : ℕ) → (count_of desk s ≡ Count.Free) ⊎ (count_of desk s ≡ Count.Spent)) }
+        ensures left { IfOk result (λ desk. ForSome (D.content disk.old) (λ c. free_slots desk ≡ keys_left c)) }
         ensures no_key_else { ForSome (D.content disk.old) (λ c. (IsOpen c → ⊥) → (result ≡ Err StartError.NoKey) ⊎ (result ≡ Err StartError.DiskFault)) }
         ensures bad_block_else { ForSome (D.content disk.old) (λ c. IsOpen c → IsBadBlock c → (result ≡ Err StartError.BadBlock) ⊎ (result ≡ Err StartError.DiskFault)) }
         ensures key { IfOk result (λ desk. ForSome (D.content disk.old) (λ c. IsOpen c × (kind_at c 0 ≡ desk.key.kind) × (secret_at c 0 ≡ desk.key.i ++ desk.key.seed))) }
@@ -160,6 +161,7 @@ impl Desk {
         ensures fits { IfOk result (λ desk. Fits D.Disk desk disk.new) }
         ensures opened { IfOk result (λ desk. desk.is_open ≡ true) }
         ensures counts { IfOk result (λ desk. (s : ℕ) → (count_of desk s ≡ Count.Free) ⊎ (count_of desk s ≡ Count.Spent)) }
+        ensures left { IfOk result (λ desk. ForSome (D.content disk.old) (λ c. free_slots desk ≡ keys_left c)) }
         ensures no_key_else { ForSome (D.content disk.old) (λ c. (IsOpen c → ⊥) → (result ≡ Err StartError.NoKey) ⊎ (result ≡ Err StartError.DiskFault)) }
         ensures bad_block_else { ForSome (D.content disk.old) (λ c. IsOpen c → IsBadBlock c → (result ≡ Err StartError.BadBlock) ⊎ (result ≡ Err StartError.DiskFault)) }
         ensures key { IfOk result (λ desk. ForSome (D.content disk.old) (λ c. IsOpen c × (kind_at c 0 ≡ desk.key.kind) × (secret_at c 0 ≡ desk.key.i ++ desk.key.seed))) }

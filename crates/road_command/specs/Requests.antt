@@ -10,6 +10,7 @@ pub data Request : Type 0 where
   Route : List ℕ → ℕ → ℕ → Request
   Root : List ℕ → ℕ → Request
   Key : List ℕ → ℕ → Request
+  Desk : Request
   Publish : List ℕ → Settings → Request
   Prove : List ℕ → Query → Request
   Check : List ℕ → List ℕ → Query → ℕ → Request
@@ -96,6 +97,11 @@ key_words (secret ∷ kind ∷ []) = do
   Some (Key secret kind)
 key_words _ = None
 
+-- nothing more
+abbrev pub desk_words : List (List ℕ) → Option Request
+desk_words [] = Some Desk
+desk_words _ = None
+
 -- a road file's name, the method, the version, the leaf order, its seed, the fan-out, and the method's
 -- three parameters
 abbrev pub publish_words : List (List ℕ) → Option Request
@@ -134,6 +140,7 @@ request_of (verb ∷ words) =
     if bytes_eq verb (codes "route") then route_words words
     else if bytes_eq verb (codes "root") then root_words words
     else if bytes_eq verb (codes "key") then key_words words
+    else if bytes_eq verb (codes "desk") then desk_words words
     else if bytes_eq verb (codes "publish") then publish_words words
     else if bytes_eq verb (codes "prove") then prove_words words
     else if bytes_eq verb (codes "check") then check_words words

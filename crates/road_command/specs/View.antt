@@ -16,6 +16,7 @@ abbrev pub shown : Command → Request
 shown (command.Route roads from to) = request.Route roads.now from to
 shown (command.Root roads fan) = request.Root roads.now fan
 shown (command.Key secret kind) = request.Key secret.now (type_of kind)
+shown command.Desk = request.Desk
 shown (command.Publish roads settings) = request.Publish roads.now settings
 shown (command.Prove publication query) = request.Prove publication.now query
 shown (command.Check key reply query least) = request.Check key.now reply.now query least

@@ -2,7 +2,7 @@
 
 ghost use Rattle.std.specs.Prelude.{◌≡◌, ◌<◌, length, drop};
 ghost use Rattle.std.specs.Option.{option_map};
-ghost use Rattle.road_command.specs.Requests.{request_of, route_words, root_words, key_words, publish_words, prove_words, check_words, audit_words};
+ghost use Rattle.road_command.specs.Requests.{request_of, route_words, root_words, key_words, desk_words, publish_words, prove_words, check_words, audit_words};
 ghost use Rattle.road_command.specs.View.{shown};
 
 use crate::kind::KeyKind;
@@ -30,6 +30,8 @@ pub enum Command<'a> {
         secret: &'a str,
         kind: KeyKind,
     },
+    /// Write the owner's public key, and how many of its one-time keys are left.
+    Desk,
     /// Sign a file's map with its hints, and write the publication.
     Publish {
         roads: &'a str,
@@ -67,6 +69,7 @@ pub fn command_of(words: &Words) -> Option<Command<'_>>
         "route" => route_of(words),
         "root" => root_of(words),
         "key" => key_of(words),
+        "desk" => desk_of(words),
         "publish" => publish_of(words),
         "prove" => prove_of(words),
         "check" => check_of(words),
@@ -117,6 +120,16 @@ fn key_of(words: &Words) -> Option<Command<'_>>
         secret: words.word(1),
         kind,
     })
+}
+
+fn desk_of(words: &Words) -> Option<Command<'_>>
+    requires { 0 < length words.now }
+    ensures { option_map shown result ≡ desk_words (drop 1 words.now) }
+{
+    if words.count() != 1 {
+        return None;
+    }
+    Some(Command::Desk)
 }
 
 fn publish_of(words: &Words) -> Option<Command<'_>>

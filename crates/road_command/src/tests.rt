@@ -43,6 +43,7 @@ fn each_command_line_is_read(rt: HostRuntime) -> Result<(), Fail> {
                 kind: KeyKind::H10,
             },
         ),
+        ("desk", Command::Desk),
         (
             "publish a.roads ldm 18446744073709551615 shuffled 7 32 4 12 2",
             Command::Publish {
@@ -95,6 +96,7 @@ fn other_command_lines_fit_no_command(rt: HostRuntime) -> Result<(), Fail> {
         "check k r 1 3",
         "check k r 1 3 18446744073709551616",
         "audit k p r 1",
+        "desk owner.desk",
         "serve a.pub",
         "",
     ] {

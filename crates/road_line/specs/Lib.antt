@@ -1,3 +1,4 @@
+pub mod DeskLine
 pub mod EvidenceLine
 pub mod RouteLine
 pub mod VerdictLine

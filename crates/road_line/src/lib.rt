@@ -1,10 +1,12 @@
-//! The lines that the program writes of routes, verdicts and findings.
+//! The lines that the program writes of routes, verdicts, findings and desks.
 #![tactic(auto)]
 
+pub use desk_line::line_of_desk;
 pub use evidence_line::{line_of_collision, line_of_forged, line_of_right};
 pub use route_line::line_of_route;
 pub use verdict_line::{line_of_accepted, line_of_refused};
 
+mod desk_line;
 mod evidence_line;
 mod route_line;
 #[cfg(test)]

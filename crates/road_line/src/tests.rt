@@ -1,8 +1,8 @@
 //! Printed lines.
 
 use crate::{
-    line_of_accepted, line_of_collision, line_of_forged, line_of_refused, line_of_right,
-    line_of_route,
+    line_of_accepted, line_of_collision, line_of_desk, line_of_forged, line_of_refused,
+    line_of_right, line_of_route,
 };
 use lms_tree::SealError;
 use proof_method::Refusal;
@@ -50,5 +50,15 @@ fn findings_are_printed(rt: HostRuntime) -> Result<(), Fail> {
     assert_eq!(rt; line.as_slice(), b"collision 00ff 01\n".as_slice());
     let line = line_of_forged(rt.alloc(), &[82], &[])?;
     assert_eq!(rt; line.as_slice(), b"forged 52 \n".as_slice());
+    Ok(())
+}
+
+#[test]
+fn a_desk_is_printed(rt: HostRuntime) -> Result<(), Fail> {
+    let line = line_of_desk(rt.alloc(), &[175; 56], 31, 1024)?;
+    let digits =
+        "afafafafafafafafafafafafafafafafafafafafafafafafafafafafafafafafafafafafafafafafafafafafafafafafafafafafafafafaf";
+    let wanted = format!(in rt.alloc(); "{digits} 31 1024\n")?;
+    assert_eq!(rt; line.as_slice(), wanted.as_bytes());
     Ok(())
 }

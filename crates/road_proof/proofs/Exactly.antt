@@ -13,7 +13,7 @@ use Rattle.road_map.specs.declared.arc.Arc.{Arc}
 use Rattle.road_map.specs.declared.parts.Road.{Road as RoadOf}
 use Rattle.road_map.specs.Laws.{ArcLaws, HasRoad}
 use Rattle.road_map.specs.declared.parts.Parts.{Parts}
-use Rattle.road_command.specs.Requests.{Request, Route, Root, Key, Publish, Prove, Check, Audit}
+use Rattle.road_command.specs.Requests.{Request, Route, Root, Key, Desk, Publish, Prove, Check, Audit}
 use Rattle.road_proof.specs.Reading.{octets_at, parts_at, publication_at}
 use Rattle.road_proof.specs.RouteLine.{IsRouteLine, IsFirstUnknown, AreApart}
 use Rattle.road_proof.specs.HexFiles.{secret_at, public_key_at}
@@ -32,6 +32,7 @@ use Rattle.road_proof.specs.Checking.{EndsCheck}
 use Rattle.road_proof.specs.Auditing.{EndsOwnersKey, EndsClient, EndsSigned, EndsSameHeader, EndsComparing, EndsAudit}
 use Rattle.road_proof.specs.Installing.{EndsBuilding, EndsInstalling}
 use Rattle.road_proof.specs.Proving.{EndsReply, EndsProve}
+use Rattle.road_proof.specs.OwnerDesk.{TellsDesk}
 use Rattle.road_proof.specs.Publishing.{EndsOpening, EndsSigning, EndsPublish, IsSignedFrom, AllSpent}
 use Rattle.road_proof.proofs.ExactAudit.{OneVerdict, AcceptanceIsVerdict, one_owner, one_client, one_signed, one_same, one_comparing}
 use Rattle.road_proof.proofs.OneBuilding.{Faults, OneMaking, not_map, one_map_fault, one_building, one_installing}
@@ -209,6 +210,11 @@ one_opening content Next o e s t one (inr (inr a)) (inl b) = absurd (b.1 content
 one_opening content Next o e s t one (inr (inr a)) (inr (inl b)) = absurd ((a.0 content refl).good_block (b.1 content refl).1)
 one_opening content Next o e s t one (inr (inr a)) (inr (inr b)) = one a.1 b.1
 
+one_desk : (content : List ℕ) (o e : Result Verdict Fault) (s t : List ℕ) → TellsDesk (Some content) o s → TellsDesk (Some content) e t → o ≡ e
+one_desk content (Ok Done) (Ok Done) s t a b = refl
+one_desk content (Ok Done) e s t a b = absurd b
+one_desk content o e s t a b = absurd a
+
 one_publish_end : OneMaking → (content : List ℕ) (st : Settings) (parts : Parts) (o e : Result Verdict Fault) (s t : List ℕ)
     → EndsPublish (Some content) st parts o s → EndsPublish (Some content) st parts e t → o ≡ e
 one_publish_end makings content st parts o e s t =
@@ -248,6 +254,8 @@ one_end faults arcs makings verdicts content (Root roads fan) told shelf o p s t
 one_end faults arcs makings verdicts (Some content) (Key file kind) told shelf o p s t h k =
     one_over (secret_at shelf file) (EndsKey (Some content) kind) o p s t (λ secret. one_key_end content kind secret o p s t) h k
 one_end faults arcs makings verdicts None (Key file kind) told shelf o p s t h k = absurd (told refl)
+one_end faults arcs makings verdicts (Some content) Desk told shelf o p s t h k = one_opening content (TellsDesk (Some content)) o p s t (one_desk content o p s t) h k
+one_end faults arcs makings verdicts None Desk told shelf o p s t h k = absurd (told refl)
 one_end faults arcs makings verdicts (Some content) (Publish roads settings) told shelf o p s t h k =
     one_over (parts_at shelf roads) (EndsPublish (Some content) settings) o p s t (λ parts. one_publish_end makings content settings parts o p s t) h k
 one_end faults arcs makings verdicts None (Publish roads settings) told shelf o p s t h k = absurd (told refl)

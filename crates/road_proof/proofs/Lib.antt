@@ -12,3 +12,4 @@ pub mod CheckLemmas
 pub mod HonestLemmas
 pub mod AuditLemmas
 pub mod HeadlineLemmas
+pub mod DeskLemmas

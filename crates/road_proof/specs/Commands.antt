@@ -8,7 +8,7 @@ use Rattle.road_io.specs.Causes.{Rose}
 use Rattle.road_io.specs.Contents.{Shelf}
 use Rattle.road_map.specs.Maps.{IsMap}
 use Rattle.road_map.specs.declared.parts.Parts.{Parts}
-use Rattle.road_command.specs.Requests.{Request, Route, Root, Key, Publish, Prove, Check, Audit}
+use Rattle.road_command.specs.Requests.{Request, Route, Root, Key, Desk, Publish, Prove, Check, Audit}
 use Rattle.road_proof.specs.Reading.{octets_at, parts_at, publication_at, IsMapFault}
 use Rattle.road_proof.specs.RouteLine.{IsRouteLine, IsFirstUnknown, AreApart}
 use Rattle.road_proof.specs.RootLine.{IsRootLine}
@@ -16,6 +16,7 @@ use Rattle.std.specs.Option.{ForSome}
 use Rattle.key_desk.specs.Layout.{IsOpen}
 use Rattle.road_proof.specs.HexFiles.{secret_at, public_key_at}
 use Rattle.road_proof.specs.KeyLine.{key_line}
+use Rattle.road_proof.specs.OwnerDesk.{EndsDesk}
 use Rattle.road_proof.specs.Publishing.{EndsPublish}
 use Rattle.road_proof.specs.Proving.{EndsProve}
 use Rattle.road_proof.specs.Checking.{EndsCheck}
@@ -55,6 +56,7 @@ Ends content (Root roads fan) shelf outcome text =
     MatchResult (parts_at shelf roads) (λ parts. EndsRoot fan parts outcome text) (λ first. (outcome ≡ Err first) × (text ≡ []))
 Ends content (Key file kind) shelf outcome text =
     MatchResult (secret_at shelf file) (λ secret. EndsKey content kind secret outcome text) (λ first. (outcome ≡ Err first) × (text ≡ []))
+Ends content Desk shelf outcome text = EndsDesk content outcome text
 Ends content (Publish roads settings) shelf outcome text =
     MatchResult (parts_at shelf roads) (λ parts. EndsPublish content settings parts outcome text) (λ first. (outcome ≡ Err first) × (text ≡ []))
 Ends content (Prove file q) shelf outcome text =
@@ -73,6 +75,7 @@ Ends content (Audit key publication reply q) shelf outcome text =
 -- what must be told of the disk, so that an end is exact: its content, for a command that uses the disk
 abbrev pub IsTold : Request → Option (List ℕ) → Type 0
 IsTold (Key file kind) content = content ≢ None
+IsTold Desk content = content ≢ None
 IsTold (Publish roads settings) content = content ≢ None
 IsTold (Audit key publication reply q) content = content ≢ None
 IsTold request content = Unit {0}

@@ -10,6 +10,7 @@ pub mod Proving
 pub mod Checking
 pub mod Auditing
 pub mod Publishing
+pub mod OwnerDesk
 pub mod Signing
 pub mod Endings
 pub mod Commands

@@ -7,7 +7,7 @@ use Rattle.road_io.specs.declared.disk.Disk.{Ghosts}
 use Rattle.road_io.specs.Moments.{EachImage}
 use Rattle.key_desk.specs.Keys.{key_from}
 use Rattle.key_desk.specs.Desk.{IsBlank}
-use Rattle.road_command.specs.Requests.{Request, Route, Root, Key, Publish, Prove, Check, Audit}
+use Rattle.road_command.specs.Requests.{Request, Route, Root, Key, Desk, Publish, Prove, Check, Audit}
 use Rattle.road_proof.specs.declared.fault.Fault.{Fault}
 
 -- in every image the gate is open, the block is that of the secret and the type, and no slot is spent
@@ -18,6 +18,7 @@ MakesKey g disk kind secret = IfOk secret (λ secret. EachImage g disk (IsBlank 
 abbrev pub UnlessSigning : Option Request → Type 0 → Type 0
 UnlessSigning (Some (Key secret kind)) P = Unit {0}
 UnlessSigning (Some (Publish roads settings)) P = Unit {0}
+UnlessSigning (Some Desk) P = P
 UnlessSigning (Some (Route roads from to)) P = P
 UnlessSigning (Some (Root roads fan)) P = P
 UnlessSigning (Some (Prove publication q)) P = P
@@ -29,6 +30,7 @@ UnlessSigning None P = P
 abbrev pub UnlessPublish : Option Request → Type 0 → Type 0
 UnlessPublish (Some (Publish roads settings)) P = Unit {0}
 UnlessPublish (Some (Key secret kind)) P = P
+UnlessPublish (Some Desk) P = P
 UnlessPublish (Some (Route roads from to)) P = P
 UnlessPublish (Some (Root roads fan)) P = P
 UnlessPublish (Some (Prove publication q)) P = P
@@ -41,6 +43,7 @@ abbrev pub IfKey : Option Request → (List ℕ → ℕ → Type 0) → Type 0
 IfKey (Some (Key secret kind)) P = P secret kind
 IfKey (Some (Route roads from to)) P = Unit {0}
 IfKey (Some (Root roads fan)) P = Unit {0}
+IfKey (Some Desk) P = Unit {0}
 IfKey (Some (Publish roads settings)) P = Unit {0}
 IfKey (Some (Prove publication q)) P = Unit {0}
 IfKey (Some (Check key reply q least)) P = Unit {0}

@@ -3,8 +3,10 @@
 //! `run` does all that the program does, over any library and any sink. `main` hands it the real ones.
 #![tactic(auto)]
 
+mod again;
 mod audit;
 mod check;
+mod desk;
 mod ended;
 mod fault;
 mod files;
@@ -14,57 +16,73 @@ mod prove;
 mod publish;
 mod root;
 mod route;
+mod tell;
 
+use again::look_again;
 pub use ended::{Ended, Verdict};
 pub use fault::Fault;
 pub use program::run;
 use road_command::{MOST_WORDS, Words};
 use road_io::{FileDisk, FileLibrary, StdSink};
+use std::alloc::Global;
 use std::env;
+use std::io::ErrorKind;
 use std::process::ExitCode;
+use tell::{Facts, message_on};
 
-/// What standard error says after a command line that fits no command.
-const COMMANDS: &str = "commands:
-  route ROADS S T    writes the length and the nodes of a shortest route from S to T
-  root ROADS FAN     writes the count of nodes, and the root of the tree over their leaves
-  key SECRET KIND    makes the owner's key, h5 or h10, in owner.desk and writes its public key
-  publish ROADS METHOD VERSION ORDER SEED FAN P1 P2 P3
-                     signs the map with its hints and writes the publication; METHOD is dij,
-                     ORDER is id, SEED and P1 to P3 are 0
-  prove PUB S T      writes a reply that shows a shortest route from S to T
-  check PUBKEY REPLY S T LEAST
-                     writes what a client says of a reply: that it accepts a route of version LEAST
-                     or later, or why it does not
-  audit PUBKEY PUB REPLY S T
-                     writes what a reply is evidence of, by owner.desk and a publication";
+/// The words after the program's name, or the status of a run that can't have them.
+fn words_of(rt: HostRuntime, alloc: Global) -> Result<Words, u8> {
+    let mut words = Words::new(alloc);
+    let arguments = match env::args(&rt) {
+        Ok(arguments) => arguments,
+        Err(e) if e.kind() == ErrorKind::OutOfMemory => return Err(9),
+        Err(_) => return Err(2),
+    };
+    for word in arguments.skip(1) {
+        if words.count() > MOST_WORDS || words.push(word.as_str()).is_err() {
+            return Err(9);
+        }
+    }
+    Ok(words)
+}
 
 fn main(rt: HostRuntime) -> ExitCode {
     let alloc = rt.alloc();
-    let Ok(arguments) = env::args(&rt) else {
-        let _ = eprintln!(rt; "{}\n{COMMANDS}", Fault::Words);
-        return ExitCode::from(2);
-    };
-    let mut words = Words::new(alloc);
-    for word in arguments.skip(1) {
-        if words.count() > MOST_WORDS || words.push(word.as_str()).is_err() {
-            let _ = eprintln!(rt; "{}", Fault::Memory);
+    let words = match words_of(rt, alloc) {
+        Ok(words) => words,
+        Err(9) => {
+            let _ = eprintln!(rt; "road_proof: memory: There is not enough of it.");
             return ExitCode::from(9);
         }
-    }
+        Err(status) => {
+            let _ = eprintln!(rt; "road_proof: words: One of them is no text in UTF-8.");
+            return ExitCode::from(status);
+        }
+    };
     let mut library = FileLibrary::new(rt);
     let mut sink = StdSink::new(rt);
     let mut disk = FileDisk::new(rt, "owner.desk");
     let ended = run(alloc, &words, &mut library, &mut sink, &mut disk);
-    if let Some(fault) = ended.fault {
-        let _ = eprintln!(rt; "{fault}");
-        if fault == Fault::Words {
-            let _ = eprintln!(rt; "{COMMANDS}");
-        }
+    let name = library.last_name().unwrap_or("file");
+    let again = look_again(alloc, &mut FileLibrary::new(rt), &words, ended, name);
+    let facts = Facts {
+        name,
+        text: &again.text,
+        file_error: library.last_error(),
+        sink_error: sink.last_error(),
+        desk_error: disk.last_error(),
+        refusal: again.refusal,
+        left: again.left,
+    };
+    if let Some(message) = message_on(&words, ended, facts) {
+        let _ = eprintln!(rt; "{message}");
     }
     ExitCode::from(ended.status)
 }
 
 #[cfg(test)]
 mod parties_tests;
+#[cfg(test)]
+mod tell_tests;
 #[cfg(test)]
 mod tests;

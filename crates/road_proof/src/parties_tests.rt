@@ -1,6 +1,6 @@
 //! An owner, a server and a client, each by its commands over objects in memory.
 
-use crate::tests::{FIVE_NODES, ZEROS, words_of};
+use crate::tests::{FIVE_NODES, PUBLIC, ZEROS, words_of};
 use crate::{Ended, Fault, run};
 use book_model::PlanError;
 use road_io::{MemDisk, MemLibrary, MemSink};
@@ -69,6 +69,9 @@ fn a_route_is_published_proved_checked_and_audited(rt: HostRuntime) -> Result<()
     let later = "publish map.roads dij 4 id 0 2 0 0 0";
     let later = written(&rt, alloc, &mut world, later, 0, None)?;
     world.library.put("later", &later)?;
+    let desk = written(&rt, alloc, &mut world, "desk", 0, None)?;
+    let counted = format!(in alloc; "{PUBLIC} 30 32\n")?;
+    assert_eq!(rt; desk.as_slice(), counted.as_bytes());
     world.library.put("other", OTHER_KEY.as_bytes())?;
     let unknown = Some(Fault::UnknownNode(9));
     let settings = Some(Fault::Plan(PlanError::Settings(3)));

@@ -20,6 +20,7 @@ ghost use Rattle.road_proof.specs.Exact.{NoneFailed, IsExact};
 
 use crate::audit::audit;
 use crate::check::check;
+use crate::desk::desk;
 use crate::ended::{Ended, Verdict};
 use crate::fault::Fault;
 use crate::key::key;
@@ -104,6 +105,7 @@ fn work<L: Library, K: Sink, D: Disk>(
         Some(Command::Route { roads, from, to }) => route(alloc, library, sink, roads, from, to),
         Some(Command::Root { roads, fan }) => root(alloc, library, sink, roads, fan),
         Some(Command::Key { secret, kind }) => key(alloc, library, sink, disk, secret, kind),
+        Some(Command::Desk) => desk(alloc, sink, disk),
         Some(Command::Publish { roads, settings }) => {
             publish(alloc, library, sink, disk, roads, &settings)
         }

@@ -36,12 +36,9 @@ pub fn prove<L: Library, K: Sink>(
 {
     range_laws();
     let publication = load_publication(alloc, library, publication)?;
-    let held = match install(alloc, publication) {
-        Ok(held) => held,
+    let told = match told_of(alloc, publication, query) {
+        Ok(told) => told,
         Err(why) => return Err(fault_of(why)),
-    };
-    let Ok(told) = reply(alloc, &held, query) else {
-        return Err(Fault::Memory);
     };
     match write_all(sink, &told.octets) {
         Ok(()) => told.end,
@@ -102,6 +99,20 @@ fn not_built(fault: BuildError) -> NotInstalled
 struct Told {
     octets: Vec<u8>,
     end: Result<Verdict, Fault>,
+}
+
+/// The reply to a query over a publication that is installed.
+fn told_of(alloc: Global, publication: Publication, query: Query) -> Result<Told, NotInstalled>
+    requires { length publication.signature ≤ 1452 }
+    ensures installable { OnOk result (IsInstallable publication) }
+    ensures told { IfOk result (λ told. EndsReply query publication told.end told.octets.items) }
+    ensures refused { IfErr result (WhyNotInstalled publication) }
+{
+    let held = install(alloc, publication)?;
+    match reply(alloc, &held, query) {
+        Ok(told) => Ok(told),
+        Err(NoMemory) => Err(NotInstalled::Memory),
+    }
 }
 
 /// The reply to a query.

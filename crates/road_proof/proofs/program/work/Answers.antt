@@ -1,5 +1,7 @@
 use Rattle.road_proof.proofs.Disks.{no_step}
 use Rattle.road_proof.proofs.KeyLemmas.{asked_of}
+use Rattle.road_proof.proofs.DeskLemmas.{any_files}
+use Rattle.road_proof.proofs.Written.{no_untold}
 use Rattle.road_proof.proofs.program.work.Goals as goal
 
 pub returns-in-None-clause-stands : goal.returns-in-None-clause-stands
@@ -44,3 +46,10 @@ returns-in-Some-Publish-clause-answered g c =
 pub returns-in-Some-Audit-clause-answered : goal.returns-in-Some-Audit-clause-answered
 returns-in-Some-Audit-clause-answered g c =
     asked_of _ _ (rw c.in-Some-Audit.field-0-is at c.in-Some-Audit.ensures) _ _ _ _ _ c.audit.ensures.answered
+
+pub returns-in-Some-Desk-clause-answered : goal.returns-in-Some-Desk-clause-answered
+returns-in-Some-Desk-clause-answered g c =
+    asked_of _ _ (rw c.in-Some-Desk.field-0-is at c.in-Some-Desk.ensures) _ _ _ _ _ (any_files _ _ _ _ _ c.desk.ensures.answered)
+
+pub returns-in-Some-Desk-clause-untold : goal.returns-in-Some-Desk-clause-untold
+returns-in-Some-Desk-clause-untold g c = no_untold _ _ _ _ c.desk.ensures.no_file.0 c.desk.ensures.no_file.1

@@ -1,0 +1,104 @@
+//! What is looked at again after a run, for what is said of it.
+
+ghost use Rattle.std.specs.Prelude.{◌≤◌, vec_len};
+
+use crate::ended::Ended;
+use crate::fault::Fault;
+use octet_text::Sha;
+use road_command::{Command, Words, command_of};
+use road_io::Library;
+use road_tell::keys_left;
+use route_client::{CheckError, check};
+use std::alloc::Global;
+
+/// The most octets of a file that is looked at again.
+const MOST_OCTETS: usize = 268_435_456;
+
+/// What was found.
+#[derive(Drop)]
+pub struct Again {
+    /// What the file holds that the run's end is said of; nothing where that is not asked for.
+    pub text: Vec<u8>,
+    /// Why the client refuses the reply, where one was refused.
+    pub refusal: Option<CheckError>,
+    /// How many one-time keys are left in the owner's file, where a command used it.
+    pub left: Option<u32>,
+}
+
+/// Looks at the files again that a run's end is said of. Want of memory leaves a fact out.
+pub fn look_again<L: Library>(
+    alloc: Global,
+    library: &mut L,
+    words: &Words,
+    ended: Ended,
+    name: &str,
+) -> Again {
+    let mut found = Again {
+        text: Vec::new(alloc),
+        refusal: None,
+        left: None,
+    };
+    match (ended.fault, command_of(words)) {
+        (Some(Fault::Road(_) | Fault::Map(_) | Fault::Malformed(_) | Fault::BadHex), _) => {
+            found.text = load(alloc, library, name);
+        }
+        (None, Some(Command::Publish { .. } | Command::Desk)) => {
+            found.left = keys_left(&load(alloc, library, "owner.desk"));
+        }
+        (
+            None,
+            Some(
+                Command::Check {
+                    key,
+                    reply,
+                    query,
+                    least,
+                },
+            ),
+        ) if ended.status == 1 => {
+            let key = key_in(&load(alloc, library, key));
+            found.text = load(alloc, library, reply);
+            found.refusal = check::<Sha>(alloc, &key, &found.text, query, least).err();
+        }
+        (
+            None,
+            Some(
+                Command::Audit {
+                    key,
+                    reply,
+                    query,
+                    ..
+                },
+            ),
+        ) if ended.status == 1 => {
+            let key = key_in(&load(alloc, library, key));
+            found.text = load(alloc, library, reply);
+            found.refusal = check::<Sha>(alloc, &key, &found.text, query, 0).err();
+        }
+        _ => {}
+    }
+    found
+}
+
+/// What a file holds, and nothing where it can't be read.
+fn load<L: Library>(alloc: Global, library: &mut L, name: &str) -> Vec<u8>
+    ensures { vec_len result ≤ 268435456 }
+{
+    match library.load(alloc, name, MOST_OCTETS) {
+        Ok(octets) => octets,
+        Err(_) => Vec::new(alloc),
+    }
+}
+
+/// The public key that 112 hex digits spell, and zeros where they don't.
+fn key_in(text: &[u8]) -> [u8; 56] {
+    let mut key = [0; 56];
+    let digits = match text.get(..112) {
+        Some(digits) => digits,
+        None => text,
+    };
+    match hex::decode_to_slice(digits, &mut key) {
+        Ok(()) => key,
+        Err(_) => [0; 56],
+    }
+}

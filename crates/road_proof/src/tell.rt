@@ -1,0 +1,321 @@
+//! What standard error says of a run.
+
+use crate::ended::{Ended, Verdict};
+use crate::fault::Fault;
+use book_model::PlanError;
+use road_command::{Command, Words, command_of};
+use road_map::MapError;
+use road_reader::RoadError;
+use road_tell::{
+    Commands, Look, Unusable, WrongHex, look_of, place_of, plan_rule, setting_name, wrong_words,
+};
+use route_client::CheckError;
+use std::fmt::{self, Display, Formatter};
+use std::io::{self, ErrorKind};
+
+/// What is known of a run besides its words and its end.
+#[derive(Clone, Copy)]
+pub struct Facts<'a> {
+    /// The name of the file that was asked for last.
+    pub name: &'a str,
+    /// What that file holds, as far as it was read again.
+    pub text: &'a [u8],
+    /// The system's reason why that file was not read.
+    pub file_error: Option<io::Error>,
+    /// The system's reason why the output was not written.
+    pub sink_error: Option<io::Error>,
+    /// The system's reason why the owner's file failed.
+    pub desk_error: Option<io::Error>,
+    /// Why the client refuses the reply, where one was refused.
+    pub refusal: Option<CheckError>,
+    /// How many one-time keys are left in the owner's file, where it was read again.
+    pub left: Option<u32>,
+}
+
+/// How many one-time keys left are few.
+const FEW: u32 = 3;
+
+/// What is said of a run: lines of the form `road_proof: WHAT: SENTENCE`, and the command's line where a
+/// word is wrong.
+#[derive(Clone, Copy)]
+pub struct Message<'a> {
+    words: &'a Words,
+    command: Option<Command<'a>>,
+    ended: Ended,
+    facts: Facts<'a>,
+}
+
+/// What is said of a run, if anything is.
+pub fn message_on<'a>(words: &'a Words, ended: Ended, facts: Facts<'a>) -> Option<Message<'a>> {
+    let command = command_of(words);
+    let few = match facts.left {
+        Some(left) => left <= FEW,
+        None => false,
+    };
+    if ended.status == 0 && !few {
+        return None;
+    }
+    Some(Message {
+        words,
+        command,
+        ended,
+        facts,
+    })
+}
+
+impl Display for Message<'_> {
+    fn fmt<W: fmt::Write>(&self, f: &mut Formatter<W>) -> fmt::Result {
+        match self.ended.fault {
+            None => self.verdict(f),
+            Some(Fault::Words) => self.wrong_words(f),
+            Some(Fault::Memory) => f.write_str("road_proof: memory: There is not enough of it."),
+            Some(Fault::Sink) => self.output(f),
+            Some(fault) => {
+                let what = self.what(fault);
+                write!(f, "road_proof: {what}: ")?;
+                self.sentence(f, fault)
+            }
+        }
+    }
+}
+
+impl<'a> Message<'a> {
+    /// What is said where no fault was met.
+    fn verdict<W: fmt::Write>(&self, f: &mut Formatter<W>) -> fmt::Result {
+        let reply = reply_of(self.command);
+        match (self.ended.status, self.facts.refusal) {
+            (0, _) => self.few_left(f),
+            (1, Some(why)) => {
+                write!(f, "road_proof: {reply}: {}", Unusable(why))?;
+                self.look(f, Look::Reply)
+            }
+            (1, None) => write!(
+                f,
+                "road_proof: {reply}: The route is not to be used: the reply is refused."
+            ),
+            _ => write!(
+                f,
+                "road_proof: {reply}: The route is not to be used: it rests on a header that the owner never signed, or on two texts of one digest, as the line that was written says. Keep that line with the three files."
+            ),
+        }
+    }
+
+    /// The warning that few one-time keys are left.
+    fn few_left<W: fmt::Write>(&self, f: &mut Formatter<W>) -> fmt::Result {
+        let left = self.facts.left.unwrap_or(0);
+        let keys = if left == 1 { "key is" } else { "keys are" };
+        write!(
+            f,
+            "road_proof: owner.desk: {left} one-time {keys} left. Make another key, in another folder, before they end."
+        )
+    }
+
+    /// Which word is wrong, and why.
+    fn wrong_words<W: fmt::Write>(&self, f: &mut Formatter<W>) -> fmt::Result {
+        match wrong_words(self.words) {
+            Some(wrong) => write!(f, "{wrong}"),
+            None => write!(f, "road_proof: words: They fit no command.\n{Commands}"),
+        }
+    }
+
+    /// Why the output was not written, and what was done before.
+    fn output<W: fmt::Write>(&self, f: &mut Formatter<W>) -> fmt::Result {
+        f.write_str("road_proof: standard output: It was not written whole")?;
+        reason(f, self.facts.sink_error)?;
+        match self.command {
+            Some(Command::Publish { .. }) => f.write_str(" One one-time key was used for it."),
+            Some(Command::Key { .. }) => {
+                f.write_str(" The key was made, and `road_proof desk` writes its public key.")
+            }
+            _ => Ok(()),
+        }
+    }
+
+    /// What a fault is said of.
+    fn what(&self, fault: Fault) -> &'a str {
+        match fault {
+            Fault::Disk | Fault::KeysUsedUp | Fault::Held | Fault::NoKey | Fault::BadBlock => {
+                "owner.desk"
+            }
+            Fault::OtherPublication => reply_of(self.command),
+            Fault::OtherKey => key_of(self.command),
+            Fault::Plan(PlanError::Settings(number)) if settings_of(self.command).is_some() => {
+                setting_name(number)
+            }
+            Fault::HeaderWrong
+            | Fault::Map(_)
+            | Fault::Plan(_)
+            | Fault::UnknownNode(_)
+            | Fault::NoRoute => { map_of(self.command) }
+            _ => self.facts.name,
+        }
+    }
+
+    /// What is said of it.
+    fn sentence<W: fmt::Write>(&self, f: &mut Formatter<W>, fault: Fault) -> fmt::Result {
+        match fault {
+            Fault::Map(fault) => self.map(f, fault),
+            Fault::Plan(fault) => self.plan(f, fault),
+            Fault::UnknownNode(id) => write!(f, "It has no node {id}."),
+            Fault::NoRoute => f.write_str("No route joins the two nodes."),
+            Fault::HeaderWrong => f.write_str("Its header is not that of its map and settings."),
+            Fault::OtherKey => f.write_str("This public key is not that of the key in owner.desk."),
+            Fault::OtherPublication => f.write_str(
+                "The route is not to be used before the reply is audited with its own publication, which is another one of the owner's.",
+            ),
+            Fault::Disk | Fault::KeysUsedUp | Fault::Held | Fault::NoKey | Fault::BadBlock =>
+                self.desk(f, fault),
+            _ => self.file(f, fault),
+        }
+    }
+
+    /// What is said of a file that was not read, or not as what it should be.
+    fn file<W: fmt::Write>(&self, f: &mut Formatter<W>, fault: Fault) -> fmt::Result {
+        match fault {
+            Fault::TooLong => f.write_str(
+                "It has more than 268435456 octets, the most that are read.",
+            ),
+            Fault::Road(fault) => {
+                write!(f, "{fault}")?;
+                match fault {
+                    RoadError::NoTitle => self.look(f, Look::RoadFile),
+                    _ => Ok(()),
+                }
+            }
+            Fault::Malformed(place) => {
+                write!(
+                    f,
+                    "It is no publication, and can't be read from place {place} on."
+                )?;
+                self.look(f, Look::Publication)
+            }
+            Fault::BadHex => {
+                let wanted = digits_of(self.command);
+                let text = self.facts.text;
+                write!(f, "{}", WrongHex { text, wanted })?;
+                self.look(f, Look::Empty)
+            }
+            _ => {
+                f.write_str("It can't be read")?;
+                reason(f, self.facts.file_error)
+            }
+        }
+    }
+
+    /// What the file looks like, where it looks like anything but this.
+    fn look<W: fmt::Write>(&self, f: &mut Formatter<W>, wanted: Look) -> fmt::Result {
+        match look_of(self.facts.text) {
+            Some(look) if look != wanted => write!(f, " {look}"),
+            _ => Ok(()),
+        }
+    }
+
+    /// The rule of maps that is broken, with the line of a road file.
+    fn map<W: fmt::Write>(&self, f: &mut Formatter<W>, fault: MapError) -> fmt::Result {
+        let place = match self.command {
+            Some(Command::Prove { .. } | Command::Audit { .. }) => None,
+            _ => place_of(self.facts.text, fault),
+        };
+        match place {
+            Some(place) => write!(f, "{place}"),
+            None => write!(f, "{fault}"),
+        }
+    }
+
+    /// Why settings and a map have no book.
+    fn plan<W: fmt::Write>(&self, f: &mut Formatter<W>, fault: PlanError) -> fmt::Result {
+        match (fault, settings_of(self.command)) {
+            (PlanError::Settings(number), Some(method)) => {
+                let rule = plan_rule(method, number);
+                write!(f, "It is out of its range. {rule}")
+            }
+            (PlanError::Settings(number), None) => {
+                let name = setting_name(number);
+                write!(f, "Its setting {name} is out of its range.")
+            }
+            _ => write!(f, "{fault}"),
+        }
+    }
+
+    /// What is said of the owner's file.
+    fn desk<W: fmt::Write>(&self, f: &mut Formatter<W>, fault: Fault) -> fmt::Result {
+        match fault {
+            Fault::KeysUsedUp => f.write_str(
+                "All of its one-time keys were used. Make another key, in another folder.",
+            ),
+            Fault::Held => f.write_str("It holds a key already, which no other key may replace."),
+            Fault::NoKey => f.write_str(
+                "It holds no key, or is not there. `road_proof key` makes one.",
+            ),
+            Fault::BadBlock => f.write_str(
+                "The key in it is of an unknown kind, or not all of its slots are there.",
+            ),
+            _ => match self.facts.desk_error {
+                Some(e) if e.kind() == ErrorKind::WouldBlock => {
+                    f.write_str("Another process is at work on it.")
+                }
+                Some(e) if e.kind() == ErrorKind::AlreadyExists => {
+                    f.write_str("Another process has made it meanwhile.")
+                }
+                error => {
+                    f.write_str("It can't be read or written")?;
+                    reason(f, error)
+                }
+            },
+        }
+    }
+}
+
+/// The system's reason, and the sentence's end.
+fn reason<W: fmt::Write>(f: &mut Formatter<W>, error: Option<io::Error>) -> fmt::Result {
+    match error {
+        Some(e) => write!(f, ": {e}."),
+        None => f.write_str("."),
+    }
+}
+
+/// The name of a command's reply.
+fn reply_of(command: Option<Command<'_>>) -> &str {
+    match command {
+        Some(Command::Check { reply, .. } | Command::Audit { reply, .. }) => reply,
+        _ => "reply",
+    }
+}
+
+/// The name of a command's public key.
+fn key_of(command: Option<Command<'_>>) -> &str {
+    match command {
+        Some(Command::Check { key, .. } | Command::Audit { key, .. }) => key,
+        _ => "key",
+    }
+}
+
+/// The name of the file that a command has its map from.
+fn map_of(command: Option<Command<'_>>) -> &str {
+    match command {
+        Some(
+            Command::Route { roads, .. }
+            | Command::Root { roads, .. }
+            | Command::Publish { roads, .. },
+        ) => roads,
+        Some(Command::Prove { publication, .. } | Command::Audit { publication, .. }) =>
+            publication,
+        _ => "map",
+    }
+}
+
+/// The method that a command's settings ask for.
+fn settings_of(command: Option<Command<'_>>) -> Option<u8> {
+    match command {
+        Some(Command::Publish { settings, .. }) => Some(settings.method),
+        _ => None,
+    }
+}
+
+/// How many hex digits a command's file must have.
+fn digits_of(command: Option<Command<'_>>) -> usize {
+    match command {
+        Some(Command::Key { .. }) => 96,
+        _ => 112,
+    }
+}

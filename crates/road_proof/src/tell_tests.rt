@@ -1,0 +1,193 @@
+//! A table of what standard error says of runs over objects in memory.
+
+use crate::again::look_again;
+use crate::tell::{Facts, message_on};
+use crate::tests::{FIVE_NODES, ZEROS, words_of};
+use crate::{Ended, Fault, run};
+use book_model::PlanError;
+use road_io::{MemDisk, MemLibrary, MemSink};
+use route_client::CheckError;
+use std::alloc::Global;
+use std::io::{self, ErrorKind};
+use std::process::Abort;
+use std::test::Fail;
+
+/// Runs a command line over some files, and compares what is said of it.
+fn says(rt: &impl Abort, alloc: Global, line: &str, name: &str, wanted: &str) -> Result<(), Fail> {
+    let words = words_of(rt, alloc, line)?;
+    let mut library = MemLibrary::new(alloc, Vec::new(alloc));
+    library.put("map.roads", FIVE_NODES.as_bytes())?;
+    let self_road = format!(in alloc; "{FIVE_NODES}road 3 3 1\n")?;
+    library.put("self.roads", self_road.as_bytes())?;
+    library.put("zeros", ZEROS.as_bytes())?;
+    library.put("zip", b"\x1f\x8b\x08")?;
+    let mut sink = MemSink::new(alloc, 1000, 1000, Vec::new(alloc))?;
+    let mut disk = MemDisk::new(alloc, 4160, 10_000, Vec::new(alloc), None)?;
+    let ended = run(alloc, &words, &mut library, &mut sink, &mut disk);
+    let again = look_again(alloc, &mut library, &words, ended, name);
+    let facts = Facts {
+        name,
+        text: &again.text,
+        file_error: Some(io::Error::from(ErrorKind::NotFound)),
+        sink_error: None,
+        desk_error: None,
+        refusal: again.refusal,
+        left: again.left,
+    };
+    let text = match message_on(&words, ended, facts) {
+        Some(message) => format!(in alloc; "{message}")?,
+        None => String::new(alloc),
+    };
+    assert_eq!(rt; text.as_str(), wanted, "at {line}");
+    Ok(())
+}
+
+#[test]
+fn each_end_is_told(rt: HostRuntime) -> Result<(), Fail> {
+    for (line, name, wanted) in [
+        ("route map.roads 1 3", "map.roads", ""),
+        (
+            "route map.roads 1 9",
+            "map.roads",
+            "road_proof: map.roads: It has no node 9.",
+        ),
+        (
+            "route map.roads 1 5",
+            "map.roads",
+            "road_proof: map.roads: No route joins the two nodes.",
+        ),
+        (
+            "route none 1 5",
+            "none",
+            "road_proof: none: It can't be read: entity not found.",
+        ),
+        (
+            "route self.roads 1 5",
+            "self.roads",
+            "road_proof: self.roads: Line 11 has a road from the node 3 to itself.",
+        ),
+        (
+            "route zip 1 5",
+            "zip",
+            "road_proof: zip: The road file does not begin with the line `roads 1`. It looks like a gzip file, which must be unpacked first.",
+        ),
+        (
+            "prove map.roads 1 3",
+            "map.roads",
+            "road_proof: map.roads: It is no publication, and can't be read from place 0 on. It looks like a road file.",
+        ),
+        (
+            "key map.roads h5",
+            "map.roads",
+            "road_proof: map.roads: The octet at place 0 is no hex digit, and the file must be 96 of them and at most one line end. It looks like a road file.",
+        ),
+        (
+            "desk",
+            "file",
+            "road_proof: owner.desk: It holds no key, or is not there. `road_proof key` makes one.",
+        ),
+        (
+            "check zeros map.roads 1 3 0",
+            "zeros",
+            "road_proof: zeros: There are 96 hex digits, and 112 are wanted.",
+        ),
+    ] {
+        says(&rt, rt.alloc(), line, name, wanted)?;
+    }
+    Ok(())
+}
+
+/// What is said of a run of these words that ended so.
+fn told(
+    rt: &impl Abort,
+    alloc: Global,
+    line: &str,
+    ended: Ended,
+    facts: Facts,
+) -> Result<String, Fail> {
+    let words = words_of(rt, alloc, line)?;
+    let text = match message_on(&words, ended, facts) {
+        Some(message) => format!(in alloc; "{message}")?,
+        None => String::new(alloc),
+    };
+    Ok(text)
+}
+
+#[test]
+fn ends_over_real_files_are_told(rt: HostRuntime) -> Result<(), Fail> {
+    let publish = "publish m dij 1 id 0 2 1 0 0";
+    let audit = "audit k p r 1 3";
+    let check = "check k r 1 3 4";
+    let settings = Fault::Plan(PlanError::Settings(3));
+    for (line, status, fault, error, refusal, wanted) in [
+        (
+            publish,
+            0,
+            None,
+            ErrorKind::Other,
+            None,
+            "road_proof: owner.desk: 1 one-time key is left. Make another key, in another folder, before they end.",
+        ),
+        (
+            publish,
+            7,
+            Some(Fault::Disk),
+            ErrorKind::WouldBlock,
+            None,
+            "road_proof: owner.desk: Another process is at work on it.",
+        ),
+        (
+            publish,
+            6,
+            Some(Fault::Sink),
+            ErrorKind::BrokenPipe,
+            None,
+            "road_proof: standard output: It was not written whole: broken pipe. One one-time key was used for it.",
+        ),
+        (
+            publish,
+            3,
+            Some(settings),
+            ErrorKind::Other,
+            None,
+            "road_proof: P1: It is out of its range. Under dij and full it is 0.",
+        ),
+        (
+            audit,
+            10,
+            None,
+            ErrorKind::Other,
+            None,
+            "road_proof: r: The route is not to be used: it rests on a header that the owner never signed, or on two texts of one digest, as the line that was written says. Keep that line with the three files.",
+        ),
+        (
+            audit,
+            14,
+            Some(Fault::OtherPublication),
+            ErrorKind::Other,
+            None,
+            "road_proof: r: The route is not to be used before the reply is audited with its own publication, which is another one of the owner's.",
+        ),
+        (
+            check,
+            1,
+            None,
+            ErrorKind::Other,
+            Some(CheckError::Malformed(0)),
+            "road_proof: r: The route is not to be used: the file is no reply, and can't be read from place 0 on. It looks like a publication.",
+        ),
+    ] {
+        let facts = Facts {
+            name: "r",
+            text: b"RPP1",
+            file_error: None,
+            sink_error: Some(io::Error::from(error)),
+            desk_error: Some(io::Error::from(error)),
+            refusal,
+            left: Some(1),
+        };
+        let text = told(&rt, rt.alloc(), line, Ended { status, fault }, facts)?;
+        assert_eq!(rt; text.as_str(), wanted, "at {line}");
+    }
+    Ok(())
+}

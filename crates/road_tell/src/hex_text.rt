@@ -1,0 +1,38 @@
+//! Files that are not exactly their hex digits.
+
+use std::fmt::{self, Display, Formatter};
+
+/// A text that does not spell as many hex digits as are wanted.
+#[derive(Clone, Copy)]
+pub struct WrongHex<'a> {
+    /// What the file holds.
+    pub text: &'a [u8],
+    /// How many digits are wanted.
+    pub wanted: usize,
+}
+
+impl Display for WrongHex<'_> {
+    fn fmt<W: fmt::Write>(&self, f: &mut Formatter<W>) -> fmt::Result {
+        let line = without_line_end(self.text);
+        let wanted = self.wanted;
+        match line.iter().position(|octet| !octet.is_ascii_hexdigit()) {
+            Some(place) => write!(
+                f,
+                "The octet at place {place} is no hex digit, and the file must be {wanted} of them and at most one line end."
+            ),
+            None => {
+                let found = line.len();
+                write!(f, "There are {found} hex digits, and {wanted} are wanted.")
+            }
+        }
+    }
+}
+
+/// A text without the line end that may close it.
+fn without_line_end(text: &[u8]) -> &[u8] {
+    match text {
+        [line @ .., b'\r', b'\n'] => line,
+        [line @ .., b'\n'] => line,
+        _ => text,
+    }
+}

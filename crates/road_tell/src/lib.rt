@@ -1,0 +1,24 @@
+//! What standard error says: sentences over values, each for somebody who has not read the code.
+//!
+//! Each message is a value with a `Display`, and takes no memory. A sentence says no more than its value does.
+#![tactic(auto)]
+
+pub use hex_text::WrongHex;
+pub use looks::{Look, look_of};
+pub use plans::{plan_rule, setting_name};
+pub use refusals::Unusable;
+pub use roads::{MapPlace, place_of};
+pub use slots::keys_left;
+pub use usage::{Commands, VERSION};
+pub use words::{WrongWords, wrong_words};
+
+mod hex_text;
+mod looks;
+mod plans;
+mod refusals;
+mod roads;
+mod slots;
+#[cfg(test)]
+mod tests;
+mod usage;
+mod words;

@@ -1,0 +1,40 @@
+//! What octets look like by their first few.
+
+use std::fmt::{self, Display, Formatter};
+
+/// What a file looks like.
+#[derive(Clone, Copy, Debug, PartialEq, Eq)]
+pub enum Look {
+    Empty,
+    Gzip,
+    ByteOrderMark,
+    RoadFile,
+    Publication,
+    Reply,
+}
+
+/// What octets look like, if they look like anything known here.
+pub fn look_of(text: &[u8]) -> Option<Look> {
+    match text {
+        [] => Some(Look::Empty),
+        [0x1f, 0x8b, ..] => Some(Look::Gzip),
+        [0xef, 0xbb, 0xbf, ..] | [0xff, 0xfe, ..] | [0xfe, 0xff, ..] => Some(Look::ByteOrderMark),
+        [b'r', b'o', b'a', b'd', b's', b' ', ..] => Some(Look::RoadFile),
+        [b'R', b'P', b'P', b'1', ..] => Some(Look::Publication),
+        [0, b'R', b'P', b'F', b'1', ..] | [1] | [2] => Some(Look::Reply),
+        _ => None,
+    }
+}
+
+impl Display for Look {
+    fn fmt<W: fmt::Write>(&self, f: &mut Formatter<W>) -> fmt::Result {
+        f.write_str(match self {
+            Look::Empty => "It is empty.",
+            Look::Gzip => "It looks like a gzip file, which must be unpacked first.",
+            Look::ByteOrderMark => "It begins with a byte order mark, which must not stand there.",
+            Look::RoadFile => "It looks like a road file.",
+            Look::Publication => "It looks like a publication.",
+            Look::Reply => "It looks like a reply.",
+        })
+    }
+}

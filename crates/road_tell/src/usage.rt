@@ -1,0 +1,81 @@
+//! The commands, as they are typed.
+
+use std::fmt::{self, Display, Formatter};
+
+/// The program's version.
+pub const VERSION: &str = "0.1.0";
+
+/// A command: its name and its words as they are typed, and what it does.
+#[derive(Clone, Copy)]
+pub struct Usage {
+    /// The name, and a name for each word behind it.
+    pub words: &'static str,
+    /// What it does.
+    pub does: &'static str,
+}
+
+/// The commands.
+pub const USAGES: [Usage; 8] = [
+    Usage {
+        words: "route ROADS S T",
+        does: "writes the length and the nodes of a shortest route from S to T",
+    },
+    Usage {
+        words: "root ROADS FAN",
+        does: "writes the count of nodes, and the root of the tree over their leaves",
+    },
+    Usage {
+        words: "key SECRET KIND",
+        does: "makes the owner's key, h5 or h10, in owner.desk and writes its public key",
+    },
+    Usage {
+        words: "desk",
+        does: "writes the public key of owner.desk, how many one-time keys are left, and how many there are",
+    },
+    Usage {
+        words: "publish ROADS METHOD VERSION ORDER SEED FAN P1 P2 P3",
+        does: "signs the map with its hints and writes the publication; METHOD is dij, full,\n      ldm (P1 landmarks, P2 bits, P3 the threshold) or hyp (P1 columns, P2 rows),\n      ORDER is id, breadth, depth, hilbert, kd or shuffled (by SEED)",
+    },
+    Usage {
+        words: "prove PUB S T",
+        does: "writes a reply that shows a shortest route from S to T",
+    },
+    Usage {
+        words: "check PUBKEY REPLY S T LEAST",
+        does: "writes what a client says of a reply: that it accepts a route of version LEAST\n      or later, or why it does not",
+    },
+    Usage {
+        words: "audit PUBKEY PUB REPLY S T",
+        does: "writes what a reply is evidence of, by owner.desk and a publication",
+    },
+];
+
+impl Display for Usage {
+    fn fmt<W: fmt::Write>(&self, f: &mut Formatter<W>) -> fmt::Result {
+        write!(f, "  {}\n      {}", self.words, self.does)
+    }
+}
+
+/// The table of all commands.
+#[derive(Clone, Copy)]
+pub struct Commands;
+
+impl Display for Commands {
+    fn fmt<W: fmt::Write>(&self, f: &mut Formatter<W>) -> fmt::Result {
+        f.write_str("commands:")?;
+        for usage in &USAGES {
+            write!(f, "\n{usage}")?;
+        }
+        Ok(())
+    }
+}
+
+/// The command of this name.
+pub fn usage_of(name: &str) -> Option<&'static Usage> {
+    for usage in &USAGES {
+        if usage.words.split(' ').next() == Some(name) {
+            return Some(usage);
+        }
+    }
+    None
+}

@@ -1,0 +1,129 @@
+//! Words that fit no command.
+
+use crate::usage::{Commands, Usage, VERSION, usage_of};
+use road_command::{Words, reading};
+use road_reader::{natural, wide_natural};
+use std::fmt::{self, Display, Formatter};
+
+/// Why words fit no command.
+#[derive(Clone, Copy)]
+pub enum WrongWords<'a> {
+    /// There are no words, or they ask for help.
+    Help,
+    /// They ask for the version.
+    Version,
+    /// The first word is no command.
+    NoCommand(&'a str),
+    /// There are more or fewer words behind the command than it takes.
+    Count {
+        usage: &'static Usage,
+        wanted: usize,
+        found: usize,
+    },
+    /// This word can't stand in this place of the command.
+    Word {
+        usage: &'static Usage,
+        place: &'static str,
+        word: &'a str,
+    },
+}
+
+/// Why words fit no command, if that can be told.
+pub fn wrong_words(words: &Words) -> Option<WrongWords<'_>> {
+    if words.count() == 0 {
+        return Some(WrongWords::Help);
+    }
+    match words.word(0) {
+        "help" | "--help" | "-h" => Some(WrongWords::Help),
+        "--version" => Some(WrongWords::Version),
+        name => match usage_of(name) {
+            None => Some(WrongWords::NoCommand(name)),
+            Some(usage) => wrong_place(usage, words),
+        },
+    }
+}
+
+/// The first word that can't stand in its place, where their count is right.
+fn wrong_place<'a>(usage: &'static Usage, words: &'a Words) -> Option<WrongWords<'a>> {
+    let wanted = usage.words.split(' ').count();
+    let found = words.count() as usize;
+    if wanted != found {
+        return Some(WrongWords::Count {
+            usage,
+            wanted: wanted.saturating_sub(1),
+            found: found.saturating_sub(1),
+        });
+    }
+    let mut index = 0;
+    for place in usage.words.split(' ') {
+        if index < words.count() {
+            let word = words.word(index);
+            if !fits(place, word) {
+                return Some(WrongWords::Word { usage, place, word });
+            }
+            index += 1;
+        }
+    }
+    None
+}
+
+/// Whether a word can stand in a place.
+fn fits(place: &str, word: &str) -> bool {
+    match place {
+        "S" | "T" => natural(word.as_bytes()).is_some(),
+        "FAN" => reading::fan(word).is_some(),
+        "KIND" => reading::kind(word).is_some(),
+        "METHOD" => reading::method(word).is_some(),
+        "ORDER" => reading::order(word).is_some(),
+        "VERSION" | "SEED" | "P1" | "P2" | "P3" | "LEAST" => wide_natural(
+            word.as_bytes(),
+        ).is_some(),
+        _ => true,
+    }
+}
+
+/// What may stand in a place.
+fn rule(place: &str) -> &'static str {
+    match place {
+        "S" | "T" => "a node's id, a whole number from 0 to 4294967295",
+        "FAN" => "a whole number from 2 to 32",
+        "KIND" => "h5, with 32 one-time keys, or h10, with 1024",
+        "METHOD" => "dij, full, ldm or hyp",
+        "ORDER" => "id, breadth, depth, hilbert, kd or shuffled",
+        _ => "a whole number from 0 to 18446744073709551615",
+    }
+}
+
+impl Display for WrongWords<'_> {
+    fn fmt<W: fmt::Write>(&self, f: &mut Formatter<W>) -> fmt::Result {
+        match self {
+            WrongWords::Help => write!(
+                f,
+                "road_proof: help: Each command stands with what it does.\n{Commands}"
+            ),
+            WrongWords::Version => write!(
+                f,
+                "road_proof: version: This is version {VERSION}.\n{Commands}"
+            ),
+            WrongWords::NoCommand(name) => write!(
+                f,
+                "road_proof: {name}: There is no such command. `road_proof help` lists them."
+            ),
+            WrongWords::Count {
+                usage,
+                wanted,
+                found,
+            } => {
+                let name = usage.words.split(' ').next().unwrap_or("");
+                write!(
+                    f,
+                    "road_proof: {name}: It takes {wanted} words behind it, and here are {found}.\n{usage}"
+                )
+            }
+            WrongWords::Word { usage, place, word } => {
+                let rule = rule(place);
+                write!(f, "road_proof: {word}: {place} must be {rule}.\n{usage}")
+            }
+        }
+    }
+}

@@ -1,0 +1,156 @@
+#!/usr/bin/env python3
+"""Plays what the documents show: checks/docs/play.py PROGRAM
+
+Takes the commands behind `$ ` and the outputs under them out of README.md and the documents of
+docs/, types each document's commands into one shell in a fresh folder, and compares. A command's
+output is what stands under it, standard output and standard error together; its status is 0, or
+what an `echo $?` right behind it shows. The fresh folder has the program's crate as a clone has it
+(`crates/road_proof` with `data` and `out`), and `rt run --` and `rt try --` are stood in for by the
+built program, since a proof takes its time. Everything else is run as typed.
+
+A block one of whose commands names a tool that this machine lacks is skipped with the rest of its
+document, and said so. Ends with status 1 where an output or a status differs.
+"""
+import os
+import re
+import shutil
+import subprocess
+import sys
+import tempfile
+
+TOP = os.path.dirname(os.path.dirname(os.path.dirname(os.path.abspath(__file__))))
+DOCUMENTS = ["README.md", "docs/WALKTHROUGH.md"]
+PROMPT = "$ "
+SECONDS = 120
+# words of the shell's own, and the two programs that this script puts on the path
+KNOWN = {"cd", "echo", "export", "printf", "umask", "exit", "true", "false", "road_proof", "rt", "test"}
+STAND_IN = """#!/bin/sh
+# Runs the built program in place of `rt run -- WORDS` and `rt try -- WORDS`.
+case "$1 $2" in "run --"|"try --") shift 2; exec out/road_proof "$@";; esac
+echo "rt: only run -- and try -- are stood in for here" >&2
+exit 2
+"""
+
+
+def blocks_of(text):
+    """The indented blocks of a Markdown text, each a list of lines without the indent, with its first line's number."""
+    block, begins = [], 0
+    for number, line in enumerate(text.split("\n") + ["end"], 1):
+        if line.startswith("    "):
+            begins = begins or number
+            block.append(line[4:])
+        elif line == "" and block:
+            block.append("")
+        elif block:
+            yield begins, block
+            block, begins = [], 0
+
+
+def commands_of(path):
+    """The commands of a document: (line number, command, the lines that stand under it)."""
+    commands = []
+    with open(path, encoding="utf-8") as file:
+        text = file.read()
+    for begins, block in blocks_of(text):
+        if not block[0].startswith(PROMPT):
+            continue
+        while block and block[-1] == "":
+            block.pop()
+        for offset, line in enumerate(block):
+            if line.startswith(PROMPT):
+                commands.append((begins + offset, line[len(PROMPT):], []))
+            else:
+                commands[-1][2].append(line)
+    return commands
+
+
+def lacking(command):
+    """The first program of a command that this machine lacks."""
+    plain = re.sub(r"'[^']*'|\"[^\"]*\"", "", command)
+    for part in re.split(r"\||;|&&|\$\(", plain):
+        words = [word for word in part.split() if "=" not in word]
+        if words and words[0] not in KNOWN and "/" not in words[0] and not shutil.which(words[0]):
+            return words[0]
+    return None
+
+
+def script_of(commands, results):
+    """A shell's script that types the commands, and keeps the output and the status of each."""
+    lines = ["exec < /dev/null", "true"]
+    for index, (_, command, _) in enumerate(commands):
+        lines += [f"{{ {command}", f"}} > {results}/{index}.out 2>&1",
+                  f"status=$?; echo $status > {results}/{index}.status; (exit $status)"]
+    return "\n".join(lines) + "\n"
+
+
+def fresh_folder(room, program):
+    """A folder as a clone has it after `rt run`, and the path on which its programs lie."""
+    crate = f"{room}/clone/crates/road_proof"
+    os.makedirs(f"{crate}/out")
+    os.makedirs(f"{room}/bin")
+    os.makedirs(f"{room}/results")
+    shutil.copytree(f"{TOP}/crates/road_proof/data", f"{crate}/data")
+    shutil.copyfile(program, f"{crate}/out/road_proof")
+    os.chmod(f"{crate}/out/road_proof", 0o755)
+    os.symlink(f"{crate}/out/road_proof", f"{room}/bin/road_proof")
+    with open(f"{room}/bin/rt", "w", encoding="utf-8") as file:
+        file.write(STAND_IN)
+    os.chmod(f"{room}/bin/rt", 0o755)
+    return f"{room}/clone", f"{room}/bin:{os.environ.get('PATH', '/usr/bin:/bin')}"
+
+
+def read(path):
+    with open(path, encoding="utf-8", errors="replace") as file:
+        return file.read()
+
+
+def play(document, program):
+    """Plays one document. Returns how many commands came as shown, and how many did not."""
+    commands = commands_of(f"{TOP}/{document}")
+    if not commands:
+        print(f"{document}: shows no command")
+        return 0, 1
+    for number, command, _ in commands:
+        tool = lacking(command)
+        if tool:
+            print(f"{document}:{number}: skipped, this machine has no {tool}")
+            return 0, 0
+    with tempfile.TemporaryDirectory(prefix="play-") as room:
+        folder, path = fresh_folder(room, program)
+        results = f"{room}/results"
+        environment = dict(os.environ, PATH=path, LC_ALL="C.UTF-8")
+        subprocess.run(["bash", "-c", script_of(commands, results)], cwd=folder, env=environment, timeout=SECONDS * len(commands), check=False)
+        passed = 0
+        for index, (number, command, shown) in enumerate(commands):
+            if not os.path.exists(f"{results}/{index}.status"):
+                print(f"{document}:{number}: the shell had ended before `{command}`")
+                return passed, len(commands) - index
+            wrote, status = read(f"{results}/{index}.out"), read(f"{results}/{index}.status").strip()
+            wanted = "".join(f"{line}\n" for line in shown)
+            is_told = index + 1 < len(commands) and commands[index + 1][1] == "echo $?"
+            if wrote != wanted:
+                print(f"{document}:{number}: `{command}` wrote\n{wrote}and the document shows\n{wanted}", end="")
+            elif status != "0" and not is_told:
+                print(f"{document}:{number}: `{command}` ended with status {status}, and the document doesn't say so")
+            else:
+                passed += 1
+        return passed, len(commands) - passed
+
+
+def main():
+    if len(sys.argv) != 2:
+        sys.exit(__doc__.split("\n", 1)[0])
+    program = os.path.abspath(sys.argv[1])
+    if not os.path.isfile(program):
+        sys.exit(f"checks/docs/play.py: there is no program {program}")
+    passed = failed = 0
+    for document in DOCUMENTS:
+        right, wrong = play(document, program)
+        print(f"{document}: {right} commands as shown, {wrong} not")
+        passed, failed = passed + right, failed + wrong
+    print(f"{passed} passed, {failed} failed")
+    sys.exit(1 if failed else 0)
+
+
+if __name__ == "__main__":
+    main()

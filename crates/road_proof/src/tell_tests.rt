@@ -34,10 +34,7 @@ fn says(rt: &impl Abort, alloc: Global, line: &str, name: &str, wanted: &str) ->
         refusal: again.refusal,
         left: again.left,
     };
-    let text = match message_on(&words, ended, facts) {
-        Some(message) => format!(in alloc; "{message}")?,
-        None => String::new(alloc),
-    };
+    let text = told(rt, alloc, line, ended, facts)?;
     assert_eq!(rt; text.as_str(), wanted, "at {line}");
     Ok(())
 }

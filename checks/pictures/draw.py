@@ -96,7 +96,7 @@ def points_of(paper, nodes, ids):
 def picture_of(nodes, roads, reply, size):
     method, route, brought, pairs = reply
     paper = Paper(nodes.values())
-    told = f"{METHODS[method]}: {len(brought)} of {len(nodes)} nodes, {len(pairs)} pairs, {size:,} octets"
+    told = f"{METHODS[method]}: {len(brought)} of {len(nodes)} nodes, {len(pairs)} pair{'' if len(pairs) == 1 else 's'}, {size:,} octets"
     layers = [("#d8d8d8", 1, lines_of(paper, nodes, roads)),
               ("#b0b0b0", 2.2, points_of(paper, nodes, nodes)),
               ("#4a90d9", 0.35, lines_of(paper, nodes, pairs)),

@@ -9,12 +9,14 @@ use Rattle.book_model.specs.declared.settings.Settings.{Settings}
 pub data Request : Type 0 where
   Route : List ℕ → ℕ → ℕ → Request
   Root : List ℕ → ℕ → Request
+  Dimacs : List ℕ → List ℕ → Request
   Key : List ℕ → ℕ → Request
   Desk : Request
   Publish : List ℕ → Settings → Request
   Prove : List ℕ → Query → Request
   Check : List ℕ → List ℕ → Query → ℕ → Request
   Audit : List ℕ → List ℕ → List ℕ → Query → Request
+  Survey : ℕ → ℕ → ℕ → ℕ → Request
 
 -- ---- single words
 
@@ -48,6 +50,18 @@ order_of word =
     else if bytes_eq word (codes "shuffled") then Some 5
     else None
 
+-- the width of a grid, from 2 to 256
+abbrev pub width_of : List ℕ → Option ℕ
+width_of word = do
+  width ← natural_of word
+  if nat_le 2 width && nat_le width 256 then Some width else None
+
+-- how many queries a survey asks, from 1 to 1,000
+abbrev pub queries_of : List ℕ → Option ℕ
+queries_of word = do
+  queries ← natural_of word
+  if nat_le 1 queries && nat_le queries 1000 then Some queries else None
+
 -- the ids of two ends
 abbrev pub query_of : List ℕ → List ℕ → Option Query
 query_of from to = do
@@ -73,6 +87,15 @@ settings_of method version order seed fan p = do
   fan ← fan_of fan
   Some (record { method = method; version = version; order = order; seed = seed; fan = fan; p1 = p.0; p2 = p.1; p3 = p.2 })
 
+-- a survey of a grid's width and its seed, a method, and how many queries are asked
+abbrev pub survey_of : List ℕ → List ℕ → List ℕ → List ℕ → Option Request
+survey_of width seed method queries = do
+  width ← width_of width
+  seed ← wide_natural_of seed
+  method ← method_of method
+  queries ← queries_of queries
+  Some (Survey width seed method queries)
+
 -- ---- the words behind a command's name
 
 -- a road file's name, and the ids of both ends
@@ -89,6 +112,11 @@ root_words (roads ∷ fan ∷ []) = do
   fan ← fan_of fan
   Some (Root roads fan)
 root_words _ = None
+
+-- the names of a graph and of its coordinates
+abbrev pub dimacs_words : List (List ℕ) → Option Request
+dimacs_words (graph ∷ places ∷ []) = Some (Dimacs graph places)
+dimacs_words _ = None
 
 -- a secret file's name, and a kind of key
 abbrev pub key_words : List (List ℕ) → Option Request
@@ -133,16 +161,23 @@ audit_words (key ∷ publication ∷ reply ∷ from ∷ to ∷ []) = do
   Some (Audit key publication reply query)
 audit_words _ = None
 
+-- a grid's width and its seed, the method, and how many queries are asked
+abbrev pub survey_words : List (List ℕ) → Option Request
+survey_words (width ∷ seed ∷ method ∷ queries ∷ []) = survey_of width seed method queries
+survey_words _ = None
+
 -- the command that words ask for, if they fit one
 abbrev pub request_of : List (List ℕ) → Option Request
 request_of [] = None
 request_of (verb ∷ words) =
     if bytes_eq verb (codes "route") then route_words words
     else if bytes_eq verb (codes "root") then root_words words
+    else if bytes_eq verb (codes "dimacs") then dimacs_words words
     else if bytes_eq verb (codes "key") then key_words words
     else if bytes_eq verb (codes "desk") then desk_words words
     else if bytes_eq verb (codes "publish") then publish_words words
     else if bytes_eq verb (codes "prove") then prove_words words
     else if bytes_eq verb (codes "check") then check_words words
     else if bytes_eq verb (codes "audit") then audit_words words
+    else if bytes_eq verb (codes "survey") then survey_words words
     else None

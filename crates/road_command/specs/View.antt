@@ -4,6 +4,7 @@ use Rattle.road_command.specs.Requests.{Request}
 use Rattle.road_command.specs.Requests as request
 use Rattle.road_command.specs.declared.command.Command.{Command}
 use Rattle.road_command.specs.declared.command.Command.TheVariants as command
+use Rattle.road_command.specs.declared.asked.Survey.{Survey}
 use Rattle.road_command.specs.declared.kind.KeyKind.{KeyKind}
 use Rattle.road_command.specs.declared.kind.KeyKind.TheVariants.{H5, H10}
 
@@ -12,12 +13,17 @@ abbrev pub type_of : KeyKind → ℕ
 type_of H5 = 5
 type_of H10 = 6
 
+abbrev pub survey_shown : Survey → Request
+survey_shown asked = request.Survey asked.width asked.seed asked.method asked.queries
+
 abbrev pub shown : Command → Request
 shown (command.Route roads from to) = request.Route roads.now from to
 shown (command.Root roads fan) = request.Root roads.now fan
+shown (command.Dimacs graph places) = request.Dimacs graph.now places.now
 shown (command.Key secret kind) = request.Key secret.now (type_of kind)
 shown command.Desk = request.Desk
 shown (command.Publish roads settings) = request.Publish roads.now settings
 shown (command.Prove publication query) = request.Prove publication.now query
 shown (command.Check key reply query least) = request.Check key.now reply.now query least
 shown (command.Audit key publication reply query) = request.Audit key.now publication.now reply.now query
+shown (command.Survey asked) = survey_shown asked

@@ -2,11 +2,12 @@
 
 ghost use Rattle.std.specs.Prelude.{◌≡◌, ◌<◌, length, drop};
 ghost use Rattle.std.specs.Option.{option_map};
-ghost use Rattle.road_command.specs.Requests.{request_of, route_words, root_words, key_words, desk_words, publish_words, prove_words, check_words, audit_words};
+ghost use Rattle.road_command.specs.Requests.{request_of, route_words, root_words, dimacs_words, key_words, desk_words, publish_words, prove_words, check_words, audit_words, survey_words};
 ghost use Rattle.road_command.specs.View.{shown};
 
+use crate::asked::Survey;
 use crate::kind::KeyKind;
-use crate::reading::{fan, kind, parameters, query, settings};
+use crate::reading::{fan, kind, parameters, query, settings, survey};
 use crate::words::Words;
 use book_model::{Query, Settings};
 use road_reader::{natural, wide_natural};
@@ -24,6 +25,11 @@ pub enum Command<'a> {
     Root {
         roads: &'a str,
         fan: u8,
+    },
+    /// Write the road file of a graph and its coordinates, which are files of the DIMACS shortest path challenge.
+    Dimacs {
+        graph: &'a str,
+        places: &'a str,
     },
     /// Make the owner's key from a secret file, and write its public key.
     Key {
@@ -56,6 +62,8 @@ pub enum Command<'a> {
         reply: &'a str,
         query: Query,
     },
+    /// Publish a grid in memory, answer drawn queries over it, check each reply, and write the counts.
+    Survey(Survey),
 }
 
 /// The command that the words ask for, if they fit one.
@@ -68,12 +76,14 @@ pub fn command_of(words: &Words) -> Option<Command<'_>>
     match words.word(0) {
         "route" => route_of(words),
         "root" => root_of(words),
+        "dimacs" => dimacs_of(words),
         "key" => key_of(words),
         "desk" => desk_of(words),
         "publish" => publish_of(words),
         "prove" => prove_of(words),
         "check" => check_of(words),
         "audit" => audit_of(words),
+        "survey" => survey_of(words),
         _ => None,
     }
 }
@@ -105,6 +115,19 @@ fn root_of(words: &Words) -> Option<Command<'_>>
     Some(Command::Root {
         roads: words.word(1),
         fan,
+    })
+}
+
+fn dimacs_of(words: &Words) -> Option<Command<'_>>
+    requires { 0 < length words.now }
+    ensures { option_map shown result ≡ dimacs_words (drop 1 words.now) }
+{
+    if words.count() != 3 {
+        return None;
+    }
+    Some(Command::Dimacs {
+        graph: words.word(1),
+        places: words.word(2),
     })
 }
 
@@ -199,4 +222,15 @@ fn audit_of(words: &Words) -> Option<Command<'_>>
         reply: words.word(3),
         query,
     })
+}
+
+fn survey_of(words: &Words) -> Option<Command<'_>>
+    requires { 0 < length words.now }
+    ensures { option_map shown result ≡ survey_words (drop 1 words.now) }
+{
+    if words.count() != 5 {
+        return None;
+    }
+    let asked = survey(words.word(1), words.word(2), words.word(3), words.word(4))?;
+    Some(Command::Survey(asked))
 }

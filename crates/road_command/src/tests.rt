@@ -1,6 +1,6 @@
 //! Command lines that fit a command, and some that fit none.
 
-use crate::{Command, KeyKind, MOST_WORDS, Words, command_of};
+use crate::{Command, KeyKind, MOST_WORDS, Survey, Words, command_of};
 use book_model::{Query, Settings};
 use std::alloc::Global;
 use std::process::Abort;
@@ -34,6 +34,13 @@ fn each_command_line_is_read(rt: HostRuntime) -> Result<(), Fail> {
             Command::Root {
                 roads: "a.roads",
                 fan: 2,
+            },
+        ),
+        (
+            "dimacs a.gr a.co",
+            Command::Dimacs {
+                graph: "a.gr",
+                places: "a.co",
             },
         ),
         (
@@ -76,6 +83,15 @@ fn each_command_line_is_read(rt: HostRuntime) -> Result<(), Fail> {
                 query,
             },
         ),
+        (
+            "survey 256 18446744073709551615 hyp 1000",
+            Command::Survey(Survey {
+                width: 256,
+                seed: 18_446_744_073_709_551_615,
+                method: 4,
+                queries: 1000,
+            }),
+        ),
     ] {
         let words = words_of(&rt, rt.alloc(), line)?;
         assert_eq!(rt; command_of(&words), Some(command), "at {line}");
@@ -97,6 +113,10 @@ fn other_command_lines_fit_no_command(rt: HostRuntime) -> Result<(), Fail> {
         "check k r 1 3 18446744073709551616",
         "audit k p r 1",
         "desk owner.desk",
+        "survey 1 0 dij 2",
+        "survey 257 0 dij 2",
+        "survey 2 0 dij 0",
+        "survey 2 0 dij 1001",
         "serve a.pub",
         "",
     ] {

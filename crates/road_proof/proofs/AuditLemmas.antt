@@ -35,15 +35,42 @@ use Rattle.road_proof.specs.Publishing.{IsUsable, IsKeyOn}
 use Rattle.road_proof.specs.Installing.{EndsInstalling}
 use Rattle.road_proof.specs.Auditing.{Ending, IsOwnersKey, EndsOwnersKey, EndsClient, EndsSigned, EndsSameHeader, EndsComparing, EndsAudit, Tells, TellsNothing, WhyNotAudited, not_audited_fault}
 use Rattle.road_proof.specs.Headline.{RestsOn, WritesFindings}
-use Rattle.road_proof.specs.Endings.{Answered}
+use Rattle.road_proof.specs.Endings.{Answered, HasUntoldCause}
 use Rattle.road_proof.specs.Commands.{Ends}
 use Rattle.road_proof.specs.declared.audit.NotAudited.{NotAudited}
 use Rattle.road_proof.specs.declared.audit.NotAudited.TheVariants as why
 use Rattle.road_proof.specs.declared.fault.Fault.{Fault}
-use Rattle.road_proof.specs.declared.fault.Fault.TheVariants.{Map, Plan, HeaderWrong, OtherKey, Sink, NoKey, BadBlock, OtherPublication}
+use Rattle.road_proof.specs.declared.fault.Fault.TheVariants.{Missing, TooLong, Map, Plan, HeaderWrong, OtherKey, Sink, NoKey, BadBlock, OtherPublication}
 use Rattle.road_proof.specs.declared.ended.Verdict.{Verdict}
 use Rattle.road_proof.specs.declared.ended.Verdict.TheVariants.{Done, Refused, Evidence}
 use Rattle.road_proof.proofs.PublishLemmas.{HasBlock}
+use Rattle.road_proof.proofs.Written.{no_untold}
+
+-- the fault of an audit that wrote nothing is none of a file
+not_missing : (w : NotAudited) (o : Result Verdict Fault) → o ≡ Err (not_audited_fault w) → o ≢ Err Missing
+not_missing why.NoKey o is same = cc
+not_missing why.BadBlock o is same = cc
+not_missing why.OtherKey o is same = cc
+not_missing (why.Map e) o is same = cc
+not_missing (why.Plan e) o is same = cc
+not_missing why.HeaderWrong o is same = cc
+not_missing why.OtherPublication o is same = cc
+not_missing why.Disk o is same = cc
+not_missing why.Memory o is same = cc
+
+not_long : (w : NotAudited) (o : Result Verdict Fault) → o ≡ Err (not_audited_fault w) → o ≢ Err TooLong
+not_long why.NoKey o is same = cc
+not_long why.BadBlock o is same = cc
+not_long why.OtherKey o is same = cc
+not_long (why.Map e) o is same = cc
+not_long (why.Plan e) o is same = cc
+not_long why.HeaderWrong o is same = cc
+not_long why.OtherPublication o is same = cc
+not_long why.Disk o is same = cc
+not_long why.Memory o is same = cc
+
+pub untold_audit : (files : Option Shelf) (l l' : ℕ) (w : NotAudited) → HasUntoldCause files l l' (Err (not_audited_fault w))
+untold_audit files l l' w = no_untold files l l' (Err (not_audited_fault w)) (not_missing w _ refl) (not_long w _ refl)
 
 -- two lists whose fronts are as long have the same halves
 append_halves : (a b c d : List ℕ) → length a ≡ length b → a ++ c ≡ b ++ d → (a ≡ b) × (c ≡ d)

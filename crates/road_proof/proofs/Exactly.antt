@@ -13,12 +13,12 @@ use Rattle.road_map.specs.declared.arc.Arc.{Arc}
 use Rattle.road_map.specs.declared.parts.Road.{Road as RoadOf}
 use Rattle.road_map.specs.Laws.{ArcLaws, HasRoad}
 use Rattle.road_map.specs.declared.parts.Parts.{Parts}
-use Rattle.road_command.specs.Requests.{Request, Route, Root, Key, Desk, Publish, Prove, Check, Audit}
-use Rattle.road_proof.specs.Reading.{octets_at, parts_at, publication_at}
+use Rattle.road_command.specs.Requests.{Request, Route, Root, Dimacs, Key, Desk, Publish, Prove, Check, Audit, Survey}
+use Rattle.road_proof.specs.Reading.{octets_at, parts_at, dimacs_at, publication_at}
 use Rattle.road_proof.specs.RouteLine.{IsRouteLine, IsFirstUnknown, AreApart}
 use Rattle.road_proof.specs.HexFiles.{secret_at, public_key_at}
 use Rattle.road_proof.specs.Endings.{Answered}
-use Rattle.road_proof.specs.Commands.{Ends, IsTold, EndsRoute, EndsRoot, EndsKey}
+use Rattle.road_proof.specs.Commands.{Ends, IsTold, EndsRoute, EndsRoot, EndsDimacs, EndsKey}
 use Rattle.book_model.specs.declared.items.Query.{Query}
 use Rattle.book_model.specs.declared.settings.Settings.{Settings}
 use Rattle.proof_octets.specs.declared.header.Header.{Header}
@@ -35,6 +35,7 @@ use Rattle.road_proof.specs.Proving.{EndsReply, EndsProve}
 use Rattle.road_proof.specs.OwnerDesk.{TellsDesk}
 use Rattle.road_proof.specs.Publishing.{EndsOpening, EndsSigning, EndsPublish, IsSignedFrom, AllSpent}
 use Rattle.road_proof.proofs.ExactAudit.{OneVerdict, AcceptanceIsVerdict, one_owner, one_client, one_signed, one_same, one_comparing}
+use Rattle.road_proof.proofs.SurveyLemmas.{one_survey}
 use Rattle.road_proof.proofs.OneBuilding.{Faults, OneMaking, not_map, one_map_fault, one_building, one_installing}
 use Rattle.road_proof.specs.Exact.{NoneFailed, IsExact}
 use Rattle.road_proof.specs.declared.fault.Fault.{Fault}
@@ -131,6 +132,12 @@ one_root_end faults fan parts (Err (Map e)) (Ok Done) s t h k = absurd (not_map 
 one_root_end faults fan parts (Err (Map e)) (Err (Map f)) s t h k = ap (λ x. Err (Map x)) (one_map_fault faults parts e f h.0 k.0)
 one_root_end faults fan parts (Err (Map e)) p s t h k = absurd k
 one_root_end faults fan parts o p s t h k = absurd h
+
+-- over parts, `dimacs` has one end
+one_dimacs_end : (parts : Parts) (o p : Result Verdict Fault) (s t : List ℕ) → EndsDimacs parts o s → EndsDimacs parts p t → o ≡ p
+one_dimacs_end parts (Ok Done) (Ok Done) s t h k = refl
+one_dimacs_end parts (Ok Done) p s t h k = absurd k
+one_dimacs_end parts o p s t h k = absurd h
 
 -- over what a disk holds, `key` has one end
 one_key_end : (content : List ℕ) (kind : ℕ) (secret : List ℕ) (o p : Result Verdict Fault) (s t : List ℕ) → EndsKey (Some content) kind secret o s → EndsKey (Some content) kind secret p t → o ≡ p
@@ -251,6 +258,8 @@ one_end faults arcs makings verdicts content (Route roads from to) told shelf o 
     one_over (parts_at shelf roads) (EndsRoute from to) o p s t (λ parts. one_route_end faults arcs from to parts o p s t) h k
 one_end faults arcs makings verdicts content (Root roads fan) told shelf o p s t h k =
     one_over (parts_at shelf roads) (EndsRoot fan) o p s t (λ parts. one_root_end faults fan parts o p s t) h k
+one_end faults arcs makings verdicts content (Dimacs graph places) told shelf o p s t h k =
+    one_over (dimacs_at shelf graph places) EndsDimacs o p s t (λ parts. one_dimacs_end parts o p s t) h k
 one_end faults arcs makings verdicts (Some content) (Key file kind) told shelf o p s t h k =
     one_over (secret_at shelf file) (EndsKey (Some content) kind) o p s t (λ secret. one_key_end content kind secret o p s t) h k
 one_end faults arcs makings verdicts None (Key file kind) told shelf o p s t h k = absurd (told refl)
@@ -270,6 +279,7 @@ one_end faults arcs makings verdicts (Some content) (Audit key publication reply
     (λ k. one_over (publication_at shelf publication) (λ b o s. MatchResult (octets_at shelf reply) (λ octets. EndsAudit (Some content) k b octets q o s) (λ first. (o ≡ Err first) × (s ≡ []))) o p s t
     (λ b. one_over (octets_at shelf reply) (λ octets. EndsAudit (Some content) k b octets q) o p s t (λ octets. one_audit makings verdicts.0 verdicts.1 content k b octets q o p s t))) h k
 one_end faults arcs makings verdicts None (Audit key publication reply q) told shelf o p s t h k = absurd (told refl)
+one_end faults arcs makings verdicts content (Survey width seed method queries) told shelf o p s t h k = one_survey width seed method queries o p s t h k
 
 -- an answer is exact where no object outside failed
 exact : Faults → ((parts : Parts) (u : ℕ) → ArcLaws parts u) → OneMaking → OneVerdict × AcceptanceIsVerdict → (content : Option (List ℕ)) (request : Request) (shelf : Shelf) (old new : Option (List ℕ)) (outcome : Result Verdict Fault)

@@ -23,7 +23,7 @@ use Rattle.route_client.specs.declared.accepted.Accepted.{Accepted}
 use Rattle.route_client.specs.Verdicts.{Accepts}
 use Rattle.route_server.specs.Headers.{HasHeader}
 use Rattle.route_server.specs.declared.errors.BuildError.{BuildError}
-use Rattle.road_command.specs.Requests.{Request, Route, Root, Key, Desk, Publish, Prove, Check, Audit}
+use Rattle.road_command.specs.Requests.{Request, Route, Root, Dimacs, Key, Desk, Publish, Prove, Check, Audit, Survey}
 use Rattle.road_line.specs.EvidenceLine.{right_line}
 use Rattle.road_proof.specs.Reading.{octets_at, publication_at}
 use Rattle.road_proof.specs.HexFiles.{public_key_at}
@@ -172,8 +172,10 @@ audits_accepted makings one verdict g disk (Some (Audit key publication reply q)
 audits_accepted makings one verdict g disk (Some (Check key reply q least)) files content old new o a w = tt
 audits_accepted makings one verdict g disk (Some (Route roads from to)) files content old new o a w = tt
 audits_accepted makings one verdict g disk (Some (Root roads fan)) files content old new o a w = tt
+audits_accepted makings one verdict g disk (Some (Dimacs graph places)) files content old new o a w = tt
 audits_accepted makings one verdict g disk (Some (Key secret kind)) files content old new o a w = tt
 audits_accepted makings one verdict g disk (Some Desk) files content old new o a w = tt
 audits_accepted makings one verdict g disk (Some (Publish roads settings)) files content old new o a w = tt
 audits_accepted makings one verdict g disk (Some (Prove publication q)) files content old new o a w = tt
+audits_accepted makings one verdict g disk (Some (Survey width seed method queries)) files content old new o a w = tt
 audits_accepted makings one verdict g disk None files content old new o a w = tt

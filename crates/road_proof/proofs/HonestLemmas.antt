@@ -13,7 +13,7 @@ use Rattle.route_client.specs.declared.accepted.Accepted.{Accepted}
 use Rattle.route_client.specs.declared.errors.CheckError.{CheckError}
 use Rattle.route_client.specs.Verdicts.{IsVerdict}
 use Rattle.route_laws.specs.Honest.{AnswersAreAccepted, AreAccepted}
-use Rattle.road_command.specs.Requests.{Request, Route, Root, Key, Desk, Publish, Prove, Check, Audit}
+use Rattle.road_command.specs.Requests.{Request, Route, Root, Dimacs, Key, Desk, Publish, Prove, Check, Audit, Survey}
 use Rattle.road_proof.specs.Reading.{octets_at}
 use Rattle.road_proof.specs.Checking.{EndsCheck}
 use Rattle.road_proof.specs.Endings.{Answered}
@@ -69,9 +69,11 @@ accepts_honest one verdict laws (Some (Check key reply q least)) (Some shelf) co
 accepts_honest one verdict laws (Some (Check key reply q least)) None content old new o a = tt
 accepts_honest one verdict laws (Some (Route roads from to)) files content old new o a = tt
 accepts_honest one verdict laws (Some (Root roads fan)) files content old new o a = tt
+accepts_honest one verdict laws (Some (Dimacs graph places)) files content old new o a = tt
 accepts_honest one verdict laws (Some (Key secret kind)) files content old new o a = tt
 accepts_honest one verdict laws (Some Desk) files content old new o a = tt
 accepts_honest one verdict laws (Some (Publish roads settings)) files content old new o a = tt
 accepts_honest one verdict laws (Some (Prove publication q)) files content old new o a = tt
 accepts_honest one verdict laws (Some (Audit key publication reply q)) files content old new o a = tt
+accepts_honest one verdict laws (Some (Survey width seed method queries)) files content old new o a = tt
 accepts_honest one verdict laws None files content old new o a = tt

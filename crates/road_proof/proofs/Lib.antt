@@ -1,4 +1,5 @@
 pub mod OneBuilding
+pub mod SurveyLemmas
 pub mod Disks
 pub mod ExactAudit
 pub mod Exactly
@@ -6,6 +7,7 @@ pub mod Written
 pub mod MapLemmas
 pub mod KeyLemmas
 pub mod RootLemmas
+pub mod DimacsLemmas
 pub mod ProveLemmas
 pub mod PublishLemmas
 pub mod CheckLemmas

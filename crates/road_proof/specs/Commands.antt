@@ -8,8 +8,9 @@ use Rattle.road_io.specs.Causes.{Rose}
 use Rattle.road_io.specs.Contents.{Shelf}
 use Rattle.road_map.specs.Maps.{IsMap}
 use Rattle.road_map.specs.declared.parts.Parts.{Parts}
-use Rattle.road_command.specs.Requests.{Request, Route, Root, Key, Desk, Publish, Prove, Check, Audit}
-use Rattle.road_proof.specs.Reading.{octets_at, parts_at, publication_at, IsMapFault}
+use Rattle.road_command.specs.Requests.{Request, Route, Root, Dimacs, Key, Desk, Publish, Prove, Check, Audit, Survey}
+use Rattle.road_proof.specs.Reading.{octets_at, parts_at, dimacs_at, publication_at, IsMapFault}
+use Rattle.road_reader.specs.RoadText.{printed_roads}
 use Rattle.road_proof.specs.RouteLine.{IsRouteLine, IsFirstUnknown, AreApart}
 use Rattle.road_proof.specs.RootLine.{IsRootLine}
 use Rattle.std.specs.Option.{ForSome}
@@ -21,6 +22,7 @@ use Rattle.road_proof.specs.Publishing.{EndsPublish}
 use Rattle.road_proof.specs.Proving.{EndsProve}
 use Rattle.road_proof.specs.Checking.{EndsCheck}
 use Rattle.road_proof.specs.Auditing.{EndsAudit}
+use Rattle.road_proof.specs.Surveying.{EndsSurvey}
 use Rattle.road_proof.specs.Endings.{Answered, IsSilent, HasUntoldCause}
 use Rattle.road_proof.specs.declared.fault.Fault.{Fault}
 use Rattle.road_proof.specs.declared.fault.Fault.TheVariants.{Words, Map, Library, Sink, Disk, UnknownNode, NoRoute, Held}
@@ -41,6 +43,11 @@ EndsRoot fan parts (Ok Done) text = IsMap parts × IsRootLine parts fan text
 EndsRoot fan parts (Err (Map fault)) text = IsMapFault parts fault × (text ≡ [])
 EndsRoot fan parts outcome text = ⊥
 
+-- `dimacs` over the parts of a graph and its coordinates: their printed road file
+abbrev pub EndsDimacs : Parts → Result Verdict Fault → List ℕ → Type 0
+EndsDimacs parts (Ok Done) text = text ≡ printed_roads parts
+EndsDimacs parts outcome text = ⊥
+
 -- `key` with a secret: the line of the public key where the disk holds no key, and a refusal where it does
 abbrev pub EndsKey : Option (List ℕ) → ℕ → List ℕ → Result Verdict Fault → List ℕ → Type 0
 EndsKey content kind secret (Ok Done) text = ForSome content (λ c. IsOpen c → ⊥) × (text ≡ key_line kind secret)
@@ -54,6 +61,8 @@ Ends content (Route roads from to) shelf outcome text =
     MatchResult (parts_at shelf roads) (λ parts. EndsRoute from to parts outcome text) (λ first. (outcome ≡ Err first) × (text ≡ []))
 Ends content (Root roads fan) shelf outcome text =
     MatchResult (parts_at shelf roads) (λ parts. EndsRoot fan parts outcome text) (λ first. (outcome ≡ Err first) × (text ≡ []))
+Ends content (Dimacs graph places) shelf outcome text =
+    MatchResult (dimacs_at shelf graph places) (λ parts. EndsDimacs parts outcome text) (λ first. (outcome ≡ Err first) × (text ≡ []))
 Ends content (Key file kind) shelf outcome text =
     MatchResult (secret_at shelf file) (λ secret. EndsKey content kind secret outcome text) (λ first. (outcome ≡ Err first) × (text ≡ []))
 Ends content Desk shelf outcome text = EndsDesk content outcome text
@@ -71,6 +80,7 @@ Ends content (Audit key publication reply q) shelf outcome text =
     (λ p. MatchResult (octets_at shelf reply) (λ octets. EndsAudit content k p octets q outcome text) (λ first. (outcome ≡ Err first) × (text ≡ [])))
     (λ first. (outcome ≡ Err first) × (text ≡ [])))
     (λ first. (outcome ≡ Err first) × (text ≡ []))
+Ends content (Survey width seed method queries) shelf outcome text = EndsSurvey width seed method queries outcome text
 
 -- what must be told of the disk, so that an end is exact: its content, for a command that uses the disk
 abbrev pub IsTold : Request → Option (List ℕ) → Type 0

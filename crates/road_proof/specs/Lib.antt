@@ -11,6 +11,7 @@ pub mod Checking
 pub mod Auditing
 pub mod Publishing
 pub mod OwnerDesk
+pub mod Surveying
 pub mod Signing
 pub mod Endings
 pub mod Commands

@@ -5,7 +5,7 @@ use Rattle.std.specs.declared.option.Option.TheVariants.{None, Some}
 use Rattle.std.specs.declared.result.Result.{Result}
 use Rattle.std.specs.declared.result.Result.TheVariants.{Ok, Err}
 use Rattle.road_proof.specs.declared.fault.Fault.{Fault}
-use Rattle.road_proof.specs.declared.fault.Fault.TheVariants.{Words, Missing, TooLong, Road, Map, Plan, Malformed, HeaderWrong, BadHex, OtherKey, Library, Sink, Disk, KeysUsedUp, Memory, UnknownNode, NoRoute, Held, NoKey, BadBlock, OtherPublication}
+use Rattle.road_proof.specs.declared.fault.Fault.TheVariants.{Words, Missing, TooLong, Road, Dimacs, Map, Plan, Malformed, HeaderWrong, BadHex, OtherKey, Library, Sink, Disk, KeysUsedUp, Memory, UnknownNode, NoRoute, Held, NoKey, BadBlock, OtherPublication}
 use Rattle.road_proof.specs.declared.ended.Verdict.{Verdict}
 use Rattle.road_proof.specs.declared.ended.Verdict.TheVariants.{Done, Refused, Evidence}
 use Rattle.road_proof.specs.declared.ended.Ended.{Ended}
@@ -19,6 +19,7 @@ status_of (Err Words) = 2
 status_of (Err Missing) = 3
 status_of (Err TooLong) = 3
 status_of (Err (Road fault)) = 3
+status_of (Err (Dimacs fault)) = 3
 status_of (Err (Map fault)) = 3
 status_of (Err (Plan fault)) = 3
 status_of (Err (Malformed at)) = 3

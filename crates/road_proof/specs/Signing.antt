@@ -21,7 +21,7 @@ use Rattle.proof_octets.specs.Publications.{publication_text}
 use Rattle.route_server.specs.Headers.{HasHeader, Makes}
 use Rattle.route_server.specs.declared.errors.BuildError.TheVariants as build
 use Rattle.route_owner.specs.Published.{slot_of, SignsHeader}
-use Rattle.road_command.specs.Requests.{Request, Route, Root, Key, Desk, Publish, Prove, Check, Audit}
+use Rattle.road_command.specs.Requests.{Request, Route, Root, Dimacs, Key, Desk, Publish, Prove, Check, Audit, Survey}
 use Rattle.road_proof.specs.Reading.{parts_at}
 use Rattle.road_proof.specs.Publishing.{IsUsable, AllSpent, IsPublicationOf}
 use Rattle.road_proof.specs.declared.publish.NotPublished.{NotPublished}
@@ -109,9 +109,11 @@ abbrev pub IfPublish : Option Request → (List ℕ → Settings → Type 0) →
 IfPublish (Some (Publish roads settings)) P = P roads settings
 IfPublish (Some (Route roads from to)) P = Unit {0}
 IfPublish (Some (Root roads fan)) P = Unit {0}
+IfPublish (Some (Dimacs graph places)) P = Unit {0}
 IfPublish (Some (Key secret kind)) P = Unit {0}
 IfPublish (Some Desk) P = Unit {0}
 IfPublish (Some (Prove publication q)) P = Unit {0}
 IfPublish (Some (Check key reply q least)) P = Unit {0}
 IfPublish (Some (Audit key publication reply q)) P = Unit {0}
+IfPublish (Some (Survey width seed method queries)) P = Unit {0}
 IfPublish None P = Unit {0}

@@ -7,7 +7,7 @@ use crate::fault::Fault;
 use octet_text::Sha;
 use road_command::{Command, Words, command_of};
 use road_io::Library;
-use road_tell::keys_left;
+use road_tell::{faulty_file, keys_left};
 use route_client::{CheckError, check};
 use std::alloc::Global;
 
@@ -41,6 +41,9 @@ pub fn look_again<L: Library>(
     match (ended.fault, command_of(words)) {
         (Some(Fault::Road(_) | Fault::Map(_) | Fault::Malformed(_) | Fault::BadHex), _) => {
             found.text = load(alloc, library, name);
+        }
+        (Some(Fault::Dimacs(fault)), Some(Command::Dimacs { graph, places })) => {
+            found.text = load(alloc, library, faulty_file(graph, places, fault));
         }
         (None, Some(Command::Publish { .. } | Command::Desk)) => {
             found.left = keys_left(&load(alloc, library, "owner.desk"));

@@ -64,6 +64,7 @@ fn status_of_fault(fault: Fault) -> u8
         Fault::Missing
         | Fault::TooLong
         | Fault::Road(_)
+        | Fault::Dimacs(_)
         | Fault::Map(_)
         | Fault::Plan(_)
         | Fault::Malformed(_)

@@ -7,6 +7,7 @@ mod again;
 mod audit;
 mod check;
 mod desk;
+mod dimacs;
 mod ended;
 mod fault;
 mod files;
@@ -16,6 +17,7 @@ mod prove;
 mod publish;
 mod root;
 mod route;
+mod survey;
 mod tell;
 
 use again::look_again;

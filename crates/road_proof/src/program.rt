@@ -21,6 +21,7 @@ ghost use Rattle.road_proof.specs.Exact.{NoneFailed, IsExact};
 use crate::audit::audit;
 use crate::check::check;
 use crate::desk::desk;
+use crate::dimacs::dimacs;
 use crate::ended::{Ended, Verdict};
 use crate::fault::Fault;
 use crate::key::key;
@@ -28,6 +29,7 @@ use crate::prove::prove;
 use crate::publish::publish;
 use crate::root::root;
 use crate::route::route;
+use crate::survey::survey;
 use road_command::{Command, Words, command_of};
 use road_io::{Disk, Library, Sink};
 use road_map::map_laws;
@@ -104,6 +106,7 @@ fn work<L: Library, K: Sink, D: Disk>(
         None => Err(Fault::Words),
         Some(Command::Route { roads, from, to }) => route(alloc, library, sink, roads, from, to),
         Some(Command::Root { roads, fan }) => root(alloc, library, sink, roads, fan),
+        Some(Command::Dimacs { graph, places }) => dimacs(alloc, library, sink, graph, places),
         Some(Command::Key { secret, kind }) => key(alloc, library, sink, disk, secret, kind),
         Some(Command::Desk) => desk(alloc, sink, disk),
         Some(Command::Publish { roads, settings }) => {
@@ -128,5 +131,6 @@ fn work<L: Library, K: Sink, D: Disk>(
                 query,
             },
         ) => audit(alloc, library, sink, disk, key, publication, reply, query),
+        Some(Command::Survey(asked)) => survey(alloc, sink, asked),
     }
 }

@@ -3,11 +3,13 @@
 use crate::ended::{Ended, Verdict};
 use crate::fault::Fault;
 use book_model::PlanError;
+use dimacs_reader::DimacsError;
 use road_command::{Command, Words, command_of};
 use road_map::MapError;
 use road_reader::RoadError;
 use road_tell::{
-    Commands, Look, Unusable, WrongHex, look_of, place_of, plan_rule, setting_name, wrong_words,
+    Commands, Look, Unusable, WrongHex, faulty_file, look_of, place_of, plan_rule, setting_name,
+    wrong_words,
 };
 use route_client::CheckError;
 use std::fmt::{self, Display, Formatter};
@@ -138,6 +140,7 @@ impl<'a> Message<'a> {
                 "owner.desk"
             }
             Fault::OtherPublication => reply_of(self.command),
+            Fault::Dimacs(fault) => challenge_of(self.command, fault),
             Fault::OtherKey => key_of(self.command),
             Fault::Plan(PlanError::Settings(number)) if settings_of(self.command).is_some() => {
                 setting_name(number)
@@ -179,6 +182,13 @@ impl<'a> Message<'a> {
                 write!(f, "{fault}")?;
                 match fault {
                     RoadError::NoTitle => self.look(f, Look::RoadFile),
+                    _ => Ok(()),
+                }
+            }
+            Fault::Dimacs(fault) => {
+                write!(f, "{fault}")?;
+                match fault {
+                    DimacsError::NoProblem(_) => self.look(f, Look::RoadFile),
                     _ => Ok(()),
                 }
             }
@@ -300,7 +310,16 @@ fn map_of(command: Option<Command<'_>>) -> &str {
         ) => roads,
         Some(Command::Prove { publication, .. } | Command::Audit { publication, .. }) =>
             publication,
+        Some(Command::Survey(_)) => "grid",
         _ => "map",
+    }
+}
+
+/// The name of the file of the challenge that a fault is said of.
+fn challenge_of(command: Option<Command<'_>>, fault: DimacsError) -> &str {
+    match command {
+        Some(Command::Dimacs { graph, places }) => faulty_file(graph, places, fault),
+        _ => "graph",
     }
 }
 

@@ -69,6 +69,11 @@ fn each_end_is_told(rt: HostRuntime) -> Result<(), Fail> {
             "road_proof: zip: The road file does not begin with the line `roads 1`. It looks like a gzip file, which must be unpacked first.",
         ),
         (
+            "dimacs zip map.roads",
+            "map.roads",
+            "road_proof: zip: The file does not begin with `p sp NODES ARCS` in a graph, or `p aux sp co NODES` in coordinates. It looks like a gzip file, which must be unpacked first.",
+        ),
+        (
             "prove map.roads 1 3",
             "map.roads",
             "road_proof: map.roads: It is no publication, and can't be read from place 0 on. It looks like a road file.",
@@ -82,6 +87,11 @@ fn each_end_is_told(rt: HostRuntime) -> Result<(), Fail> {
             "desk",
             "file",
             "road_proof: owner.desk: It holds no key, or is not there. `road_proof key` makes one.",
+        ),
+        (
+            "survey 33 7 full 1",
+            "file",
+            "road_proof: grid: The map has 1089 nodes, which are too many for a table of all pairs.",
         ),
         (
             "check zeros map.roads 1 3 0",

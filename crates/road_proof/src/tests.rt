@@ -1,6 +1,8 @@
 //! Worked cases of each command, over objects in memory.
 
 use crate::{Ended, Fault, run};
+use book_model::PlanError;
+use dimacs_reader::DimacsError;
 use road_command::{MOST_WORDS, Words};
 use road_io::{MemDisk, MemLibrary, MemSink};
 use road_map::MapError;
@@ -89,6 +91,22 @@ fn routes_over_five_nodes(rt: HostRuntime) -> Result<(), Fail> {
     Ok(())
 }
 
+/// The line is that of checks/survey/line.py.
+#[test]
+fn surveys_over_grids(rt: HostRuntime) -> Result<(), Fail> {
+    let line =
+        "queries 2 accepted 2 total 118 digest a057ca07871d1e35fc4e90456d405b6cb2a3b007b0331493389b2ef3700f2db4\n";
+    let many = Some(Fault::Plan(PlanError::TooManyNodes(1089)));
+    for (words, written, status, fault) in [
+        ("survey 2 0 dij 2", line, 0, None),
+        ("survey 33 7 full 1", "", 3, many),
+        ("survey 1 0 dij 2", "", 2, Some(Fault::Words)),
+    ] {
+        ends_with(&rt, rt.alloc(), b"", words, written, status, fault)?;
+    }
+    Ok(())
+}
+
 #[test]
 fn parallel_roads_take_the_least(rt: HostRuntime) -> Result<(), Fail> {
     let alloc = rt.alloc();
@@ -102,6 +120,46 @@ fn parallel_roads_take_the_least(rt: HostRuntime) -> Result<(), Fail> {
         0,
         None,
     )
+}
+
+/// Runs `dimacs` over a graph and coordinates of three nodes, and compares what it writes and how it ends.
+fn turns_into(
+    rt: &impl Abort,
+    alloc: Global,
+    line: &str,
+    written: &str,
+    status: u8,
+    fault: Option<Fault>,
+) -> Result<(), Fail> {
+    let words = words_of(rt, alloc, line)?;
+    let mut library = MemLibrary::new(alloc, Vec::new(alloc));
+    library.put(
+        "graph",
+        b"c x\np sp 3 5\na 1 2 4\na 2 1 4\na 2 3 5\na 3 2 5\na 3 3 1\n",
+    )?;
+    library.put("places", b"p aux sp co 3\nv 1 0 0\nv 2 10 0\nv 3 20 -5\n")?;
+    library.put("unpaired", b"p sp 3 2\na 3 1 0\na 1 3 1\n")?;
+    let mut sink = MemSink::new(alloc, ROOM, ROOM, Vec::new(alloc))?;
+    let mut disk = new_disk(alloc)?;
+    let ended = run(alloc, &words, &mut library, &mut sink, &mut disk);
+    assert_eq!(rt; ended, Ended { status, fault }, "at {line}");
+    assert_eq!(rt; sink.taken(), written.as_bytes(), "at {line}");
+    Ok(())
+}
+
+#[test]
+fn pairs_of_arcs_are_printed_as_roads(rt: HostRuntime) -> Result<(), Fail> {
+    let roads = "roads 1\nnode 1 0 0\nnode 2 10 0\nnode 3 20 -5\nroad 1 2 4\nroad 2 3 5\n";
+    let unpaired = Fault::Dimacs(DimacsError::Unpaired(0));
+    for (line, written, status, fault) in [
+        ("dimacs graph places", roads, 0, None),
+        ("dimacs unpaired places", "", 3, Some(unpaired)),
+        ("dimacs places none", "", 3, Some(Fault::Missing)),
+        ("dimacs graph", "", 2, Some(Fault::Words)),
+    ] {
+        turns_into(&rt, rt.alloc(), line, written, status, fault)?;
+    }
+    Ok(())
 }
 
 #[test]

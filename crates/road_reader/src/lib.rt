@@ -20,9 +20,11 @@ pub use draw::Draw;
 pub use error::{GridError, RoadError};
 pub use grid::grid_roads;
 pub use laws::grid_laws;
-pub use numbers::{natural, wide_natural};
+pub use lines::{Line, Lines, split_line};
+pub use numbers::{coordinate, natural, wide_natural};
 pub use printer::print_roads;
 pub use reader::{MOST_NODES, MOST_ROADS, printed_roads_are_read, read_roads};
+pub use words::{FourWords, four_words, skip_blanks, split_word};
 
 #[cfg(test)]
 mod tests;

@@ -3,6 +3,7 @@
 //! Each message is a value with a `Display`, and takes no memory. A sentence says no more than its value does.
 #![tactic(auto)]
 
+pub use challenge::faulty_file;
 pub use hex_text::WrongHex;
 pub use looks::{Look, look_of};
 pub use plans::{plan_rule, setting_name};
@@ -12,6 +13,7 @@ pub use slots::keys_left;
 pub use usage::{Commands, VERSION};
 pub use words::{WrongWords, wrong_words};
 
+mod challenge;
 mod hex_text;
 mod looks;
 mod plans;

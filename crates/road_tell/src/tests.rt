@@ -1,8 +1,10 @@
 //! A table of messages.
 
 use crate::{
-    Look, Unusable, WrongHex, keys_left, look_of, place_of, plan_rule, setting_name, wrong_words,
+    Look, Unusable, WrongHex, faulty_file, keys_left, look_of, place_of, plan_rule, setting_name,
+    wrong_words,
 };
+use dimacs_reader::DimacsError;
 use lms_tree::SealError;
 use proof_method::Refusal;
 use road_command::{MOST_WORDS, Words, command_of};
@@ -96,6 +98,18 @@ fn a_commands_line_and_the_table_are_printed(rt: HostRuntime) -> Result<(), Fail
         )
     );
     Ok(())
+}
+
+#[test]
+fn a_fault_of_two_files_is_said_of_one(rt: HostRuntime) {
+    for (fault, file) in [
+        (DimacsError::Range(1, 6), "graph"),
+        (DimacsError::Range(2, 6), "places"),
+        (DimacsError::Repeated(1), "places"),
+        (DimacsError::Unpaired(2), "graph"),
+    ] {
+        assert_eq!(rt; faulty_file("graph", "places", fault), file);
+    }
 }
 
 /// A road file with skipped lines, and a fault of each kind when its last lines are added.

@@ -15,7 +15,7 @@ pub struct Usage {
 }
 
 /// The commands.
-pub const USAGES: [Usage; 8] = [
+pub const USAGES: [Usage; 10] = [
     Usage {
         words: "route ROADS S T",
         does: "writes the length and the nodes of a shortest route from S to T",
@@ -23,6 +23,10 @@ pub const USAGES: [Usage; 8] = [
     Usage {
         words: "root ROADS FAN",
         does: "writes the count of nodes, and the root of the tree over their leaves",
+    },
+    Usage {
+        words: "dimacs GRAPH PLACES",
+        does: "writes the road file of a graph and its coordinates, two files of the\n      DIMACS shortest path challenge",
     },
     Usage {
         words: "key SECRET KIND",
@@ -47,6 +51,10 @@ pub const USAGES: [Usage; 8] = [
     Usage {
         words: "audit PUBKEY PUB REPLY S T",
         does: "writes what a reply is evidence of, by owner.desk and a publication",
+    },
+    Usage {
+        words: "survey WIDTH SEED METHOD QUERIES",
+        does: "publishes a grid by a key in memory, answers drawn queries over it, checks each\n      reply, and writes how many were accepted, their lengths' total, and a digest",
     },
 ];
 

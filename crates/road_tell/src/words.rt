@@ -72,6 +72,8 @@ fn fits(place: &str, word: &str) -> bool {
     match place {
         "S" | "T" => natural(word.as_bytes()).is_some(),
         "FAN" => reading::fan(word).is_some(),
+        "WIDTH" => reading::width(word).is_some(),
+        "QUERIES" => reading::queries(word).is_some(),
         "KIND" => reading::kind(word).is_some(),
         "METHOD" => reading::method(word).is_some(),
         "ORDER" => reading::order(word).is_some(),
@@ -87,6 +89,8 @@ fn rule(place: &str) -> &'static str {
     match place {
         "S" | "T" => "a node's id, a whole number from 0 to 4294967295",
         "FAN" => "a whole number from 2 to 32",
+        "WIDTH" => "a whole number from 2 to 256",
+        "QUERIES" => "a whole number from 1 to 1000",
         "KIND" => "h5, with 32 one-time keys, or h10, with 1024",
         "METHOD" => "dij, full, ldm or hyp",
         "ORDER" => "id, breadth, depth, hilbert, kd or shuffled",

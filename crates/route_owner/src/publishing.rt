@@ -28,14 +28,14 @@ use std::alloc::Global;
 /// Where a publication's signature begins, in octets.
 const SIGNATURE_PLACE: usize = 110;
 
-/// The header of parts and settings, and the parts again.
-struct Signable {
-    header: Header,
-    parts: Parts,
+/// The header of parts and settings, which an owner signs, and the parts again.
+pub struct Signable {
+    pub header: Header,
+    pub parts: Parts,
 }
 
-/// The header that parts and settings have.
-fn make_signable<H: Hasher>(
+/// The header that parts and settings have, or the first reason why they have none.
+pub fn make_signable<H: Hasher>(
     alloc: Global,
     parts: Parts,
     settings: &Settings,

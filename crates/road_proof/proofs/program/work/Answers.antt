@@ -1,6 +1,7 @@
 use Rattle.road_proof.proofs.Disks.{no_step}
 use Rattle.road_proof.proofs.KeyLemmas.{asked_of}
 use Rattle.road_proof.proofs.DeskLemmas.{any_files}
+use Rattle.road_proof.proofs.SurveyLemmas.{any_survey}
 use Rattle.road_proof.proofs.Written.{no_untold}
 use Rattle.road_proof.proofs.program.work.Goals as goal
 
@@ -20,6 +21,13 @@ returns-in-Some-Route-clause-answered g c =
 pub returns-in-Some-Root-clause-answered : goal.returns-in-Some-Root-clause-answered
 returns-in-Some-Root-clause-answered g c =
     asked_of _ _ (rw c.in-Some-Root.field-0-is at c.in-Some-Root.ensures) _ _ _ _ _ (c.root.ensures.answered (g.D.Disk.content c.args.disk.now))
+
+pub returns-in-Some-Dimacs-clause-stands : goal.returns-in-Some-Dimacs-clause-stands
+returns-in-Some-Dimacs-clause-stands g c = no_step g.D.Disk c.args.disk.now
+
+pub returns-in-Some-Dimacs-clause-answered : goal.returns-in-Some-Dimacs-clause-answered
+returns-in-Some-Dimacs-clause-answered g c =
+    asked_of _ _ (rw c.in-Some-Dimacs.field-0-is at c.in-Some-Dimacs.ensures) _ _ _ _ _ (c.dimacs.ensures.answered (g.D.Disk.content c.args.disk.now))
 
 pub returns-in-Some-Key-clause-answered : goal.returns-in-Some-Key-clause-answered
 returns-in-Some-Key-clause-answered g c =
@@ -53,3 +61,13 @@ returns-in-Some-Desk-clause-answered g c =
 
 pub returns-in-Some-Desk-clause-untold : goal.returns-in-Some-Desk-clause-untold
 returns-in-Some-Desk-clause-untold g c = no_untold _ _ _ _ c.desk.ensures.no_file.0 c.desk.ensures.no_file.1
+
+pub returns-in-Some-Survey-clause-answered : goal.returns-in-Some-Survey-clause-answered
+returns-in-Some-Survey-clause-answered g c =
+    asked_of _ _ (rw c.in-Some-Survey.field-0-is at c.in-Some-Survey.ensures) _ _ _ _ _ (any_survey _ (g.D.Disk.content c.args.disk.now) _ _ _ _ _ _ _ c.survey.ensures.answered)
+
+pub returns-in-Some-Survey-clause-untold : goal.returns-in-Some-Survey-clause-untold
+returns-in-Some-Survey-clause-untold g c = no_untold _ _ _ _ c.survey.ensures.no_file.0 c.survey.ensures.no_file.1
+
+pub returns-in-Some-Survey-clause-stands : goal.returns-in-Some-Survey-clause-stands
+returns-in-Some-Survey-clause-stands g c = no_step g.D.Disk c.args.disk.now

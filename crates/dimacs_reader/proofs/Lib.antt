@@ -1,0 +1,11 @@
+pub mod ToldLaws
+pub mod EachLaws
+pub mod FileLaws
+pub mod Ranges
+pub mod PairLaws
+pub mod NodeLaws
+pub mod FitLaws
+pub mod ReadLaws
+pub mod ArcLaws
+pub mod CountLaws
+pub mod ListLaws

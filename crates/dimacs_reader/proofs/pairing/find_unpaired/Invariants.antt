@@ -1,0 +1,6 @@
+use Rattle.dimacs_reader.specs.Left.{left_of}
+use Rattle.dimacs_reader.proofs.PairLaws.{PairedTo}
+use Rattle.dimacs_reader.proofs.pairing.find_unpaired.Given as goal
+
+abbrev pub invariant-loop-index : goal.invariant-loop-index
+invariant-loop-index l = PairedTo l.arcs l.index (left_of l.counts)

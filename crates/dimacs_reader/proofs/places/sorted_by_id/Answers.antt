@@ -1,0 +1,7 @@
+use Rattle.std.proofs.Common.{rules}
+use Rattle.std.proofs.lemmas.List.Sorted.{IsNonDecreasingBy-from_sort_by_key}
+use Rattle.road_map.specs.declared.parts.Node.{Node}
+use Rattle.dimacs_reader.proofs.places.sorted_by_id.Goals as goal
+
+pub returns-clause-sorted : goal.returns-clause-sorted
+returns-clause-sorted c = IsNonDecreasingBy-from_sort_by_key (λ (n : Node). n.id) _ c.sort_unstable_by_key.ensures.sorted (λ a r q k. search rules)

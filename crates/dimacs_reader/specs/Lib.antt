@@ -1,0 +1,5 @@
+pub mod Told
+pub mod Fields
+pub mod Dimacs
+pub mod ArcWalks
+pub mod Left

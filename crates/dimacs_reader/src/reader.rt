@@ -1,0 +1,34 @@
+//! A graph and its coordinates, read.
+
+ghost use Rattle.std.specs.Prelude.{◌≡◌, ◌^◌, ◌<◌, ◌⊎◌, Ok, Err, IfOk, IfErr, length};
+ghost use Rattle.dimacs_reader.specs.Dimacs.{dimacs_of};
+
+use crate::error::DimacsError;
+use crate::graph::read_graph;
+use crate::pairing::{check_pairs, roads};
+use crate::places::{nodes_by_id, read_places};
+use road_map::{Parts, Roads};
+use std::alloc::Global;
+
+/// The parts of a graph and its coordinates, each a file of fewer than 2^32 octets: the nodes by
+/// their ids, and a road for each pair of arcs, in the order of the arcs from the lesser id.
+///
+/// The faults are found in the order that `DimacsError` lists them in for the graph up to `Count`,
+/// then for the coordinates up to `Count`, then `Repeated` and `Unpaired`; in each file the first
+/// faulty line decides.
+pub fn read_dimacs(alloc: Global, graph: &[u8], places: &[u8]) -> Result<Parts, DimacsError>
+    requires graph { length graph.now < 2 ^ 32 }
+    requires places { length places.now < 2 ^ 32 }
+    ensures parts { IfOk result (λ parts. dimacs_of graph.now places.now ≡ Ok parts) }
+    ensures fault { IfErr result (λ fault. (fault ≡ DimacsError.Memory) ⊎ (dimacs_of graph.now places.now ≡ Err fault)) }
+{
+    let graph = read_graph(alloc, graph)?;
+    let places = read_places(alloc, graph.nodes, places)?;
+    let nodes = nodes_by_id(places, graph.nodes)?;
+    check_pairs(alloc, graph.arcs.as_slice())?;
+    let roads = roads(alloc, graph.arcs.as_slice())?;
+    Ok(Parts {
+        nodes,
+        roads: Roads::from_vec(roads),
+    })
+}

@@ -1,0 +1,65 @@
+// Standard input: an adapter over the real thing, which tells nothing of what it has left.
+ghost use Rattle.std.specs.Prelude.{◌≤◌, length, IfOk};
+ghost use Rattle.std.specs.declared.option.Option.TheVariants.{None};
+
+use crate::{Failed, Source};
+use std::io::{self, Read};
+
+/// Standard input. Each error counts as a fault.
+#[derive(Drop)]
+pub struct StdSource<R: Input> {
+    reader: R::Reader,
+    faults: u64,
+    last_error: Option<io::Error>,
+}
+
+impl<R: Input> StdSource<R> {
+    /// The runtime's standard input.
+    pub fn new(rt: &R) -> StdSource<R> {
+        StdSource {
+            reader: rt.reader(),
+            faults: 0,
+            last_error: None,
+        }
+    }
+
+    /// The system's reason why the last read failed, if it has.
+    pub fn last_error(&self) -> Option<io::Error> {
+        self.last_error
+    }
+}
+
+impl<R: Input> Source for StdSource<R> {
+    ghost left = { λ _. None };
+
+    ghost faults = { λ s. s.faults };
+
+    fn read(&mut self, into: &mut [u8]) -> Result<usize, Failed> {
+        match self.reader.read(into) {
+            Ok(count) => Ok(count),
+            Err(e) => {
+                self.faults = self.faults.saturating_add(1);
+                self.last_error = Some(e);
+                Err(Failed)
+            }
+        }
+    }
+}
+
+#[cfg(test)]
+mod tests {
+    use super::*;
+    use crate::read_whole;
+    use std::test::Fail;
+
+    #[test]
+    fn standard_input_ends(rt: HostRuntime) -> Result<(), Fail> {
+        let mut source = StdSource::new(&rt);
+        let mut none = [0u8; 0];
+        assert_eq!(rt; source.read(&mut none), Ok(0));
+        let mut four = [0u8; 4];
+        assert_eq!(rt; read_whole(&mut source, &mut four), Ok(0));
+        assert_eq!(rt; source.faults, 0);
+        Ok(())
+    }
+}

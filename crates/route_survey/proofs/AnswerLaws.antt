@@ -1,0 +1,71 @@
+-- What a client accepts over a survey's publication.
+use Rattle.std.proofs.Common.{◌≡◌, ◌↔◌, ℕ, ◌≤◌, Option, None, Some, Result, Ok, Err, List, length, refl, arith, ap, sym, subst}
+use Rattle.sha2.specs.Sha256.{sha256}
+use Rattle.lms_tree.specs.Signatures.{public_key}
+use Rattle.road_map.specs.declared.parts.Parts.{Parts}
+use Rattle.road_map.specs.Least.{IsLeast}
+use Rattle.road_map.specs.Laws.{DistanceLaws}
+use Rattle.road_map.specs.Routes.{IsShortest}
+use Rattle.road_map.specs.Walks.{Joins, distance}
+use Rattle.book_model.specs.declared.settings.Settings.{Settings}
+use Rattle.proof_method.proofs.Completes.{shortest_joins}
+use Rattle.proof_octets.specs.declared.header.Header.{Header}
+use Rattle.proof_octets.specs.declared.publication.Publication.{Publication}
+use Rattle.proof_octets.specs.Good.{IsGoodPublication}
+use Rattle.proof_octets.specs.Publications.{publication}
+use Rattle.route_server.specs.Headers.{HasHeader, header_of}
+use Rattle.route_server.specs.Keeping.{Kept, publication_in}
+use Rattle.route_client.specs.declared.accepted.Accepted.{Accepted}
+use Rattle.route_client.specs.declared.errors.CheckError.{CheckError}
+use Rattle.route_client.specs.declared.errors.CheckError.TheVariants as errors
+use Rattle.route_client.specs.Verdicts.{UnlessMemory, Accepts}
+use Rattle.route_laws.specs.Honest.{IsSigned, AreAccepted}
+use Rattle.book_model.specs.declared.items.Query.{Query}
+use Rattle.route_survey.specs.Surveys.{survey_key, IsSurveyed}
+use Rattle.route_survey.specs.Tallies.{IsAskable}
+
+-- where a reply is accepted, no other verdict comes than for want of memory
+pub refused_as : (e : CheckError) (x : Accepted) → UnlessMemory {A = Accepted} (λ r. r ≡ Ok x) (Err e) → e ≡ errors.Memory
+refused_as errors.Memory x h = refl
+refused_as e x h = cc
+
+-- the length of a shortest route is the distance
+by_least : (parts : Parts) (s t d : ℕ) (o : Option ℕ) → IsLeast (Joins parts s t) o → Joins parts s t d → ((e : ℕ) → Joins parts s t e → d ≤ e) → o ≡ Some d
+by_least parts s t d None least joins short = absurd (least d joins)
+by_least parts s t d (Some e) least joins short = let same : e ≡ d = omega (arith, least.1 d joins, short e least.0) in ap Some same
+
+pub shortest_is : (parts : Parts) → DistanceLaws parts → (s t d : ℕ) (route : List ℕ) → IsShortest parts s t route d → distance parts s t ≡ Some d
+shortest_is parts laws s t d route short = by_least parts s t d (distance parts s t) (laws.least s t) (shortest_joins parts s t d route short) short.least
+
+signed_of : (p : Publication) (parts : Parts) (s : Settings) → IsSurveyed parts s p → IsSigned sha256 sha256 (public_key survey_key) p
+signed_of p parts s is = record {
+  header = subst (λ (x : Parts). HasHeader sha256 sha256 x p.settings p.header) (sym is.of_parts) (subst (λ (x : Settings). HasHeader sha256 sha256 parts x p.header) (sym is.of_settings) is.has_header);
+  signature = is.good;
+}
+
+version_of : (p : Publication) (parts : Parts) (s : Settings) → IsSurveyed parts s p → s.version ≡ 1 → 1 ≤ p.header.version
+unfolding header_of
+version_of p parts s is one = let same : p.header.version ≡ s.version = ap (λ (h : Header). h.version) is.has_header.is in omega arith
+
+askable_as : ((b : Publication) → publication.Fits b ↔ IsGoodPublication b) → (p : Publication) (parts : Parts) (s : Settings) → IsSurveyed parts s p → s.version ≡ 1
+    → IsSigned sha256 sha256 (public_key survey_key) p × (1 ≤ p.header.version) × (length p.signature ≤ 1452)
+askable_as ranges p parts s is one = (signed_of p parts s is, version_of p parts s is one, ((ranges p).0 is.fits).signature)
+
+-- a survey's publication that is held can be asked
+pub is_askable : ((b : Publication) → publication.Fits b ↔ IsGoodPublication b) → (k : Kept) (p : Publication) (parts : Parts) (s : Settings) → publication_in sha256 k ≡ p → IsSurveyed parts s p → s.version ≡ 1 → IsAskable k
+is_askable ranges k p parts s held is one =
+    let all = askable_as ranges (publication_in sha256 k) parts s (subst (IsSurveyed parts s) (sym held) is) one in
+    record { signed = all.0; version = all.1; short = all.2 }
+
+-- what a client says of octets that are accepted
+pub accepted_as : (key public items octets : List ℕ) (q : Query) (parts : Parts) (r : Result Accepted CheckError) → public ≡ key → octets ≡ items → (a : AreAccepted sha256 key items q 1 parts)
+    → ((x : Accepted) → Accepts sha256 public octets q 1 x → UnlessMemory {A = Accepted} (λ v. v ≡ Ok x) r) → UnlessMemory {A = Accepted} (λ v. v ≡ Ok a.accepted) r
+accepted_as key public items octets q parts r same whole a accepts =
+    accepts a.accepted (subst (λ (k : List ℕ). Accepts sha256 k octets q 1 a.accepted) (sym same) (subst (λ (o : List ℕ). Accepts sha256 key o q 1 a.accepted) (sym whole) a.accepts))
+
+pub same_accepted : (x y : Accepted) (r : Result Accepted CheckError) → r ≡ Ok x → r ≡ Ok y → x ≡ y
+same_accepted x y r is same = cc
+
+-- what a survey's publication says of its own parts and settings
+pub of_itself : (parts : Parts) (s : Settings) (p : Publication) → IsSurveyed parts s p → IsSurveyed p.parts p.settings p
+of_itself parts s p is = record { of_parts = refl; of_settings = refl; has_header = (signed_of p parts s is).header; signed = is.signed; good = is.good; fits = is.fits }

@@ -1,0 +1,5 @@
+pub mod QueryLaws
+pub mod TallyLaws
+pub mod AnswerLaws
+pub mod LineLaws
+pub mod PublishLaws

@@ -1,0 +1,27 @@
+//! Why there is no survey.
+
+use book_model::PlanError;
+use octet_text::NoMemory;
+use thiserror::Error;
+
+/// Why there is no survey. Want of memory is `Memory` alone, never inside another.
+#[derive(Clone, Copy, Debug, PartialEq, Eq, Error)]
+pub enum SurveyError {
+    /// The grid has no book under the method, for this reason.
+    #[error("The method makes no book of the grid. {0}")]
+    Plan(PlanError),
+    /// No memory was found.
+    #[error("No memory was found.")]
+    Memory,
+}
+
+impl From<NoMemory> for SurveyError {
+    ghost use Rattle.std.specs.Prelude.{◌≡◌};
+    ghost use Rattle.route_survey.specs.declared.errors.SurveyError.TheVariants.{Memory};
+
+    ghost from_gives = { λ _ e. e ≡ Memory };
+
+    fn from(_none: NoMemory) -> SurveyError {
+        SurveyError::Memory
+    }
+}

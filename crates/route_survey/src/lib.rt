@@ -1,0 +1,15 @@
+//! A survey: drawn queries over a grid, each answered by a server and checked by a client.
+#![tactic(auto)]
+
+pub use errors::SurveyError;
+pub use surveying::survey;
+
+mod asked;
+mod asking;
+mod errors;
+mod line;
+mod publishing;
+mod surveying;
+mod tally;
+#[cfg(test)]
+mod tests;

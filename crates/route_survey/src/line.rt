@@ -1,0 +1,41 @@
+//! The line of a survey.
+ghost use Rattle.std.specs.Prelude.{◌≡◌, IfOk, string_bytes};
+ghost use Rattle.route_survey.specs.Surveys.{survey_line};
+
+use octet_text::{Digest32, NoMemory};
+use std::alloc::{AllocError, Global};
+
+/// The line of a survey: the counts of its queries and of those that were accepted, the total of
+/// their lengths, and a digest in lower case hex.
+pub fn line_of_survey(
+    alloc: Global,
+    queries: u32,
+    accepted: u32,
+    total: u64,
+    digest: &Digest32,
+) -> Result<Vec<u8>, NoMemory>
+    ensures { IfOk result (λ line. line.items ≡ survey_line queries accepted total digest.now) }
+{
+    match printed(alloc, queries, accepted, total, digest) {
+        Ok(text) => Ok(text.into_bytes()),
+        Err(_) => Err(NoMemory),
+    }
+}
+
+fn printed(
+    alloc: Global,
+    queries: u32,
+    accepted: u32,
+    total: u64,
+    digest: &Digest32,
+) -> Result<String, AllocError>
+    ensures { IfOk result (λ text. string_bytes text ≡ survey_line queries accepted total digest.now) }
+{
+    let digits = hex::encode(alloc, digest)?;
+    let mut text = String::new(alloc);
+    writeln!(
+        text,
+        "queries {queries} accepted {accepted} total {total} digest {digits}"
+    )?;
+    Ok(text)
+}

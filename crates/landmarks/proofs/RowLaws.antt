@@ -11,15 +11,6 @@ pub map_same : {X Y : Type 0} (f g : X → Y) (xs : List X) → ((x : X) → f x
 map_same f g [] same = refl
 map_same f g (x ∷ xs) same = ap (λ y. y ∷ map f xs) (same x) ∙ ap (λ ys. g x ∷ ys) (map_same f g xs same)
 
-pub id_more : (order : List Node) (i : ℕ) (n : Node) (before after : List ℕ) → slice_get order i ≡ Some n → before ≡ take i (ids order) → after ≡ before ++ n.id ∷ [] → after ≡ take (i + 1) (ids order)
-id_more order i n before after is so_far pushed =
-    let at : slice_get (ids order) i ≡ Some n.id = place_map (λ (m : Node). m.id) order i n is in
-    let here : get_or (ids order) i 0 ≡ n.id = get_or_from_slice_get (ids order) i n.id 0 at in
-    pushed ∙ (ap (λ xs. xs ++ n.id ∷ []) so_far ∙ (ap (λ id. take i (ids order) ++ id ∷ []) (sym here) ∙ sym (take_at_read (ids order) i 0 (slice_get_within (ids order) i n.id at)).1))
-
-pub all_ids : (order : List Node) (i : ℕ) (found : List ℕ) → found ≡ take i (ids order) → length order ≤ i → found ≡ ids order
-all_ids order i found is ends = is ∙ take_all i (ids order) (omega (arith, length-map order (λ (n : Node). n.id), ends))
-
 abbrev pub nones : List ℕ → List (Option ℕ)
 nones xs = map (λ _. None) xs
 

@@ -135,7 +135,7 @@ fn rows_from(alloc: Global, map: &Map, chosen: &[u32]) -> Result<Vec<Lengths>, N
     requires { (id : ℕ) → Contains chosen.now id → Knows map.now.parts id }
     ensures { IfOk result (λ rows. rows.items ≡ rows_of (distance map.now.parts) (by_id map.now.parts.nodes) chosen.now) }
 {
-    let mut survey = Survey::of(alloc, map)?;
+    let mut survey = Survey::of(alloc, map);
     let mut rows = Vec::with_capacity(alloc, chosen.len())?;
     for id in chosen {
         rows.push(lengths_from(alloc, map, &mut survey, *id)?)?;

@@ -43,11 +43,8 @@ pub fn ids_of(alloc: Global, map: &Map) -> Result<Vec<u32>, NoMemory>
 {
     book_laws();
     let _parts = map.parts();
-    let mut ids = Vec::new(alloc);
-    for position in 0..map.count() {
-        ids.push(map.node(position).id)?;
-    }
-    Ok(ids)
+    let ids = map.ids(alloc)?;
+    Ok(ids.into_vec())
 }
 
 /// No length to any of these nodes.
@@ -87,8 +84,7 @@ pub fn lengths_from(
 {
     book_laws();
     let _parts = map.parts();
-    let position = map.position(from).unwrap();
-    survey.measure(alloc, position)?;
+    survey.measure(alloc, map.place(from))?;
     lengths_of(alloc, survey, map.count())
 }
 

@@ -126,7 +126,7 @@ pub fn picks(alloc: Global, map: &Map, ids: &[u32], count: u32) -> Result<Picked
     ensures chosen { IfOk result (λ picked. picked.chosen.items ≡ landmarks map.now.parts count) }
     ensures rows { IfOk result (λ picked. picked.rows.items ≡ rows_of (distance map.now.parts) ids.now (landmarks map.now.parts count)) }
 {
-    let mut survey = Survey::of(alloc, map)?;
+    let mut survey = Survey::of(alloc, map);
     let mut picked = Picked {
         chosen: Vec::new(alloc),
         rows: Vec::new(alloc),

@@ -5,8 +5,9 @@ use Rattle.std.proofs.lemmas.Option.{slice_get-get_or, slice_get_within}
 use Rattle.road_map.specs.declared.parts.Node.{Node}
 use Rattle.road_map.specs.Walks.{distance}
 use Rattle.road_leaf.specs.declared.pair.PairLeaf.{PairLeaf}
-use Rattle.road_search.specs.Nets.{IsPlace, Surveyed, length_to}
-use Rattle.road_search.proofs.NetLaws.{last_or_before}
+use Rattle.road_map.specs.Nets.{IsPlace}
+use Rattle.road_search.specs.Nets.{Surveyed, length_to}
+use Rattle.road_map.proofs.NetLaws.{last_or_before}
 use Rattle.book_model.specs.Pairs.{pair_leaf, said}
 use Rattle.pair_dist.specs.Placing.{ArePlaces, Measures}
 

@@ -29,8 +29,7 @@ fn positions(alloc: Global, map: &Map, chosen: &[u32]) -> Result<Vec<u32>, Alloc
     let _parts = map.parts();
     let mut places = Vec::new(alloc);
     for id in chosen {
-        let position = map.position(*id).unwrap();
-        places.push(position)?;
+        places.push(map.place(*id))?;
     }
     Ok(places)
 }
@@ -72,7 +71,7 @@ pub fn pair_leaves(alloc: Global, map: &Map, chosen: &[u32]) -> Result<PairLeave
         return Err(PairError::TooMany);
     }
     let places = positions(alloc, map, chosen)?;
-    let mut survey = Survey::of(alloc, map)?;
+    let mut survey = Survey::of(alloc, map);
     let mut leaves = Vec::new(alloc);
     for (i, a) in chosen.iter().enumerate() {
         survey.measure(alloc, places[i])?;

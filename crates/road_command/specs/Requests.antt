@@ -14,6 +14,7 @@ pub data Request : Type 0 where
   Desk : Request
   Publish : List ℕ → Settings → Request
   Prove : List ℕ → Query → Request
+  Serve : List ℕ → Request
   Check : List ℕ → List ℕ → Query → ℕ → Request
   Audit : List ℕ → List ℕ → List ℕ → Query → Request
   Survey : ℕ → ℕ → ℕ → ℕ → Request
@@ -146,6 +147,11 @@ prove_words (publication ∷ from ∷ to ∷ []) = do
   Some (Prove publication query)
 prove_words _ = None
 
+-- a publication file's name
+abbrev pub serve_words : List (List ℕ) → Option Request
+serve_words (publication ∷ []) = Some (Serve publication)
+serve_words _ = None
+
 -- the names of files of a public key and of a reply, the ids of both ends, and the least version that is taken
 abbrev pub check_words : List (List ℕ) → Option Request
 check_words (key ∷ reply ∷ from ∷ to ∷ least ∷ []) = do
@@ -177,6 +183,7 @@ request_of (verb ∷ words) =
     else if bytes_eq verb (codes "desk") then desk_words words
     else if bytes_eq verb (codes "publish") then publish_words words
     else if bytes_eq verb (codes "prove") then prove_words words
+    else if bytes_eq verb (codes "serve") then serve_words words
     else if bytes_eq verb (codes "check") then check_words words
     else if bytes_eq verb (codes "audit") then audit_words words
     else if bytes_eq verb (codes "survey") then survey_words words

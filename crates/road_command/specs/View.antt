@@ -24,6 +24,7 @@ shown (command.Key secret kind) = request.Key secret.now (type_of kind)
 shown command.Desk = request.Desk
 shown (command.Publish roads settings) = request.Publish roads.now settings
 shown (command.Prove publication query) = request.Prove publication.now query
+shown (command.Serve publication) = request.Serve publication.now
 shown (command.Check key reply query least) = request.Check key.now reply.now query least
 shown (command.Audit key publication reply query) = request.Audit key.now publication.now reply.now query
 shown (command.Survey asked) = survey_shown asked

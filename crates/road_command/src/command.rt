@@ -2,7 +2,7 @@
 
 ghost use Rattle.std.specs.Prelude.{◌≡◌, ◌<◌, length, drop};
 ghost use Rattle.std.specs.Option.{option_map};
-ghost use Rattle.road_command.specs.Requests.{request_of, route_words, root_words, dimacs_words, key_words, desk_words, publish_words, prove_words, check_words, audit_words, survey_words};
+ghost use Rattle.road_command.specs.Requests.{request_of, route_words, root_words, dimacs_words, key_words, desk_words, publish_words, prove_words, serve_words, check_words, audit_words, survey_words};
 ghost use Rattle.road_command.specs.View.{shown};
 
 use crate::asked::Survey;
@@ -48,6 +48,10 @@ pub enum Command<'a> {
         publication: &'a str,
         query: Query,
     },
+    /// Answer frames over a publication, and those that are installed after it, and write the replies.
+    Serve {
+        publication: &'a str,
+    },
     /// Check a reply to a query with a public key, and a least version that is taken, and write the verdict.
     Check {
         key: &'a str,
@@ -81,6 +85,7 @@ pub fn command_of(words: &Words) -> Option<Command<'_>>
         "desk" => desk_of(words),
         "publish" => publish_of(words),
         "prove" => prove_of(words),
+        "serve" => serve_of(words),
         "check" => check_of(words),
         "audit" => audit_of(words),
         "survey" => survey_of(words),
@@ -188,6 +193,18 @@ fn prove_of(words: &Words) -> Option<Command<'_>>
     Some(Command::Prove {
         publication: words.word(1),
         query,
+    })
+}
+
+fn serve_of(words: &Words) -> Option<Command<'_>>
+    requires { 0 < length words.now }
+    ensures { option_map shown result ≡ serve_words (drop 1 words.now) }
+{
+    if words.count() != 2 {
+        return None;
+    }
+    Some(Command::Serve {
+        publication: words.word(1),
     })
 }
 

@@ -66,6 +66,12 @@ fn each_command_line_is_read(rt: HostRuntime) -> Result<(), Fail> {
             },
         ),
         (
+            "serve a.pub",
+            Command::Serve {
+                publication: "a.pub",
+            },
+        ),
+        (
             "check k.hex a.reply 1 3 18446744073709551615",
             Command::Check {
                 key: "k.hex",
@@ -117,7 +123,8 @@ fn other_command_lines_fit_no_command(rt: HostRuntime) -> Result<(), Fail> {
         "survey 257 0 dij 2",
         "survey 2 0 dij 0",
         "survey 2 0 dij 1001",
-        "serve a.pub",
+        "serve",
+        "serve a.pub 1",
         "",
     ] {
         let words = words_of(&rt, rt.alloc(), line)?;

@@ -3,8 +3,8 @@ use Rattle.std.specs.Prelude.{ℕ, List, ◌++◌, codes}
 use Rattle.std.specs.Fmt.{decimal}
 use Rattle.lms_tree.specs.declared.seals.SealError.{SealError}
 use Rattle.lms_tree.specs.declared.seals.SealError.TheVariants.{BadKey, BadForm, NoMatch}
-use Rattle.proof_method.specs.declared.refusal.Refusal.{Refusal}
-use Rattle.proof_method.specs.declared.refusal.Refusal.TheVariants as judged
+use Rattle.proof_judge.specs.declared.refusal.Refusal.{Refusal}
+use Rattle.proof_judge.specs.declared.refusal.Refusal.TheVariants as judged
 use Rattle.route_client.specs.declared.errors.CoverFault.{CoverFault}
 use Rattle.route_client.specs.declared.errors.CoverFault.TheVariants.{Place, Short, Long, Differs}
 use Rattle.route_client.specs.declared.errors.CheckError.{CheckError}

@@ -5,7 +5,7 @@ use crate::{
     line_of_right, line_of_route,
 };
 use lms_tree::SealError;
-use proof_method::Refusal;
+use proof_judge::Refusal;
 use route_client::{CheckError, CoverFault};
 use std::test::Fail;
 

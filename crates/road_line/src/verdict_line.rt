@@ -7,7 +7,7 @@ ghost use Rattle.road_line.specs.VerdictLine.{accepted_line, refused_line, refus
 use crate::route_line::print_route;
 use lms_tree::SealError;
 use octet_text::NoMemory;
-use proof_method::Refusal;
+use proof_judge::Refusal;
 use route_client::{CheckError, CoverFault};
 use std::alloc::{AllocError, Global};
 

@@ -11,7 +11,6 @@ mod by_kind;
 mod curve;
 mod depth;
 mod error;
-mod frame;
 mod hilbert;
 mod kd;
 mod keyed;

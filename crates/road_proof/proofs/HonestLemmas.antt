@@ -1,5 +1,5 @@
 -- `check` accepts honest replies.
-use Rattle.std.proofs.Common.{◌≡◌, ℕ, List, [], subst, IfSome, MatchResult}
+use Rattle.std.proofs.Common.{◌≡◌, ℕ, List, [], subst, IfSome}
 use Rattle.std.specs.declared.option.Option.{Option}
 use Rattle.std.specs.declared.option.Option.TheVariants.{None, Some}
 use Rattle.std.specs.declared.result.Result.{Result}
@@ -13,20 +13,22 @@ use Rattle.route_client.specs.declared.accepted.Accepted.{Accepted}
 use Rattle.route_client.specs.declared.errors.CheckError.{CheckError}
 use Rattle.route_client.specs.Verdicts.{IsVerdict}
 use Rattle.route_laws.specs.Honest.{AnswersAreAccepted, AreAccepted}
-use Rattle.road_command.specs.Requests.{Request, Route, Root, Dimacs, Key, Desk, Publish, Prove, Check, Audit, Survey}
-use Rattle.road_proof.specs.Reading.{octets_at}
-use Rattle.road_proof.specs.Checking.{EndsCheck}
-use Rattle.road_proof.specs.Endings.{Answered}
+use Rattle.road_command.specs.Requests.{Request, Route, Root, Dimacs, Key, Desk, Publish, Prove, Serve, Check, Audit, Survey}
+use Rattle.command_files.specs.HexFiles.{public_key_at}
+use Rattle.command_files.specs.Reading.{octets_at}
+use Rattle.command_files.specs.Endings.{EndsReading, Answered}
+use Rattle.command_files.proofs.Written.{read_as}
+use Rattle.client_commands.specs.Checking.{EndsCheck, ends_check}
 use Rattle.road_proof.specs.Commands.{Ends}
 use Rattle.road_proof.specs.Accepting.{WritesAccepted, IsHonestFile, AcceptsHonest}
-use Rattle.road_proof.specs.declared.fault.Fault.{Fault}
-use Rattle.road_proof.specs.declared.fault.Fault.TheVariants.{Library, Sink, Disk, Memory, UnknownNode, NoRoute}
-use Rattle.road_proof.specs.declared.ended.Verdict.{Verdict}
-use Rattle.road_proof.specs.declared.ended.Verdict.TheVariants.{Done, Refused, Evidence}
-use Rattle.road_proof.proofs.ExactAudit.{OneVerdict, AcceptanceIsVerdict}
-use Rattle.road_proof.proofs.CheckLemmas.{OfReply}
+use Rattle.command_files.specs.declared.fault.Fault.{Fault}
+use Rattle.command_files.specs.declared.fault.Fault.TheVariants.{TruncatedFrame, FrameTooLong, Library, Source, Sink, Disk, Memory, UnknownNode, NoRoute, TooManyFrames}
+use Rattle.command_files.specs.declared.ended.Verdict.{Verdict}
+use Rattle.command_files.specs.declared.ended.Verdict.TheVariants.{Done, Refused, Evidence}
+use Rattle.client_commands.proofs.OneCheck.{OneVerdict}
+use Rattle.audit_commands.proofs.OneAudit.{AcceptanceIsVerdict}
 
-module _ (one : OneVerdict) (verdict : AcceptanceIsVerdict) (laws : AnswersAreAccepted) (content : Option (List ℕ)) (shelf : Shelf) (key reply : List ℕ) (q : Query) (least : ℕ) (p : Publication) (file : IsHonestFile shelf key reply q least p) where
+module _ (one : OneVerdict) (verdict : AcceptanceIsVerdict) (laws : AnswersAreAccepted) (shelf : Shelf) (key reply : List ℕ) (q : Query) (least : ℕ) (p : Publication) (file : IsHonestFile shelf key reply q least p) where
   accepted : AreAccepted sha256 file.key file.octets q least p.parts
   accepted = laws sha256 sha256 file.key file.octets p q least file.signed file.fresh file.joined file.honest
 
@@ -34,15 +36,15 @@ module _ (one : OneVerdict) (verdict : AcceptanceIsVerdict) (laws : AnswersAreAc
   says = verdict sha256 file.key file.octets q least accepted.accepted accepted.accepts
 
   -- the end over what the files spell
-  ends : (o : Result Verdict Fault) (text : List ℕ) → Ends content (Check key reply q least) shelf o text → EndsCheck file.key file.octets q least o text
+  ends : (o : Result Verdict Fault) (text : List ℕ) → ends_check key reply q least shelf o text → EndsCheck file.key file.octets q least o text
   ends o text h =
-      let by_key = subst (λ r. MatchResult r (OfReply q least o text (octets_at shelf reply)) (λ first. (o ≡ Err first) × (text ≡ []))) file.key_read h in
-      subst (λ r. OfReply q least o text r file.key) file.reply_read by_key
+      let by_key = read_as (public_key_at shelf key) file.key (λ k. EndsReading (octets_at shelf reply) (λ octets. EndsCheck k octets q least)) o text file.key_read h in
+      read_as (octets_at shelf reply) file.octets (λ octets. EndsCheck file.key octets q least) o text file.reply_read by_key
 
   differ : (x : Accepted) (e : CheckError) → Ok x ≡ Err e → ⊥
   differ x e is = cc
 
-  writes : (old new : Option (List ℕ)) (o : Result Verdict Fault) → Answered (Ends content (Check key reply q least) shelf) old new o → WritesAccepted p.parts q old new o
+  writes : (old new : Option (List ℕ)) (o : Result Verdict Fault) → Answered (ends_check key reply q least shelf) old new o → WritesAccepted p.parts q old new o
   writes old new (Ok Done) a =
       let e = ends (Ok Done) a.0 a.1 in
       let same : Ok accepted.accepted ≡ Ok e.0 = one sha256 file.key file.octets q least (Ok accepted.accepted) (Ok e.0) says e.1 in
@@ -59,21 +61,24 @@ module _ (one : OneVerdict) (verdict : AcceptanceIsVerdict) (laws : AnswersAreAc
   writes old new (Err Disk) a = tt
   writes old new (Err (UnknownNode id)) a = absurd (ends (Err (UnknownNode id)) a.0 a.1)
   writes old new (Err NoRoute) a = absurd (ends (Err NoRoute) a.0 a.1)
+  writes old new (Err TruncatedFrame) a = absurd (ends (Err TruncatedFrame) a.0 a.1)
+  writes old new (Err FrameTooLong) a = absurd (ends (Err FrameTooLong) a.0 a.1)
+  writes old new (Err TooManyFrames) a = absurd (ends (Err TooManyFrames) a.0 a.1)
+  writes old new (Err Source) a = absurd (ends (Err Source) a.0 a.1)
   writes old new (Err fault) a = absurd (ends (Err fault) [] a)
 
--- the same for the words and the library of a run
-pub accepts_honest : OneVerdict → AcceptanceIsVerdict → AnswersAreAccepted → (asked : Option Request) (files : Option Shelf) (content : Option (List ℕ)) (old new : Option (List ℕ)) (o : Result Verdict Fault)
-    → IfSome asked (λ request. IfSome files (λ shelf. Answered (Ends content request shelf) old new o)) → AcceptsHonest asked files old new o
-accepts_honest one verdict laws (Some (Check key reply q least)) (Some shelf) content old new o a =
-    λ p file. writes one verdict laws content shelf key reply q least p file old new o a
-accepts_honest one verdict laws (Some (Check key reply q least)) None content old new o a = tt
-accepts_honest one verdict laws (Some (Route roads from to)) files content old new o a = tt
-accepts_honest one verdict laws (Some (Root roads fan)) files content old new o a = tt
-accepts_honest one verdict laws (Some (Dimacs graph places)) files content old new o a = tt
-accepts_honest one verdict laws (Some (Key secret kind)) files content old new o a = tt
-accepts_honest one verdict laws (Some Desk) files content old new o a = tt
-accepts_honest one verdict laws (Some (Publish roads settings)) files content old new o a = tt
-accepts_honest one verdict laws (Some (Prove publication q)) files content old new o a = tt
-accepts_honest one verdict laws (Some (Audit key publication reply q)) files content old new o a = tt
-accepts_honest one verdict laws (Some (Survey width seed method queries)) files content old new o a = tt
-accepts_honest one verdict laws None files content old new o a = tt
+-- the same for a request and the library of a run
+pub accepts_honest : OneVerdict → AcceptanceIsVerdict → AnswersAreAccepted → (request : Request) (files : Option Shelf) (content : Option (List ℕ)) (old new : Option (List ℕ)) (o : Result Verdict Fault)
+    → IfSome files (λ shelf. Answered (Ends content request shelf) old new o) → AcceptsHonest request files old new o
+accepts_honest one verdict laws (Check key reply q least) (Some shelf) content old new o a = λ p file. writes one verdict laws shelf key reply q least p file old new o a
+accepts_honest one verdict laws (Check key reply q least) None content old new o a = tt
+accepts_honest one verdict laws (Route roads from to) files content old new o a = tt
+accepts_honest one verdict laws (Root roads fan) files content old new o a = tt
+accepts_honest one verdict laws (Dimacs graph places) files content old new o a = tt
+accepts_honest one verdict laws (Key secret kind) files content old new o a = tt
+accepts_honest one verdict laws Desk files content old new o a = tt
+accepts_honest one verdict laws (Publish roads settings) files content old new o a = tt
+accepts_honest one verdict laws (Prove publication q) files content old new o a = tt
+accepts_honest one verdict laws (Serve publication) files content old new o a = tt
+accepts_honest one verdict laws (Audit key publication reply q) files content old new o a = tt
+accepts_honest one verdict laws (Survey width seed method queries) files content old new o a = tt

@@ -1,103 +1,88 @@
--- How the files let each command end.
-use Rattle.std.specs.Prelude.{◌≡◌, ◌≢◌, ℕ, List, [], IfSome, MatchResult}
+-- How the files let each command end, and what a run promises.
+use Rattle.std.specs.Prelude.{◌≡◌, ◌≢◌, ◌↔◌, ℕ, List, [], IfSome, IfNone}
 use Rattle.std.specs.declared.option.Option.{Option}
 use Rattle.std.specs.declared.option.Option.TheVariants.{None, Some}
 use Rattle.std.specs.declared.result.Result.{Result}
 use Rattle.std.specs.declared.result.Result.TheVariants.{Ok, Err}
+use Rattle.std.specs.Io.KnownBytes.{Keeps}
+use Rattle.road_io.specs.declared.disk.Disk.{Ghosts}
 use Rattle.road_io.specs.Causes.{Rose}
 use Rattle.road_io.specs.Contents.{Shelf}
-use Rattle.road_map.specs.Maps.{IsMap}
-use Rattle.road_map.specs.declared.parts.Parts.{Parts}
-use Rattle.road_command.specs.Requests.{Request, Route, Root, Dimacs, Key, Desk, Publish, Prove, Check, Audit, Survey}
-use Rattle.road_proof.specs.Reading.{octets_at, parts_at, dimacs_at, publication_at, IsMapFault}
-use Rattle.road_reader.specs.RoadText.{printed_roads}
-use Rattle.road_proof.specs.RouteLine.{IsRouteLine, IsFirstUnknown, AreApart}
-use Rattle.road_proof.specs.RootLine.{IsRootLine}
-use Rattle.std.specs.Option.{ForSome}
-use Rattle.key_desk.specs.Layout.{IsOpen}
-use Rattle.road_proof.specs.HexFiles.{secret_at, public_key_at}
-use Rattle.road_proof.specs.KeyLine.{key_line}
-use Rattle.road_proof.specs.OwnerDesk.{EndsDesk}
-use Rattle.road_proof.specs.Publishing.{EndsPublish}
-use Rattle.road_proof.specs.Proving.{EndsProve}
-use Rattle.road_proof.specs.Checking.{EndsCheck}
-use Rattle.road_proof.specs.Auditing.{EndsAudit}
-use Rattle.road_proof.specs.Surveying.{EndsSurvey}
-use Rattle.road_proof.specs.Endings.{Answered, IsSilent, HasUntoldCause}
-use Rattle.road_proof.specs.declared.fault.Fault.{Fault}
-use Rattle.road_proof.specs.declared.fault.Fault.TheVariants.{Words, Map, Library, Sink, Disk, UnknownNode, NoRoute, Held}
-use Rattle.road_proof.specs.declared.ended.Verdict.{Verdict}
-use Rattle.road_proof.specs.declared.ended.Verdict.TheVariants.{Done}
+use Rattle.road_io.specs.Disk.{Stays}
+use Rattle.road_io.specs.Moments.{AtEachMoment}
+use Rattle.key_desk.specs.Stands.{KeepsStanding}
+use Rattle.road_command.specs.Requests.{Request, Route, Root, Dimacs, Key, Desk, Publish, Prove, Serve, Check, Audit, Survey}
+use Rattle.command_files.specs.Endings.{Ending, Promises, TellsNone}
+use Rattle.command_files.specs.declared.fault.Fault.{Fault}
+use Rattle.command_files.specs.declared.fault.Fault.TheVariants.{Words}
+use Rattle.command_files.specs.declared.ended.Verdict.{Verdict}
+use Rattle.client_commands.specs.Checking.{ends_check}
+use Rattle.map_commands.specs.RouteLine.{ends_route}
+use Rattle.map_commands.specs.RootLine.{ends_root}
+use Rattle.map_commands.specs.DimacsFiles.{ends_dimacs}
+use Rattle.server_commands.specs.Proving.{TellsEnds, ends_prove}
+use Rattle.server_commands.specs.Serving.{TellsFrames, ends_serve}
+use Rattle.owner_commands.specs.OwnerKey.{KeepsKey, ends_key}
+use Rattle.owner_commands.specs.OwnerDesk.{EndsDesk}
+use Rattle.owner_commands.specs.Publishing.{ends_publish}
+use Rattle.owner_commands.specs.Signing.{SealsWhatItWrites, SignsAtMostOne}
+use Rattle.audit_commands.specs.Auditing.{ends_audit}
+use Rattle.audit_commands.specs.Headline.{WritesFindings, AuditsAccepted}
+use Rattle.survey_commands.specs.Surveying.{EndsSurvey}
 
--- `route` over the parts of a file: the line of a shortest route, or why there is none
-abbrev pub EndsRoute : ℕ → ℕ → Parts → Result Verdict Fault → List ℕ → Type 0
-EndsRoute from to parts (Ok Done) text = IsMap parts × IsRouteLine parts from to text
-EndsRoute from to parts (Err (Map fault)) text = IsMapFault parts fault × (text ≡ [])
-EndsRoute from to parts (Err (UnknownNode id)) text = IsMap parts × IsFirstUnknown parts from to id × (text ≡ [])
-EndsRoute from to parts (Err NoRoute) text = IsMap parts × AreApart parts from to × (text ≡ [])
-EndsRoute from to parts outcome text = ⊥
+-- With which outcome the files, and what the disk holds, let a command end, and which text it then writes. Under `serve`
+-- the end also rests on the source's input, of which `ServesFrames` speaks.
+abbrev pub Ends : Option (List ℕ) → Request → Shelf → Ending
+Ends content (Route roads from to) shelf = ends_route roads from to shelf
+Ends content (Root roads fan) shelf = ends_root roads fan shelf
+Ends content (Dimacs graph places) shelf = ends_dimacs graph places shelf
+Ends content (Key secret kind) shelf = ends_key content secret kind shelf
+Ends content Desk shelf = EndsDesk content
+Ends content (Publish roads settings) shelf = ends_publish content roads settings shelf
+Ends content (Prove publication q) shelf = ends_prove publication q shelf
+Ends content (Serve publication) shelf = ends_serve publication shelf
+Ends content (Check key reply q least) shelf = ends_check key reply q least shelf
+Ends content (Audit key publication reply q) shelf = ends_audit content key publication reply q shelf
+Ends content (Survey width seed method queries) shelf = EndsSurvey width seed method queries
 
--- `root` over the parts of a file: the line of the root
-abbrev pub EndsRoot : ℕ → Parts → Result Verdict Fault → List ℕ → Type 0
-EndsRoot fan parts (Ok Done) text = IsMap parts × IsRootLine parts fan text
-EndsRoot fan parts (Err (Map fault)) text = IsMapFault parts fault × (text ≡ [])
-EndsRoot fan parts outcome text = ⊥
+-- of which faults a command tells its client by a text
+abbrev pub TellsClient : Request → Fault → Type 0
+TellsClient (Prove publication q) = TellsEnds
+TellsClient (Serve publication) = TellsFrames
+TellsClient request = TellsNone
 
--- `dimacs` over the parts of a graph and its coordinates: their printed road file
-abbrev pub EndsDimacs : Parts → Result Verdict Fault → List ℕ → Type 0
-EndsDimacs parts (Ok Done) text = text ≡ printed_roads parts
-EndsDimacs parts outcome text = ⊥
+-- what a command does to the owner's disk, and what it then says of it
+abbrev pub OnDisk : {D : Type 0} → Ghosts D → D → D → Request → Option Shelf → Option (List ℕ) → Option (List ℕ) → Result Verdict Fault → Type 0
+OnDisk g old new (Key secret kind) files taken_before taken_now outcome = KeepsKey g old new files secret kind outcome
+OnDisk g old new (Publish roads settings) files taken_before taken_now outcome =
+    SealsWhatItWrites g old new taken_before taken_now outcome × SignsAtMostOne g old new files roads settings
+OnDisk g old new (Audit key publication reply q) files taken_before taken_now outcome =
+    AtEachMoment g old new Stays × WritesFindings g new key reply files taken_before taken_now outcome
+    × AuditsAccepted g (g.content old) new key publication reply q files taken_before taken_now outcome
+OnDisk g old new request files taken_before taken_now outcome = AtEachMoment g old new Stays
 
--- `key` with a secret: the line of the public key where the disk holds no key, and a refusal where it does
-abbrev pub EndsKey : Option (List ℕ) → ℕ → List ℕ → Result Verdict Fault → List ℕ → Type 0
-EndsKey content kind secret (Ok Done) text = ForSome content (λ c. IsOpen c → ⊥) × (text ≡ key_line kind secret)
-EndsKey content kind secret (Err Held) text = ForSome content IsOpen × (text ≡ [])
-EndsKey content kind secret outcome text = ⊥
+-- words that ask for nothing leave everything as it is
+pub record LeavesAll {D : Type 0} (g : Ghosts D) (old new : D) (taken_before taken_now : Option (List ℕ)) : Type 0 where
+  pub silent : Keeps taken_before taken_now
+  pub disk : AtEachMoment g old new Stays
 
--- With which outcome the files, and what the disk holds, let a command end, and which text it then writes.
--- The first fault of a file comes before all others.
-abbrev pub Ends : Option (List ℕ) → Request → Shelf → Result Verdict Fault → List ℕ → Type 0
-Ends content (Route roads from to) shelf outcome text =
-    MatchResult (parts_at shelf roads) (λ parts. EndsRoute from to parts outcome text) (λ first. (outcome ≡ Err first) × (text ≡ []))
-Ends content (Root roads fan) shelf outcome text =
-    MatchResult (parts_at shelf roads) (λ parts. EndsRoot fan parts outcome text) (λ first. (outcome ≡ Err first) × (text ≡ []))
-Ends content (Dimacs graph places) shelf outcome text =
-    MatchResult (dimacs_at shelf graph places) (λ parts. EndsDimacs parts outcome text) (λ first. (outcome ≡ Err first) × (text ≡ []))
-Ends content (Key file kind) shelf outcome text =
-    MatchResult (secret_at shelf file) (λ secret. EndsKey content kind secret outcome text) (λ first. (outcome ≡ Err first) × (text ≡ []))
-Ends content Desk shelf outcome text = EndsDesk content outcome text
-Ends content (Publish roads settings) shelf outcome text =
-    MatchResult (parts_at shelf roads) (λ parts. EndsPublish content settings parts outcome text) (λ first. (outcome ≡ Err first) × (text ≡ []))
-Ends content (Prove file q) shelf outcome text =
-    MatchResult (publication_at shelf file) (λ p. EndsProve q p outcome text) (λ first. (outcome ≡ Err first) × (text ≡ []))
-Ends content (Check key reply q least) shelf outcome text =
-    MatchResult (public_key_at shelf key)
-    (λ k. MatchResult (octets_at shelf reply) (λ octets. EndsCheck k octets q least outcome text) (λ first. (outcome ≡ Err first) × (text ≡ [])))
-    (λ first. (outcome ≡ Err first) × (text ≡ []))
-Ends content (Audit key publication reply q) shelf outcome text =
-    MatchResult (public_key_at shelf key)
-    (λ k. MatchResult (publication_at shelf publication)
-    (λ p. MatchResult (octets_at shelf reply) (λ octets. EndsAudit content k p octets q outcome text) (λ first. (outcome ≡ Err first) × (text ≡ [])))
-    (λ first. (outcome ≡ Err first) × (text ≡ [])))
-    (λ first. (outcome ≡ Err first) × (text ≡ []))
-Ends content (Survey width seed method queries) shelf outcome text = EndsSurvey width seed method queries outcome text
+-- what a run promises, by what its words ask for
+pub record RunPromises {D : Type 0} (g : Ghosts D) (old new : D) (asked : Option Request)
+    (files : Option Shelf) (library_before library_now : ℕ)
+    (taken_before taken_now : Option (List ℕ)) (sink_before sink_now : ℕ) (outcome : Result Verdict Fault) : Type 0 where
+  pub words : (outcome ≡ Err Words) ↔ (asked ≡ None)
+  pub nothing : IfNone asked (LeavesAll g old new taken_before taken_now)
+  pub command : IfSome asked (λ request. Promises (Ends (g.content old) request) (TellsClient request) (Rose (g.faults old) (g.faults new))
+      files library_before library_now taken_before taken_now sink_before sink_now outcome)
+  pub on_disk : IfSome asked (λ request. OnDisk g old new request files taken_before taken_now outcome)
+  pub stands : KeepsStanding g old new
 
--- what must be told of the disk, so that an end is exact: its content, for a command that uses the disk
+-- What must be told of the disk, so that an end is exact: its content, for a command that uses the disk. The end of `serve`
+-- is not exact by the files and the disk.
 abbrev pub IsTold : Request → Option (List ℕ) → Type 0
 IsTold (Key file kind) content = content ≢ None
 IsTold Desk content = content ≢ None
 IsTold (Publish roads settings) content = content ≢ None
 IsTold (Audit key publication reply q) content = content ≢ None
+IsTold (Serve publication) content = ⊥
 IsTold request content = Unit {0}
-
--- what a command promises that loads files and writes to the sink
-pub record EndsByFiles (request : Request)
-    (files : Option Shelf) (library_before library_now : ℕ)
-    (old new : Option (List ℕ)) (sink_before sink_now : ℕ) (outcome : Result Verdict Fault) : Type 0 where
-  pub answered : (content : Option (List ℕ)) → IfSome files (λ shelf. Answered (Ends content request shelf) old new outcome)
-  pub untold : HasUntoldCause files library_before library_now outcome
-  pub silent : IsSilent (Some request) old new outcome
-  pub library : outcome ≡ Err Library → Rose library_before library_now
-  pub sink : outcome ≡ Err Sink → Rose sink_before sink_now
-  pub disk : outcome ≡ Err Disk → ⊥
-  pub words : outcome ≡ Err Words → ⊥

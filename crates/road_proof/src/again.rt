@@ -2,8 +2,7 @@
 
 ghost use Rattle.std.specs.Prelude.{◌≤◌, vec_len};
 
-use crate::ended::Ended;
-use crate::fault::Fault;
+use command_files::{Ended, Fault};
 use octet_text::Sha;
 use road_command::{Command, Words, command_of};
 use road_io::Library;

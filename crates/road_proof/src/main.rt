@@ -1,31 +1,16 @@
 //! Gogbetiku: shortest routes over road maps that prove themselves.
 //!
-//! `run` does all that the program does, over any library and any sink. `main` hands it the real ones.
+//! `run` does all that the program does, over any library, source, sink and disk. `main` hands it the real ones.
 #![tactic(auto)]
 
 mod again;
-mod audit;
-mod check;
-mod desk;
-mod dimacs;
-mod ended;
-mod fault;
-mod files;
-mod key;
 mod program;
-mod prove;
-mod publish;
-mod root;
-mod route;
-mod survey;
 mod tell;
 
 use again::look_again;
-pub use ended::{Ended, Verdict};
-pub use fault::Fault;
 pub use program::run;
 use road_command::{MOST_WORDS, Words};
-use road_io::{FileDisk, FileLibrary, StdSink};
+use road_io::{FileDisk, FileLibrary, StdSink, StdSource};
 use std::alloc::Global;
 use std::env;
 use std::io::ErrorKind;
@@ -62,15 +47,24 @@ fn main(rt: HostRuntime) -> ExitCode {
         }
     };
     let mut library = FileLibrary::new(rt);
+    let mut source = StdSource::new(&rt);
     let mut sink = StdSink::new(rt);
     let mut disk = FileDisk::new(rt, "owner.desk");
-    let ended = run(alloc, &words, &mut library, &mut sink, &mut disk);
+    let ended = run(
+        alloc,
+        &words,
+        &mut library,
+        &mut source,
+        &mut sink,
+        &mut disk,
+    );
     let name = library.last_name().unwrap_or("file");
     let again = look_again(alloc, &mut FileLibrary::new(rt), &words, ended, name);
     let facts = Facts {
         name,
         text: &again.text,
         file_error: library.last_error(),
+        source_error: source.last_error(),
         sink_error: sink.last_error(),
         desk_error: disk.last_error(),
         refusal: again.refusal,
@@ -86,5 +80,3 @@ fn main(rt: HostRuntime) -> ExitCode {
 mod parties_tests;
 #[cfg(test)]
 mod tell_tests;
-#[cfg(test)]
-mod tests;

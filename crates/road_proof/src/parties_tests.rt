@@ -1,26 +1,63 @@
 //! An owner, a server and a client, each by its commands over objects in memory.
 
-use crate::tests::{FIVE_NODES, PUBLIC, ZEROS, words_of};
-use crate::{Ended, Fault, run};
+use crate::run;
 use book_model::PlanError;
-use road_io::{MemDisk, MemLibrary, MemSink};
+use command_files::{Ended, Fault};
+use road_command::{MOST_WORDS, Words};
+use road_io::{MemDisk, MemLibrary, MemSink, MemSource};
 use std::alloc::Global;
 use std::process::Abort;
 use std::test::Fail;
 
-/// The files that the commands read, and the owner's disk.
+/// Five nodes: two routes from 1 to 3, and the node 5 without roads.
+pub const FIVE_NODES: &str = "roads 1
+node 1 0 0
+node 2 10 0
+node 3 20 0
+node 4 10 10
+node 5 50 50
+road 1 2 4
+road 2 3 5
+road 1 4 3
+road 4 3 7
+";
+
+/// The hex digits of 48 zero octets.
+pub const ZEROS: &str =
+    "000000000000000000000000000000000000000000000000000000000000000000000000000000000000000000000000";
+
+/// The public key of the kind h5 that an independent implementation makes of 48 zero octets.
+const PUBLIC: &str =
+    "000000050000000400000000000000000000000000000000829887511085dc8b9946d97b20163fe2ab4385e734979f535139cabe33cd694f";
+
+/// The words of a line.
+pub fn words_of(rt: &impl Abort, alloc: Global, line: &str) -> Result<Words, Fail> {
+    let mut words = Words::new(alloc);
+    for word in line.split(' ') {
+        assert!(rt; words.count() <= MOST_WORDS);
+        words.push(word)?;
+    }
+    Ok(words)
+}
+
+/// The files that the commands read, the owner's disk, and the octets of the input.
 #[derive(Drop)]
 struct World {
     library: MemLibrary,
     disk: MemDisk,
+    input: Vec<u8>,
 }
 
-fn new_world(alloc: Global, fails: Vec<u64>) -> Result<World, Fail> {
+fn new_world(alloc: Global) -> Result<World, Fail> {
     let mut library = MemLibrary::new(alloc, Vec::new(alloc));
     library.put("map.roads", FIVE_NODES.as_bytes())?;
     library.put("secret", ZEROS.as_bytes())?;
-    let disk = MemDisk::new(alloc, 4160, 100_000, fails, None)?;
-    Ok(World { library, disk })
+    let disk = MemDisk::new(alloc, 4160, 100_000, Vec::new(alloc), None)?;
+    Ok(World {
+        library,
+        disk,
+        input: Vec::new(alloc),
+    })
 }
 
 /// Runs a command line, compares how it ends, and answers what it has written.
@@ -33,11 +70,13 @@ fn written(
     fault: Option<Fault>,
 ) -> Result<Vec<u8>, Fail> {
     let words = words_of(rt, alloc, line)?;
+    let mut source = MemSource::new(world.input.to_vec(alloc)?, 7, Vec::new(alloc));
     let mut sink = MemSink::new(alloc, 4096, 4096, Vec::new(alloc))?;
     let ended = run(
         alloc,
         &words,
         &mut world.library,
+        &mut source,
         &mut sink,
         &mut world.disk,
     );
@@ -54,7 +93,7 @@ const PUBLISH: &str = "publish map.roads dij 3 id 0 2 0 0 0";
 #[test]
 fn a_route_is_published_proved_checked_and_audited(rt: HostRuntime) -> Result<(), Fail> {
     let alloc = rt.alloc();
-    let mut world = new_world(alloc, Vec::new(alloc))?;
+    let mut world = new_world(alloc)?;
     let no_key = Some(Fault::NoKey);
     let nothing = written(&rt, alloc, &mut world, PUBLISH, 12, no_key)?;
     assert_eq!(rt; nothing.len(), 0);
@@ -76,6 +115,17 @@ fn a_route_is_published_proved_checked_and_audited(rt: HostRuntime) -> Result<()
     let unknown = Some(Fault::UnknownNode(9));
     let settings = Some(Fault::Plan(PlanError::Settings(3)));
     for (line, text, status, fault) in [
+        ("route map.roads 01 0003", "9: 1 2 3\n", 0, None),
+        ("route map.roads 1 9", "", 11, unknown),
+        ("route none 1 9", "", 3, Some(Fault::Missing)),
+        ("route map.roads 1", "", 2, Some(Fault::Words)),
+        ("route map.roads 1 4294967296", "", 2, Some(Fault::Words)),
+        ("rout map.roads 1 3", "", 2, Some(Fault::Words)),
+        ("root map.roads 33", "", 2, Some(Fault::Words)),
+        ("dimacs map.roads", "", 2, Some(Fault::Words)),
+        ("key secret h6", "", 2, Some(Fault::Words)),
+        ("key secret h5", "", 12, Some(Fault::Held)),
+        ("survey 1 0 dij 2", "", 2, Some(Fault::Words)),
         ("check key reply 1 3 3", "accepted 9: 1 2 3\n", 0, None),
         ("check key reply 1 3 4", "refused Stale 3\n", 1, None),
         ("check key reply 2 3 3", "refused BadRoute 0\n", 1, None),
@@ -99,24 +149,34 @@ fn a_route_is_published_proved_checked_and_audited(rt: HostRuntime) -> Result<()
         let out = written(&rt, alloc, &mut world, line, status, fault)?;
         assert_eq!(rt; out.as_slice(), text.as_bytes(), "at {line}");
     }
-    Ok(())
+    frames_are_answered(&rt, alloc, &mut world, &reply)
 }
 
-#[test]
-fn each_one_time_key_signs_once(rt: HostRuntime) -> Result<(), Fail> {
-    let alloc = rt.alloc();
-    let mut world = new_world(alloc, Vec::new(alloc))?;
-    let _key = written(&rt, alloc, &mut world, "key secret h5", 0, None)?;
-    for slot in 0..32u8 {
-        let publication = written(&rt, alloc, &mut world, PUBLISH, 0, None)?;
-        assert_eq!(rt; publication.get(113).copied(), Some(slot));
+/// Compares what `serve` writes over a publication to a session of its own, beside a reply of `prove`.
+fn frames_are_answered(
+    rt: &impl Abort,
+    alloc: Global,
+    world: &mut World,
+    reply: &[u8],
+) -> Result<(), Fail> {
+    let begin = b"\x00\x00\x00\x02\x01\x07";
+    let begun = b"\x00\x00\x00\x0a\x81\x07\x00\x00\x00\x00\x00\x00\x00\x03";
+    let mut answered = begun.to_vec(alloc)?;
+    answered.extend_from_slice(b"\x00\x00\x06\x4d\x82\x07")?;
+    answered.extend_from_slice(reply)?;
+    let ask = b"\x00\x00\x00\x0a\x02\x07\x00\x00\x00\x01\x00\x00\x00\x03";
+    let truncated = Some(Fault::TruncatedFrame);
+    let long = Some(Fault::FrameTooLong);
+    for (more, wanted, fault, status) in [
+        (ask.as_slice(), answered.as_slice(), None, 0),
+        (b"\x00\x00\x00", begun, truncated, 3),
+        (b"\x00\x40\x00\x01", begun, long, 3),
+    ] {
+        world.input.clear();
+        world.input.extend_from_slice(begin)?;
+        world.input.extend_from_slice(more)?;
+        let out = written(rt, alloc, world, "serve pub", status, fault)?;
+        assert_eq!(rt; out.as_slice(), wanted);
     }
-    let used_up = Some(Fault::KeysUsedUp);
-    let nothing = written(&rt, alloc, &mut world, PUBLISH, 8, used_up)?;
-    assert_eq!(rt; nothing.len(), 0);
-    let mut failing = new_world(alloc, vec![in alloc; 0]?)?;
-    let disk = Some(Fault::Disk);
-    let nothing = written(&rt, alloc, &mut failing, PUBLISH, 7, disk)?;
-    assert_eq!(rt; nothing.len(), 0);
     Ok(())
 }

@@ -1,8 +1,7 @@
 //! What standard error says of a run.
 
-use crate::ended::{Ended, Verdict};
-use crate::fault::Fault;
 use book_model::PlanError;
+use command_files::{Ended, Fault};
 use dimacs_reader::DimacsError;
 use road_command::{Command, Words, command_of};
 use road_map::MapError;
@@ -24,6 +23,8 @@ pub struct Facts<'a> {
     pub text: &'a [u8],
     /// The system's reason why that file was not read.
     pub file_error: Option<io::Error>,
+    /// The system's reason why the input was not read.
+    pub source_error: Option<io::Error>,
     /// The system's reason why the output was not written.
     pub sink_error: Option<io::Error>,
     /// The system's reason why the owner's file failed.
@@ -139,6 +140,8 @@ impl<'a> Message<'a> {
             Fault::Disk | Fault::KeysUsedUp | Fault::Held | Fault::NoKey | Fault::BadBlock => {
                 "owner.desk"
             }
+            Fault::TruncatedFrame | Fault::FrameTooLong | Fault::TooManyFrames | Fault::Source =>
+                "standard input",
             Fault::OtherPublication => reply_of(self.command),
             Fault::Dimacs(fault) => challenge_of(self.command, fault),
             Fault::OtherKey => key_of(self.command),
@@ -168,6 +171,8 @@ impl<'a> Message<'a> {
             ),
             Fault::Disk | Fault::KeysUsedUp | Fault::Held | Fault::NoKey | Fault::BadBlock =>
                 self.desk(f, fault),
+            Fault::TruncatedFrame | Fault::FrameTooLong | Fault::TooManyFrames | Fault::Source =>
+                self.input(f, fault),
             _ => self.file(f, fault),
         }
     }
@@ -223,7 +228,7 @@ impl<'a> Message<'a> {
     /// The rule of maps that is broken, with the line of a road file.
     fn map<W: fmt::Write>(&self, f: &mut Formatter<W>, fault: MapError) -> fmt::Result {
         let place = match self.command {
-            Some(Command::Prove { .. } | Command::Audit { .. }) => None,
+            Some(Command::Prove { .. } | Command::Serve { .. } | Command::Audit { .. }) => None,
             _ => place_of(self.facts.text, fault),
         };
         match place {
@@ -244,6 +249,23 @@ impl<'a> Message<'a> {
                 write!(f, "Its setting {name} is out of its range.")
             }
             _ => write!(f, "{fault}"),
+        }
+    }
+
+    /// Why no more frames were taken.
+    fn input<W: fmt::Write>(&self, f: &mut Formatter<W>, fault: Fault) -> fmt::Result {
+        match fault {
+            Fault::TruncatedFrame => f.write_str("It ends within a frame."),
+            Fault::FrameTooLong => f.write_str(
+                "A frame of it is announced with more than 4194304 octets, the most that are taken.",
+            ),
+            Fault::TooManyFrames => f.write_str(
+                "It goes on behind its 1000000th frame, the last that is taken.",
+            ),
+            _ => {
+                f.write_str("It can't be read")?;
+                reason(f, self.facts.source_error)
+            }
         }
     }
 
@@ -308,8 +330,11 @@ fn map_of(command: Option<Command<'_>>) -> &str {
             | Command::Root { roads, .. }
             | Command::Publish { roads, .. },
         ) => roads,
-        Some(Command::Prove { publication, .. } | Command::Audit { publication, .. }) =>
-            publication,
+        Some(
+            Command::Prove { publication, .. }
+            | Command::Serve { publication }
+            | Command::Audit { publication, .. },
+        ) => publication,
         Some(Command::Survey(_)) => "grid",
         _ => "map",
     }

@@ -1,11 +1,12 @@
 //! A table of what standard error says of runs over objects in memory.
 
 use crate::again::look_again;
+use crate::parties_tests::{FIVE_NODES, ZEROS, words_of};
+use crate::run;
 use crate::tell::{Facts, message_on};
-use crate::tests::{FIVE_NODES, ZEROS, words_of};
-use crate::{Ended, Fault, run};
 use book_model::PlanError;
-use road_io::{MemDisk, MemLibrary, MemSink};
+use command_files::{Ended, Fault};
+use road_io::{MemDisk, MemLibrary, MemSink, MemSource};
 use route_client::CheckError;
 use std::alloc::Global;
 use std::io::{self, ErrorKind};
@@ -23,12 +24,21 @@ fn says(rt: &impl Abort, alloc: Global, line: &str, name: &str, wanted: &str) ->
     library.put("zip", b"\x1f\x8b\x08")?;
     let mut sink = MemSink::new(alloc, 1000, 1000, Vec::new(alloc))?;
     let mut disk = MemDisk::new(alloc, 4160, 10_000, Vec::new(alloc), None)?;
-    let ended = run(alloc, &words, &mut library, &mut sink, &mut disk);
+    let mut source = MemSource::new(Vec::new(alloc), 1, Vec::new(alloc));
+    let ended = run(
+        alloc,
+        &words,
+        &mut library,
+        &mut source,
+        &mut sink,
+        &mut disk,
+    );
     let again = look_again(alloc, &mut library, &words, ended, name);
     let facts = Facts {
         name,
         text: &again.text,
         file_error: Some(io::Error::from(ErrorKind::NotFound)),
+        source_error: None,
         sink_error: None,
         desk_error: None,
         refusal: again.refusal,
@@ -152,6 +162,30 @@ fn ends_over_real_files_are_told(rt: HostRuntime) -> Result<(), Fail> {
             "road_proof: standard output: It was not written whole: broken pipe. One one-time key was used for it.",
         ),
         (
+            "serve r",
+            5,
+            Some(Fault::Source),
+            ErrorKind::BrokenPipe,
+            None,
+            "road_proof: standard input: It can't be read: broken pipe.",
+        ),
+        (
+            "serve r",
+            3,
+            Some(Fault::TruncatedFrame),
+            ErrorKind::Other,
+            None,
+            "road_proof: standard input: It ends within a frame.",
+        ),
+        (
+            "serve r",
+            3,
+            Some(Fault::HeaderWrong),
+            ErrorKind::Other,
+            None,
+            "road_proof: r: Its header is not that of its map and settings.",
+        ),
+        (
             publish,
             3,
             Some(settings),
@@ -188,6 +222,7 @@ fn ends_over_real_files_are_told(rt: HostRuntime) -> Result<(), Fail> {
             name: "r",
             text: b"RPP1",
             file_error: None,
+            source_error: Some(io::Error::from(error)),
             sink_error: Some(io::Error::from(error)),
             desk_error: Some(io::Error::from(error)),
             refusal,

@@ -19,55 +19,10 @@ use Rattle.road_map.proofs.WalkLaws.{hop_end-known}
 use Rattle.road_map.proofs.ChartLaws.{roads_known}
 use Rattle.road_search.specs.Passing.{Passes, Reaches, IsLeastPassing}
 use Rattle.road_search.specs.OverMap.{map_ways}
-use Rattle.road_search.specs.Nets.{IsPlace, Placed, IsNet, net_ways}
+use Rattle.road_map.specs.Nets.{IsPlace, Placed, IsNet}
+use Rattle.road_search.specs.Nets.{net_ways}
 use Rattle.road_search.proofs.OverMapLaws.{leaves_out, out_leaves}
 use Rattle.road_search.proofs.WholeLaws.{known_at, whole_same}
-
--- ---- making a net
-
--- a known id has a position
-pub place_there : (nodes order : List Node) → IsById nodes order → (id : ℕ) → Contains (ids nodes) id → (o : Option ℕ) → IfNone o ((k : ℕ) (n : Node) → slice_get order k ≡ Some n → n.id ≢ id) → IsSome o
-place_there nodes order by id known (Some p) none = refl
-place_there nodes order by id known None none = absurd (
-    let n : (n : Node) × Contains nodes n × (n.id ≡ id) = Contains-from_map (λ (m : Node). m.id) nodes id known in
-    let p : (p : ℕ) × (slice_get order p ≡ Some n.0) = place_at order n.0 ((by.same n.0).0 n.1) in
-    none p.0 n.0 p.1 n.2)
-
--- one arc more
-pub Placed-snoc : (order : List Node) (arcs bs : List Arc) (a b : Arc) → Placed order arcs bs → b.length ≡ a.length → IsPlace order a.to b.to → Placed order (arcs ++ a ∷ []) (bs ++ b ∷ [])
-Placed-snoc order [] [] a b h same at = (same, at, tt)
-Placed-snoc order [] (y ∷ ys) a b h same at = absurd h
-Placed-snoc order (x ∷ xs) [] a b h same at = absurd h
-Placed-snoc order (x ∷ xs) (y ∷ ys) a b h same at = (h.0, h.1, Placed-snoc order xs ys a b h.2 same at)
-
--- arcs of a map lead to known nodes
-pub arc_known : (parts : Parts) → IsMap parts → (u : ℕ) (a : Arc) → Contains (arcs_out parts.roads u) a → Knows parts a.to
-arc_known parts m u a c =
-    let o : HopOf parts.roads u a = arcs_out-sound parts.roads u a c in
-    subst (Knows parts) o.leads (hop_end-known parts (roads_known parts m.joined) o.hop.road o.hop.back o.among)
-
-abbrev pub a_node : Node
-a_node = record { id = 0; x = pos 0; y = pos 0 }
-
-pub long_more : (rows new : List (List Arc)) (i : ℕ) (row : List Arc) → new ≡ rows ++ row ∷ [] → length rows ≡ i → length new ≡ i + 1
-long_more rows new i row is long = let l : length new ≡ length rows + 1 = ap length is ∙ length-append rows (row ∷ []) in omega (arith, l, long)
-
--- an element of a list with one more at its end
-pub last_or_before : {X : Type 0} (xs : List X) (x : X) (p : ℕ) (r : X) → slice_get (xs ++ x ∷ []) p ≡ Some r → (slice_get xs p ≡ Some r) ⊎ ((p ≡ length xs) × (x ≡ r))
-last_or_before [] x zero r h = inr (refl, (let same : Some x ≡ Some r = h in cc))
-last_or_before [] x (suc p) r h = cc
-last_or_before (y ∷ xs) x zero r h = inl h
-last_or_before (y ∷ xs) x (suc p) r h = elim (last_or_before xs x p r h) [ inl e ↦ inl e | inr e ↦ inr (ap suc e.0, e.1) ]
-
--- the arcs of one position more
-pub net_more : (order : List Node) (roads : List Road) (rows new : List (List Arc)) (i : ℕ) (row : List Arc) → new ≡ rows ++ row ∷ [] → length rows ≡ i
-    → ((p : ℕ) (n : Node) (r : List Arc) → slice_get order p ≡ Some n → slice_get rows p ≡ Some r → Placed order (arcs_out roads n.id) r)
-    → ((n : Node) → slice_get order i ≡ Some n → Placed order (arcs_out roads n.id) row)
-    → (p : ℕ) (n : Node) (r : List Arc) → slice_get order p ≡ Some n → slice_get new p ≡ Some r → Placed order (arcs_out roads n.id) r
-net_more order roads rows new i row is long before here p n r at stands = elim (last_or_before rows row p r (subst (λ xs. slice_get xs p ≡ Some r) is stands)) [
-  | inl old ↦ before p n r at old
-  | inr last ↦ subst (Placed order (arcs_out roads n.id)) last.1 (here n (subst (λ k. slice_get order k ≡ Some n) (last.0 ∙ long) at))
-]
 
 -- ---- walks
 

@@ -4,7 +4,6 @@
 pub use ground::Ground;
 pub use labels::Labels;
 pub use marks::{Hashed, Mark, Marks};
-pub use net::Net;
 pub use numbered::Numbered;
 pub use path::{Path, knows, shortest};
 pub use setting::{search, search_in, search_to};

@@ -1,7 +1,7 @@
 //! Refused replies, for somebody who plans a route.
 
 use lms_tree::SealError;
-use proof_method::Refusal;
+use proof_judge::Refusal;
 use route_client::CheckError;
 use std::fmt::{self, Display, Formatter};
 

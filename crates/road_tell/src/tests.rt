@@ -6,7 +6,7 @@ use crate::{
 };
 use dimacs_reader::DimacsError;
 use lms_tree::SealError;
-use proof_method::Refusal;
+use proof_judge::Refusal;
 use road_command::{MOST_WORDS, Words, command_of};
 use road_map::MapError;
 use route_client::CheckError;

@@ -15,7 +15,7 @@ pub struct Usage {
 }
 
 /// The commands.
-pub const USAGES: [Usage; 10] = [
+pub const USAGES: [Usage; 11] = [
     Usage {
         words: "route ROADS S T",
         does: "writes the length and the nodes of a shortest route from S to T",
@@ -43,6 +43,10 @@ pub const USAGES: [Usage; 10] = [
     Usage {
         words: "prove PUB S T",
         does: "writes a reply that shows a shortest route from S to T",
+    },
+    Usage {
+        words: "serve PUB",
+        does: "answers the frames of standard input over a publication, and over those that\n      are installed after it, for up to 16 sessions",
     },
     Usage {
         words: "check PUBKEY REPLY S T LEAST",

@@ -17,7 +17,7 @@ use Rattle.book_model.specs.declared.settings.Numbers.{Numbers}
 use Rattle.book_model.specs.Books.{Kind, kind_of, leaves_of, leaf_order, IsBookOf}
 use Rattle.merkle_cover.specs.Covers.{chosen_texts}
 use Rattle.merkle_cover.specs.declared.clashes.TwoTexts.{TwoTexts}
-use Rattle.proof_method.specs.Judgement.{Judged}
+use Rattle.proof_judge.specs.Judgement.{Judged}
 use Rattle.proof_method.specs.Gathering.{IsAuthentic, IsOrderOf, StandIn}
 use Rattle.proof_method.specs.Laws.{IsSound, KeepsTrue}
 use Rattle.proof_octets.specs.declared.header.Header.{Header}

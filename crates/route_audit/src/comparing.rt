@@ -7,10 +7,10 @@ ghost use Rattle.route_audit.specs.Comparing.{part_under, node_part_of, pair_par
 ghost use Rattle.route_audit.specs.Evidence.{AreCollision, Clashes, IsTreesOwn};
 
 use crate::Finding;
+use leaf_texts::{node_texts, pair_texts};
 use merkle_cover::{Texts, TwoTexts, clash};
 use octet_text::{Digest32, Hasher, NoMemory};
 use proof_octets::Answer;
-use route_client::{node_texts, pair_texts};
 use route_server::Held;
 use std::alloc::Global;
 

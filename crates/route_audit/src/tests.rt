@@ -9,7 +9,7 @@ use book_model::{Query, Settings};
 use key_desk::Desk;
 use lms_tree::Key;
 use octet_text::{NoMemory, Octets, Toy};
-use proof_method::Refusal;
+use proof_judge::Refusal;
 use proof_octets::{Header, Publication};
 use road_io::{Disk, MemDisk};
 use road_map::{Node, Nodes, Parts, Road, Roads};

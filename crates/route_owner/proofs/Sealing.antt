@@ -3,13 +3,12 @@ use Rattle.std.proofs.Common.{◌≡◌, ℕ, ◌+◌, ◌^◌, ◌≤◌, ◌<�
 use Rattle.std.specs.List.{All}
 use Rattle.std.proofs.lemmas.List.{length-append, length-take-le, length-drop, drop-drop}
 use Rattle.std.proofs.Math.Seq.{drop-length, take-length}
-use Rattle.std.proofs.lemmas.Bool.Decides.{nat_tests}
 use Rattle.sha2.specs.Sha256.{sha256}
 use Rattle.road_map.specs.declared.parts.Parts.{Parts}
 use Rattle.road_io.specs.declared.disk.Disk.{Ghosts}
 use Rattle.road_io.specs.Moments.{EachImage, AtEachMoment}
 use Rattle.book_model.specs.declared.settings.Settings.{Settings}
-use Rattle.lms_tree.specs.Signatures.{KeyOf, number_at, seal_len, height_of}
+use Rattle.lms_tree.specs.Signatures.{KeyOf, number_at}
 use Rattle.key_desk.specs.Desk.{IsSignature}
 use Rattle.key_desk.specs.Layout.{slots_of, gate_at, place_of, IsSigned, OutsideSlot, SignsAtMost}
 use Rattle.proof_octets.specs.declared.header.Header.{Header}
@@ -19,7 +18,7 @@ use Rattle.proof_octets.specs.Publications.{publication, publication_text}
 use Rattle.proof_octets.specs.Good.{IsGoodPublication, IsGoodNode, IsGoodRoad, IsGoodHeader}
 use Rattle.route_server.specs.Headers.{HasHeader, header_of}
 use Rattle.route_server.specs.Keeping.{Kept, IsKept, header_in}
-use Rattle.route_owner.specs.Published.{HasSettingWidths, IsPublication, IsSealed, IsSignable, IsUnsigned, IsPublishedText, SignsHeader, publication_with}
+use Rattle.route_owner.specs.Published.{HasSettingWidths, IsSealed, IsSignable, IsUnsigned, IsPublishedText, SignsHeader, publication_with}
 
 -- a book that is held can be signed
 pub signable : (hash : List ℕ → List ℕ) (k : Kept) (parts left : Parts) (s : Settings) (h : Header)
@@ -147,19 +146,7 @@ module _ {D : Type 0} (g : Ghosts D) (old new : D) where
     stands = subst (λ t. EachImage g new (λ i. IsSigned i (number_at p.signature 0) t)) is (subst (λ n. EachImage g new (λ i. IsSigned i n text)) (sym number) stands);
   }
 
--- the publication that is made of parts, a header and its signature
-pub published_so : Ranges → (hash : List ℕ → List ℕ) (parts left : Parts) (s : Settings) (header : Header) (made signature : List ℕ) (key now : KeyOf) (q : ℕ) (text : List ℕ)
-    → IsSignable hash parts s header left → made ≡ signature → length signature ≤ 1452 → now ≡ key → q < slots_of now.kind → text ≡ header_text header → IsSignature now q text signature → IsPublication hash key parts s (publication_with header left s made)
-published_so ranges hash parts left s header made signature key now q text is same short keys within of good = record {
-  of_parts = is.same;
-  of_settings = refl;
-  has_header = is.has;
-  slot = subst (λ x. number_at x 0 < slots_of key.kind) (sym same) (slot_so key now q signature keys within good.number);
-  signed = subst (λ x. IsSignature key (number_at x 0) (header_text header) x) (sym same) (signed_so key now q header text signature keys of good).1;
-  fits = fits_with ranges hash parts left s header made is (rw same short);
-}
-
--- the text of that publication
+-- the text of the publication that is made of parts, a header and its signature
 pub text_so : (hash : List ℕ → List ℕ) (parts : Parts) (s : Settings) (room : ℕ) (header : Header) (old new signature : List ℕ) (key now : KeyOf) (q : ℕ) (text : List ℕ) {D : Type 0} (g : Ghosts D) (before after : D)
     → IsUnsigned hash parts s room header old → (length signature ≡ room) × (new ≡ take 110 old ++ signature ++ drop (110 + room) old) → now ≡ key → q < slots_of now.kind → text ≡ header_text header → IsSignature now q text signature
     → EachImage g before (λ i. gate_at i (place_of q) ≡ 0) → EachImage g after (λ i. IsSigned i q text) → IsPublishedText g before after hash key parts s new
@@ -169,10 +156,3 @@ text_so hash parts s room header old new signature key now q text g before after
   on_disk = sealed_so g before after (publication_with header parts s signature) q text good.number of free stands;
   spelled = at.1 ∙ sym (is.spells signature at.0);
 }
-
--- a signature is no longer than a tree of height 10 makes it
-pub seal_short : (kind n room : ℕ) (signature : List ℕ) → n ≡ seal_len (height_of kind) → length signature ≡ n → length signature ≤ 1452
-seal_short kind n room signature is same = omega (arith, is, same, by kind)
-  where
-    by : (kind : ℕ) → height_of kind ≤ 10
-    by kind = grind (arith, nat_tests)

@@ -2,7 +2,7 @@
 #![tactic(auto)]
 
 pub use errors::PublishError;
-pub use publishing::{Signable, make_signable, publish, publish_text};
+pub use publishing::{Signable, make_signable, publish_text};
 
 mod errors;
 mod publishing;

@@ -12,14 +12,14 @@ ghost use Rattle.proof_octets.specs.declared.publication.Publication.{Publicatio
 ghost use Rattle.proof_octets.specs.Publications.{publication_text};
 ghost use Rattle.route_server.specs.Headers.{HasHeader, Makes};
 ghost use Rattle.route_server.specs.declared.errors.BuildError.{BuildError};
-ghost use Rattle.route_owner.specs.Published.{IsPublication, IsSealed, IsNoBook, IsUsedUp, OnSigning, OnNoSigning, SignsHeader, IsSignable, IsUnsigned, IsPublishedText};
+ghost use Rattle.route_owner.specs.Published.{IsNoBook, IsUsedUp, OnSigning, OnNoSigning, SignsHeader, IsSignable, IsUnsigned, IsPublishedText};
 
 use crate::errors::PublishError;
 use crate::widths::{parts_have_widths, settings_have_widths};
 use book_model::Settings;
 use key_desk::Desk;
 use octet_text::{Hasher, NoMemory, Octets};
-use proof_octets::{Header, Publication, length_laws, range_laws, sealing_laws};
+use proof_octets::{Header, Publication, range_laws, sealing_laws};
 use road_io::Disk;
 use road_map::Parts;
 use route_server::{BuildError, Held, header_laws};
@@ -95,48 +95,7 @@ fn make_unsigned<H: Hasher>(
 }
 
 /// Signs the header of the book of parts and settings by the next one-time key, and answers the
-/// publication. All memory is taken before the signing begins.
-pub fn publish<H: Hasher, D: Disk>(
-    alloc: Global,
-    desk: &mut Desk,
-    disk: &mut D,
-    parts: Parts,
-    settings: &Settings,
-) -> Result<Publication, PublishError>
-    requires { Fits D.Disk desk.old disk.old }
-    ensures published { IfOk result (IsPublication H.hash desk.old.key parts settings.now) }
-    ensures sealed { IfOk result (IsSealed D.Disk disk.old disk.new) }
-    ensures no_book { (e : BuildError) → result ≡ Err (PublishError.Build e) → IsNoBook H.hash parts settings.now e }
-    ensures used_up { result ≡ Err (PublishError.Desk desk_errors.KeysUsedUp) → IsUsedUp H.hash parts settings.now desk.old }
-    ensures closed { result ≡ Err (PublishError.Desk desk_errors.Closed) → desk.old.is_open ≡ false }
-    ensures fault { result ≡ Err (PublishError.Desk desk_errors.DiskFault) → Rose (D.faults disk.old) (D.faults disk.new) }
-    ensures untouched { OnNoSigning result ((desk.new ≡ desk.old) × (disk.new ≡ disk.old)) }
-    ensures moments { OnSigning result (SignsHeader D.Disk disk.old disk.new H.hash parts settings.now) }
-    ensures fits { Fits D.Disk desk.new disk.new }
-    ensures key { desk.new.key ≡ desk.old.key }
-{
-    let Signable { header, parts } = match make_signable::<H>(alloc, parts, settings) {
-        Ok(signable) => signable,
-        Err(BuildError::Memory) => return Err(PublishError::Memory),
-        Err(fault) => return Err(PublishError::Build(fault)),
-    };
-    let Ok(mut signature) = zeros(alloc, desk.sig_len() as usize) else {
-        return Err(PublishError::Memory);
-    };
-    length_laws();
-    range_laws();
-    match desk.sign(disk, &header.write(), &mut signature) {
-        Ok(_) => Ok(Publication {
-            header,
-            signature: Octets::from_vec(signature),
-            settings: *settings,
-            parts,
-        }),
-        Err(fault) => Err(PublishError::Desk(fault)),
-    }
-}
-
-/// The same, and answers the octets of the publication.
+/// octets of the publication. All memory is taken before the signing begins.
 pub fn publish_text<H: Hasher, D: Disk>(
     alloc: Global,
     desk: &mut Desk,

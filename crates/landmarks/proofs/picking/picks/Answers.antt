@@ -6,7 +6,7 @@ use Rattle.landmarks.proofs.picking.picks.Goals as goal
 
 pub loop-k-init : goal.loop-k-init
 loop-k-init c = record {
-  same = c.in_ok-survey.ensures;
+  same = c.of-survey.ensures;
   chosen = c.new.ensures.items ∙ landmarks_none c.args.map.now.parts;
   near = c.in_ok-no_lengths.ensures ∙ ap (nearest_row (distance c.args.map.now.parts) c.args.ids.now) (sym c.new.ensures.items);
   rows = c.new-2.ensures.items ∙ ap (rows_of (distance c.args.map.now.parts) c.args.ids.now) (sym c.new.ensures.items);

@@ -1,73 +1,94 @@
-use Rattle.road_proof.proofs.Disks.{no_step}
-use Rattle.road_proof.proofs.KeyLemmas.{asked_of}
-use Rattle.road_proof.proofs.DeskLemmas.{any_files}
-use Rattle.road_proof.proofs.SurveyLemmas.{any_survey}
-use Rattle.road_proof.proofs.Written.{no_untold}
+use Rattle.road_proof.proofs.RunLemmas.{run_promises, run_stays, run_without_disk, run_nothing, run_takes, run_takes_nothing}
+use Rattle.std.proofs.Common.{refl}
+use Rattle.std.specs.declared.option.Option.TheVariants.{None}
 use Rattle.road_proof.proofs.program.work.Goals as goal
 
-pub returns-in-None-clause-stands : goal.returns-in-None-clause-stands
-returns-in-None-clause-stands g c = no_step g.D.Disk c.args.disk.now
+pub returns-in-None-clause-promised : goal.returns-in-None-clause-promised
+returns-in-None-clause-promised g c = run_nothing g.D.Disk c.args.disk.now _ _ _ _ _ c.in-None.ensures
 
-pub returns-in-Some-Route-clause-stands : goal.returns-in-Some-Route-clause-stands
-returns-in-Some-Route-clause-stands g c = no_step g.D.Disk c.args.disk.now
+pub returns-in-Some-Route-clause-promised : goal.returns-in-Some-Route-clause-promised
+returns-in-Some-Route-clause-promised g c = run_without_disk g.D.Disk c.args.disk.now _ _ _ _ _ _ _ _ _ _ (rw c.in-Some-Route.field-0-is at c.in-Some-Route.ensures) (λ h. h) c.route.ensures
 
-pub returns-in-Some-Root-clause-stands : goal.returns-in-Some-Root-clause-stands
-returns-in-Some-Root-clause-stands g c = no_step g.D.Disk c.args.disk.now
+pub returns-in-Some-Root-clause-promised : goal.returns-in-Some-Root-clause-promised
+returns-in-Some-Root-clause-promised g c = run_without_disk g.D.Disk c.args.disk.now _ _ _ _ _ _ _ _ _ _ (rw c.in-Some-Root.field-0-is at c.in-Some-Root.ensures) (λ h. h) c.root.ensures
 
-pub returns-in-Some-Route-clause-answered : goal.returns-in-Some-Route-clause-answered
-returns-in-Some-Route-clause-answered g c =
-    asked_of _ _ (rw c.in-Some-Route.field-0-is at c.in-Some-Route.ensures) _ _ _ _ _ (c.route.ensures.answered (g.D.Disk.content c.args.disk.now))
+pub returns-in-Some-Dimacs-clause-promised : goal.returns-in-Some-Dimacs-clause-promised
+returns-in-Some-Dimacs-clause-promised g c = run_without_disk g.D.Disk c.args.disk.now _ _ _ _ _ _ _ _ _ _ (rw c.in-Some-Dimacs.field-0-is at c.in-Some-Dimacs.ensures) (λ h. h) c.dimacs.ensures
 
-pub returns-in-Some-Root-clause-answered : goal.returns-in-Some-Root-clause-answered
-returns-in-Some-Root-clause-answered g c =
-    asked_of _ _ (rw c.in-Some-Root.field-0-is at c.in-Some-Root.ensures) _ _ _ _ _ (c.root.ensures.answered (g.D.Disk.content c.args.disk.now))
+pub returns-in-Some-Prove-clause-promised : goal.returns-in-Some-Prove-clause-promised
+returns-in-Some-Prove-clause-promised g c = run_without_disk g.D.Disk c.args.disk.now _ _ _ _ _ _ _ _ _ _ (rw c.in-Some-Prove.field-0-is at c.in-Some-Prove.ensures) (λ h. h) c.prove.ensures
 
-pub returns-in-Some-Dimacs-clause-stands : goal.returns-in-Some-Dimacs-clause-stands
-returns-in-Some-Dimacs-clause-stands g c = no_step g.D.Disk c.args.disk.now
+pub returns-in-Some-Check-clause-promised : goal.returns-in-Some-Check-clause-promised
+returns-in-Some-Check-clause-promised g c = run_without_disk g.D.Disk c.args.disk.now _ _ _ _ _ _ _ _ _ _ (rw c.in-Some-Check.field-0-is at c.in-Some-Check.ensures) (λ h. h) c.check.ensures
 
-pub returns-in-Some-Dimacs-clause-answered : goal.returns-in-Some-Dimacs-clause-answered
-returns-in-Some-Dimacs-clause-answered g c =
-    asked_of _ _ (rw c.in-Some-Dimacs.field-0-is at c.in-Some-Dimacs.ensures) _ _ _ _ _ (c.dimacs.ensures.answered (g.D.Disk.content c.args.disk.now))
+pub returns-in-Some-Survey-clause-promised : goal.returns-in-Some-Survey-clause-promised
+returns-in-Some-Survey-clause-promised g c = run_without_disk g.D.Disk c.args.disk.now _ _ _ _ _ _ _ _ _ _ (rw c.in-Some-Survey.field-0-is at c.in-Some-Survey.ensures) (λ h. h) (c.survey.ensures _ _)
 
-pub returns-in-Some-Key-clause-answered : goal.returns-in-Some-Key-clause-answered
-returns-in-Some-Key-clause-answered g c =
-    asked_of _ _ (rw c.in-Some-Key.field-0-is at c.in-Some-Key.ensures) _ _ _ _ _ c.key.ensures.answered
+pub returns-in-Some-Key-clause-promised : goal.returns-in-Some-Key-clause-promised
+returns-in-Some-Key-clause-promised g c =
+    run_promises g.D.Disk c.args.disk.now c.key.new.disk _ _ _ _ _ _ _ _ _ _ (rw c.in-Some-Key.field-0-is at c.in-Some-Key.ensures) c.key.ensures.promised
+    (record { made = c.key.ensures.made; held = c.key.ensures.held; kept = c.key.ensures.kept }) c.key.ensures.stands
 
-pub returns-in-Some-Prove-clause-stands : goal.returns-in-Some-Prove-clause-stands
-returns-in-Some-Prove-clause-stands g c = no_step g.D.Disk c.args.disk.now
+pub returns-in-Some-Desk-clause-promised : goal.returns-in-Some-Desk-clause-promised
+returns-in-Some-Desk-clause-promised g c =
+    run_stays g.D.Disk c.args.disk.now c.desk.new.disk _ _ _ _ _ _ _ _ _ _ (rw c.in-Some-Desk.field-0-is at c.in-Some-Desk.ensures) (c.desk.ensures.promised _ _) c.desk.ensures.stays c.desk.ensures.stays
 
-pub returns-in-Some-Prove-clause-answered : goal.returns-in-Some-Prove-clause-answered
-returns-in-Some-Prove-clause-answered g c =
-    asked_of _ _ (rw c.in-Some-Prove.field-0-is at c.in-Some-Prove.ensures) _ _ _ _ _ (c.prove.ensures.answered (g.D.Disk.content c.args.disk.now))
+pub returns-in-Some-Publish-clause-promised : goal.returns-in-Some-Publish-clause-promised
+returns-in-Some-Publish-clause-promised g c =
+    run_promises g.D.Disk c.args.disk.now c.publish.new.disk _ _ _ _ _ _ _ _ _ _ (rw c.in-Some-Publish.field-0-is at c.in-Some-Publish.ensures) c.publish.ensures.promised
+    (c.publish.ensures.sealed, c.publish.ensures.signs) c.publish.ensures.stands
 
-pub returns-in-Some-Check-clause-stands : goal.returns-in-Some-Check-clause-stands
-returns-in-Some-Check-clause-stands g c = no_step g.D.Disk c.args.disk.now
+pub returns-in-Some-Audit-clause-promised : goal.returns-in-Some-Audit-clause-promised
+returns-in-Some-Audit-clause-promised g c =
+    run_stays g.D.Disk c.args.disk.now c.audit.new.disk _ _ _ _ _ _ _ _ _ _ (rw c.in-Some-Audit.field-0-is at c.in-Some-Audit.ensures) c.audit.ensures.promised
+    (c.audit.ensures.stays, c.audit.ensures.finds, c.audit.ensures.headline) c.audit.ensures.stays
 
-pub returns-in-Some-Check-clause-answered : goal.returns-in-Some-Check-clause-answered
-returns-in-Some-Check-clause-answered g c =
-    asked_of _ _ (rw c.in-Some-Check.field-0-is at c.in-Some-Check.ensures) _ _ _ _ _ (c.check.ensures.answered (g.D.Disk.content c.args.disk.now))
+pub returns-in-Some-Serve-clause-promised : goal.returns-in-Some-Serve-clause-promised
+returns-in-Some-Serve-clause-promised g c = run_without_disk g.D.Disk c.args.disk.now _ _ _ _ _ _ _ _ _ _ (rw c.in-Some-Serve.field-0-is at c.in-Some-Serve.ensures) (λ h. h) c.serve.ensures.promised
 
-pub returns-in-Some-Publish-clause-answered : goal.returns-in-Some-Publish-clause-answered
-returns-in-Some-Publish-clause-answered g c =
-    asked_of _ _ (rw c.in-Some-Publish.field-0-is at c.in-Some-Publish.ensures) _ _ _ _ _ c.publish.ensures.answered
+pub returns-in-None-clause-takes : goal.returns-in-None-clause-takes
+returns-in-None-clause-takes g c = run_takes_nothing _ _ _ _ _ _ c.in-None.ensures
 
-pub returns-in-Some-Audit-clause-answered : goal.returns-in-Some-Audit-clause-answered
-returns-in-Some-Audit-clause-answered g c =
-    asked_of _ _ (rw c.in-Some-Audit.field-0-is at c.in-Some-Audit.ensures) _ _ _ _ _ c.audit.ensures.answered
+pub returns-in-Some-Serve-clause-takes : goal.returns-in-Some-Serve-clause-takes
+returns-in-Some-Serve-clause-takes g c =
+    run_takes _ _ _ _ _ _ _ _ _ _ (rw c.in-Some-Serve.field-0-is at c.in-Some-Serve.ensures) c.serve.ensures.serves tt c.serve.ensures.serves.source
 
-pub returns-in-Some-Desk-clause-answered : goal.returns-in-Some-Desk-clause-answered
-returns-in-Some-Desk-clause-answered g c =
-    asked_of _ _ (rw c.in-Some-Desk.field-0-is at c.in-Some-Desk.ensures) _ _ _ _ _ (any_files _ _ _ _ _ c.desk.ensures.answered)
+pub returns-in-Some-Route-clause-takes : goal.returns-in-Some-Route-clause-takes
+returns-in-Some-Route-clause-takes g c =
+    run_takes _ _ _ _ _ _ _ _ _ _ (rw c.in-Some-Route.field-0-is at c.in-Some-Route.ensures) tt refl (λ e. absurd (c.route.ensures.source e))
 
-pub returns-in-Some-Desk-clause-untold : goal.returns-in-Some-Desk-clause-untold
-returns-in-Some-Desk-clause-untold g c = no_untold _ _ _ _ c.desk.ensures.no_file.0 c.desk.ensures.no_file.1
+pub returns-in-Some-Root-clause-takes : goal.returns-in-Some-Root-clause-takes
+returns-in-Some-Root-clause-takes g c =
+    run_takes _ _ _ _ _ _ _ _ _ _ (rw c.in-Some-Root.field-0-is at c.in-Some-Root.ensures) tt refl (λ e. absurd (c.root.ensures.source e))
 
-pub returns-in-Some-Survey-clause-answered : goal.returns-in-Some-Survey-clause-answered
-returns-in-Some-Survey-clause-answered g c =
-    asked_of _ _ (rw c.in-Some-Survey.field-0-is at c.in-Some-Survey.ensures) _ _ _ _ _ (any_survey _ (g.D.Disk.content c.args.disk.now) _ _ _ _ _ _ _ c.survey.ensures.answered)
+pub returns-in-Some-Dimacs-clause-takes : goal.returns-in-Some-Dimacs-clause-takes
+returns-in-Some-Dimacs-clause-takes g c =
+    run_takes _ _ _ _ _ _ _ _ _ _ (rw c.in-Some-Dimacs.field-0-is at c.in-Some-Dimacs.ensures) tt refl (λ e. absurd (c.dimacs.ensures.source e))
 
-pub returns-in-Some-Survey-clause-untold : goal.returns-in-Some-Survey-clause-untold
-returns-in-Some-Survey-clause-untold g c = no_untold _ _ _ _ c.survey.ensures.no_file.0 c.survey.ensures.no_file.1
+pub returns-in-Some-Prove-clause-takes : goal.returns-in-Some-Prove-clause-takes
+returns-in-Some-Prove-clause-takes g c =
+    run_takes _ _ _ _ _ _ _ _ _ _ (rw c.in-Some-Prove.field-0-is at c.in-Some-Prove.ensures) tt refl (λ e. absurd (c.prove.ensures.source e))
 
-pub returns-in-Some-Survey-clause-stands : goal.returns-in-Some-Survey-clause-stands
-returns-in-Some-Survey-clause-stands g c = no_step g.D.Disk c.args.disk.now
+pub returns-in-Some-Check-clause-takes : goal.returns-in-Some-Check-clause-takes
+returns-in-Some-Check-clause-takes g c =
+    run_takes _ _ _ _ _ _ _ _ _ _ (rw c.in-Some-Check.field-0-is at c.in-Some-Check.ensures) tt refl (λ e. absurd (c.check.ensures.source e))
+
+pub returns-in-Some-Survey-clause-takes : goal.returns-in-Some-Survey-clause-takes
+returns-in-Some-Survey-clause-takes g c =
+    run_takes _ _ _ _ _ _ _ _ _ _ (rw c.in-Some-Survey.field-0-is at c.in-Some-Survey.ensures) tt refl (λ e. absurd ((c.survey.ensures (None) 0).source e))
+
+pub returns-in-Some-Key-clause-takes : goal.returns-in-Some-Key-clause-takes
+returns-in-Some-Key-clause-takes g c =
+    run_takes _ _ _ _ _ _ _ _ _ _ (rw c.in-Some-Key.field-0-is at c.in-Some-Key.ensures) tt refl (λ e. absurd (c.key.ensures.promised.source e))
+
+pub returns-in-Some-Desk-clause-takes : goal.returns-in-Some-Desk-clause-takes
+returns-in-Some-Desk-clause-takes g c =
+    run_takes _ _ _ _ _ _ _ _ _ _ (rw c.in-Some-Desk.field-0-is at c.in-Some-Desk.ensures) tt refl (λ e. absurd ((c.desk.ensures.promised (None) 0).source e))
+
+pub returns-in-Some-Publish-clause-takes : goal.returns-in-Some-Publish-clause-takes
+returns-in-Some-Publish-clause-takes g c =
+    run_takes _ _ _ _ _ _ _ _ _ _ (rw c.in-Some-Publish.field-0-is at c.in-Some-Publish.ensures) tt refl (λ e. absurd (c.publish.ensures.promised.source e))
+
+pub returns-in-Some-Audit-clause-takes : goal.returns-in-Some-Audit-clause-takes
+returns-in-Some-Audit-clause-takes g c =
+    run_takes _ _ _ _ _ _ _ _ _ _ (rw c.in-Some-Audit.field-0-is at c.in-Some-Audit.ensures) tt refl (λ e. absurd (c.audit.ensures.promised.source e))

@@ -3,7 +3,8 @@ use Rattle.std.specs.Option.{option_map}
 use Rattle.road_search.specs.declared.label.Label.{Label}
 use Rattle.road_search.specs.Marking.{open_in, label_in}
 use Rattle.road_search.specs.Labelling.{Settles}
-use Rattle.road_search.proofs.Turns.{count, tally-most, first_turn, mark_turn, Turned, at_some, at_none}
+use Rattle.road_map.proofs.IdLaws.{at_some}
+use Rattle.road_search.proofs.Turns.{count, tally-most, first_turn, mark_turn, Turned, at_none}
 use Rattle.road_search.proofs.Cutting.{AtEnd, settles_labels, near_lengths, near_way, end_kept, end_found, bounded_turn, still_low, cut_length, same_labels, not_open}
 use Rattle.road_search.proofs.setting.search_to.Goals as goal
 

@@ -1,0 +1,243 @@
+-- What an audit's answer lets the command end with.
+use Rattle.std.proofs.Common.{◌≡◌, ◌≢◌, inl, inr, ℕ, ◌≤◌, true, List, [], Some, length, refl, sym, ap, subst, ◌∙◌, IfSome, IfOk, IfErr, arith}
+use Rattle.std.specs.declared.option.Option.{Option}
+use Rattle.std.specs.declared.option.Option.TheVariants.{None}
+use Rattle.std.specs.declared.result.Result.{Result}
+use Rattle.std.specs.declared.result.Result.TheVariants.{Ok, Err}
+use Rattle.std.specs.Option.{ForSome}
+use Rattle.std.specs.Io.KnownBytes.{Appends}
+use Rattle.road_io.specs.Causes.{Rose}
+use Rattle.sha2.specs.Sha256.{sha256}
+use Rattle.road_io.specs.declared.disk.Disk.{Ghosts}
+use Rattle.road_io.specs.Disk.{Stays}
+use Rattle.road_io.specs.Moments.{Image, EachImage, AtEachMoment}
+use Rattle.road_io.specs.Contents.{Shelf}
+use Rattle.book_model.specs.declared.items.Query.{Query}
+use Rattle.lms_tree.specs.Signatures.{KeyOf, public_key, verified}
+use Rattle.key_desk.specs.Layout.{SlotId, IsSigned}
+use Rattle.key_desk.specs.declared.desk.Desk.{Desk}
+use Rattle.key_desk.specs.declared.desk.DeskError.{DeskError}
+use Rattle.key_desk.specs.declared.desk.DeskError.TheVariants.{KeysUsedUp, DiskFault, Closed}
+use Rattle.proof_octets.specs.declared.publication.Publication.{Publication}
+use Rattle.proof_octets.specs.Headers.{header_text}
+use Rattle.route_server.specs.declared.errors.BuildError.TheVariants as build
+use Rattle.route_server.specs.declared.errors.InstallError.TheVariants as install
+use Rattle.route_audit.specs.Looks.{LookFails, look_at}
+use Rattle.route_audit.specs.Findings.{Audited, Finds}
+use Rattle.route_audit.specs.declared.errors.AuditError.{AuditError}
+use Rattle.route_audit.specs.declared.errors.AuditError.TheVariants as audit
+use Rattle.route_audit.specs.declared.finding.Finding.{Finding}
+use Rattle.route_audit.specs.declared.finding.Finding.TheVariants.{Right, Collision, Forged}
+use Rattle.road_line.specs.EvidenceLine.{forged_line}
+use Rattle.command_files.specs.Reading.{octets_at, publication_at}
+use Rattle.command_files.specs.HexFiles.{public_key_at}
+use Rattle.command_files.specs.Endings.{Ending, EndsReading, NoEnd, Promises, TellsNone, MayEnd, WhyNot, Writes}
+use Rattle.command_files.specs.declared.fault.Fault.{Fault}
+use Rattle.command_files.specs.declared.fault.Fault.TheVariants.{Sink}
+use Rattle.command_files.specs.declared.ended.Verdict.{Verdict}
+use Rattle.command_files.specs.declared.ended.Verdict.TheVariants.{Done, Refused, Evidence}
+use Rattle.command_files.proofs.Written.{CallsFor, reads, refused, written, why_map}
+use Rattle.command_desks.specs.Opening.{IsUsable, IsKeyOn, HasBlock, EndsOpening}
+use Rattle.command_desks.proofs.Openings.{same_owner, shut}
+use Rattle.command_books.specs.Installing.{EndsInstalling, fault_of_build}
+use Rattle.audit_commands.specs.Auditing.{IsOwnersKey, EndsOwnersKey, EndsClient, EndsSigned, EndsSameHeader, EndsComparing, EndsAudit, Tells, LookFailed, ends_audit}
+use Rattle.audit_commands.specs.Headline.{RestsOn, WritesFindings}
+
+-- what was asked of the audit
+abbrev pub audited : KeyOf → List ℕ → List ℕ → Query → Publication → Audited
+audited owner key octets q p = record { desk_key = public_key owner; public = key; reply = octets; query = q; publication = p }
+
+-- the steps behind the client's
+abbrev pub Behind : Option (List ℕ) → List ℕ → List ℕ → Query → Publication → Ending
+Behind content key octets q p = EndsClient key octets q (λ x a. EndsInstalling p (EndsSigned content key a (EndsSameHeader p a (EndsComparing p q x a))))
+
+module _ {D : Type 0} (g : Ghosts D) (old mid new : D) (desk : Desk) (key octets : List ℕ) (q : Query) (p : Publication)
+    (seen : (c : List ℕ) → g.content mid ≡ Some c → Image g mid c) (same : g.content mid ≡ g.content old) (block : HasBlock (g.content old) desk.key) (named : length desk.key.i ≡ 16) where
+  on_disk : (c : List ℕ) → g.content old ≡ Some c → IsKeyOn c desk.key
+  on_disk c is = record { kind = (block c is).1; secret = (block c is).2; named = named }
+
+  own : key ≡ public_key desk.key → ForSome (g.content old) (λ c. IsOwnersKey c key)
+  own e c is = record { owner = desk.key; on_disk = on_disk c is; is = e }
+
+  not_own : key ≢ public_key desk.key → ForSome (g.content old) (λ c. ¬ IsOwnersKey c key)
+  not_own n c is h = n (h.is ∙ ap public_key (same_owner c h.owner desk.key h.on_disk (on_disk c is)))
+
+  signed : (text : List ℕ) → ((slot : SlotId) × EachImage g mid (λ i. IsSigned i slot text)) → ForSome (g.content old) (λ c. (slot : SlotId) × IsSigned c slot text)
+  signed text h c is = (h.0, h.1 c (seen c (same ∙ is)))
+
+  unsigned : (text : List ℕ) → EachImage g mid (λ i. (slot : SlotId) → ¬ IsSigned i slot text) → ForSome (g.content old) (λ c. (slot : SlotId) → ¬ IsSigned c slot text)
+  unsigned text h c is = h c (seen c (same ∙ is))
+
+  -- behind the owner's key
+  behind : (e : key ≡ public_key desk.key) (o : Result Verdict Fault) (t : List ℕ) → Behind (g.content old) (public_key desk.key) octets q p o t
+      → EndsOwnersKey (g.content old) key (Behind (g.content old) key octets q p) o t
+  behind e o t h = inr (own e, subst (λ k. Behind (g.content old) k octets q p o t) (sym e) h)
+
+  by_answer : (r : Result Finding AuditError) (o : Result Verdict Fault) (t : List ℕ) → Finds sha256 sha256 (look_at g desk mid new) (audited desk.key key octets q p) r → Tells r o t
+      → EndsOwnersKey (g.content old) key (Behind (g.content old) key octets q p) o t
+  by_answer (Err audit.OtherKey) o t f tells = inl (tells.0, not_own f, tells.1)
+  by_answer (Err (audit.Refused e)) o t f tells = behind f.0 o t (inl (e, f.2, f.1, tells.0, tells.1))
+  by_answer (Err (audit.Install (install.Build (build.Map e)))) o t f tells =
+      behind f.0.key o t (inr (f.0.accepted, f.0.accepts, record { made = Err (build.Map e); makes = f.1.0; follows = tells }))
+  by_answer (Err (audit.Install (install.Build (build.Plan e)))) o t f tells =
+      behind f.0.key o t (inr (f.0.accepted, f.0.accepts, record { made = Err (build.Plan e); makes = f.1.0; follows = tells }))
+  by_answer (Err (audit.Install (install.Build build.Memory))) o t f tells = absurd tells
+  by_answer (Err (audit.Install install.HeaderWrong)) o t f tells =
+      behind f.0.key o t (inr (f.0.accepted, f.0.accepts, record { made = Ok f.1.0; makes = f.1.1; follows = inr (f.1.2, tells.0, tells.1) }))
+  by_answer (Err (audit.Install install.Memory)) o t f tells = absurd tells
+  by_answer (Err (audit.Desk e)) o t f tells = absurd tells
+  by_answer (Err audit.Memory) o t f tells = absurd tells
+  by_answer (Ok (Forged header signature)) o t f tells =
+      let i = f.installed in
+      let a = i.reply.accepts.answer in
+      let un : ForSome (g.content old) (λ c. (slot : SlotId) → ¬ IsSigned c slot (header_text a.header)) =
+      subst (λ x. ForSome (g.content old) (λ c. (slot : SlotId) → ¬ IsSigned c slot x)) f.brings.header_is (unsigned header f.unsigned.1) in
+      let good : verified (public_key desk.key) (header_text a.header) a.signature ≡ Ok tt =
+      subst (λ x. verified (public_key desk.key) x a.signature ≡ Ok tt) f.brings.header_is (subst (λ x. verified (public_key desk.key) header x ≡ Ok tt) f.brings.signature_is f.brings.good) in
+      let line : t ≡ forged_line (header_text a.header) a.signature =
+      tells.1 ∙ ap (λ x. forged_line x signature) f.brings.header_is ∙ ap (λ x. forged_line (header_text a.header) x) f.brings.signature_is in
+      behind i.reply.key o t (inr (i.reply.accepted, i.reply.accepts, record { made = Ok p.header; makes = i.header; follows = inl (refl, inl (tells.0, un, good, line)) }))
+  by_answer (Err audit.OtherPublication) o t f tells =
+      let i = f.installed in
+      behind i.reply.key o t (inr (i.reply.accepted, i.reply.accepts, record { made = Ok p.header; makes = i.header; follows = inl (refl, inr (signed _ f.signed.1, inl (tells.0, f.other, tells.1))) }))
+  by_answer (Ok (Collision two)) o t f tells =
+      let i = f.0.installed in
+      behind i.reply.key o t (inr (i.reply.accepted, i.reply.accepts, record { made = Ok p.header; makes = i.header; follows = inl (refl, inr (signed _ f.0.signed.1, inr (f.0.same, inr (tells.0, two, f.1, tells.1)))) }))
+  by_answer (Ok Right) o t f tells =
+      let i = f.0.installed in
+      behind i.reply.key o t (inr (i.reply.accepted, i.reply.accepts, record { made = Ok p.header; makes = i.header; follows = inl (refl, inr (signed _ f.0.signed.1, inr (f.0.same, inl (tells.0, f.1, tells.1)))) }))
+
+  -- behind the opened desk
+  pub ends_of : ForSome (g.content old) IsUsable → (r : Result Finding AuditError) (o : Result Verdict Fault) (t : List ℕ) → Finds sha256 sha256 (look_at g desk mid new) (audited desk.key key octets q p) r → Tells r o t
+      → EndsAudit (g.content old) key p octets q o t
+  ends_of usable r o t f tells = inr (inr (usable, by_answer r o t f tells))
+
+  -- why nothing was written
+  pub why_not : (DiskFailed : Type 0) → ForSome (g.content old) IsUsable → (r : Result Finding AuditError) → (LookFailed r → DiskFailed) → (f : Fault) → Finds sha256 sha256 (look_at g desk mid new) (audited desk.key key octets q p) r
+      → WhyNot (LookFailed r) (Tells r) f → WhyNot DiskFailed (EndsAudit (g.content old) key p octets q) f
+  why_not DiskFailed usable r failed f finds =
+      why_map (LookFailed r) DiskFailed (Tells r) (EndsAudit (g.content old) key p octets q) failed (λ o t tells. ends_of usable r o t finds tells) f
+
+  -- a look fails only where the disk's count of faults rose
+  pub look_failed : desk.is_open ≡ true → g.faults old ≤ g.faults mid → (r : Result Finding AuditError) → Finds sha256 sha256 (look_at g desk mid new) (audited desk.key key octets q p) r → LookFailed r → Rose (g.faults old) (g.faults new)
+  look_failed opened later r f why = by why.0 (subst (λ (x : Result Finding AuditError). Finds sha256 sha256 (look_at g desk mid new) (audited desk.key key octets q p) x) why.1 f).1
+    where
+      by : (e : DeskError) → LookFails g desk mid new e → Rose (g.faults old) (g.faults new)
+      by KeysUsedUp h = absurd h
+      by DiskFault h = grind (arith, h.1, later)
+      by Closed h = absurd (cc)
+
+  -- what holds of each image holds of each image afterwards, since none changes
+  later : (P : List ℕ → Type 0) → AtEachMoment g mid new Stays → EachImage g mid P → EachImage g new P
+  later P m h i at = let w = m.each (g.clock new) i m.later (omega arith) at in subst P (sym w.2) (h w.0 w.1)
+
+  -- what a line rests on
+  pub rests_on : AtEachMoment g mid new Stays → (r : Result Finding AuditError) (o : Result Verdict Fault) (t : List ℕ) → Finds sha256 sha256 (look_at g desk mid new) (audited desk.key key octets q p) r → Tells r o t
+      → RestsOn g new key octets o t
+  rests_on m r (Ok Refused) t f tells = tt
+  rests_on m r (Err e) t f tells = tt
+  rests_on m (Ok Right) (Ok Done) t f tells =
+      let a = f.0.installed.reply.accepts in
+      record { answer = a.answer; spelled = a.spelled; slot = f.0.signed.1.0; signed = later (λ i. IsSigned i f.0.signed.1.0 (header_text a.answer.header)) m f.0.signed.1.1 }
+  rests_on m (Ok (Collision two)) (Ok Done) t f tells = absurd (cc)
+  rests_on m (Ok (Forged header signature)) (Ok Done) t f tells = absurd (cc)
+  rests_on m (Ok Right) (Ok Evidence) t f tells = absurd (cc)
+  rests_on m (Ok (Collision two)) (Ok Evidence) t f tells = inl (record { left = two.left; right = two.right; differ = f.1.collision.differ; one_digest = f.1.collision.one_digest; line = tells.1 })
+  rests_on m (Ok (Forged header signature)) (Ok Evidence) t f tells = inr (record {
+    header = header;
+    signature = signature;
+    good = subst (λ k. verified k header signature ≡ Ok tt) (sym f.installed.reply.key) f.brings.good;
+    unsigned = later (λ i. (slot : SlotId) → ¬ IsSigned i slot header) m f.unsigned.1;
+    line = tells.1;
+  })
+  rests_on m (Err (audit.Refused e)) (Ok Done) t f tells = absurd (cc)
+  rests_on m (Err (audit.Refused e)) (Ok Evidence) t f tells = absurd (cc)
+  rests_on m (Err audit.OtherKey) (Ok Done) t f tells = absurd (cc)
+  rests_on m (Err audit.OtherKey) (Ok Evidence) t f tells = absurd (cc)
+  rests_on m (Err audit.OtherPublication) (Ok Done) t f tells = absurd (cc)
+  rests_on m (Err audit.OtherPublication) (Ok Evidence) t f tells = absurd (cc)
+  rests_on m (Err audit.Memory) (Ok Done) t f tells = absurd tells
+  rests_on m (Err audit.Memory) (Ok Evidence) t f tells = absurd tells
+  rests_on m (Err (audit.Desk e)) (Ok Done) t f tells = absurd tells
+  rests_on m (Err (audit.Desk e)) (Ok Evidence) t f tells = absurd tells
+  rests_on m (Err (audit.Install (install.Build (build.Map e)))) (Ok Done) t f tells = absurd (cc)
+  rests_on m (Err (audit.Install (install.Build (build.Map e)))) (Ok Evidence) t f tells = absurd (cc)
+  rests_on m (Err (audit.Install (install.Build (build.Plan e)))) (Ok Done) t f tells = absurd (cc)
+  rests_on m (Err (audit.Install (install.Build (build.Plan e)))) (Ok Evidence) t f tells = absurd (cc)
+  rests_on m (Err (audit.Install (install.Build build.Memory))) (Ok Done) t f tells = absurd tells
+  rests_on m (Err (audit.Install (install.Build build.Memory))) (Ok Evidence) t f tells = absurd tells
+  rests_on m (Err (audit.Install install.HeaderWrong)) (Ok Done) t f tells = absurd (cc)
+  rests_on m (Err (audit.Install install.HeaderWrong)) (Ok Evidence) t f tells = absurd (cc)
+  rests_on m (Err (audit.Install install.Memory)) (Ok Done) t f tells = absurd tells
+  rests_on m (Err (audit.Install install.Memory)) (Ok Evidence) t f tells = absurd tells
+
+-- a desk that doesn't open
+pub not_opened : (DiskFailed : Type 0) (content : Option (List ℕ)) (key : List ℕ) (p : Publication) (octets : List ℕ) (q : Query) (f : Fault) → WhyNot DiskFailed (EndsOpening content NoEnd) f → WhyNot DiskFailed (EndsAudit content key p octets q) f
+not_opened DiskFailed content key p octets q =
+    why_map DiskFailed DiskFailed (EndsOpening content NoEnd) (EndsAudit content key p octets q) (λ x. x) (shut content (EndsOwnersKey content key (Behind content key octets q p)))
+
+-- ---- what functions give
+
+-- what follows of a value follows where there is one
+pub if_ok : {T E : Type 0} (r : Result T E) (P Q : T → Type 0) → ((x : T) → P x → Q x) → IfOk r P → IfOk r Q
+if_ok (Ok x) P Q f h = f x h
+if_ok (Err e) P Q f h = tt
+
+pub if_err : {T E : Type 0} (r : Result T E) (P Q : E → Type 0) → ((x : E) → P x → Q x) → IfErr r P → IfErr r Q
+if_err (Ok x) P Q f h = tt
+if_err (Err e) P Q f h = f e h
+
+-- ---- the command
+
+-- what a library tells later it tells before
+pub moved : (files later : Option Shelf) (P : Shelf → Type 0) → later ≡ files → IfSome later P → IfSome files P
+moved files later P same h = subst (λ (f : Option Shelf). IfSome f P) same h
+
+-- the octets of a reply, as they are read again
+pub reply_as : (files mid later : Option Shelf) (name a b : List ℕ) → later ≡ mid → mid ≡ files → a ≡ b → IfSome later (λ shelf. octets_at shelf name ≡ Ok b) → IfSome files (λ shelf. octets_at shelf name ≡ Ok a)
+reply_as files mid later name a b first second same h =
+    subst (λ (f : Option Shelf). IfSome f (λ shelf. octets_at shelf name ≡ Ok a)) (first ∙ second) (subst (λ xs. IfSome later (λ shelf. octets_at shelf name ≡ Ok xs)) (sym same) h)
+
+-- what three files make of an end
+module _ (files : Option Shelf) (content : Option (List ℕ)) (key_name publication_name reply_name key octets : List ℕ) (p : Publication) (q : Query)
+    (key_read : IfSome files (λ shelf. public_key_at shelf key_name ≡ Ok key)) (publication_read : IfSome files (λ shelf. publication_at shelf publication_name ≡ Ok p)) (reply_read : IfSome files (λ shelf. octets_at shelf reply_name ≡ Ok octets)) where
+  by_shelf : (shelf : Shelf) → public_key_at shelf key_name ≡ Ok key → publication_at shelf publication_name ≡ Ok p → octets_at shelf reply_name ≡ Ok octets
+      → (o : Result Verdict Fault) (t : List ℕ) → EndsAudit content key p octets q o t → ends_audit content key_name publication_name reply_name q shelf o t
+  by_shelf shelf is_key is_publication is_reply o t h =
+      reads (public_key_at shelf key_name) key (λ k. EndsReading (publication_at shelf publication_name) (λ b. EndsReading (octets_at shelf reply_name) (λ xs. EndsAudit content k b xs q))) o t is_key
+      (reads (publication_at shelf publication_name) p (λ b. EndsReading (octets_at shelf reply_name) (λ xs. EndsAudit content key b xs q)) o t is_publication
+      (reads (octets_at shelf reply_name) octets (λ xs. EndsAudit content key p xs q) o t is_reply h))
+
+  calls : (o : Result Verdict Fault) (t : List ℕ) → EndsAudit content key p octets q o t → CallsFor (ends_audit content key_name publication_name reply_name q) files o t
+  calls o t h = by files key_read publication_read reply_read
+    where
+      by : (files : Option Shelf) → IfSome files (λ shelf. public_key_at shelf key_name ≡ Ok key) → IfSome files (λ shelf. publication_at shelf publication_name ≡ Ok p) → IfSome files (λ shelf. octets_at shelf reply_name ≡ Ok octets)
+          → IfSome files (λ shelf. ends_audit content key_name publication_name reply_name q shelf o t)
+      by None a b c = tt
+      by (Some shelf) a b c = by_shelf shelf a b c o t h
+
+  module _ (DiskFailed : Type 0) (l l' k k' : ℕ) (old : Option (List ℕ)) where
+    -- an audit that wrote nothing
+    pub audit_refused : (f : Fault) → WhyNot DiskFailed (EndsAudit content key p octets q) f → Promises (ends_audit content key_name publication_name reply_name q) TellsNone DiskFailed files l l' old old k k' (Err f)
+    audit_refused f h = refused (ends_audit content key_name publication_name reply_name q) TellsNone DiskFailed files l l' k k' old (EndsAudit content key p octets q) calls f h
+
+    -- a line that was told
+    pub audit_told : (new : Option (List ℕ)) (end o : Result Verdict Fault) (text : List ℕ) → MayEnd TellsNone end → EndsAudit content key p octets q end text → Writes end text old new k k' o
+        → Promises (ends_audit content key_name publication_name reply_name q) TellsNone DiskFailed files l l' old new k k' o
+    audit_told new end o text may h w = written (ends_audit content key_name publication_name reply_name q) TellsNone DiskFailed files l l' k k' old (EndsAudit content key p octets q) calls new end o text may h w
+
+  -- what the line rests on
+  pub found : {D : Type 0} (g : Ghosts D) (disk : D) (old new : Option (List ℕ)) (k k' : ℕ) (end o : Result Verdict Fault) (t : List ℕ) → RestsOn g disk key octets end t → Writes end t old new k k' o
+      → WritesFindings g disk key_name reply_name files old new o
+  found g disk old new k k' end o t rests (inr w) = subst (λ (x : Result Verdict Fault). WritesFindings g disk key_name reply_name files old new x) (sym w.0) (nothing files)
+    where
+      nothing : (files : Option Shelf) → WritesFindings g disk key_name reply_name files old new (Err Sink)
+      nothing None = tt
+      nothing (Some shelf) = tt
+  found g disk old new k k' end o t rests (inl w) = subst (λ (x : Result Verdict Fault). WritesFindings g disk key_name reply_name files old new x) (sym w.0) (by end rests files key_read reply_read)
+    where
+      by : (end : Result Verdict Fault) → RestsOn g disk key octets end t → (files : Option Shelf) → IfSome files (λ shelf. public_key_at shelf key_name ≡ Ok key) → IfSome files (λ shelf. octets_at shelf reply_name ≡ Ok octets)
+          → WritesFindings g disk key_name reply_name files old new end
+      by end rests None a c = tt
+      by (Err e) rests (Some shelf) a c = tt
+      by (Ok v) rests (Some shelf) a c = record { key = key; octets = octets; text = t; key_read = a; reply_read = c; written = w.1; rests = rests }

@@ -1,0 +1,173 @@
+-- The headline, by the ends of an audit and what its lines rest on.
+use Rattle.std.proofs.Common.{◌≡◌, ◌⊎◌, inl, inr, ℕ, List, [], refl, sym, ap, subst, ◌∙◌, IfSome, MatchResult, arith}
+use Rattle.std.specs.declared.option.Option.{Option}
+use Rattle.std.specs.declared.option.Option.TheVariants.{None, Some}
+use Rattle.std.specs.declared.result.Result.{Result}
+use Rattle.std.specs.declared.result.Result.TheVariants.{Ok, Err}
+use Rattle.std.specs.Io.KnownBytes.{Appends}
+use Rattle.sha2.specs.Sha256.{sha256}
+use Rattle.octet_text.specs.Format.{whole}
+use Rattle.road_io.specs.declared.disk.Disk.{Ghosts}
+use Rattle.road_io.specs.Moments.{EachImage}
+use Rattle.road_io.specs.Contents.{Shelf}
+use Rattle.road_map.specs.Routes.{IsShortest}
+use Rattle.book_model.specs.declared.items.Query.{Query}
+use Rattle.key_desk.specs.Layout.{IsSigned}
+use Rattle.proof_octets.specs.declared.header.Header.{Header}
+use Rattle.proof_octets.specs.declared.publication.Publication.{Publication}
+use Rattle.proof_octets.specs.declared.reply.Answer as answers
+use Rattle.proof_octets.specs.declared.reply.Reply.TheVariants as replies
+use Rattle.proof_octets.specs.Replies as formats
+use Rattle.proof_octets.specs.Headers.{header_text}
+use Rattle.route_client.specs.declared.accepted.Accepted.{Accepted}
+use Rattle.route_client.specs.Verdicts.{Accepts}
+use Rattle.route_server.specs.Headers.{HasHeader}
+use Rattle.route_server.specs.declared.errors.BuildError.{BuildError}
+use Rattle.road_line.specs.EvidenceLine.{right_line}
+use Rattle.command_files.specs.Reading.{octets_at, publication_at}
+use Rattle.command_files.specs.HexFiles.{public_key_at}
+use Rattle.command_books.specs.Installing.{AfterBuild, IfInstalled, EndsInstalling}
+use Rattle.command_files.specs.Endings.{Ending, Answered, EndsReading}
+use Rattle.audit_commands.specs.Auditing.{EndsOwnersKey, EndsClient, EndsSigned, EndsSameHeader, EndsComparing, EndsAudit, ends_audit}
+use Rattle.audit_commands.specs.Headline.{IsEvidence, WritesFindings, FindsTruth, IsAcceptedFile, AuditsAccepted}
+use Rattle.command_files.specs.declared.fault.Fault.{Fault}
+use Rattle.command_files.specs.declared.fault.Fault.TheVariants.{TruncatedFrame, FrameTooLong, Library, Source, Sink, Disk, Memory, UnknownNode, NoRoute, TooManyFrames}
+use Rattle.command_files.specs.declared.ended.Verdict.{Verdict}
+use Rattle.command_files.specs.declared.ended.Verdict.TheVariants.{Done, Refused, Evidence}
+use Rattle.command_books.proofs.OneBuilding.{OneMaking}
+use Rattle.client_commands.proofs.OneCheck.{OneVerdict}
+use Rattle.audit_commands.proofs.OneAudit.{AcceptanceIsVerdict, one_accepted, one_answer, not_refused, same_answer}
+use Rattle.command_files.proofs.Written.{failed, read_as}
+
+-- a run with a verdict
+abbrev pub ended : Verdict → Result Verdict Fault
+ended v = Ok v
+
+-- acceptance with any least version is acceptance
+any_least : (key octets : List ℕ) (q : Query) (least : ℕ) (x : Accepted) → Accepts sha256 key octets q least x → Accepts sha256 key octets q 0 x
+any_least key octets q least x a = record {
+  answer = a.answer;
+  spelled = a.spelled;
+  fresh = omega arith;
+  signed = a.signed;
+  nodes = a.nodes;
+  pairs = a.pairs;
+  kind = a.kind;
+  method = a.method;
+  judged = a.judged;
+  route = a.route;
+  version = a.version;
+  header = a.header;
+}
+
+-- what follows the installing of a publication that can be installed
+installed : OneMaking → (p : Publication) (Next : Ending) (o : Result Verdict Fault) (t : List ℕ) → HasHeader sha256 sha256 p.parts p.settings p.header → EndsInstalling p Next o t → Next o t
+installed makings p Next o t has h = by (subst (λ (m : Result Header BuildError). AfterBuild (IfInstalled p Next) m o t) same h.follows)
+  where
+    same : h.made ≡ Ok p.header
+    same = makings sha256 sha256 p.parts p.settings h.made (Ok p.header) h.makes has (λ e. subst (λ (m : Result Header BuildError). AfterBuild (IfInstalled p Next) m o t) e h.follows) (λ e. cc)
+
+    by : IfInstalled p Next p.header o t → Next o t
+    by (inl k) = k.1
+    by (inr k) = absurd (k.0 refl)
+
+-- how an audit of accepted octets ends: with the right line, and the route is a shortest one, or with evidence
+pub record IsRightEnd (p : Publication) (q : Query) (x : Accepted) (o : Result Verdict Fault) (t : List ℕ) : Type 0 where
+  pub outcome : o ≡ Ok Done
+  pub line : t ≡ right_line
+  pub shortest : IsShortest p.parts q.from q.to x.route x.length
+
+module _ (makings : OneMaking) (one : OneVerdict) (verdict : AcceptanceIsVerdict) (content : Option (List ℕ)) (shelf : Shelf) (key_name publication_name reply_name : List ℕ) (q : Query) (key : List ℕ) (p : Publication) (x : Accepted)
+    (f : IsAcceptedFile content shelf key_name publication_name reply_name q key p x) where
+  accepts : Accepts sha256 key f.octets q 0 x
+  accepts = any_least key f.octets q f.least x f.accepts
+
+  comparing : (o : Result Verdict Fault) (t : List ℕ) → EndsComparing p q x accepts.answer o t → IsRightEnd p q x o t ⊎ (o ≡ Ok Evidence)
+  comparing o t (inl h) = inl (record { outcome = h.0; line = h.2; shortest = h.1.shortest })
+  comparing o t (inr h) = inr h.0
+
+  same_header : (o : Result Verdict Fault) (t : List ℕ) → EndsSameHeader p accepts.answer (EndsComparing p q x accepts.answer) o t → IsRightEnd p q x o t ⊎ (o ≡ Ok Evidence)
+  same_header o t (inl h) = absurd (h.1 (sym accepts.header ∙ f.same))
+  same_header o t (inr h) = comparing o t h.1
+
+  signed : (o : Result Verdict Fault) (t : List ℕ) → EndsSigned content key accepts.answer (EndsSameHeader p accepts.answer (EndsComparing p q x accepts.answer)) o t → IsRightEnd p q x o t ⊎ (o ≡ Ok Evidence)
+  signed o t (inl h) = inr h.0
+  signed o t (inr h) = same_header o t h.1
+
+  client : (o : Result Verdict Fault) (t : List ℕ) → EndsClient key f.octets q (λ y a. EndsInstalling p (EndsSigned content key a (EndsSameHeader p a (EndsComparing p q y a)))) o t → IsRightEnd p q x o t ⊎ (o ≡ Ok Evidence)
+  client o t (inl h) = absurd (not_refused one verdict key f.octets q 0 x h.0 accepts h.2)
+  client o t (inr h) =
+      let of_x = subst (λ (y : Accepted). EndsInstalling p (EndsSigned content key h.1.answer (EndsSameHeader p h.1.answer (EndsComparing p q y h.1.answer))) o t) (one_accepted one verdict key f.octets q 0 h.0 x h.1 accepts) h.2 in
+      let of_a = subst (λ (a : answers.Answer). EndsInstalling p (EndsSigned content key a (EndsSameHeader p a (EndsComparing p q x a))) o t) (one_answer one verdict key f.octets q 0 h.0 x h.1 accepts) of_x in
+      signed o t (installed makings p (EndsSigned content key accepts.answer (EndsSameHeader p accepts.answer (EndsComparing p q x accepts.answer))) o t f.header of_a)
+
+  owners : (o : Result Verdict Fault) (t : List ℕ) → EndsOwnersKey content key (EndsClient key f.octets q (λ y a. EndsInstalling p (EndsSigned content key a (EndsSameHeader p a (EndsComparing p q y a))))) o t
+      → IsRightEnd p q x o t ⊎ (o ≡ Ok Evidence)
+  owners o t (inl h) = absurd (h.1 f.image f.told f.owners)
+  owners o t (inr h) = client o t h.1
+
+  opening : (o : Result Verdict Fault) (t : List ℕ) → EndsAudit content key p f.octets q o t → IsRightEnd p q x o t ⊎ (o ≡ Ok Evidence)
+  opening o t (inl h) = absurd (h.1 f.image f.told f.usable.open_gate)
+  opening o t (inr (inl h)) = absurd (f.usable.good_block (h.1 f.image f.told).1)
+  opening o t (inr (inr h)) = owners o t h.1
+
+  -- over what the files spell
+  over_files : (o : Result Verdict Fault) (t : List ℕ) → ends_audit content key_name publication_name reply_name q shelf o t → IsRightEnd p q x o t ⊎ (o ≡ Ok Evidence)
+  over_files o t h =
+      let by_key = read_as (public_key_at shelf key_name) key (λ k. EndsReading (publication_at shelf publication_name) (λ b. EndsReading (octets_at shelf reply_name) (λ octets. EndsAudit content k b octets q))) o t f.key_read h in
+      let by_publication = read_as (publication_at shelf publication_name) p (λ b. EndsReading (octets_at shelf reply_name) (λ octets. EndsAudit content key b octets q)) o t f.publication_read by_key in
+      opening o t (read_as (octets_at shelf reply_name) f.octets (λ octets. EndsAudit content key p octets q) o t f.reply_read by_publication)
+
+  same_octets : (a b : List ℕ) (r : Result (List ℕ) Fault) → r ≡ Ok a → r ≡ Ok b → a ≡ b
+  same_octets a b r is other = cc
+
+  no_fault : (f : Fault) (t : List ℕ) → IsRightEnd p q x (Err f) t ⊎ (failed f ≡ Ok Evidence) → ⊥
+  no_fault f t (inl r) = let e : failed f ≡ Ok Done = r.outcome in cc
+  no_fault f t (inr e) = cc
+
+  finds : {D : Type 0} (g : Ghosts D) (disk : D) (old new : Option (List ℕ)) (o : Result Verdict Fault) → Answered (ends_audit content key_name publication_name reply_name q shelf) old new o
+      → WritesFindings g disk key_name reply_name (Some shelf) old new o → FindsTruth g disk key p q x old new o
+  finds g disk old new (Ok Done) a w = right (over_files (Ok Done) a.0 a.1)
+    where
+      right : IsRightEnd p q x (Ok Done) a.0 ⊎ (ended Done ≡ ended Evidence) → FindsTruth g disk key p q x old new (Ok Done)
+      right (inr e) = absurd (cc)
+      right (inl r) =
+          let octets : w.octets ≡ f.octets = same_octets w.octets f.octets (octets_at shelf reply_name) w.reply_read f.reply_read in
+          let answer : w.rests.answer ≡ accepts.answer =
+          same_answer w.rests.answer accepts.answer (whole formats.reply f.octets) (subst (λ (xs : List ℕ). whole formats.reply xs ≡ Ok (replies.Answer w.rests.answer)) octets w.rests.spelled) accepts.spelled in
+          let header : w.rests.answer.header ≡ p.header = ap (λ (b : answers.Answer). b.header) answer ∙ sym accepts.header ∙ f.same in (
+            record {
+              of_map = f.header;
+              same = f.same;
+              slot = w.rests.slot;
+              signed = subst (λ (h : Header). EachImage g disk (λ i. IsSigned i w.rests.slot (header_text h))) header w.rests.signed;
+              shortest = r.shortest;
+            },
+            subst (λ t. Appends old new t) r.line a.2,
+          )
+  finds g disk old new (Ok Evidence) a w =
+      let same : w.key ≡ key = same_octets w.key key (public_key_at shelf key_name) w.key_read f.key_read in
+      (w.text, subst (λ k. IsEvidence g disk k w.text) same w.rests, w.written)
+  finds g disk old new (Ok Refused) a w = refused (over_files (Ok Refused) a.0 a.1)
+    where
+      refused : IsRightEnd p q x (Ok Refused) a.0 ⊎ (ended Refused ≡ ended Evidence) → ⊥
+      refused (inl r) = let e : ended Refused ≡ ended Done = r.outcome in cc
+      refused (inr e) = cc
+  finds g disk old new (Err Memory) a w = tt
+  finds g disk old new (Err Library) a w = tt
+  finds g disk old new (Err Sink) a w = tt
+  finds g disk old new (Err Disk) a w = tt
+  finds g disk old new (Err (UnknownNode id)) a w = absurd (no_fault (UnknownNode id) a.0 (over_files (Err (UnknownNode id)) a.0 a.1))
+  finds g disk old new (Err NoRoute) a w = absurd (no_fault NoRoute a.0 (over_files (Err NoRoute) a.0 a.1))
+  finds g disk old new (Err TruncatedFrame) a w = absurd (no_fault TruncatedFrame a.0 (over_files (Err TruncatedFrame) a.0 a.1))
+  finds g disk old new (Err FrameTooLong) a w = absurd (no_fault FrameTooLong a.0 (over_files (Err FrameTooLong) a.0 a.1))
+  finds g disk old new (Err TooManyFrames) a w = absurd (no_fault TooManyFrames a.0 (over_files (Err TooManyFrames) a.0 a.1))
+  finds g disk old new (Err Source) a w = absurd (no_fault Source a.0 (over_files (Err Source) a.0 a.1))
+  finds g disk old new (Err fault) a w = absurd (no_fault fault [] (over_files (Err fault) [] a))
+
+-- the same where the library may tell its files
+pub audits_accepted : OneMaking → OneVerdict → AcceptanceIsVerdict → {D : Type 0} (g : Ghosts D) (disk : D) (files : Option Shelf) (content : Option (List ℕ)) (key publication reply : List ℕ) (q : Query) (old new : Option (List ℕ)) (o : Result Verdict Fault)
+    → IfSome files (λ shelf. Answered (ends_audit content key publication reply q shelf) old new o) → WritesFindings g disk key reply files old new o → AuditsAccepted g content disk key publication reply q files old new o
+audits_accepted makings one verdict g disk (Some shelf) content key publication reply q old new o a w =
+    λ k p x f. finds makings one verdict content shelf key publication reply q k p x f g disk old new o a w
+audits_accepted makings one verdict g disk None content key publication reply q old new o a w = tt

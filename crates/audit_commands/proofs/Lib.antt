@@ -1,0 +1,3 @@
+pub mod OneAudit
+pub mod AuditLemmas
+pub mod HeadlineLemmas

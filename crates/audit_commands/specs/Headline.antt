@@ -1,0 +1,127 @@
+-- The headline: what an accepted reply is worth.
+use Rattle.std.specs.Prelude.{◌≡◌, ◌≢◌, ◌⊎◌, ℕ, List}
+use Rattle.std.specs.declared.option.Option.{Option}
+use Rattle.std.specs.declared.option.Option.TheVariants.{None, Some}
+use Rattle.std.specs.declared.result.Result.{Result}
+use Rattle.std.specs.declared.result.Result.TheVariants.{Ok, Err}
+use Rattle.std.specs.Io.KnownBytes.{Appends}
+use Rattle.sha2.specs.Sha256.{sha256}
+use Rattle.octet_text.specs.Format.{whole}
+use Rattle.road_io.specs.declared.disk.Disk.{Ghosts}
+use Rattle.road_io.specs.Moments.{EachImage}
+use Rattle.road_io.specs.Contents.{Shelf}
+use Rattle.road_map.specs.Routes.{IsShortest}
+use Rattle.book_model.specs.declared.items.Query.{Query}
+use Rattle.lms_tree.specs.Signatures.{verified}
+use Rattle.key_desk.specs.Layout.{SlotId, IsSigned}
+use Rattle.proof_octets.specs.declared.publication.Publication.{Publication}
+use Rattle.proof_octets.specs.declared.reply.Answer as answers
+use Rattle.proof_octets.specs.declared.reply.Reply.TheVariants as replies
+use Rattle.proof_octets.specs.Headers.{header_text}
+use Rattle.proof_octets.specs.Replies as formats
+use Rattle.route_client.specs.declared.accepted.Accepted.{Accepted}
+use Rattle.route_client.specs.Verdicts.{Accepts}
+use Rattle.route_server.specs.Headers.{HasHeader}
+use Rattle.road_line.specs.EvidenceLine.{right_line, collision_line, forged_line}
+use Rattle.command_files.specs.Reading.{octets_at, publication_at}
+use Rattle.command_files.specs.HexFiles.{public_key_at}
+use Rattle.command_desks.specs.Opening.{IsUsable}
+use Rattle.audit_commands.specs.Auditing.{IsOwnersKey}
+use Rattle.command_files.specs.declared.fault.Fault.{Fault}
+use Rattle.command_files.specs.declared.fault.Fault.TheVariants.{Library, Sink, Disk, Memory}
+use Rattle.command_files.specs.declared.ended.Verdict.{Verdict}
+use Rattle.command_files.specs.declared.ended.Verdict.TheVariants.{Done, Refused, Evidence}
+
+-- ---- evidence
+
+-- the line of two different texts of equal SHA-256
+pub record IsCollisionLine (text : List ℕ) : Type 0 where
+  pub left : List ℕ
+  pub right : List ℕ
+  pub differ : left ≢ right
+  pub one_digest : sha256 left ≡ sha256 right
+  pub line : text ≡ collision_line left right
+
+-- the line of a header that the owner never signed, in no slot of any image, and of a signature that is verified on
+-- it under the public key
+pub record IsForgedLine {D : Type 0} (g : Ghosts D) (disk : D) (key text : List ℕ) : Type 0 where
+  pub header : List ℕ
+  pub signature : List ℕ
+  pub good : verified key header signature ≡ Ok tt
+  pub unsigned : EachImage g disk (λ i. (slot : SlotId) → ¬ IsSigned i slot header)
+  pub line : text ≡ forged_line header signature
+
+abbrev pub IsEvidence : {D : Type 0} → Ghosts D → D → List ℕ → List ℕ → Type 0
+IsEvidence g disk key text = IsCollisionLine text ⊎ IsForgedLine g disk key text
+
+-- the header of the answer that octets spell stands in one slot of every image
+pub record IsHeaderSigned {D : Type 0} (g : Ghosts D) (disk : D) (octets : List ℕ) : Type 0 where
+  pub answer : answers.Answer
+  pub spelled : whole formats.reply octets ≡ Ok (replies.Answer answer)
+  pub slot : SlotId
+  pub signed : EachImage g disk (λ i. IsSigned i slot (header_text answer.header))
+
+-- ---- what an audit's line rests on, in every image that a crash may leave
+
+abbrev pub RestsOn : {D : Type 0} → Ghosts D → D → List ℕ → List ℕ → Result Verdict Fault → List ℕ → Type 0
+RestsOn g disk key octets (Ok Done) text = IsHeaderSigned g disk octets
+RestsOn g disk key octets (Ok Evidence) text = IsEvidence g disk key text
+RestsOn g disk key octets outcome text = Unit {0}
+
+-- the files of a key and of a reply, the line that was written, and what it rests on
+pub record WritesFinding {D : Type 0} (g : Ghosts D) (disk : D) (shelf : Shelf) (key_name reply_name : List ℕ) (old new : Option (List ℕ)) (verdict : Verdict) : Type 0 where
+  pub key : List ℕ
+  pub octets : List ℕ
+  pub text : List ℕ
+  pub key_read : public_key_at shelf key_name ≡ Ok key
+  pub reply_read : octets_at shelf reply_name ≡ Ok octets
+  pub written : Appends old new text
+  pub rests : RestsOn g disk key octets (Ok verdict) text
+
+abbrev pub WritesFindings : {D : Type 0} → Ghosts D → D → List ℕ → List ℕ → Option Shelf → Option (List ℕ) → Option (List ℕ) → Result Verdict Fault → Type 0
+WritesFindings g disk key reply (Some shelf) old new (Ok verdict) = WritesFinding g disk shelf key reply old new verdict
+WritesFindings g disk key reply files old new outcome = Unit {0}
+
+-- ---- the headline
+
+-- the accepted route is a shortest one in the signed map: the accepted header is that of the map, and stands in one
+-- slot of every image
+pub record IsTrue {D : Type 0} (g : Ghosts D) (disk : D) (p : Publication) (q : Query) (x : Accepted) : Type 0 where
+  pub of_map : HasHeader sha256 sha256 p.parts p.settings p.header
+  pub same : x.header ≡ p.header
+  pub slot : SlotId
+  pub signed : EachImage g disk (λ i. IsSigned i slot (header_text p.header))
+  pub shortest : IsShortest p.parts q.from q.to x.route x.length
+
+-- it is true, or there is evidence, unless memory was short or an object outside failed
+abbrev pub FindsTruth : {D : Type 0} → Ghosts D → D → List ℕ → Publication → Query → Accepted → Option (List ℕ) → Option (List ℕ) → Result Verdict Fault → Type 0
+FindsTruth g disk key p q x old new (Ok Done) = IsTrue g disk p q x × Appends old new right_line
+FindsTruth g disk key p q x old new (Ok Evidence) = (text : List ℕ) × IsEvidence g disk key text × Appends old new text
+FindsTruth g disk key p q x old new (Err Memory) = Unit {0}
+FindsTruth g disk key p q x old new (Err Library) = Unit {0}
+FindsTruth g disk key p q x old new (Err Sink) = Unit {0}
+FindsTruth g disk key p q x old new (Err Disk) = Unit {0}
+FindsTruth g disk key p q x old new outcome = ⊥
+
+-- The files spell a public key, a publication whose header is that of its parts and settings, and octets that the
+-- client accepts under the key, whatever they are, with the publication's header; and the key is that of the owner's
+-- disk, which can be used.
+pub record IsAcceptedFile (content : Option (List ℕ)) (shelf : Shelf) (key_name publication_name reply_name : List ℕ) (q : Query) (key : List ℕ) (p : Publication) (x : Accepted) : Type 0 where
+  pub octets : List ℕ
+  pub least : ℕ
+  pub key_read : public_key_at shelf key_name ≡ Ok key
+  pub publication_read : publication_at shelf publication_name ≡ Ok p
+  pub reply_read : octets_at shelf reply_name ≡ Ok octets
+  pub accepts : Accepts sha256 key octets q least x
+  pub header : HasHeader sha256 sha256 p.parts p.settings p.header
+  pub same : x.header ≡ p.header
+  pub image : List ℕ
+  pub told : content ≡ Some image
+  pub usable : IsUsable image
+  pub owners : IsOwnersKey image key
+
+-- whatever octets the client accepts, `audit` finds that they are true, or writes evidence
+abbrev pub AuditsAccepted : {D : Type 0} → Ghosts D → Option (List ℕ) → D → List ℕ → List ℕ → List ℕ → Query → Option Shelf → Option (List ℕ) → Option (List ℕ) → Result Verdict Fault → Type 0
+AuditsAccepted g content disk key publication reply q (Some shelf) old new outcome =
+    (k : List ℕ) (p : Publication) (x : Accepted) → IsAcceptedFile content shelf key publication reply q k p x → FindsTruth g disk k p q x old new outcome
+AuditsAccepted g content disk key publication reply q None old new outcome = Unit {0}

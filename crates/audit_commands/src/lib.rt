@@ -1,0 +1,6 @@
+//! The auditor's command: what a reply is evidence of.
+#![tactic(auto)]
+
+pub use auditing::audit;
+
+mod auditing;

@@ -1,0 +1,43 @@
+-- Over their files, `check` has one end.
+use Rattle.std.proofs.Common.{◌≡◌, List, ℕ, refl}
+use Rattle.std.specs.declared.result.Result.{Result}
+use Rattle.std.specs.declared.result.Result.TheVariants.{Ok, Err}
+use Rattle.sha2.specs.Sha256.{sha256}
+use Rattle.road_io.specs.Contents.{Shelf}
+use Rattle.book_model.specs.declared.items.Query.{Query}
+use Rattle.route_client.specs.declared.accepted.Accepted.{Accepted}
+use Rattle.route_client.specs.declared.errors.CheckError.{CheckError}
+use Rattle.route_client.specs.Verdicts.{IsVerdict}
+use Rattle.command_files.specs.Reading.{octets_at}
+use Rattle.command_files.specs.HexFiles.{public_key_at}
+use Rattle.command_files.specs.Endings.{EndsReading}
+use Rattle.command_files.specs.Exact.{HasOneEnd}
+use Rattle.command_files.specs.declared.fault.Fault.{Fault}
+use Rattle.command_files.specs.declared.ended.Verdict.{Verdict}
+use Rattle.command_files.specs.declared.ended.Verdict.TheVariants.{Done, Refused}
+use Rattle.command_files.proofs.OneEnd.{one_reading}
+use Rattle.client_commands.specs.Checking.{EndsCheck, ends_check}
+
+-- octets have one verdict at most
+abbrev pub OneVerdict : Type 0
+OneVerdict = (hash : List ℕ → List ℕ) (key octets : List ℕ) (q : Query) (least : ℕ) (v w : Result Accepted CheckError)
+    → IsVerdict hash key octets q least v → IsVerdict hash key octets q least w → v ≡ w
+
+differ : (x : Accepted) (e : CheckError) → Ok x ≡ Err e → ⊥
+differ x e is = cc
+
+-- over a key and octets, `check` has one end
+one_check : OneVerdict → (key octets : List ℕ) (q : Query) (least : ℕ) (o e : Result Verdict Fault) (s t : List ℕ) → EndsCheck key octets q least o s → EndsCheck key octets q least e t → o ≡ e
+one_check one key octets q least (Ok Done) (Ok Done) s t h k = refl
+one_check one key octets q least (Ok Done) (Ok Refused) s t h k = absurd (differ h.0 k.0 (one sha256 key octets q least (Ok h.0) (Err k.0) h.1 k.2))
+one_check one key octets q least (Ok Done) e s t h k = absurd k
+one_check one key octets q least (Ok Refused) (Ok Done) s t h k = absurd (differ k.0 h.0 (one sha256 key octets q least (Ok k.0) (Err h.0) k.1 h.2))
+one_check one key octets q least (Ok Refused) (Ok Refused) s t h k = refl
+one_check one key octets q least (Ok Refused) e s t h k = absurd k
+one_check one key octets q least o e s t h k = absurd h
+
+-- and so over its files
+pub only_check : OneVerdict → (key reply : List ℕ) (q : Query) (least : ℕ) (shelf : Shelf) → HasOneEnd (ends_check key reply q least shelf)
+only_check one key reply q least shelf =
+    one_reading (public_key_at shelf key) (λ k. EndsReading (octets_at shelf reply) (λ octets. EndsCheck k octets q least))
+    (λ k. one_reading (octets_at shelf reply) (λ octets. EndsCheck k octets q least) (λ octets. one_check one k octets q least))

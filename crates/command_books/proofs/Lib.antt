@@ -1,0 +1,2 @@
+pub mod OneBuilding
+pub mod Installings

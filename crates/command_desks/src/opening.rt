@@ -1,0 +1,32 @@
+//! The opening of a desk.
+
+ghost use Rattle.std.specs.Prelude.{◌≤◌, IfOk, IfErr};
+ghost use Rattle.road_io.specs.Causes.{Rose};
+ghost use Rattle.road_io.specs.Disk.{Stays};
+ghost use Rattle.road_io.specs.Moments.{AtEachMoment};
+ghost use Rattle.key_desk.specs.Stands.{KeepsStanding};
+ghost use Rattle.command_files.specs.Endings.{WhyNot, NoEnd};
+ghost use Rattle.command_desks.specs.Opening.{EndsOpening, IsOpened};
+
+use command_files::Fault;
+use key_desk::{Desk, StartError};
+use road_io::Disk;
+use std::alloc::Global;
+
+/// Opens the desk over the key that the disk holds. It changes no image.
+pub fn open_desk<D: Disk>(alloc: Global, disk: &mut D) -> Result<Desk, Fault>
+    ensures opened { IfOk result (IsOpened D.Disk disk.old disk.new) }
+    ensures refused { IfErr result (WhyNot (Rose (D.faults disk.old) (D.faults disk.new)) (EndsOpening (D.content disk.old) NoEnd)) }
+    ensures faults { D.faults disk.old ≤ D.faults disk.new }
+    ensures stays { AtEachMoment D.Disk disk.old disk.new Stays }
+    ensures stands { KeepsStanding D.Disk disk.old disk.new }
+{
+    match Desk::reopen(alloc, disk) {
+        Ok(desk) => Ok(desk),
+        Err(StartError::NoKey) => Err(Fault::NoKey),
+        Err(StartError::BadBlock) => Err(Fault::BadBlock),
+        Err(StartError::DiskFault) => Err(Fault::Disk),
+        Err(StartError::Memory) => Err(Fault::Memory),
+        Err(StartError::Held) => unreachable!(),
+    }
+}

@@ -1,0 +1,4 @@
+pub mod Written
+pub mod OneEnd
+pub mod OneMap
+pub mod Ends

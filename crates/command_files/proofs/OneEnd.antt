@@ -1,0 +1,40 @@
+-- Where no object outside failed, a command ends as its files call for.
+use Rattle.std.proofs.Common.{◌≡◌, ◌≢◌, ℕ, List, [], refl, sym, ◌∙◌}
+use Rattle.std.specs.declared.option.Option.{Option}
+use Rattle.std.specs.declared.result.Result.{Result}
+use Rattle.std.specs.declared.result.Result.TheVariants.{Ok, Err}
+use Rattle.command_files.specs.Endings.{Ending, EndsReading, Answered}
+use Rattle.command_files.specs.Exact.{IsExact, HasOneEnd}
+use Rattle.command_files.specs.declared.fault.Fault.{Fault}
+use Rattle.command_files.specs.declared.fault.Fault.TheVariants.{TruncatedFrame, FrameTooLong, Library, Source, Sink, Disk, Memory, UnknownNode, NoRoute, TooManyFrames}
+use Rattle.command_files.specs.declared.ended.Verdict.{Verdict}
+
+-- what a file says, or its first fault, makes the one end
+pub one_reading : {X : Type 0} (read : Result X Fault) (E : X → Ending) → ((x : X) → HasOneEnd (E x)) → HasOneEnd (EndsReading read E)
+one_reading (Ok x) E one o p s t h k = one x o p s t h k
+one_reading (Err e) E one o p s t h k = h.0 ∙ sym k.0
+
+-- an answer is exact where no object outside failed
+pub exact_end : (E : Ending) → HasOneEnd E → (old new : Option (List ℕ)) (outcome : Result Verdict Fault) → Answered E old new outcome
+    → (outcome ≡ Err Library → ⊥) → (outcome ≡ Err Sink → ⊥) → (outcome ≡ Err Disk → ⊥) → IsExact E outcome
+exact_end E one old new outcome a library sink disk = by_end (called outcome a library sink disk)
+  where
+    called : (o : Result Verdict Fault) → Answered E old new o → (o ≡ Err Library → ⊥) → (o ≡ Err Sink → ⊥) → (o ≡ Err Disk → ⊥) → o ≢ Err Memory → (text : List ℕ) × E o text
+    called (Ok verdict) a l k d m = (a.0, a.1)
+    called (Err Memory) a l k d m = absurd (m refl)
+    called (Err Library) a l k d m = absurd (l refl)
+    called (Err Sink) a l k d m = absurd (k refl)
+    called (Err Disk) a l k d m = absurd (d refl)
+    called (Err (UnknownNode id)) a l k d m = (a.0, a.1)
+    called (Err NoRoute) a l k d m = (a.0, a.1)
+    called (Err TruncatedFrame) a l k d m = (a.0, a.1)
+    called (Err FrameTooLong) a l k d m = (a.0, a.1)
+    called (Err TooManyFrames) a l k d m = (a.0, a.1)
+    called (Err Source) a l k d m = (a.0, a.1)
+    called (Err fault) a l k d m = ([], a)
+
+    by_end : (outcome ≢ Err Memory → (text : List ℕ) × E outcome text) → IsExact E outcome
+    by_end end = record {
+      called_for = end;
+      only_one = λ other text full h. one outcome other (end full).0 text (end full).1 h;
+    }

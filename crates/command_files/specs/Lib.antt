@@ -1,0 +1,6 @@
+pub mod Outcomes
+pub mod Reading
+pub mod HexFiles
+pub mod TwoEnds
+pub mod Endings
+pub mod Exact

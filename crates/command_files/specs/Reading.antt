@@ -1,0 +1,117 @@
+-- Files, and what they say: a value, or the first fault.
+use Rattle.std.specs.Prelude.{◌≡◌, ◌≢◌, ◌≤◌, ℕ, nat_lt, List, length, IfSome, IfNone, IfErr, if◌then◌else◌}
+use Rattle.std.specs.declared.option.Option.{Option}
+use Rattle.std.specs.declared.option.Option.TheVariants.{None, Some}
+use Rattle.std.specs.declared.result.Result.{Result}
+use Rattle.std.specs.declared.result.Result.TheVariants.{Ok, Err}
+use Rattle.road_io.specs.Causes.{Rose}
+use Rattle.road_io.specs.Contents.{Shelf}
+use Rattle.octet_text.specs.Format.{whole}
+use Rattle.proof_octets.specs.declared.publication.Publication.{Publication}
+use Rattle.proof_octets.specs.Publications.{publication}
+use Rattle.road_map.specs.Maps.{IsMap, Charted, Fault as FaultOf}
+use Rattle.road_map.specs.declared.parts.Parts.{Parts}
+use Rattle.road_map.specs.declared.error.MapError.{MapError}
+use Rattle.road_map.specs.declared.error.MapError.TheVariants as map_errors
+use Rattle.road_reader.specs.RoadText.{roads_of}
+use Rattle.road_reader.specs.declared.error.RoadError.{RoadError}
+use Rattle.command_files.specs.declared.fault.Fault.{Fault}
+use Rattle.command_files.specs.declared.fault.Fault.TheVariants.{Missing, TooLong, Road, Dimacs, Map, Malformed, BadHex, Library, Memory}
+
+-- ---- what the files say
+
+-- the octets of a file
+abbrev pub octets_in : Option (List ℕ) → Result (List ℕ) Fault
+octets_in None = Err Missing
+octets_in (Some octets) = if nat_lt 268435456 (length octets) then Err TooLong else Ok octets
+
+-- the octets of the file of this name
+abbrev pub octets_at : Shelf → List ℕ → Result (List ℕ) Fault
+octets_at shelf name = octets_in (shelf name)
+
+abbrev pub as_parts : Result Parts RoadError → Result Parts Fault
+as_parts (Ok parts) = Ok parts
+as_parts (Err fault) = Err (Road fault)
+
+abbrev pub parts_in : Result (List ℕ) Fault → Result Parts Fault
+parts_in (Ok text) = as_parts (roads_of text)
+parts_in (Err fault) = Err fault
+
+-- the parts that the road file of this name lists
+abbrev pub parts_at : Shelf → List ℕ → Result Parts Fault
+parts_at shelf name = parts_in (octets_at shelf name)
+
+abbrev pub as_publication : Result Publication ℕ → Result Publication Fault
+as_publication (Ok p) = Ok p
+as_publication (Err at) = Err (Malformed at)
+
+abbrev pub publication_in : Result (List ℕ) Fault → Result Publication Fault
+publication_in (Ok text) = as_publication (whole publication text)
+publication_in (Err fault) = Err fault
+
+-- the publication that the file of this name spells
+abbrev pub publication_at : Shelf → List ℕ → Result Publication Fault
+publication_at shelf name = publication_in (octets_at shelf name)
+
+-- the first reason why parts make no map
+abbrev pub IsMapFault : Parts → MapError → Type 0
+IsMapFault parts fault = FaultOf parts fault × (fault ≢ map_errors.Memory)
+
+-- ---- what functions give of it
+
+-- a function that gave no value met this fault, unless memory or the library failed
+abbrev pub Fails : {Y : Type 0} → Fault → Result Y Fault → Type 0
+Fails Memory read = Unit {0}
+Fails Library read = Unit {0}
+Fails fault read = read ≡ Err fault
+
+-- what a function gave, seen by view, is what reading gives, unless memory or the library failed
+abbrev pub Gives : {X Y : Type 0} → (X → Y) → Result X Fault → Result Y Fault → Type 0
+Gives view (Ok x) read = read ≡ Ok (view x)
+Gives view (Err fault) read = Fails fault read
+
+-- a function that gave no map met this fault of the file or of its parts
+abbrev pub FailsMap : Fault → Result Parts Fault → Type 0
+FailsMap Memory read = Unit {0}
+FailsMap Library read = Unit {0}
+FailsMap (Map fault) read = (parts : Parts) × (read ≡ Ok parts) × IsMapFault parts fault
+FailsMap fault read = read ≡ Err fault
+
+-- what a function gave is the map of the parts that were read
+abbrev pub GivesMap : Result Charted Fault → Result Parts Fault → Type 0
+GivesMap (Ok map) read = (read ≡ Ok map.parts) × IsMap map.parts
+GivesMap (Err fault) read = FailsMap fault read
+
+-- the faults of loading and reading files
+abbrev pub IsOfFiles : Fault → Type 0
+IsOfFiles Missing = Unit {0}
+IsOfFiles TooLong = Unit {0}
+IsOfFiles (Road fault) = Unit {0}
+IsOfFiles (Dimacs fault) = Unit {0}
+IsOfFiles (Malformed at) = Unit {0}
+IsOfFiles BadHex = Unit {0}
+IsOfFiles Library = Unit {0}
+IsOfFiles Memory = Unit {0}
+IsOfFiles fault = ⊥
+
+-- the same, and those of maps
+abbrev pub IsOfMaps : Fault → Type 0
+IsOfMaps (Map fault) = Unit {0}
+IsOfMaps fault = IsOfFiles fault
+
+-- what a function promises that loads a file and reads it
+pub record Loads {X Y : Type 0} (view : X → Y) (meaning : Shelf → Result Y Fault) (files : Option Shelf) (before now : ℕ) (result : Result X Fault) : Type 0 where
+  pub read : IfSome files (λ shelf. Gives view result (meaning shelf))
+  pub missing : IfNone files (result ≡ Err Missing → Rose before now)
+  pub too_long : IfNone files (result ≡ Err TooLong → Rose before now)
+  pub library : result ≡ Err Library → Rose before now
+  pub others : IfErr result IsOfFiles
+  pub later : before ≤ now
+
+-- what a function promises that loads a road file and makes its map
+pub record LoadsMap (meaning : Shelf → Result Parts Fault) (files : Option Shelf) (before now : ℕ) (result : Result Charted Fault) : Type 0 where
+  pub read : IfSome files (λ shelf. GivesMap result (meaning shelf))
+  pub missing : IfNone files (result ≡ Err Missing → Rose before now)
+  pub too_long : IfNone files (result ≡ Err TooLong → Rose before now)
+  pub library : result ≡ Err Library → Rose before now
+  pub others : IfErr result IsOfMaps

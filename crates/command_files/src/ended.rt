@@ -1,0 +1,87 @@
+//! How a run ends.
+
+ghost use Rattle.std.specs.Prelude.{◌≡◌};
+ghost use Rattle.command_files.specs.Outcomes.{status_of};
+
+use crate::fault::Fault;
+
+/// How a run ends that meets no fault.
+#[derive(Clone, Copy, Debug, PartialEq, Eq)]
+pub enum Verdict {
+    /// The work was done.
+    Done,
+    /// A reply was refused, which a line says.
+    Refused,
+    /// A reply is evidence, which a line holds.
+    Evidence,
+}
+
+/// The status of a run's end, and the fault if it met one.
+#[derive(Clone, Copy, Debug, PartialEq, Eq)]
+pub struct Ended {
+    /// The status for the shell.
+    pub status: u8,
+    /// Why the work was not done.
+    pub fault: Option<Fault>,
+}
+
+impl Ended {
+    ghost use Rattle.command_files.specs.Outcomes.{status_of, outcome_of};
+
+    /// The end of a run with this outcome.
+    pub fn of(outcome: Result<Verdict, Fault>) -> Ended
+        ensures outcome { outcome_of result ≡ outcome }
+        ensures status { result.status ≡ status_of outcome }
+    {
+        match outcome {
+            Ok(verdict) => Ended {
+                status: status_of_verdict(verdict),
+                fault: None,
+            },
+            Err(fault) => Ended {
+                status: status_of_fault(fault),
+                fault: Some(fault),
+            },
+        }
+    }
+}
+
+fn status_of_verdict(verdict: Verdict) -> u8
+    ensures { result ≡ status_of (Ok verdict) }
+{
+    match verdict {
+        Verdict::Done => 0,
+        Verdict::Refused => 1,
+        Verdict::Evidence => 10,
+    }
+}
+
+fn status_of_fault(fault: Fault) -> u8
+    ensures { result ≡ status_of (Err fault) }
+{
+    match fault {
+        Fault::Words => 2,
+        Fault::Missing
+        | Fault::TooLong
+        | Fault::Road(_)
+        | Fault::Dimacs(_)
+        | Fault::Map(_)
+        | Fault::Plan(_)
+        | Fault::Malformed(_)
+        | Fault::HeaderWrong
+        | Fault::BadHex
+        | Fault::OtherKey
+        | Fault::TruncatedFrame
+        | Fault::FrameTooLong => 3,
+        Fault::Library => 4,
+        Fault::Source => 5,
+        Fault::Sink => 6,
+        Fault::Disk => 7,
+        Fault::KeysUsedUp => 8,
+        Fault::Memory => 9,
+        Fault::UnknownNode(_) | Fault::NoRoute => 11,
+        Fault::Held | Fault::NoKey | Fault::BadBlock => 12,
+        Fault::TooManyFrames => 13,
+        Fault::OtherPublication => 14,
+    }
+}

@@ -1,0 +1,6 @@
+use Rattle.std.proofs.Common.{◌≡◌, drop}
+use Rattle.hyp_judge.specs.Scans.{scan_row}
+use Rattle.hyp_judge.proofs.scan.row.Given as goal
+
+abbrev pub invariant-loop-other : goal.invariant-loop-other
+invariant-loop-other l = scan_row l.pairs l.most l.border.0 l.border.1 l.far ≡ scan_row l.pairs l.most l.border.0 l.border.1 (drop l.other-index l.far)

@@ -1,0 +1,99 @@
+//! The judge of HYP.
+
+ghost use Rattle.std.specs.Prelude.{◌≡◌, ℕ};
+ghost use Rattle.road_map.specs.Least.{lesser};
+ghost use Rattle.road_search.specs.Labelling.{length_at};
+ghost use Rattle.road_search.specs.Passing.{IsLeastPassing};
+ghost use Rattle.proof_judge.specs.ItemWalks.{item_at, inner_ways};
+ghost use Rattle.proof_judge.specs.Judgement.{HypTests, PairTests};
+ghost use Rattle.proof_judge.specs.SharedTests.{UnlessMemory};
+
+use crate::borders::listed;
+use crate::items::Inner;
+use crate::scan::first_fault;
+use book_model::{Items, Numbers, Query};
+use proof_judge::{Judge, NodesById, PairsById, Refusal, begin};
+use road_search::{Labels, search};
+use std::alloc::Global;
+
+/// The method that signs the distances of all pairs of border nodes of a grid of cells, so that the
+/// client searches the cells of the two ends alone.
+///
+/// Behind the tests that all methods share come an inner walk to an id without an item, a shorter
+/// inner walk to the end, and a shorter walk over two borders.
+pub struct Hyp;
+
+impl Judge for Hyp {
+    ghost use Rattle.book_model.specs.Books.{Hyp as ByHyp};
+
+    ghost kind = { ByHyp };
+
+    fn judge(
+        alloc: Global,
+        _numbers: Numbers,
+        items: &Items,
+        query: Query,
+    ) -> Result<u64, Refusal> {
+        let (by_id, length) = begin(alloc, items, query)?;
+        tests(alloc, items, &by_id, query, length)
+    }
+}
+
+/// The tests of the border pairs.
+fn pair_tests(
+    alloc: Global,
+    items: &Items,
+    by_id: &NodesById<'_>,
+    query: Query,
+    near: &Labels,
+    far: &Labels,
+    length: u64,
+) -> Result<u64, Refusal>
+    requires same { by_id.now ≡ items.now.nodes }
+    requires near { (v : ℕ) → IsLeastPassing (inner_ways (item_at items.now.nodes)) query.from length v (length_at near.now v) }
+    requires far { (v : ℕ) → IsLeastPassing (inner_ways (item_at items.now.nodes)) query.to length v (length_at far.now v) }
+    ensures { UnlessMemory (PairTests items.now query length) result }
+{
+    let nodes = items.nodes.as_slice();
+    let near = listed(alloc, nodes, by_id, near)?;
+    let far = listed(alloc, nodes, by_id, far)?;
+    let pairs = PairsById::new(alloc, items.pairs.as_slice())?;
+    match first_fault(&pairs, length, near.as_slice(), far.as_slice()) {
+        None => Ok(length),
+        Some(refusal) => Err(refusal),
+    }
+}
+
+/// The lesser of two ids that may be there.
+fn lesser_of(a: Option<u32>, b: Option<u32>) -> Option<u32>
+    ensures { result ≡ lesser a b }
+{
+    match (a, b) {
+        (Some(a), Some(b)) => Some(a.min(b)),
+        (Some(a), None) => Some(a),
+        (None, b) => b,
+    }
+}
+
+/// The tests behind the route, which has this length.
+fn tests(
+    alloc: Global,
+    items: &Items,
+    by_id: &NodesById<'_>,
+    query: Query,
+    length: u64,
+) -> Result<u64, Refusal>
+    requires { by_id.now ≡ items.now.nodes }
+    ensures { UnlessMemory (HypTests items.now query length) result }
+{
+    let inner = Inner { by_id };
+    let near = search(alloc, &inner, query.from, length)?;
+    let far = search(alloc, &inner, query.to, length)?;
+    if let Some(id) = lesser_of(near.missing(), far.missing()) {
+        return Err(Refusal::MissingTuple(id));
+    }
+    if let Some(shorter) = near.get(query.to) {
+        return Err(Refusal::Shorter(shorter));
+    }
+    pair_tests(alloc, items, by_id, query, &near, &far, length)
+}

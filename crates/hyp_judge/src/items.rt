@@ -1,0 +1,50 @@
+//! Inner walks over items.
+
+ghost use Rattle.std.specs.Prelude.{◌≡◌};
+ghost use Rattle.proof_judge.specs.ItemWalks.{item_at, is_border, marks, inner_ways};
+
+use proof_judge::{NodesById, arcs_of};
+use road_leaf::Extra;
+use road_map::Arc;
+use road_search::Ground;
+
+fn is_border(extra: &Extra) -> bool
+    ensures { result ≡ is_border extra.now }
+{
+    match extra {
+        Extra::Cell { border, .. } => *border,
+        _ => false,
+    }
+}
+
+/// Whether the item of an id marks it as a border node.
+pub fn is_marked(by_id: &NodesById<'_>, id: u32) -> bool
+    ensures { result ≡ marks (item_at by_id.now id) }
+{
+    match by_id.find(id) {
+        None => false,
+        Some(leaf) => is_border(&leaf.extra),
+    }
+}
+
+/// Items as a ground of inner walks: an id with an item has the item's arcs, and no walk goes on
+/// from a border node.
+#[derive(Clone, Copy)]
+pub struct Inner<'a, 'b> {
+    pub by_id: &'a NodesById<'b>,
+}
+
+impl Ground for Inner<'_, '_> {
+    ghost ways = { λ w. inner_ways (item_at w.by_id.now) };
+
+    fn arcs(&self, id: u32) -> Option<&[Arc]> {
+        let by_id = self.by_id;
+        arcs_of(by_id, id)
+    }
+
+    fn lets(&self, id: u32, _length: u64) -> bool {
+        !is_marked(self.by_id, id)
+    }
+
+    ghost lets_shorter = { λ w id short long le h. h };
+}

@@ -1,0 +1,5 @@
+pub mod ExtraLaws
+pub mod NodeLaws
+pub mod NeedLaws
+pub mod PlanLaws
+pub mod FoundLaws

@@ -1,0 +1,60 @@
+//! The texts of node leaves and of pair leaves.
+
+ghost use Rattle.std.specs.Prelude.{◌≡◌, ◌+◌, ◌≤◌, ◌<◌, ◌^◌, ◌∷◌, ◌++◌, [], length, map, OnOk, IfOk, All};
+ghost use Rattle.std.specs.List.{flat_map};
+ghost use Rattle.merkle_cover.specs.Texts.{HasRoom};
+ghost use Rattle.road_leaf.specs.Leaves.{node_leaf_text, pair_leaf};
+
+use merkle_cover::Texts;
+use octet_text::NoMemory;
+use road_leaf::{NodeLeaf, PairLeaf, put_node_leaf};
+use std::alloc::Global;
+
+/// Adds the text of a node's leaf, which is spelled in a buffer that each leaf uses again.
+pub fn push_leaf(texts: &mut Texts, text: &mut Vec<u8>, leaf: &NodeLeaf) -> Result<(), NoMemory>
+    requires arcs { length leaf.now.arcs ≤ 255 }
+    requires room { HasRoom texts.old (node_leaf_text leaf.now) }
+    ensures { OnOk result (texts.new ≡ texts.old ++ node_leaf_text leaf.now ∷ []) }
+{
+    text.clear();
+    put_node_leaf(text, leaf)?;
+    texts.push(text)
+}
+
+/// The texts of node leaves.
+pub fn node_texts(alloc: Global, leaves: &[NodeLeaf]) -> Result<Texts, NoMemory>
+    requires arcs { All (λ l. length l.arcs ≤ 255) leaves.now }
+    requires few { length leaves.now + length (flat_map node_leaf_text leaves.now) < 2 ^ 32 }
+    ensures { IfOk result (λ t. t ≡ map node_leaf_text leaves.now) }
+{
+    let mut texts = Texts::new(alloc);
+    let mut text = Vec::new(alloc);
+    for leaf in leaves {
+        push_leaf(&mut texts, &mut text, leaf)?;
+    }
+    Ok(texts)
+}
+
+/// The numbers of a pair's leaf have their widths, so that it has a spelling where the ids rise.
+#[tactic(auto, unfolding(road_leaf::specs::Leaves::pair_leaf))]
+pub fn pair_fits(pair: &PairLeaf)
+    ensures { pair.now.a < pair.now.b → pair_leaf.Fits pair.now }
+{
+    let _a = pair.a;
+    let _b = pair.b;
+    let _distance = pair.distance;
+}
+
+/// The texts of pair leaves; each leaf has a spelling where its ids rise.
+pub fn pair_texts(alloc: Global, leaves: &[PairLeaf]) -> Result<Texts, NoMemory>
+    requires { length leaves.now + length (flat_map pair_leaf.spell leaves.now) < 2 ^ 32 }
+    ensures texts { IfOk result (λ t. t ≡ map pair_leaf.spell leaves.now) }
+    ensures fit { OnOk result (All (λ p. p.a < p.b → pair_leaf.Fits p) leaves.now) }
+{
+    let mut texts = Texts::new(alloc);
+    for leaf in leaves {
+        pair_fits(leaf);
+        texts.push(&leaf.write())?;
+    }
+    Ok(texts)
+}

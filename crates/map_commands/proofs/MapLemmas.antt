@@ -1,0 +1,65 @@
+-- How `route`, `root` and `dimacs` end, by their files.
+use Rattle.std.proofs.Common.{◌≡◌, ℕ, List, [], refl, IfSome}
+use Rattle.std.specs.declared.option.Option.{Option}
+use Rattle.std.specs.declared.result.Result.{Result}
+use Rattle.std.specs.declared.result.Result.TheVariants.{Ok, Err}
+use Rattle.road_io.specs.Contents.{Shelf}
+use Rattle.road_map.specs.Maps.{IsMap}
+use Rattle.road_map.specs.declared.parts.Parts.{Parts}
+use Rattle.road_reader.specs.RoadText.{printed_roads}
+use Rattle.command_files.specs.Reading.{parts_at}
+use Rattle.command_files.specs.Endings.{Ending, EndsReading, Promises, TellsNone, NoDisk, WhyNot, Writes}
+use Rattle.command_files.specs.declared.fault.Fault.{Fault}
+use Rattle.command_files.specs.declared.fault.Fault.TheVariants.{Memory, UnknownNode, NoRoute}
+use Rattle.command_files.specs.declared.ended.Verdict.{Verdict}
+use Rattle.command_files.specs.declared.ended.Verdict.TheVariants.{Done}
+use Rattle.command_files.proofs.Written.{CallsFor, over, reads, refused, written_done}
+use Rattle.map_commands.specs.RouteLine.{IsRouteLine, GivesLine, EndsRoute, ends_route}
+use Rattle.map_commands.specs.RootLine.{IsRootLine, EndsRoot, ends_root}
+use Rattle.map_commands.specs.DimacsFiles.{dimacs_at, EndsDimacs, ends_dimacs}
+
+-- an ending over parts that make a map
+abbrev pub OverMap : Parts → (Parts → Ending) → Ending
+OverMap parts Ends o text = IsMap parts → Ends parts o text
+
+-- why there is no line
+why_none : (parts : Parts) (from to : ℕ) (f : Fault) → GivesLine parts from to (Err f) → WhyNot NoDisk (OverMap parts (EndsRoute from to)) f
+why_none parts from to Memory h = tt
+why_none parts from to (UnknownNode id) h = λ is. (is, h, refl)
+why_none parts from to NoRoute h = λ is. (is, h, refl)
+why_none parts from to f h = absurd h
+
+module _ (files : Option Shelf) (name : List ℕ) (parts : Parts) (read : IfSome files (λ shelf. (parts_at shelf name ≡ Ok parts) × IsMap parts)) (l l' k k' : ℕ) (old : Option (List ℕ)) where
+  -- what the road file calls for
+  calls : (Ends : Parts → Ending) (o : Result Verdict Fault) (text : List ℕ) → OverMap parts Ends o text → CallsFor (λ shelf. EndsReading (parts_at shelf name) Ends) files o text
+  calls Ends o text h =
+      over files (λ shelf. (parts_at shelf name ≡ Ok parts) × IsMap parts) (λ shelf. EndsReading (parts_at shelf name) Ends o text)
+      (λ shelf is. reads (parts_at shelf name) parts Ends o text is.0 (h is.1)) read
+
+  -- an end that is no node, or two that no walk joins
+  pub route_refused : (from to : ℕ) (f : Fault) → GivesLine parts from to (Err f) → Promises (ends_route name from to) TellsNone NoDisk files l l' old old k k' (Err f)
+  route_refused from to f h =
+      refused (ends_route name from to) TellsNone NoDisk files l l' k k' old (OverMap parts (EndsRoute from to)) (calls (EndsRoute from to)) f (why_none parts from to f h)
+
+  -- the line of a route
+  pub route_told : (from to : ℕ) (new : Option (List ℕ)) (o : Result Verdict Fault) (text line : List ℕ) → text ≡ line → IsRouteLine parts from to line
+      → Writes (Ok Done) text old new k k' o → Promises (ends_route name from to) TellsNone NoDisk files l l' old new k k' o
+  route_told from to new o text line same is w =
+      written_done (ends_route name from to) TellsNone NoDisk files l l' k k' old (OverMap parts (EndsRoute from to)) (calls (EndsRoute from to)) new Done o text line same (λ map. (map, is)) w
+
+  -- the line of a root
+  pub root_told : (fan : ℕ) (new : Option (List ℕ)) (o : Result Verdict Fault) (text line : List ℕ) → text ≡ line → IsRootLine parts fan line
+      → Writes (Ok Done) text old new k k' o → Promises (ends_root name fan) TellsNone NoDisk files l l' old new k k' o
+  root_told fan new o text line same is w =
+      written_done (ends_root name fan) TellsNone NoDisk files l l' k k' old (OverMap parts (EndsRoot fan)) (calls (EndsRoot fan)) new Done o text line same (λ map. (map, is)) w
+
+-- the road file of a graph and its coordinates
+pub dimacs_told : (files : Option Shelf) (graph places : List ℕ) (parts : Parts) → IfSome files (λ shelf. dimacs_at shelf graph places ≡ Ok parts) → (l l' k k' : ℕ) (old new : Option (List ℕ)) (o : Result Verdict Fault) (text line : List ℕ)
+    → text ≡ line → line ≡ printed_roads parts → Writes (Ok Done) text old new k k' o → Promises (ends_dimacs graph places) TellsNone NoDisk files l l' old new k k' o
+dimacs_told files graph places parts read l l' k k' old new o text line same is w =
+    written_done (ends_dimacs graph places) TellsNone NoDisk files l l' k k' old (EndsDimacs parts) calls new Done o text line same is w
+  where
+    calls : (o : Result Verdict Fault) (text : List ℕ) → EndsDimacs parts o text → CallsFor (ends_dimacs graph places) files o text
+    calls o text h =
+        over files (λ shelf. dimacs_at shelf graph places ≡ Ok parts) (λ shelf. ends_dimacs graph places shelf o text)
+        (λ shelf is. reads (dimacs_at shelf graph places) parts EndsDimacs o text is h) read

@@ -1,0 +1,3 @@
+pub mod RouteLine
+pub mod RootLine
+pub mod DimacsFiles

@@ -1,0 +1,49 @@
+//! The command `dimacs`.
+
+ghost use Rattle.command_files.specs.Reading.{Loads};
+ghost use Rattle.command_files.specs.Endings.{Promises, TellsNone, NoDisk};
+ghost use Rattle.map_commands.specs.DimacsFiles.{dimacs_at, ends_dimacs};
+
+use command_files::{Fault, Verdict, load_file, write_text};
+use dimacs_reader::{DimacsError, read_dimacs};
+use road_io::{Library, Sink};
+use road_map::Parts;
+use road_reader::print_roads;
+use std::alloc::Global;
+
+/// Writes the road file of a graph and its coordinates.
+pub fn dimacs<L: Library, K: Sink>(
+    alloc: Global,
+    library: &mut L,
+    sink: &mut K,
+    graph: &str,
+    places: &str,
+) -> Result<Verdict, Fault>
+    ensures { Promises (ends_dimacs graph.now places.now) TellsNone NoDisk
+        (L.files library.old) (L.faults library.old) (L.faults library.new)
+        (K.taken sink.old) (K.taken sink.new) (K.faults sink.old) (K.faults sink.new) result }
+{
+    let parts = load_dimacs(alloc, library, graph, places)?;
+    let Ok(text) = print_roads(alloc, &parts) else {
+        return Err(Fault::Memory);
+    };
+    write_text(sink, &text)
+}
+
+/// The parts of a graph and its coordinates. Both files are loaded before either is read.
+fn load_dimacs<L: Library>(
+    alloc: Global,
+    library: &mut L,
+    graph: &str,
+    places: &str,
+) -> Result<Parts, Fault>
+    ensures { Loads (λ parts. parts) (λ shelf. dimacs_at shelf graph.now places.now) (L.files library.old) (L.faults library.old) (L.faults library.new) result }
+{
+    let graph = load_file(alloc, library, graph)?;
+    let places = load_file(alloc, library, places)?;
+    match read_dimacs(alloc, &graph, &places) {
+        Ok(parts) => Ok(parts),
+        Err(DimacsError::Memory) => Err(Fault::Memory),
+        Err(fault) => Err(Fault::Dimacs(fault)),
+    }
+}

@@ -1,0 +1,118 @@
+//! The command `root`.
+
+ghost use Rattle.std.specs.Prelude.{◌≡◌, ◌≤◌, ◌<◌, length, string_bytes, IfOk};
+ghost use Rattle.sha2.specs.Sha256.{sha256};
+ghost use Rattle.merkle_cover.specs.Trees.{root};
+ghost use Rattle.command_files.specs.Endings.{Promises, TellsNone, NoDisk};
+ghost use Rattle.map_commands.specs.RootLine.{IsPlainTextAt, plain_texts, root_line, IsRootLine, ends_root};
+
+use command_files::{Fault, Verdict, load_map, write_text};
+use merkle_cover::{Texts, Tree};
+use octet_text::{Digest32, NoMemory, Sha};
+use road_io::{Library, Sink};
+use road_leaf::{Extra, NodeLeaf};
+use road_map::{Arc, Arcs, Map, Node};
+use std::alloc::{AllocError, Global};
+
+/// Writes how many nodes a file's map has, and the root of the tree over their plain leaves.
+pub fn root<L: Library, K: Sink>(
+    alloc: Global,
+    library: &mut L,
+    sink: &mut K,
+    roads: &str,
+    fan: u8,
+) -> Result<Verdict, Fault>
+    ensures { Promises (ends_root roads.now fan) TellsNone NoDisk
+        (L.files library.old) (L.faults library.old) (L.faults library.new)
+        (K.taken sink.old) (K.taken sink.new) (K.faults sink.old) (K.faults sink.new) result }
+{
+    let map = load_map(alloc, library, roads)?;
+    let Ok(line) = root_line(alloc, &map, fan) else {
+        return Err(Fault::Memory);
+    };
+    write_text(sink, &line)
+}
+
+/// The count of a map's nodes, and the root of the tree over their plain leaves, as a line.
+fn root_line(alloc: Global, map: &Map, fan: u8) -> Result<Vec<u8>, NoMemory>
+    ensures { IfOk result (λ line. IsRootLine map.now.parts fan line.items) }
+{
+    let count = map.parts().nodes.as_slice().len();
+    let texts = plain_texts(alloc, map)?;
+    let root = root_of(alloc, &texts, fan)?;
+    let line = line_of_root(alloc, count, &root)?;
+    Ok(line)
+}
+
+/// The root of the tree over texts. There are some, and the fan-out is one of a tree, so that memory
+/// alone can be missing.
+#[tactic(auto, unfolding(merkle_cover::specs::Trees::tree_of))]
+fn root_of(alloc: Global, texts: &Texts, fan: u8) -> Result<Digest32, NoMemory>
+    ensures { IfOk result (λ digest. digest ≡ root sha256 texts.now fan) }
+{
+    match Tree::<Sha>::build(alloc, texts, fan) {
+        Ok(tree) => Ok(tree.root()),
+        Err(_) => Err(NoMemory),
+    }
+}
+
+/// The texts of the plain leaves of a map's nodes, by rising id.
+fn plain_texts(alloc: Global, map: &Map) -> Result<Texts, NoMemory>
+    ensures { IfOk result (λ texts. texts ≡ plain_texts map.now.parts map.now.order) }
+{
+    let _parts = map.parts();
+    let count = map.count();
+    let mut texts = Texts::new(alloc);
+    for position in 0..count {
+        let text = leaf_text(alloc, map, position)?;
+        texts.push(text.as_slice())?;
+    }
+    Ok(texts)
+}
+
+/// The text of the plain leaf of the node at a position.
+fn leaf_text(alloc: Global, map: &Map, position: u32) -> Result<Vec<u8>, NoMemory>
+    requires { position < length map.now.order }
+    ensures text { IfOk result (λ text. IsPlainTextAt map.now position text.items) }
+    ensures few { IfOk result (λ text. length text.items ≤ 2055) }
+{
+    let _parts = map.parts();
+    let node = map.node(position);
+    let leaf = plain_leaf(alloc, node, map.arcs(position))?;
+    let mut text = Vec::new(alloc);
+    leaf.write(&mut text)?;
+    Ok(text)
+}
+
+/// The line of a root: the count, a space, the root in lower case hex, and a line end.
+fn line_of_root(alloc: Global, count: usize, root: &Digest32) -> Result<Vec<u8>, NoMemory>
+    ensures { IfOk result (λ line. line.items ≡ root_line count root.now) }
+{
+    match printed(alloc, count, root) {
+        Ok(text) => Ok(text.into_bytes()),
+        Err(_) => Err(NoMemory),
+    }
+}
+
+fn printed(alloc: Global, count: usize, root: &Digest32) -> Result<String, AllocError>
+    ensures { IfOk result (λ text. string_bytes text ≡ root_line count root.now) }
+{
+    let digits = hex::encode(alloc, root)?;
+    let mut text = String::new(alloc);
+    writeln!(text, "{count} {digits}")?;
+    Ok(text)
+}
+
+/// The plain leaf of a node with these arcs.
+fn plain_leaf(alloc: Global, node: Node, arcs: &[Arc]) -> Result<NodeLeaf, NoMemory>
+    ensures { IfOk result (λ leaf. leaf ≡ record { id = node.id; x = node.x; y = node.y; arcs = arcs.now; extra = Extra.Plain }) }
+{
+    let arcs = arcs.to_vec(alloc)?;
+    Ok(NodeLeaf {
+        id: node.id,
+        x: node.x,
+        y: node.y,
+        arcs: Arcs::from_vec(arcs),
+        extra: Extra::Plain,
+    })
+}

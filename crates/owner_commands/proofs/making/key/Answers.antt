@@ -1,0 +1,29 @@
+use Rattle.std.proofs.lemmas.Result.{err_from_is_err_and}
+use Rattle.command_desks.proofs.Disks.{no_step}
+use Rattle.std.proofs.Common.{refl}
+use Rattle.owner_commands.proofs.OwnerLemmas.{key_refused, key_told, made_of, on_any}
+use Rattle.road_io.specs.Moments.{EachImage}
+use Rattle.key_desk.specs.Desk.{IsBlank}
+use Rattle.key_desk.specs.Keys.{key_from}
+use Rattle.road_command.specs.View.{type_of}
+use Rattle.owner_commands.proofs.making.key.Goals as goal
+
+pub returns-in_err-secret-clause-stands : goal.returns-in_err-secret-clause-stands
+returns-in_err-secret-clause-stands g c = no_step g.D.Disk c.args.disk.now
+
+pub returns-in_err-line-clause-promised : goal.returns-in_err-line-clause-promised
+returns-in_err-line-clause-promised g c =
+    let p = err_from_is_err_and c.from_residual-in_err-line.result c.from_residual-in_err-line.ensures.1 in
+    rw (p.1, p.2)
+    (key_refused _ _ _ _ _ _ _ _ _ _ c.in_ok-secret.ensures.loads.read _ _ c.in_err-line.ensures.refused)
+
+pub returns-clause-promised : goal.returns-clause-promised
+returns-clause-promised g c =
+    key_told _ _ _ _ _ _ _ _ _ _ c.in_ok-secret.ensures.loads.read _ _ _ _ _ refl c.in_ok-line.ensures.line c.write_text.ensures
+
+pub returns-clause-made : goal.returns-clause-made
+returns-clause-made g c =
+    on_any _ _ (made_of _ _ _ (λ s. EachImage g.D.Disk c.make_key.new.disk (IsBlank (key_from (type_of c.args.kind) s))) c.in_ok-secret.ensures.loads.read c.in_ok-line.ensures.made)
+
+pub returns-clause-kept : goal.returns-clause-kept
+returns-clause-kept g c = λ x is opened e. c.in_ok-line.ensures.line.0 x is opened

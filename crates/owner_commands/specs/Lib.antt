@@ -1,0 +1,4 @@
+pub mod OwnerKey
+pub mod OwnerDesk
+pub mod Publishing
+pub mod Signing

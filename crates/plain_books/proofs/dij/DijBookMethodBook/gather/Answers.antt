@@ -1,0 +1,11 @@
+use Rattle.std.proofs.Common.{◌∙◌}
+use Rattle.road_search.specs.Labelling.{length_at}
+use Rattle.plain_books.proofs.WithinLaws.{found_dij}
+use Rattle.plain_books.proofs.dij.DijBookMethodBook.gather.Goals as goal
+
+pub returns-clause-found : goal.returns-clause-found
+returns-clause-found c =
+    let found = c.in_ok-reached in (
+      found.reached.length,
+      found_dij c.args.self.now.map.parts c.parts-parts.ensures.is_map c.args.query found.reached.length (record { route = found.reached.route; nodes = c.in_ok-nodes.nodes; pairs = c.from_vec.result }) (length_at found.reached.labels) found.ensures.route found.ensures.distinct found.ensures.near c.in_ok-nodes.ensures (c.from_vec.ensures ∙ c.new.ensures.items),
+    )

@@ -1,0 +1,51 @@
+//! The judge of FULL.
+
+ghost use Rattle.std.specs.Prelude.{◌≡◌};
+ghost use Rattle.proof_judge.specs.Judgement.{full_judged};
+
+use book_model::{Items, Numbers, Query};
+use proof_judge::{Judge, Refusal, begin, find_pair};
+use road_leaf::PairLeaf;
+use std::alloc::Global;
+
+/// The method that signs the distance of each pair of nodes, and sends that of the two ends.
+pub struct Full;
+
+impl Judge for Full {
+    ghost use Rattle.book_model.specs.Books.{Full as ByFull};
+
+    ghost kind = { ByFull };
+
+    fn judge(
+        alloc: Global,
+        _numbers: Numbers,
+        items: &Items,
+        query: Query,
+    ) -> Result<u64, Refusal> {
+        let (_by_id, length) = begin(alloc, items, query)?;
+        tests(items.pairs.as_slice(), query, length)
+    }
+}
+
+/// The tests behind the route, which has this length: the pair of the two ends says how far apart
+/// they are.
+fn tests(pairs: &[PairLeaf], query: Query, length: u64) -> Result<u64, Refusal>
+    ensures { result ≡ full_judged pairs.now query length }
+{
+    if query.from == query.to {
+        return if length > 0 {
+            Err(Refusal::Shorter(0))
+        } else {
+            Ok(length)
+        };
+    }
+    let Some(pair) = find_pair(pairs, query.from, query.to) else {
+        let (first, second) = (query.from.min(query.to), query.from.max(query.to));
+        return Err(Refusal::MissingPair(first, second));
+    };
+    if pair.distance == length {
+        Ok(length)
+    } else {
+        Err(Refusal::Disagrees(pair.distance))
+    }
+}

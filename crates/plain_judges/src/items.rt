@@ -1,0 +1,28 @@
+//! Items over which every length passes.
+
+ghost use Rattle.proof_judge.specs.ItemWalks.{item_at, any_ways};
+
+use proof_judge::{NodesById, arcs_of};
+use road_map::Arc;
+use road_search::Ground;
+
+/// Items as a ground: an id with an item has the item's arcs, and lets every length pass.
+#[derive(Clone, Copy)]
+pub struct Anywhere<'a, 'b> {
+    pub by_id: &'a NodesById<'b>,
+}
+
+impl Ground for Anywhere<'_, '_> {
+    ghost ways = { λ w. any_ways (item_at w.by_id.now) };
+
+    fn arcs(&self, id: u32) -> Option<&[Arc]> {
+        let by_id = self.by_id;
+        arcs_of(by_id, id)
+    }
+
+    fn lets(&self, _id: u32, _length: u64) -> bool {
+        true
+    }
+
+    ghost lets_shorter = { λ w id short long le h. h };
+}

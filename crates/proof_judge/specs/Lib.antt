@@ -1,0 +1,4 @@
+pub mod ItemWalks
+pub mod Judgement
+pub mod SharedTests
+pub mod ById

@@ -1,0 +1,30 @@
+-- What every method judges first: repeated ids, and the walk of the route.
+use Rattle.std.specs.Prelude.{◌≡◌, ℕ, ◌^◌, ◌<◌, Ok, Err, List, Contains}
+use Rattle.road_map.specs.declared.arc.Arc.{Arc}
+use Rattle.book_model.specs.Books.{Kind}
+use Rattle.book_model.specs.declared.items.Query.{Query}
+use Rattle.book_model.specs.declared.settings.Numbers.{Numbers}
+use Rattle.road_leaf.specs.declared.leaf.NodeLeaf.{NodeLeaf}
+use Rattle.proof_judge.specs.declared.refusal.Refusal.{Refusal}
+use Rattle.proof_judge.specs.declared.refusal.Refusal.TheVariants.{Memory}
+use Rattle.book_model.specs.declared.items.Items.{Items}
+use Rattle.proof_judge.specs.ItemWalks.{item_at}
+use Rattle.proof_judge.specs.Judgement.{Verdict, longer, by_item, Judged}
+
+-- what a hop says of each route that begins with it
+abbrev pub HopSays : List NodeLeaf → ℕ → ℕ → ℕ → Verdict → Type 0
+HopSays nodes index r q (Ok l) = (l < 2 ^ 32) × ((rest : Verdict) → by_item index r q (item_at nodes r) rest ≡ longer l rest)
+HopSays nodes index r q (Err e) = (rest : Verdict) → by_item index r q (item_at nodes r) rest ≡ Err e
+
+-- what a verdict meets, unless memory is short
+abbrev pub UnlessMemory : (Verdict → Type 0) → Verdict → Type 0
+UnlessMemory P (Err Memory) = Unit {0}
+UnlessMemory P v = P v
+
+-- the refusals that come before the tests of a method's own
+abbrev pub RefusesBefore : Items → Query → Refusal → Type 0
+RefusesBefore g q e = (k : Kind) (n : Numbers) → UnlessMemory (Judged k n g q) (Err e)
+
+-- the lengths of all arcs are numbers of 32 bits
+abbrev pub AreShort : List NodeLeaf → Type 0
+AreShort nodes = (n : NodeLeaf) (a : Arc) → Contains nodes n → Contains n.arcs a → a.length < 2 ^ 32

@@ -1,0 +1,21 @@
+//! The trait of judges.
+
+ghost use Rattle.std.specs.Prelude.{◌≤◌, length};
+ghost use Rattle.book_model.specs.Books.{Kind};
+ghost use Rattle.proof_judge.specs.Judgement.{Judged};
+ghost use Rattle.proof_judge.specs.SharedTests.{UnlessMemory};
+
+use crate::refusal::Refusal;
+use book_model::{Items, Numbers, Query};
+use std::alloc::Global;
+
+/// How a client judges what an answer brings, under one method. It needs no book.
+pub trait Judge {
+    // The method.
+    ghost kind: { Kind };
+
+    /// The length of the route, or the first test that the items do not pass.
+    fn judge(alloc: Global, numbers: Numbers, items: &Items, query: Query) -> Result<u64, Refusal>
+        requires { length items.now.route ≤ 65536 }
+        ensures { UnlessMemory (Judged kind numbers items.now query) result };
+}

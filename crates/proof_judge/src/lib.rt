@@ -1,0 +1,24 @@
+//! How a client judges items: the tests of each method and their answers, the tests that all
+//! methods share, and the trait of judges. Nothing here knows how an owner or a server makes a
+//! book.
+#![tactic(auto)]
+
+pub use judge::Judge;
+pub use laws::judge_laws;
+pub use lengths::are_short;
+pub use nodes_by_id::NodesById;
+pub use pairs::find_pair;
+pub use pairs_by_id::PairsById;
+pub use refusal::Refusal;
+pub use route::{arcs_of, begin};
+
+mod judge;
+mod laws;
+mod lengths;
+mod nodes_by_id;
+mod pairs;
+mod pairs_by_id;
+mod refusal;
+mod route;
+#[cfg(test)]
+mod tests;

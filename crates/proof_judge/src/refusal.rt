@@ -1,0 +1,51 @@
+//! Why items are refused.
+
+ghost use Rattle.std.specs.Prelude.{◌≡◌};
+ghost use Rattle.proof_judge.specs.declared.refusal.Refusal.TheVariants as refusals;
+
+use octet_text::NoMemory;
+use std::alloc::AllocError;
+use thiserror::Error;
+
+/// The first test that items do not pass.
+#[derive(Clone, Copy, Debug, PartialEq, Eq, Error)]
+pub enum Refusal {
+    /// Two node items carry this id, the least such.
+    #[error("Two items are of the node {0}.")]
+    RepeatedNode(u32),
+    /// The route fails at this index: it does not begin at the start (0), there is no arc to its id
+    /// at the index, or it ends, at the index before, elsewhere than at the end.
+    #[error("The route is broken at index {0}.")]
+    BadRoute(u32),
+    /// A walk comes to this id, which has no item.
+    #[error("The item of node {0} is missing.")]
+    MissingTuple(u32),
+    /// No item says how far apart these two ids are, the lesser of them first.
+    #[error("The item of the pair of {0} and {1} is missing.")]
+    MissingPair(u32, u32),
+    /// The items show a walk of this length, which is shorter than the route.
+    #[error("The items show a walk of length {0}, which is shorter.")]
+    Shorter(u64),
+    /// The pair of the two ends says this distance, which the route does not have.
+    #[error("The pair of the two ends says the distance {0}.")]
+    Disagrees(u64),
+    /// No memory was found.
+    #[error("No memory was found.")]
+    Memory,
+}
+
+impl From<AllocError> for Refusal {
+    ghost from_gives = { λ _ e. e ≡ refusals.Memory };
+
+    fn from(_none: AllocError) -> Refusal {
+        Refusal::Memory
+    }
+}
+
+impl From<NoMemory> for Refusal {
+    ghost from_gives = { λ _ e. e ≡ refusals.Memory };
+
+    fn from(_none: NoMemory) -> Refusal {
+        Refusal::Memory
+    }
+}

@@ -1,0 +1,117 @@
+//! The walk of a route over items.
+
+ghost use Rattle.std.specs.Prelude.{◌≡◌, ℕ, ◌^◌, ◌<◌, ◌≤◌, [], IfSome, IfOk, OnOk, IfErr, None, Ok, length};
+ghost use Rattle.road_map.specs.Least.{IsLeast};
+ghost use Rattle.std.specs.Option.{option_map, option_copied};
+ghost use Rattle.proof_judge.specs.ItemWalks.{item_at, StandsTwice};
+ghost use Rattle.proof_judge.specs.Judgement.{arc_to, walked_from, walked};
+ghost use Rattle.proof_judge.specs.SharedTests.{HopSays, RefusesBefore};
+
+use crate::nodes_by_id::NodesById;
+use crate::refusal::Refusal;
+use book_model::{Items, Query};
+use road_leaf::NodeLeaf;
+use road_map::Arc;
+use std::alloc::Global;
+
+/// The arcs in the item of an id.
+pub fn arcs_of<'a>(by_id: &'a NodesById<'_>, id: u32) -> Option<&'a [Arc]>
+    ensures { option_copied result ≡ option_map (λ n. n.arcs) (item_at by_id.now id) }
+{
+    match by_id.find(id) {
+        None => None,
+        Some(leaf) => Some(leaf.arcs.as_slice()),
+    }
+}
+
+/// The length of the arc to an id.
+fn arc_length(leaf: &NodeLeaf, to: u32) -> Option<u32>
+    ensures length { result ≡ arc_to leaf.now.arcs to }
+    ensures fits { IfSome result (λ l. l < 2 ^ 32) }
+{
+    leaf.arcs
+        .as_slice()
+        .iter()
+        .find(|arc| arc.to == to)
+        .map(|arc| arc.length)
+}
+
+/// The length of a hop.
+fn hop(by_id: &NodesById<'_>, index: u32, from: u32, to: u32) -> Result<u32, Refusal>
+    requires { index < 65536 }
+    ensures { HopSays by_id.now index from to result }
+{
+    match by_id.find(from) {
+        None => Err(Refusal::MissingTuple(from)),
+        Some(leaf) => match arc_length(leaf, to) {
+            None => Err(Refusal::BadRoute(index + 1)),
+            Some(length) => Ok(length),
+        },
+    }
+}
+
+/// The end of a route.
+fn arrive(by_id: &NodesById<'_>, index: u32, at: u32, to: u32) -> Result<u64, Refusal>
+    requires { index < 65536 }
+    ensures { result ≡ walked_from by_id.now to index at [] }
+{
+    match by_id.find(at) {
+        None => Err(Refusal::MissingTuple(at)),
+        Some(_) => {
+            if at == to {
+                Ok(0)
+            } else {
+                Err(Refusal::BadRoute(index + 1))
+            }
+        }
+    }
+}
+
+/// The rest of a route.
+fn follow(by_id: &NodesById<'_>, to: u32, first: u32, rest: &[u32]) -> Result<u64, Refusal>
+    requires { length rest.now < 65536 }
+    ensures value { result ≡ walked_from by_id.now to 0 first rest.now }
+    ensures most { IfOk result (λ d. d < 2 ^ 48) }
+{
+    let mut at = first;
+    let mut total = 0;
+    for (index, next) in rest.iter().enumerate() {
+        let length = hop(by_id, index as u32, at, *next)?;
+        total += u64::from(length);
+        at = *next;
+    }
+    arrive(by_id, rest.len() as u32, at, to)?;
+    Ok(total)
+}
+
+/// The length of a route, or its first fault.
+pub fn walk(by_id: &NodesById<'_>, query: Query, route: &[u32]) -> Result<u64, Refusal>
+    requires { length route.now ≤ 65536 }
+    ensures value { result ≡ walked by_id.now query route.now }
+    ensures most { IfOk result (λ d. d < 2 ^ 48) }
+{
+    match route.split_first() {
+        None => Err(Refusal::BadRoute(0)),
+        Some((first, rest)) => {
+            if *first == query.from {
+                follow(by_id, query.to, *first, rest)
+            } else {
+                Err(Refusal::BadRoute(0))
+            }
+        }
+    }
+}
+
+/// The tests that all methods share: items by id, and the length of the route.
+pub fn begin(alloc: Global, items: &Items, query: Query) -> Result<(NodesById<'_>, u64), Refusal>
+    requires { length items.now.route ≤ 65536 }
+    ensures nodes { IfOk result (λ begun. begun.0 ≡ items.now.nodes) }
+    ensures length { IfOk result (λ begun. walked items.now.nodes query items.now.route ≡ Ok begun.1) }
+    ensures most { IfOk result (λ begun. begun.1 < 2 ^ 48) }
+    ensures distinct { OnOk result (IsLeast (StandsTwice items.now.nodes) None) }
+    ensures refused { IfErr result (RefusesBefore items.now query) }
+{
+    let by_id = NodesById::new(alloc, items.nodes.as_slice())?;
+    let length = walk(&by_id, query, items.route.as_slice())?;
+    Ok((by_id, length))
+}

@@ -1,0 +1,17 @@
+-- Why a map has no book under settings.
+use Rattle.std.specs.Prelude.{ℕ, Option, None, Some}
+use Rattle.road_map.specs.declared.parts.Parts.{Parts}
+use Rattle.book_model.specs.declared.settings.Settings.{Settings}
+use Rattle.book_model.specs.declared.settings.PlanError.{PlanError}
+use Rattle.book_model.specs.declared.settings.PlanError.TheVariants as plan
+use Rattle.book_model.specs.Books.{Kind, kind_of, plan_fault, method_fault}
+
+-- Which books are offered: the first reason why there is none, of the method, the order, the fan-out, the method's
+-- parameters and the size of the map.
+abbrev pub book_fault : Parts → Settings → Option PlanError
+book_fault parts s = plan_fault (kind_of s.method) parts s
+
+-- the method's own reason, or that there is no such method
+abbrev pub own_fault : Option Kind → Parts → Settings → Option PlanError
+own_fault None parts s = Some (plan.Settings 0)
+own_fault (Some kind) parts s = method_fault kind parts s

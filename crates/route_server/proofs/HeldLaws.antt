@@ -1,0 +1,39 @@
+-- A book that was planned over a map, with its trees, is what is held.
+use Rattle.std.proofs.Common.{◌≡◌, ℕ, ◌≤◌, None, Some, Option, List, length, refl, arith, subst}
+use Rattle.road_map.specs.Maps.{Charted, IsMap}
+use Rattle.road_map.specs.declared.parts.Parts.{Parts}
+use Rattle.book_model.specs.declared.settings.Settings.{Settings}
+use Rattle.book_model.specs.Books.{Kind, Book, kind_of, IsBookOf}
+use Rattle.proof_method.specs.Planning.{own_fault}
+use Rattle.proof_method.specs.Gathering.{IsOrderOf}
+use Rattle.route_server.specs.Fitting.{FitsFormats}
+use Rattle.route_server.specs.Keeping.{IsKept, IsHeldBook, kept_as}
+use Rattle.route_server.specs.LeafTrees.{Leaves}
+use Rattle.route_server.proofs.BooksFit.{books_fit}
+use Rattle.route_server.proofs.Brought.{most_pairs_few}
+
+-- a book that was planned has a spelling
+pub planned_fits : (kind : Kind) (parts : Parts) (s : Settings) (order : List ℕ) (b : Book) → IsMap parts → IsOrderOf parts order → kind_of s.method ≡ Some kind → own_fault (kind_of s.method) parts s ≡ None → IsBookOf kind parts s order b → FitsFormats kind b
+planned_fits kind parts s order b is_map lists method allowed book = books_fit kind parts s order b is_map lists (subst (λ (o : Option Kind). own_fault o parts s ≡ None) method allowed) book
+
+-- and few pairs
+pub few_pairs : (kind : Kind) (b : Book) → FitsFormats kind b → length b.pairs ≤ 2097152
+few_pairs kind b fits = omega (arith, fits.pairs_few, most_pairs_few kind)
+
+-- what is kept of a map's book under a method
+pub is_kept : (kind : Kind) (map : Charted) (s : Settings) (order places : List ℕ) (b : Book) (nodes : Leaves) (pairs : Option Leaves) (signature : List ℕ) → IsHeldBook kind map s order places b nodes pairs → IsKept (kept_as map s order b signature)
+is_kept kind map s order places b nodes pairs signature held = record {
+  is_map = held.is_map;
+  by_id = held.by_id;
+  allowed = held.allowed;
+  order = held.order_is;
+  lists = held.lists;
+  kind = kind;
+  book = b;
+  is_book = held.is_book;
+  vectors = held.vectors;
+  fits = held.fits;
+  nodes = refl;
+  pairs = refl;
+  numbers = refl;
+}

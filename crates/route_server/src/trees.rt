@@ -1,0 +1,69 @@
+//! The trees over a book's leaves.
+ghost use Rattle.std.specs.Prelude.{◌≡◌, ◌<◌, ◌≤◌, IfOk, OnOk, All, length};
+ghost use Rattle.std.specs.Option.{option_copied};
+ghost use Rattle.road_map.specs.Maps.{IsMap};
+ghost use Rattle.road_leaf.specs.Leaves.{node_leaf, pair_leaf};
+ghost use Rattle.book_model.specs.Books.{leaves_of};
+ghost use Rattle.proof_method.specs.Gathering.{IsOrderOf};
+ghost use Rattle.route_server.specs.Fitting.{FitsFormats, kind_of_leaves};
+ghost use Rattle.route_server.specs.Headers.{node_texts, pair_texts};
+ghost use Rattle.route_server.specs.Keeping.{leaves_in, count_in, root_in};
+
+use crate::leaf_tree::LeafTree;
+use crate::texts::node_texts;
+use leaf_texts::pair_texts;
+use octet_text::{Digest32, Hasher, NoMemory};
+use proof_method::MethodBook;
+use road_leaf::PairLeaf;
+use std::alloc::Global;
+
+/// The tree over a book's node leaves, in an order of its ids.
+pub fn node_tree<H: Hasher, B: MethodBook>(
+    alloc: Global,
+    book: &B,
+    order: &[u32],
+    fan: u8,
+) -> Result<LeafTree<H>, NoMemory>
+    requires map { IsMap (B.shown book.now).parts }
+    requires order { IsOrderOf (B.shown book.now).parts order.now }
+    requires fits { FitsFormats (B.kind book.now) (B.shown book.now) }
+    requires fan { 2 ≤ fan }
+    requires fan_max { fan ≤ 32 }
+    ensures tree { IfOk result (λ l. l ≡ record { fan = fan; texts = node_texts (leaves_of (B.shown book.now) order.now) }) }
+    ensures fit { OnOk result (All (node_leaf (kind_of_leaves (B.kind book.now) (B.shown book.now).numbers)).Fits (leaves_of (B.shown book.now) order.now)) }
+{
+    let texts = node_texts(alloc, book, order)?;
+    LeafTree::build(alloc, texts, fan)
+}
+
+/// The tree over the leaves of pairs, if there are some.
+pub fn pair_tree<H: Hasher>(
+    alloc: Global,
+    pairs: &[PairLeaf],
+    fan: u8,
+) -> Result<Option<LeafTree<H>>, NoMemory>
+    requires few { length pairs.now ≤ 2097152 }
+    requires ids { All (λ p. p.a < p.b) pairs.now }
+    requires fan { 2 ≤ fan }
+    requires fan_max { fan ≤ 32 }
+    ensures tree { IfOk result (λ l. l ≡ leaves_in fan (pair_texts pairs.now)) }
+    ensures fit { OnOk result (All pair_leaf.Fits pairs.now) }
+{
+    if pairs.is_empty() {
+        return Ok(None);
+    }
+    let texts = pair_texts(alloc, pairs)?;
+    let tree = LeafTree::build(alloc, texts, fan)?;
+    Ok(Some(tree))
+}
+
+/// How many leaves a tree has and its root, 0 and zeros where there is none.
+pub fn count_and_root<H: Hasher>(tree: Option<&LeafTree<H>>) -> (u32, Digest32)
+    ensures count { result.0 ≡ count_in (option_copied tree.entry) }
+    ensures root { result.1 ≡ root_in H.hash (option_copied tree.entry) }
+{
+    match tree {
+        Some(tree) => (tree.count(), tree.root()),
+        None => (0, [0; 32]),
+    }
+}

@@ -1,0 +1,8 @@
+pub mod Isolated
+pub mod PinLemmas
+pub mod MapTests
+pub mod RefusalLemmas
+pub mod StepLemmas
+pub mod InstallLemmas
+pub mod ExtraLemmas
+pub mod Installable

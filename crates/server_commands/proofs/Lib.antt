@@ -1,0 +1,4 @@
+pub mod ProveLemmas
+pub mod OneProve
+pub mod ServeCommand
+pub mod OneServe

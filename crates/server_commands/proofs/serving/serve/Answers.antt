@@ -1,0 +1,31 @@
+use Rattle.std.proofs.lemmas.Result.{err_from_is_err_and}
+use Rattle.server_commands.proofs.ServeCommand.{unread_serves, serve_refused, refused_serves, serve_ends, serves_frames}
+use Rattle.server_commands.proofs.serving.serve.Goals as goal
+
+pub returns-in_err-publication-clause-serves : goal.returns-in_err-publication-clause-serves
+returns-in_err-publication-clause-serves g c =
+    let p = err_from_is_err_and c.from_residual.result c.from_residual.ensures.1 in
+    let loads = c.in_err-publication.ensures.loads in
+    rw (p.1, p.2) (unread_serves _ _ _ _ _ _ _ loads.others loads.read)
+
+pub returns-in_err-service-clause-promised : goal.returns-in_err-service-clause-promised
+returns-in_err-service-clause-promised g c =
+    let p = err_from_is_err_and c.from_residual-in_err-service.result c.from_residual-in_err-service.ensures.1 in
+    rw (p.1, p.2) (serve_refused _ _ _ _ _ _ _ c.in_ok-publication.ensures.loads.read _ _ c.in_err-service.ensures.refused)
+
+pub returns-in_err-service-clause-serves : goal.returns-in_err-service-clause-serves
+returns-in_err-service-clause-serves g c =
+    let p = err_from_is_err_and c.from_residual-in_err-service.result c.from_residual-in_err-service.ensures.1 in
+    rw (p.1, p.2) (refused_serves _ _ _ (g.L.Library.faults c.args.library.now) (g.L.Library.faults c.args.library.now) (g.K.Sink.faults c.args.sink.now) (g.K.Sink.faults c.args.sink.now)
+    c.in_ok-publication.ensures.loads.read _ _ _ _ _ c.in_err-service.ensures.refused)
+
+pub returns-clause-promised : goal.returns-clause-promised
+returns-clause-promised g c =
+    rw c.ended_serving.ensures (serve_ends _ _ _ _ _ _ _ c.in_ok-publication.ensures.loads.read c.in_ok-service.ensures.installable _ _ _ c.serve-served.result _
+    c.in_ok-service.ensures.starts c.serve-served.ensures.input c.serve-served.ensures.sink)
+
+pub returns-clause-serves : goal.returns-clause-serves
+returns-clause-serves g c =
+    rw c.ended_serving.ensures (serves_frames _ _ _ (g.L.Library.faults c.args.library.now) (g.L.Library.faults c.args.library.now) (g.K.Sink.faults c.args.sink.now) (g.K.Sink.faults c.args.sink.now)
+    c.in_ok-publication.ensures.loads.read c.in_ok-service.ensures.installable _ _ _ _ _ _ c.serve-served.result _ _
+    c.in_ok-service.ensures.starts c.serve-served.ensures.input c.serve-served.ensures.serves c.serve-served.ensures.source)

@@ -1,0 +1,88 @@
+//! The command `prove`.
+
+ghost use Rattle.std.specs.Prelude.{◌≡◌, ◌≤◌, length, IfOk, IfErr, OnOk};
+ghost use Rattle.road_map.specs.Walks.{Knows};
+ghost use Rattle.sha2.specs.Sha256.{sha256};
+ghost use Rattle.route_server.specs.Honesty.{IsHonest};
+ghost use Rattle.route_server.specs.Keeping.{publication_in};
+ghost use Rattle.command_files.specs.Endings.{Promises, NoDisk, NoEnd, WhyNot};
+ghost use Rattle.command_books.specs.Installing.{EndsInstalling, IsInstallable};
+ghost use Rattle.server_commands.specs.Proving.{EndsReply, TellsEnds, ends_prove};
+
+use book_model::Query;
+use command_books::install;
+use command_files::{Fault, Told, Verdict, load_publication, write_told};
+use octet_text::{NoMemory, Sha};
+use proof_octets::{Publication, range_laws};
+use road_io::{Library, Sink};
+use road_map::map_laws;
+use road_search::knows;
+use route_server::Held;
+use std::alloc::Global;
+
+/// Writes a reply to a query over a publication.
+pub fn prove<L: Library, K: Sink>(
+    alloc: Global,
+    library: &mut L,
+    sink: &mut K,
+    publication: &str,
+    query: Query,
+) -> Result<Verdict, Fault>
+    ensures { Promises (ends_prove publication.now query) TellsEnds NoDisk
+        (L.files library.old) (L.faults library.old) (L.faults library.new)
+        (K.taken sink.old) (K.taken sink.new) (K.faults sink.old) (K.faults sink.new) result }
+{
+    range_laws();
+    let publication = load_publication(alloc, library, publication)?;
+    let told = told_of(alloc, publication, query)?;
+    write_told(sink, &told)
+}
+
+/// The reply to a query over a publication, which is installed first.
+fn told_of(alloc: Global, publication: Publication, query: Query) -> Result<Told, Fault>
+    requires { length publication.signature ≤ 1452 }
+    ensures installable { OnOk result (IsInstallable publication) }
+    ensures told { IfOk result (λ told. EndsReply query publication told.end told.text.items) }
+    ensures refused { IfErr result (WhyNot NoDisk (EndsInstalling publication NoEnd)) }
+{
+    let held = install(alloc, publication)?;
+    match reply(alloc, &held, query) {
+        Ok(told) => Ok(told),
+        Err(NoMemory) => Err(Fault::Memory),
+    }
+}
+
+/// The reply to a query.
+fn reply(alloc: Global, held: &Held<Sha>, query: Query) -> Result<Told, NoMemory>
+    requires { length held.now.signature ≤ 1452 }
+    ensures { IfOk result (λ told. EndsReply query (publication_in sha256 held.now) told.end told.text.items) }
+{
+    let text = held.answer(alloc, query)?;
+    let end = end_of(held, query, &text);
+    Ok(Told { text, end })
+}
+
+/// How a run ends that has written an honest reply.
+fn end_of(held: &Held<Sha>, query: Query, octets: &[u8]) -> Result<Verdict, Fault>
+    requires { IsHonest sha256 sha256 (publication_in sha256 held.now) query octets.now }
+    ensures { EndsReply query (publication_in sha256 held.now) result octets.now }
+{
+    map_laws();
+    match octets.first() {
+        Some(1) => Err(Fault::UnknownNode(first_unknown(held, query))),
+        Some(2) => Err(Fault::NoRoute),
+        _ => Ok(Verdict::Done),
+    }
+}
+
+/// The first end that is no node, where one of the two is none.
+fn first_unknown(held: &Held<Sha>, query: Query) -> u32
+    ensures known { Knows held.now.map.parts query.from → result ≡ query.to }
+    ensures unknown { ¬ Knows held.now.map.parts query.from → result ≡ query.from }
+{
+    if knows(held.map(), query.from) {
+        query.to
+    } else {
+        query.from
+    }
+}

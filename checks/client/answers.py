@@ -3,10 +3,9 @@
 
 From a map and a method it makes leaves, trees, covers, a header and its signature, by
 docs/FORMATS.md, docs/METHODS.md and RFC 8554, with struct and hashlib alone, and compares each
-answer with the array of that name in crates/route_client/src/signed_*.rt. With NAME it prints that
-array. The key of height 5 has the secret of 48 zeros, and each header a one-time key of its own.
+answer with the constant of that name in crates/road_tests/src/signed_answers.rt. With NAME it prints
+that one in hex. The key of height 5 has the secret of 48 zeros, and each header a one-time key of its own.
 """
-import glob
 import hashlib
 import heapq
 import os
@@ -250,28 +249,25 @@ def cover_octets(cover):
     return struct.pack(">I", len(cover)) + b"".join(cover)
 
 
-def in_tests(folder):
-    """The arrays of octets that stand in the tests' sources."""
-    arrays = {}
-    for name in glob.glob(os.path.join(folder, "signed_*.rt")):
-        with open(name, encoding="utf-8") as file:
-            for found in re.finditer(r"pub const (\w+): \[u8; \d+\] = \[([^\]]*)\]", file.read()):
-                arrays[found[1]] = bytes(int(word, 0) for word in found[2].replace(",", " ").split())
-    return arrays
-
-
-def as_array(name, octets):
-    words = ", ".join("0" if octet == 0 else f"0x{octet:02x}" for octet in octets)
-    return f"pub const {name}: [u8; {len(octets)}] = [{words}];"
+def in_tests(name):
+    """The octets that stand in the tests: the public key as an array, the others as hex text."""
+    with open(name, encoding="utf-8") as file:
+        text = file.read()
+    octets = {}
+    for found in re.finditer(r"pub const (\w+): \[u8; \d+\] = \[([^\]]*)\]", text):
+        octets[found[1]] = bytes(int(word, 0) for word in found[2].replace(",", " ").split())
+    for found in re.finditer(r'pub const (\w+): &str =\s+"([^"]*)"', text):
+        octets[found[1]] = bytes.fromhex(found[2].replace("\\", ""))
+    return octets
 
 
 def main():
     arrays = made()
     if len(sys.argv) > 1:
-        print(as_array(sys.argv[1], arrays[sys.argv[1]]))
+        print(arrays[sys.argv[1]].hex())
         return
     here = os.path.dirname(os.path.abspath(__file__))
-    tested = in_tests(os.path.join(here, "../../crates/route_client/src"))
+    tested = in_tests(os.path.join(here, "../../crates/road_tests/src/signed_answers.rt"))
     for name in sorted(arrays.keys() | tested.keys()):
         same = arrays.get(name) == tested.get(name)
         print("the same" if same else "DIFFERS", name, len(arrays.get(name, b"")))

@@ -154,9 +154,9 @@ def play_lies(play, key):
 
 
 def compare_digests(key):
-    """The digests of replies that stand in the tests of route_server."""
+    """The digests of replies that stand in the tests of the server."""
     here = os.path.dirname(os.path.abspath(__file__))
-    with open(os.path.join(here, "../../crates/route_server/src/tests.rt"), encoding="utf-8") as file:
+    with open(os.path.join(here, "../../crates/road_tests/src/server.rt"), encoding="utf-8") as file:
         tests = file.read()
     lacking = 0
     for method, order in [("dij", "id"), ("full", "id"), ("full", "hilbert"), ("ldm", "id"), ("hyp", "id")]:

@@ -1,16 +1,15 @@
 -- What an audit's answer lets the command end with.
-use Rattle.std.proofs.Common.{◌≡◌, ◌≢◌, inl, inr, ℕ, ◌≤◌, true, List, [], Some, length, refl, sym, ap, subst, ◌∙◌, IfSome, IfOk, IfErr, arith}
+use Rattle.std.proofs.Common.{◌≡◌, inl, inr, ℕ, ◌≤◌, true, List, Some, length, refl, sym, ap, subst, ◌∙◌, IfSome, arith}
 use Rattle.std.specs.declared.option.Option.{Option}
 use Rattle.std.specs.declared.option.Option.TheVariants.{None}
 use Rattle.std.specs.declared.result.Result.{Result}
 use Rattle.std.specs.declared.result.Result.TheVariants.{Ok, Err}
 use Rattle.std.specs.Option.{ForSome}
-use Rattle.std.specs.Io.KnownBytes.{Appends}
 use Rattle.road_io.specs.Causes.{Rose}
 use Rattle.sha2.specs.Sha256.{sha256}
 use Rattle.road_io.specs.declared.disk.Disk.{Ghosts}
 use Rattle.road_io.specs.Disk.{Stays}
-use Rattle.road_io.specs.Moments.{Image, EachImage, AtEachMoment}
+use Rattle.road_io.specs.Moments.{Image, AtEachMoment}
 use Rattle.road_io.specs.Contents.{Shelf}
 use Rattle.book_model.specs.declared.items.Query.{Query}
 use Rattle.lms_tree.specs.Signatures.{KeyOf, public_key, verified}
@@ -33,15 +32,15 @@ use Rattle.command_files.specs.Reading.{octets_at, publication_at}
 use Rattle.command_files.specs.HexFiles.{public_key_at}
 use Rattle.command_files.specs.Endings.{Ending, EndsReading, NoEnd, Promises, TellsNone, MayEnd, WhyNot, Writes}
 use Rattle.command_files.specs.declared.fault.Fault.{Fault}
-use Rattle.command_files.specs.declared.fault.Fault.TheVariants.{Sink}
 use Rattle.command_files.specs.declared.ended.Verdict.{Verdict}
 use Rattle.command_files.specs.declared.ended.Verdict.TheVariants.{Done, Refused, Evidence}
 use Rattle.command_files.proofs.Written.{CallsFor, reads, refused, written, why_map}
-use Rattle.command_desks.specs.Opening.{IsUsable, IsKeyOn, HasBlock, EndsOpening}
-use Rattle.command_desks.proofs.Openings.{same_owner, shut}
-use Rattle.command_books.specs.Installing.{EndsInstalling, fault_of_build}
-use Rattle.audit_commands.specs.Auditing.{IsOwnersKey, EndsOwnersKey, EndsClient, EndsSigned, EndsSameHeader, EndsComparing, EndsAudit, Tells, LookFailed, ends_audit}
-use Rattle.audit_commands.specs.Headline.{RestsOn, WritesFindings}
+use Rattle.command_desks.specs.Opening.{IsUsable, HasBlock, EndsOpening}
+use Rattle.command_desks.proofs.Openings.{shut}
+use Rattle.command_books.specs.Installing.{EndsInstalling}
+use Rattle.audit_commands.specs.Auditing.{EndsOwnersKey, EndsClient, EndsSigned, EndsSameHeader, EndsComparing, EndsAudit, Tells, LookFailed, ends_audit}
+use Rattle.audit_commands.specs.Headline.{IsHeaderSigned, RestsOn}
+use Rattle.audit_commands.proofs.Steps.{own, not_own, signed, unsigned, later}
 
 -- what was asked of the audit
 abbrev pub audited : KeyOf → List ℕ → List ℕ → Query → Publication → Audited
@@ -49,33 +48,18 @@ audited owner key octets q p = record { desk_key = public_key owner; public = ke
 
 -- the steps behind the client's
 abbrev pub Behind : Option (List ℕ) → List ℕ → List ℕ → Query → Publication → Ending
-Behind content key octets q p = EndsClient key octets q (λ x a. EndsInstalling p (EndsSigned content key a (EndsSameHeader p a (EndsComparing p q x a))))
+Behind content key octets q p = EndsClient key octets q (λ x a. EndsInstalling p (EndsSigned content key a.header a.signature (EndsSameHeader p a.header (EndsComparing p q x a))))
 
 module _ {D : Type 0} (g : Ghosts D) (old mid new : D) (desk : Desk) (key octets : List ℕ) (q : Query) (p : Publication)
     (seen : (c : List ℕ) → g.content mid ≡ Some c → Image g mid c) (same : g.content mid ≡ g.content old) (block : HasBlock (g.content old) desk.key) (named : length desk.key.i ≡ 16) where
-  on_disk : (c : List ℕ) → g.content old ≡ Some c → IsKeyOn c desk.key
-  on_disk c is = record { kind = (block c is).1; secret = (block c is).2; named = named }
-
-  own : key ≡ public_key desk.key → ForSome (g.content old) (λ c. IsOwnersKey c key)
-  own e c is = record { owner = desk.key; on_disk = on_disk c is; is = e }
-
-  not_own : key ≢ public_key desk.key → ForSome (g.content old) (λ c. ¬ IsOwnersKey c key)
-  not_own n c is h = n (h.is ∙ ap public_key (same_owner c h.owner desk.key h.on_disk (on_disk c is)))
-
-  signed : (text : List ℕ) → ((slot : SlotId) × EachImage g mid (λ i. IsSigned i slot text)) → ForSome (g.content old) (λ c. (slot : SlotId) × IsSigned c slot text)
-  signed text h c is = (h.0, h.1 c (seen c (same ∙ is)))
-
-  unsigned : (text : List ℕ) → EachImage g mid (λ i. (slot : SlotId) → ¬ IsSigned i slot text) → ForSome (g.content old) (λ c. (slot : SlotId) → ¬ IsSigned c slot text)
-  unsigned text h c is = h c (seen c (same ∙ is))
-
   -- behind the owner's key
   behind : (e : key ≡ public_key desk.key) (o : Result Verdict Fault) (t : List ℕ) → Behind (g.content old) (public_key desk.key) octets q p o t
       → EndsOwnersKey (g.content old) key (Behind (g.content old) key octets q p) o t
-  behind e o t h = inr (own e, subst (λ k. Behind (g.content old) k octets q p o t) (sym e) h)
+  behind e o t h = inr (own (g.content old) desk key block named e, subst (λ k. Behind (g.content old) k octets q p o t) (sym e) h)
 
   by_answer : (r : Result Finding AuditError) (o : Result Verdict Fault) (t : List ℕ) → Finds sha256 sha256 (look_at g desk mid new) (audited desk.key key octets q p) r → Tells r o t
       → EndsOwnersKey (g.content old) key (Behind (g.content old) key octets q p) o t
-  by_answer (Err audit.OtherKey) o t f tells = inl (tells.0, not_own f, tells.1)
+  by_answer (Err audit.OtherKey) o t f tells = inl (tells.0, not_own (g.content old) desk key block named f, tells.1)
   by_answer (Err (audit.Refused e)) o t f tells = behind f.0 o t (inl (e, f.2, f.1, tells.0, tells.1))
   by_answer (Err (audit.Install (install.Build (build.Map e)))) o t f tells =
       behind f.0.key o t (inr (f.0.accepted, f.0.accepts, record { made = Err (build.Map e); makes = f.1.0; follows = tells }))
@@ -91,7 +75,7 @@ module _ {D : Type 0} (g : Ghosts D) (old mid new : D) (desk : Desk) (key octets
       let i = f.installed in
       let a = i.reply.accepts.answer in
       let un : ForSome (g.content old) (λ c. (slot : SlotId) → ¬ IsSigned c slot (header_text a.header)) =
-      subst (λ x. ForSome (g.content old) (λ c. (slot : SlotId) → ¬ IsSigned c slot x)) f.brings.header_is (unsigned header f.unsigned.1) in
+      subst (λ x. ForSome (g.content old) (λ c. (slot : SlotId) → ¬ IsSigned c slot x)) f.brings.header_is (unsigned g old mid seen same header f.unsigned.1) in
       let good : verified (public_key desk.key) (header_text a.header) a.signature ≡ Ok tt =
       subst (λ x. verified (public_key desk.key) x a.signature ≡ Ok tt) f.brings.header_is (subst (λ x. verified (public_key desk.key) header x ≡ Ok tt) f.brings.signature_is f.brings.good) in
       let line : t ≡ forged_line (header_text a.header) a.signature =
@@ -99,13 +83,13 @@ module _ {D : Type 0} (g : Ghosts D) (old mid new : D) (desk : Desk) (key octets
       behind i.reply.key o t (inr (i.reply.accepted, i.reply.accepts, record { made = Ok p.header; makes = i.header; follows = inl (refl, inl (tells.0, un, good, line)) }))
   by_answer (Err audit.OtherPublication) o t f tells =
       let i = f.installed in
-      behind i.reply.key o t (inr (i.reply.accepted, i.reply.accepts, record { made = Ok p.header; makes = i.header; follows = inl (refl, inr (signed _ f.signed.1, inl (tells.0, f.other, tells.1))) }))
+      behind i.reply.key o t (inr (i.reply.accepted, i.reply.accepts, record { made = Ok p.header; makes = i.header; follows = inl (refl, inr (signed g old mid seen same _ f.signed.1, inl (tells.0, f.other, tells.1))) }))
   by_answer (Ok (Collision two)) o t f tells =
       let i = f.0.installed in
-      behind i.reply.key o t (inr (i.reply.accepted, i.reply.accepts, record { made = Ok p.header; makes = i.header; follows = inl (refl, inr (signed _ f.0.signed.1, inr (f.0.same, inr (tells.0, two, f.1, tells.1)))) }))
+      behind i.reply.key o t (inr (i.reply.accepted, i.reply.accepts, record { made = Ok p.header; makes = i.header; follows = inl (refl, inr (signed g old mid seen same _ f.0.signed.1, inr (f.0.same, inr (tells.0, two, f.1, tells.1)))) }))
   by_answer (Ok Right) o t f tells =
       let i = f.0.installed in
-      behind i.reply.key o t (inr (i.reply.accepted, i.reply.accepts, record { made = Ok p.header; makes = i.header; follows = inl (refl, inr (signed _ f.0.signed.1, inr (f.0.same, inl (tells.0, f.1, tells.1)))) }))
+      behind i.reply.key o t (inr (i.reply.accepted, i.reply.accepts, record { made = Ok p.header; makes = i.header; follows = inl (refl, inr (signed g old mid seen same _ f.0.signed.1, inr (f.0.same, inl (tells.0, f.1, tells.1)))) }))
 
   -- behind the opened desk
   pub ends_of : ForSome (g.content old) IsUsable → (r : Result Finding AuditError) (o : Result Verdict Fault) (t : List ℕ) → Finds sha256 sha256 (look_at g desk mid new) (audited desk.key key octets q p) r → Tells r o t
@@ -127,18 +111,14 @@ module _ {D : Type 0} (g : Ghosts D) (old mid new : D) (desk : Desk) (key octets
       by DiskFault h = grind (arith, h.1, later)
       by Closed h = absurd (cc)
 
-  -- what holds of each image holds of each image afterwards, since none changes
-  later : (P : List ℕ → Type 0) → AtEachMoment g mid new Stays → EachImage g mid P → EachImage g new P
-  later P m h i at = let w = m.each (g.clock new) i m.later (omega arith) at in subst P (sym w.2) (h w.0 w.1)
-
   -- what a line rests on
   pub rests_on : AtEachMoment g mid new Stays → (r : Result Finding AuditError) (o : Result Verdict Fault) (t : List ℕ) → Finds sha256 sha256 (look_at g desk mid new) (audited desk.key key octets q p) r → Tells r o t
-      → RestsOn g new key octets o t
+      → RestsOn g new (IsHeaderSigned g new octets) key o t
   rests_on m r (Ok Refused) t f tells = tt
   rests_on m r (Err e) t f tells = tt
   rests_on m (Ok Right) (Ok Done) t f tells =
       let a = f.0.installed.reply.accepts in
-      record { answer = a.answer; spelled = a.spelled; slot = f.0.signed.1.0; signed = later (λ i. IsSigned i f.0.signed.1.0 (header_text a.answer.header)) m f.0.signed.1.1 }
+      record { answer = a.answer; spelled = a.spelled; slot = f.0.signed.1.0; signed = later g mid new (λ i. IsSigned i f.0.signed.1.0 (header_text a.answer.header)) m f.0.signed.1.1 }
   rests_on m (Ok (Collision two)) (Ok Done) t f tells = absurd (cc)
   rests_on m (Ok (Forged header signature)) (Ok Done) t f tells = absurd (cc)
   rests_on m (Ok Right) (Ok Evidence) t f tells = absurd (cc)
@@ -147,7 +127,7 @@ module _ {D : Type 0} (g : Ghosts D) (old mid new : D) (desk : Desk) (key octets
     header = header;
     signature = signature;
     good = subst (λ k. verified k header signature ≡ Ok tt) (sym f.installed.reply.key) f.brings.good;
-    unsigned = later (λ i. (slot : SlotId) → ¬ IsSigned i slot header) m f.unsigned.1;
+    unsigned = later g mid new (λ i. (slot : SlotId) → ¬ IsSigned i slot header) m f.unsigned.1;
     line = tells.1;
   })
   rests_on m (Err (audit.Refused e)) (Ok Done) t f tells = absurd (cc)
@@ -176,27 +156,7 @@ pub not_opened : (DiskFailed : Type 0) (content : Option (List ℕ)) (key : List
 not_opened DiskFailed content key p octets q =
     why_map DiskFailed DiskFailed (EndsOpening content NoEnd) (EndsAudit content key p octets q) (λ x. x) (shut content (EndsOwnersKey content key (Behind content key octets q p)))
 
--- ---- what functions give
-
--- what follows of a value follows where there is one
-pub if_ok : {T E : Type 0} (r : Result T E) (P Q : T → Type 0) → ((x : T) → P x → Q x) → IfOk r P → IfOk r Q
-if_ok (Ok x) P Q f h = f x h
-if_ok (Err e) P Q f h = tt
-
-pub if_err : {T E : Type 0} (r : Result T E) (P Q : E → Type 0) → ((x : E) → P x → Q x) → IfErr r P → IfErr r Q
-if_err (Ok x) P Q f h = tt
-if_err (Err e) P Q f h = f e h
-
 -- ---- the command
-
--- what a library tells later it tells before
-pub moved : (files later : Option Shelf) (P : Shelf → Type 0) → later ≡ files → IfSome later P → IfSome files P
-moved files later P same h = subst (λ (f : Option Shelf). IfSome f P) same h
-
--- the octets of a reply, as they are read again
-pub reply_as : (files mid later : Option Shelf) (name a b : List ℕ) → later ≡ mid → mid ≡ files → a ≡ b → IfSome later (λ shelf. octets_at shelf name ≡ Ok b) → IfSome files (λ shelf. octets_at shelf name ≡ Ok a)
-reply_as files mid later name a b first second same h =
-    subst (λ (f : Option Shelf). IfSome f (λ shelf. octets_at shelf name ≡ Ok a)) (first ∙ second) (subst (λ xs. IfSome later (λ shelf. octets_at shelf name ≡ Ok xs)) (sym same) h)
 
 -- what three files make of an end
 module _ (files : Option Shelf) (content : Option (List ℕ)) (key_name publication_name reply_name key octets : List ℕ) (p : Publication) (q : Query)
@@ -225,19 +185,3 @@ module _ (files : Option Shelf) (content : Option (List ℕ)) (key_name publicat
     pub audit_told : (new : Option (List ℕ)) (end o : Result Verdict Fault) (text : List ℕ) → MayEnd TellsNone end → EndsAudit content key p octets q end text → Writes end text old new k k' o
         → Promises (ends_audit content key_name publication_name reply_name q) TellsNone DiskFailed files l l' old new k k' o
     audit_told new end o text may h w = written (ends_audit content key_name publication_name reply_name q) TellsNone DiskFailed files l l' k k' old (EndsAudit content key p octets q) calls new end o text may h w
-
-  -- what the line rests on
-  pub found : {D : Type 0} (g : Ghosts D) (disk : D) (old new : Option (List ℕ)) (k k' : ℕ) (end o : Result Verdict Fault) (t : List ℕ) → RestsOn g disk key octets end t → Writes end t old new k k' o
-      → WritesFindings g disk key_name reply_name files old new o
-  found g disk old new k k' end o t rests (inr w) = subst (λ (x : Result Verdict Fault). WritesFindings g disk key_name reply_name files old new x) (sym w.0) (nothing files)
-    where
-      nothing : (files : Option Shelf) → WritesFindings g disk key_name reply_name files old new (Err Sink)
-      nothing None = tt
-      nothing (Some shelf) = tt
-  found g disk old new k k' end o t rests (inl w) = subst (λ (x : Result Verdict Fault). WritesFindings g disk key_name reply_name files old new x) (sym w.0) (by end rests files key_read reply_read)
-    where
-      by : (end : Result Verdict Fault) → RestsOn g disk key octets end t → (files : Option Shelf) → IfSome files (λ shelf. public_key_at shelf key_name ≡ Ok key) → IfSome files (λ shelf. octets_at shelf reply_name ≡ Ok octets)
-          → WritesFindings g disk key_name reply_name files old new end
-      by end rests None a c = tt
-      by (Err e) rests (Some shelf) a c = tt
-      by (Ok v) rests (Some shelf) a c = record { key = key; octets = octets; text = t; key_read = a; reply_read = c; written = w.1; rests = rests }

@@ -1,5 +1,5 @@
 -- The headline, by the ends of an audit and what its lines rest on.
-use Rattle.std.proofs.Common.{◌≡◌, ◌⊎◌, inl, inr, ℕ, List, [], refl, sym, ap, subst, ◌∙◌, IfSome, MatchResult, arith}
+use Rattle.std.proofs.Common.{◌≡◌, ◌⊎◌, inl, inr, ℕ, List, [], refl, sym, ap, subst, ◌∙◌, IfSome, arith}
 use Rattle.std.specs.declared.option.Option.{Option}
 use Rattle.std.specs.declared.option.Option.TheVariants.{None, Some}
 use Rattle.std.specs.declared.result.Result.{Result}
@@ -29,7 +29,7 @@ use Rattle.command_files.specs.HexFiles.{public_key_at}
 use Rattle.command_books.specs.Installing.{AfterBuild, IfInstalled, EndsInstalling}
 use Rattle.command_files.specs.Endings.{Ending, Answered, EndsReading}
 use Rattle.audit_commands.specs.Auditing.{EndsOwnersKey, EndsClient, EndsSigned, EndsSameHeader, EndsComparing, EndsAudit, ends_audit}
-use Rattle.audit_commands.specs.Headline.{IsEvidence, WritesFindings, FindsTruth, IsAcceptedFile, AuditsAccepted}
+use Rattle.audit_commands.specs.Headline.{IsEvidence, IsHeaderSigned, WritesFindings, IsTrue, FindsTruth, IsAcceptedFile, AuditsAccepted}
 use Rattle.command_files.specs.declared.fault.Fault.{Fault}
 use Rattle.command_files.specs.declared.fault.Fault.TheVariants.{TruncatedFrame, FrameTooLong, Library, Source, Sink, Disk, Memory, UnknownNode, NoRoute, TooManyFrames}
 use Rattle.command_files.specs.declared.ended.Verdict.{Verdict}
@@ -61,7 +61,7 @@ any_least key octets q least x a = record {
 }
 
 -- what follows the installing of a publication that can be installed
-installed : OneMaking → (p : Publication) (Next : Ending) (o : Result Verdict Fault) (t : List ℕ) → HasHeader sha256 sha256 p.parts p.settings p.header → EndsInstalling p Next o t → Next o t
+pub installed : OneMaking → (p : Publication) (Next : Ending) (o : Result Verdict Fault) (t : List ℕ) → HasHeader sha256 sha256 p.parts p.settings p.header → EndsInstalling p Next o t → Next o t
 installed makings p Next o t has h = by (subst (λ (m : Result Header BuildError). AfterBuild (IfInstalled p Next) m o t) same h.follows)
   where
     same : h.made ≡ Ok p.header
@@ -86,22 +86,22 @@ module _ (makings : OneMaking) (one : OneVerdict) (verdict : AcceptanceIsVerdict
   comparing o t (inl h) = inl (record { outcome = h.0; line = h.2; shortest = h.1.shortest })
   comparing o t (inr h) = inr h.0
 
-  same_header : (o : Result Verdict Fault) (t : List ℕ) → EndsSameHeader p accepts.answer (EndsComparing p q x accepts.answer) o t → IsRightEnd p q x o t ⊎ (o ≡ Ok Evidence)
+  same_header : (o : Result Verdict Fault) (t : List ℕ) → EndsSameHeader p accepts.answer.header (EndsComparing p q x accepts.answer) o t → IsRightEnd p q x o t ⊎ (o ≡ Ok Evidence)
   same_header o t (inl h) = absurd (h.1 (sym accepts.header ∙ f.same))
   same_header o t (inr h) = comparing o t h.1
 
-  signed : (o : Result Verdict Fault) (t : List ℕ) → EndsSigned content key accepts.answer (EndsSameHeader p accepts.answer (EndsComparing p q x accepts.answer)) o t → IsRightEnd p q x o t ⊎ (o ≡ Ok Evidence)
+  signed : (o : Result Verdict Fault) (t : List ℕ) → EndsSigned content key accepts.answer.header accepts.answer.signature (EndsSameHeader p accepts.answer.header (EndsComparing p q x accepts.answer)) o t → IsRightEnd p q x o t ⊎ (o ≡ Ok Evidence)
   signed o t (inl h) = inr h.0
   signed o t (inr h) = same_header o t h.1
 
-  client : (o : Result Verdict Fault) (t : List ℕ) → EndsClient key f.octets q (λ y a. EndsInstalling p (EndsSigned content key a (EndsSameHeader p a (EndsComparing p q y a)))) o t → IsRightEnd p q x o t ⊎ (o ≡ Ok Evidence)
+  client : (o : Result Verdict Fault) (t : List ℕ) → EndsClient key f.octets q (λ y a. EndsInstalling p (EndsSigned content key a.header a.signature (EndsSameHeader p a.header (EndsComparing p q y a)))) o t → IsRightEnd p q x o t ⊎ (o ≡ Ok Evidence)
   client o t (inl h) = absurd (not_refused one verdict key f.octets q 0 x h.0 accepts h.2)
   client o t (inr h) =
-      let of_x = subst (λ (y : Accepted). EndsInstalling p (EndsSigned content key h.1.answer (EndsSameHeader p h.1.answer (EndsComparing p q y h.1.answer))) o t) (one_accepted one verdict key f.octets q 0 h.0 x h.1 accepts) h.2 in
-      let of_a = subst (λ (a : answers.Answer). EndsInstalling p (EndsSigned content key a (EndsSameHeader p a (EndsComparing p q x a))) o t) (one_answer one verdict key f.octets q 0 h.0 x h.1 accepts) of_x in
-      signed o t (installed makings p (EndsSigned content key accepts.answer (EndsSameHeader p accepts.answer (EndsComparing p q x accepts.answer))) o t f.header of_a)
+      let of_x = subst (λ (y : Accepted). EndsInstalling p (EndsSigned content key h.1.answer.header h.1.answer.signature (EndsSameHeader p h.1.answer.header (EndsComparing p q y h.1.answer))) o t) (one_accepted one verdict key f.octets q 0 h.0 x h.1 accepts) h.2 in
+      let of_a = subst (λ (a : answers.Answer). EndsInstalling p (EndsSigned content key a.header a.signature (EndsSameHeader p a.header (EndsComparing p q x a))) o t) (one_answer one verdict key f.octets q 0 h.0 x h.1 accepts) of_x in
+      signed o t (installed makings p (EndsSigned content key accepts.answer.header accepts.answer.signature (EndsSameHeader p accepts.answer.header (EndsComparing p q x accepts.answer))) o t f.header of_a)
 
-  owners : (o : Result Verdict Fault) (t : List ℕ) → EndsOwnersKey content key (EndsClient key f.octets q (λ y a. EndsInstalling p (EndsSigned content key a (EndsSameHeader p a (EndsComparing p q y a))))) o t
+  owners : (o : Result Verdict Fault) (t : List ℕ) → EndsOwnersKey content key (EndsClient key f.octets q (λ y a. EndsInstalling p (EndsSigned content key a.header a.signature (EndsSameHeader p a.header (EndsComparing p q y a))))) o t
       → IsRightEnd p q x o t ⊎ (o ≡ Ok Evidence)
   owners o t (inl h) = absurd (h.1 f.image f.told f.owners)
   owners o t (inr h) = client o t h.1
@@ -126,10 +126,10 @@ module _ (makings : OneMaking) (one : OneVerdict) (verdict : AcceptanceIsVerdict
   no_fault f t (inr e) = cc
 
   finds : {D : Type 0} (g : Ghosts D) (disk : D) (old new : Option (List ℕ)) (o : Result Verdict Fault) → Answered (ends_audit content key_name publication_name reply_name q shelf) old new o
-      → WritesFindings g disk key_name reply_name (Some shelf) old new o → FindsTruth g disk key p q x old new o
+      → WritesFindings g disk (IsHeaderSigned g disk) key_name reply_name (Some shelf) old new o → FindsTruth g disk key (IsTrue g disk p q x) old new o
   finds g disk old new (Ok Done) a w = right (over_files (Ok Done) a.0 a.1)
     where
-      right : IsRightEnd p q x (Ok Done) a.0 ⊎ (ended Done ≡ ended Evidence) → FindsTruth g disk key p q x old new (Ok Done)
+      right : IsRightEnd p q x (Ok Done) a.0 ⊎ (ended Done ≡ ended Evidence) → FindsTruth g disk key (IsTrue g disk p q x) old new (Ok Done)
       right (inr e) = absurd (cc)
       right (inl r) =
           let octets : w.octets ≡ f.octets = same_octets w.octets f.octets (octets_at shelf reply_name) w.reply_read f.reply_read in
@@ -167,7 +167,7 @@ module _ (makings : OneMaking) (one : OneVerdict) (verdict : AcceptanceIsVerdict
 
 -- the same where the library may tell its files
 pub audits_accepted : OneMaking → OneVerdict → AcceptanceIsVerdict → {D : Type 0} (g : Ghosts D) (disk : D) (files : Option Shelf) (content : Option (List ℕ)) (key publication reply : List ℕ) (q : Query) (old new : Option (List ℕ)) (o : Result Verdict Fault)
-    → IfSome files (λ shelf. Answered (ends_audit content key publication reply q shelf) old new o) → WritesFindings g disk key reply files old new o → AuditsAccepted g content disk key publication reply q files old new o
+    → IfSome files (λ shelf. Answered (ends_audit content key publication reply q shelf) old new o) → WritesFindings g disk (IsHeaderSigned g disk) key reply files old new o → AuditsAccepted g content disk key publication reply q files old new o
 audits_accepted makings one verdict g disk (Some shelf) content key publication reply q old new o a w =
     λ k p x f. finds makings one verdict content shelf key publication reply q k p x f g disk old new o a w
 audits_accepted makings one verdict g disk None content key publication reply q old new o a w = tt

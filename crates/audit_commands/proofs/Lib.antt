@@ -1,3 +1,4 @@
+pub mod Steps
 pub mod OneAudit
 pub mod AuditLemmas
 pub mod HeadlineLemmas

@@ -6,6 +6,7 @@ use Rattle.std.specs.declared.result.Result.TheVariants.{Ok, Err}
 use Rattle.sha2.specs.Sha256.{sha256}
 use Rattle.octet_text.specs.Format.{whole}
 use Rattle.book_model.specs.declared.items.Query.{Query}
+use Rattle.proof_octets.specs.declared.header.Header.{Header}
 use Rattle.proof_octets.specs.declared.publication.Publication.{Publication}
 use Rattle.proof_octets.specs.declared.reply.Answer as answers
 use Rattle.proof_octets.specs.declared.reply.Reply.{Reply}
@@ -68,17 +69,17 @@ module _ (o e : Result Verdict Fault) (s t : List ℕ) where
       let of_x : Next a.0 b.1.answer e t = subst (λ x. Next x b.1.answer e t) (one_accepted one verdict key octets q 0 b.0 a.0 b.1 a.1) b.2 in
       next a.0 a.1.answer a.2 (subst (λ y. Next a.0 y e t) (one_answer one verdict key octets q 0 b.0 a.0 b.1 a.1) of_x)
 
-  pub one_signed : (content key : List ℕ) (a : answers.Answer) (Next : Ending) → (Next o s → Next e t → o ≡ e) → EndsSigned (Some content) key a Next o s → EndsSigned (Some content) key a Next e t → o ≡ e
-  one_signed content key a Next one (inl h) (inl k) = h.0 ∙ sym k.0
-  one_signed content key a Next one (inl h) (inr k) = absurd (let w = k.0 content refl in h.1 content refl w.0 w.1)
-  one_signed content key a Next one (inr h) (inl k) = absurd (let w = h.0 content refl in k.1 content refl w.0 w.1)
-  one_signed content key a Next one (inr h) (inr k) = one h.1 k.1
+  pub one_signed : (content key : List ℕ) (h : Header) (signature : List ℕ) (Next : Ending) → (Next o s → Next e t → o ≡ e) → EndsSigned (Some content) key h signature Next o s → EndsSigned (Some content) key h signature Next e t → o ≡ e
+  one_signed content key header signature Next one (inl h) (inl k) = h.0 ∙ sym k.0
+  one_signed content key header signature Next one (inl h) (inr k) = absurd (let w = k.0 content refl in h.1 content refl w.0 w.1)
+  one_signed content key header signature Next one (inr h) (inl k) = absurd (let w = h.0 content refl in k.1 content refl w.0 w.1)
+  one_signed content key header signature Next one (inr h) (inr k) = one h.1 k.1
 
-  pub one_same : (p : Publication) (a : answers.Answer) (Next : Ending) → (Next o s → Next e t → o ≡ e) → EndsSameHeader p a Next o s → EndsSameHeader p a Next e t → o ≡ e
-  one_same p a Next one (inl h) (inl k) = h.0 ∙ sym k.0
-  one_same p a Next one (inl h) (inr k) = absurd (h.1 k.0)
-  one_same p a Next one (inr h) (inl k) = absurd (k.1 h.0)
-  one_same p a Next one (inr h) (inr k) = one h.1 k.1
+  pub one_same : (p : Publication) (header : Header) (Next : Ending) → (Next o s → Next e t → o ≡ e) → EndsSameHeader p header Next o s → EndsSameHeader p header Next e t → o ≡ e
+  one_same p header Next one (inl h) (inl k) = h.0 ∙ sym k.0
+  one_same p header Next one (inl h) (inr k) = absurd (h.1 k.0)
+  one_same p header Next one (inr h) (inl k) = absurd (k.1 h.0)
+  one_same p header Next one (inr h) (inr k) = one h.1 k.1
 
   pub one_comparing : (p : Publication) (q : Query) (x : Accepted) (a : answers.Answer) → EndsComparing p q x a o s → EndsComparing p q x a e t → o ≡ e
   one_comparing p q x a (inl h) (inl k) = h.0 ∙ sym k.0
@@ -96,7 +97,7 @@ one_audit makings one verdict content key b octets q o e s t =
     Compare x a = EndsComparing b q x a
 
     Install : Accepted → answers.Answer → Result Verdict Fault → List ℕ → Type 0
-    Install x a = EndsInstalling b (EndsSigned (Some content) key a (EndsSameHeader b a (EndsComparing b q x a)))
+    Install x a = EndsInstalling b (EndsSigned (Some content) key a.header a.signature (EndsSameHeader b a.header (EndsComparing b q x a)))
 
     Client : Result Verdict Fault → List ℕ → Type 0
     Client = EndsClient key octets q Install
@@ -106,8 +107,8 @@ one_audit makings one verdict content key b octets q o e s t =
 
     install : (x : Accepted) (a : answers.Answer) → Install x a o s → Install x a e t → o ≡ e
     install x a =
-        one_installing makings b (EndsSigned (Some content) key a (EndsSameHeader b a (EndsComparing b q x a))) o e s t
-        (one_signed o e s t content key a (EndsSameHeader b a (EndsComparing b q x a)) (one_same o e s t b a (EndsComparing b q x a) (one_comparing o e s t b q x a)))
+        one_installing makings b (EndsSigned (Some content) key a.header a.signature (EndsSameHeader b a.header (EndsComparing b q x a))) o e s t
+        (one_signed o e s t content key a.header a.signature (EndsSameHeader b a.header (EndsComparing b q x a)) (one_same o e s t b a.header (EndsComparing b q x a) (one_comparing o e s t b q x a)))
 
 -- and so over its files
 pub only_audit : OneMaking → OneVerdict → AcceptanceIsVerdict → (content key publication reply : List ℕ) (q : Query) (shelf : Shelf) → HasOneEnd (ends_audit (Some content) key publication reply q shelf)

@@ -9,6 +9,7 @@ use Rattle.book_model.specs.declared.items.Query.{Query}
 use Rattle.merkle_cover.specs.declared.clashes.TwoTexts.{TwoTexts}
 use Rattle.lms_tree.specs.Signatures.{KeyOf, public_key, verified}
 use Rattle.key_desk.specs.Layout.{SlotId, IsSigned}
+use Rattle.proof_octets.specs.declared.header.Header.{Header}
 use Rattle.proof_octets.specs.declared.publication.Publication.{Publication}
 use Rattle.proof_octets.specs.declared.reply.Answer as answers
 use Rattle.proof_octets.specs.Headers.{header_text}
@@ -54,17 +55,17 @@ EndsClient key octets q Next outcome text =
     ((e : CheckError) × (e ≢ errors.Memory) × IsVerdict sha256 key octets q 0 (Err e) × (outcome ≡ Ok Refused) × (text ≡ refused_line e))
     ⊎ ((x : Accepted) × (accepts : Accepts sha256 key octets q 0 x) × Next x accepts.answer outcome text)
 
--- the owner signed the reply's header, and this follows, or never did
-abbrev pub EndsSigned : Option (List ℕ) → List ℕ → answers.Answer → Ending → Ending
-EndsSigned content key a Next outcome text =
-    ((outcome ≡ Ok Evidence) × ForSome content (λ c. (slot : SlotId) → ¬ IsSigned c slot (header_text a.header)) × (verified key (header_text a.header) a.signature ≡ Ok tt)
-    × (text ≡ forged_line (header_text a.header) a.signature))
-    ⊎ (ForSome content (λ c. (slot : SlotId) × IsSigned c slot (header_text a.header)) × Next outcome text)
+-- the owner signed the reply's header, and this follows, or never did, and the reply brings a signature on it
+abbrev pub EndsSigned : Option (List ℕ) → List ℕ → Header → List ℕ → Ending → Ending
+EndsSigned content key header signature Next outcome text =
+    ((outcome ≡ Ok Evidence) × ForSome content (λ c. (slot : SlotId) → ¬ IsSigned c slot (header_text header)) × (verified key (header_text header) signature ≡ Ok tt)
+    × (text ≡ forged_line (header_text header) signature))
+    ⊎ (ForSome content (λ c. (slot : SlotId) × IsSigned c slot (header_text header)) × Next outcome text)
 
 -- the header is the publication's, and this follows, or it is another's
-abbrev pub EndsSameHeader : Publication → answers.Answer → Ending → Ending
-EndsSameHeader p a Next outcome text =
-    ((outcome ≡ Err OtherPublication) × (a.header ≢ p.header) × (text ≡ [])) ⊎ ((a.header ≡ p.header) × Next outcome text)
+abbrev pub EndsSameHeader : Publication → Header → Ending → Ending
+EndsSameHeader p header Next outcome text =
+    ((outcome ≡ Err OtherPublication) × (header ≢ p.header) × (text ≡ [])) ⊎ ((header ≡ p.header) × Next outcome text)
 
 -- what the reply brings is of the publication's trees, and its route is a shortest one, or two texts have one digest
 abbrev pub EndsComparing : Publication → Query → Accepted → answers.Answer → Ending
@@ -81,8 +82,8 @@ EndsAudit content key p octets q =
     (EndsOwnersKey content key
     (EndsClient key octets q
     (λ x a. EndsInstalling p
-    (EndsSigned content key a
-    (EndsSameHeader p a
+    (EndsSigned content key a.header a.signature
+    (EndsSameHeader p a.header
     (EndsComparing p q x a))))))
 
 -- the same over the files of these names
@@ -94,11 +95,15 @@ ends_audit content key publication reply q shelf =
 
 -- ---- what functions give of it
 
--- how an audit's answer lets the command end, and what is then written
+-- how a finding lets the command end, and what is then written
+abbrev pub TellsFinding : Finding → Ending
+TellsFinding Right outcome text = (outcome ≡ Ok Done) × (text ≡ right_line)
+TellsFinding (Collision two) outcome text = (outcome ≡ Ok Evidence) × (text ≡ collision_line two.left two.right)
+TellsFinding (Forged header signature) outcome text = (outcome ≡ Ok Evidence) × (text ≡ forged_line header signature)
+
+-- how an audit's answer does
 abbrev pub Tells : Result Finding AuditError → Ending
-Tells (Ok Right) outcome text = (outcome ≡ Ok Done) × (text ≡ right_line)
-Tells (Ok (Collision two)) outcome text = (outcome ≡ Ok Evidence) × (text ≡ collision_line two.left two.right)
-Tells (Ok (Forged header signature)) outcome text = (outcome ≡ Ok Evidence) × (text ≡ forged_line header signature)
+Tells (Ok finding) outcome text = TellsFinding finding outcome text
 Tells (Err (audit.Refused e)) outcome text = (outcome ≡ Ok Refused) × (text ≡ refused_line e)
 Tells (Err audit.OtherKey) outcome text = (outcome ≡ Err OtherKey) × (text ≡ [])
 Tells (Err (audit.Install (install.Build build.Memory))) outcome text = ⊥

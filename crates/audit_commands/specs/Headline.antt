@@ -30,7 +30,7 @@ use Rattle.audit_commands.specs.Auditing.{IsOwnersKey}
 use Rattle.command_files.specs.declared.fault.Fault.{Fault}
 use Rattle.command_files.specs.declared.fault.Fault.TheVariants.{Library, Sink, Disk, Memory}
 use Rattle.command_files.specs.declared.ended.Verdict.{Verdict}
-use Rattle.command_files.specs.declared.ended.Verdict.TheVariants.{Done, Refused, Evidence}
+use Rattle.command_files.specs.declared.ended.Verdict.TheVariants.{Done, Evidence}
 
 -- ---- evidence
 
@@ -63,24 +63,25 @@ pub record IsHeaderSigned {D : Type 0} (g : Ghosts D) (disk : D) (octets : List 
 
 -- ---- what an audit's line rests on, in every image that a crash may leave
 
-abbrev pub RestsOn : {D : Type 0} → Ghosts D → D → List ℕ → List ℕ → Result Verdict Fault → List ℕ → Type 0
-RestsOn g disk key octets (Ok Done) text = IsHeaderSigned g disk octets
-RestsOn g disk key octets (Ok Evidence) text = IsEvidence g disk key text
-RestsOn g disk key octets outcome text = Unit {0}
+-- Signed says that the reply's header stands in one slot of every image
+abbrev pub RestsOn : {D : Type 0} → Ghosts D → D → Type 0 → List ℕ → Result Verdict Fault → List ℕ → Type 0
+RestsOn g disk Signed key (Ok Done) text = Signed
+RestsOn g disk Signed key (Ok Evidence) text = IsEvidence g disk key text
+RestsOn g disk Signed key outcome text = Unit {0}
 
 -- the files of a key and of a reply, the line that was written, and what it rests on
-pub record WritesFinding {D : Type 0} (g : Ghosts D) (disk : D) (shelf : Shelf) (key_name reply_name : List ℕ) (old new : Option (List ℕ)) (verdict : Verdict) : Type 0 where
+pub record WritesFinding {D : Type 0} (g : Ghosts D) (disk : D) (Signed : List ℕ → Type 0) (shelf : Shelf) (key_name reply_name : List ℕ) (old new : Option (List ℕ)) (verdict : Verdict) : Type 0 where
   pub key : List ℕ
   pub octets : List ℕ
   pub text : List ℕ
   pub key_read : public_key_at shelf key_name ≡ Ok key
   pub reply_read : octets_at shelf reply_name ≡ Ok octets
   pub written : Appends old new text
-  pub rests : RestsOn g disk key octets (Ok verdict) text
+  pub rests : RestsOn g disk (Signed octets) key (Ok verdict) text
 
-abbrev pub WritesFindings : {D : Type 0} → Ghosts D → D → List ℕ → List ℕ → Option Shelf → Option (List ℕ) → Option (List ℕ) → Result Verdict Fault → Type 0
-WritesFindings g disk key reply (Some shelf) old new (Ok verdict) = WritesFinding g disk shelf key reply old new verdict
-WritesFindings g disk key reply files old new outcome = Unit {0}
+abbrev pub WritesFindings : {D : Type 0} → Ghosts D → D → (List ℕ → Type 0) → List ℕ → List ℕ → Option Shelf → Option (List ℕ) → Option (List ℕ) → Result Verdict Fault → Type 0
+WritesFindings g disk Signed key reply (Some shelf) old new (Ok verdict) = WritesFinding g disk Signed shelf key reply old new verdict
+WritesFindings g disk Signed key reply files old new outcome = Unit {0}
 
 -- ---- the headline
 
@@ -93,15 +94,15 @@ pub record IsTrue {D : Type 0} (g : Ghosts D) (disk : D) (p : Publication) (q : 
   pub signed : EachImage g disk (λ i. IsSigned i slot (header_text p.header))
   pub shortest : IsShortest p.parts q.from q.to x.route x.length
 
--- it is true, or there is evidence, unless memory was short or an object outside failed
-abbrev pub FindsTruth : {D : Type 0} → Ghosts D → D → List ℕ → Publication → Query → Accepted → Option (List ℕ) → Option (List ℕ) → Result Verdict Fault → Type 0
-FindsTruth g disk key p q x old new (Ok Done) = IsTrue g disk p q x × Appends old new right_line
-FindsTruth g disk key p q x old new (Ok Evidence) = (text : List ℕ) × IsEvidence g disk key text × Appends old new text
-FindsTruth g disk key p q x old new (Err Memory) = Unit {0}
-FindsTruth g disk key p q x old new (Err Library) = Unit {0}
-FindsTruth g disk key p q x old new (Err Sink) = Unit {0}
-FindsTruth g disk key p q x old new (Err Disk) = Unit {0}
-FindsTruth g disk key p q x old new outcome = ⊥
+-- what was accepted is true, or there is evidence, unless memory was short or an object outside failed
+abbrev pub FindsTruth : {D : Type 0} → Ghosts D → D → List ℕ → Type 0 → Option (List ℕ) → Option (List ℕ) → Result Verdict Fault → Type 0
+FindsTruth g disk key Truth old new (Ok Done) = Truth × Appends old new right_line
+FindsTruth g disk key Truth old new (Ok Evidence) = (text : List ℕ) × IsEvidence g disk key text × Appends old new text
+FindsTruth g disk key Truth old new (Err Memory) = Unit {0}
+FindsTruth g disk key Truth old new (Err Library) = Unit {0}
+FindsTruth g disk key Truth old new (Err Sink) = Unit {0}
+FindsTruth g disk key Truth old new (Err Disk) = Unit {0}
+FindsTruth g disk key Truth old new outcome = ⊥
 
 -- The files spell a public key, a publication whose header is that of its parts and settings, and octets that the
 -- client accepts under the key, whatever they are, with the publication's header; and the key is that of the owner's
@@ -123,5 +124,5 @@ pub record IsAcceptedFile (content : Option (List ℕ)) (shelf : Shelf) (key_nam
 -- whatever octets the client accepts, `audit` finds that they are true, or writes evidence
 abbrev pub AuditsAccepted : {D : Type 0} → Ghosts D → Option (List ℕ) → D → List ℕ → List ℕ → List ℕ → Query → Option Shelf → Option (List ℕ) → Option (List ℕ) → Result Verdict Fault → Type 0
 AuditsAccepted g content disk key publication reply q (Some shelf) old new outcome =
-    (k : List ℕ) (p : Publication) (x : Accepted) → IsAcceptedFile content shelf key publication reply q k p x → FindsTruth g disk k p q x old new outcome
+    (k : List ℕ) (p : Publication) (x : Accepted) → IsAcceptedFile content shelf key publication reply q k p x → FindsTruth g disk k (IsTrue g disk p q x) old new outcome
 AuditsAccepted g content disk key publication reply q None old new outcome = Unit {0}

@@ -8,6 +8,4 @@ pub use tree_root::root;
 
 mod dimacs_files;
 mod routing;
-#[cfg(test)]
-mod tests;
 mod tree_root;

@@ -83,6 +83,12 @@ CanCompare-start hash leaves f places given cover levels k w d f2 f32 n1 n32 p1 
 
 -- ---- the end
 
+-- texts that are the leaves at the places, one by one
+pub chosen_texts-each : (leaves given : List (List ℕ)) (places : List ℕ) → length given ≡ length places → ((q : ℕ) → q < length places → get_or given q [] ≡ get_or leaves (get_or places q 0) []) → given ≡ chosen_texts leaves places
+chosen_texts-each leaves given places l each =
+    same_lists given (chosen_texts leaves places) (l ∙ sym (length-map places (λ c. get_or leaves c [])))
+    (λ i x q. get_or_default given i x [] q ∙ each i (omega (arith, q, l)) ∙ sym (get_or-map (λ c. get_or leaves c []) places i 0 x (omega (arith, q, l))))
+
 -- all is the tree's own
 pub SameBelow-all : (hash : List ℕ → List ℕ) (leaves : List (List ℕ)) (f : ℕ) (places : List ℕ) (given cover : List (List ℕ)) (k w next : ℕ) (d : List ℕ) → length given ≡ length places → 1 ≤ length places → ((q : ℕ) → q < length places → get_or places q 0 < length leaves) → k ≡ top (length leaves) f → length leaves ≤ w → GoodFold hash (length leaves) f places given cover d → SplitsAt places ((0 + 1) * w) next → SameBelow hash leaves f places given cover k 0 0 0 next → (given ≡ chosen_texts leaves places) × (cover ≡ cover_of hash leaves f places)
 SameBelow-all hash leaves f places given cover k w next d l p1 below ek lw g s b =
@@ -90,10 +96,8 @@ SameBelow-all hash leaves f places given cover k w next d l p1 below ek lw g s b
     let all : next ≡ length places = elim (cases_lt next (length places)) [
       | inl q ↦ absurd (omega (arith, s.after next (omega arith) q, below next q, lw))
       | inr q ↦ omega (arith, s.within, q)
-    ] in
-    let texts : (i : ℕ) (x : List ℕ) → i < length given → get_or given i x ≡ get_or (chosen_texts leaves places) i x =
-    λ i x q. get_or_default given i x [] q ∙ b.texts i (omega arith) (omega (arith, q, l, all)) ∙ sym (get_or-map (λ c. get_or leaves c []) places i 0 x (omega (arith, q, l))) in (
-      same_lists given (chosen_texts leaves places) (l ∙ sym (length-map places (λ c. get_or leaves c []))) texts,
+    ] in (
+      chosen_texts-each leaves given places l (λ q lt. b.texts q (omega arith) (omega (arith, lt, all))),
       sym (take_all (need n f places k 0) cover (omega (arith, g.count, ap (λ x. need n f places x 0) ek))) ∙ b.digests ∙ ap (λ x. cover_below (digest hash leaves f) n f places x 0) ek ∙ cover_of-some hash leaves f places (omega (arith, p1)),
     )
 

@@ -1,7 +1,7 @@
 ghost use Rattle.std.specs.Prelude.{◌≡◌, ◌≢◌, ℕ, ◌+◌, ◌*◌, ◌^◌, ◌<◌, ◌≤◌, ◌↔◌, ◌&&◌, Bool, List, [], ◌∷◌, ◌++◌, length, drop, slice_index, slice_index_or, IfOk, IfErr, IfSome, IsNone, Ok};
 ghost use Rattle.std.specs.Bool.{OnTrue, OnFalse};
 ghost use Rattle.merkle_cover.specs.Clashes.{CanCompare, CanRead, IsClash, SameBelow, AreHashed, hashed_text, folded_text};
-ghost use Rattle.merkle_cover.specs.Covers.{cover_of, chosen_texts, fold_of};
+ghost use Rattle.merkle_cover.specs.Covers.{IsRising, cover_of, chosen_texts, fold_of};
 ghost use Rattle.merkle_cover.specs.Trees.{digest, tree_of};
 ghost use Rattle.merkle_cover.specs.Folding.{CanFold, IsFolded};
 
@@ -36,10 +36,53 @@ fn same_octets(left: &[u8], right: &[u8]) -> bool
     left == right
 }
 
+fn same_covers(left: &[Digest32], right: &[Digest32]) -> bool
+    ensures { OnTrue result (left.now ≡ right.now) }
+{
+    left == right
+}
+
 fn both(left: bool, right: bool) -> bool
     ensures { result ≡ (left && right) }
 {
     left && right
+}
+
+// Whether each text is the leaf at its place.
+fn are_chosen(leaves: &Texts, places: &[u32], texts: &Texts) -> bool
+    requires places { IsRising (length leaves.now) places.now }
+    requires texts { length texts.now ≡ length places.now }
+    ensures { OnTrue result (texts.now ≡ chosen_texts leaves.now places.now) }
+{
+    for index in 0..texts.count() {
+        let leaf = leaves.text(places[index as usize]);
+        if !same_octets(texts.text(index), leaf) {
+            return false;
+        }
+    }
+    true
+}
+
+// Whether the texts and the cover are the tree's own, octet for octet: nothing is hashed.
+fn are_own<H: Hasher>(
+    alloc: Global,
+    tree: &Tree<H>,
+    leaves: &Texts,
+    places: &[u32],
+    texts: &Texts,
+    cover: &[Digest32],
+) -> Result<bool, NoMemory>
+    requires built { tree.now ≡ tree_of H.hash leaves.now tree.now.fan }
+    requires places { IsRising (length leaves.now) places.now }
+    requires texts { length texts.now ≡ length places.now }
+    ensures { IfOk result (λ own. OnTrue own
+        ((texts.now ≡ chosen_texts leaves.now places.now) × (cover.now ≡ cover_of H.hash leaves.now tree.now.fan places.now))) }
+{
+    if !are_chosen(leaves, places, texts) {
+        return Ok(false);
+    }
+    let whole = tree.cover(alloc, places)?;
+    Ok(same_covers(whole.as_slice(), cover))
 }
 
 // Folds what is given at a place and compares it with the tree, or finds where the two clash.
@@ -200,7 +243,7 @@ pub struct TwoTexts {
 /// Two different texts with one digest, from a tree and from texts and a cover that fold to its
 /// root. `None` exactly where each given text is the leaf at its place, and the cover is the tree's.
 ///
-/// Takes the time of a fold.
+/// Compares octets first, and hashes, in the time of a fold, only where some differ.
 pub fn clash<H: Hasher>(
     alloc: Global,
     tree: &Tree<H>,
@@ -220,6 +263,9 @@ pub fn clash<H: Hasher>(
     ensures sides { IfOk result (λ r. IfSome r (λ two.
         AreHashed H.hash leaves.now tree.now.fan places.now texts.now cover.now two.left two.right)) }
 {
+    if are_own::<H>(alloc, tree, leaves, places, texts, cover)? {
+        return Ok(None);
+    }
     let levels = tree.levels();
     let given = Given {
         leaves: u64::from(leaves.count()),

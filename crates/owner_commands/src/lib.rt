@@ -8,5 +8,3 @@ pub use publishing::publish;
 mod counting;
 mod making;
 mod publishing;
-#[cfg(test)]
-mod tests;

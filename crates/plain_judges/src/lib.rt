@@ -4,6 +4,7 @@
 
 pub use dij::Dij;
 pub use full::Full;
+pub use items::Anywhere;
 
 mod dij;
 mod full;

@@ -4,6 +4,7 @@ use Rattle.std.specs.Str.{bytes_eq}
 use Rattle.road_reader.specs.Fields.{natural_of, wide_natural_of, ◌>>=◌}
 use Rattle.book_model.specs.declared.items.Query.{Query}
 use Rattle.book_model.specs.declared.settings.Settings.{Settings}
+use Rattle.near_model.specs.declared.query.NearQuery.{NearQuery}
 
 -- a command with its words read; a name stands as its octets
 pub data Request : Type 0 where
@@ -18,6 +19,9 @@ pub data Request : Type 0 where
   Check : List ℕ → List ℕ → Query → ℕ → Request
   Audit : List ℕ → List ℕ → List ℕ → Query → Request
   Survey : ℕ → ℕ → ℕ → ℕ → Request
+  Reach : List ℕ → NearQuery → Request
+  CheckReach : List ℕ → List ℕ → NearQuery → ℕ → Request
+  AuditReach : List ℕ → List ℕ → List ℕ → NearQuery → Request
 
 -- ---- single words
 
@@ -69,6 +73,13 @@ query_of from to = do
   from ← natural_of from
   to ← natural_of to
   Some (record { from = from; to = to })
+
+-- the id of a node, and a radius around it
+abbrev pub near_query_of : List ℕ → List ℕ → Option NearQuery
+near_query_of from radius = do
+  from ← natural_of from
+  radius ← wide_natural_of radius
+  Some (record { from = from; radius = radius })
 
 -- a method's three parameters
 abbrev pub parameters_of : List ℕ → List ℕ → List ℕ → Option (ℕ × ℕ × ℕ)
@@ -172,6 +183,28 @@ abbrev pub survey_words : List (List ℕ) → Option Request
 survey_words (width ∷ seed ∷ method ∷ queries ∷ []) = survey_of width seed method queries
 survey_words _ = None
 
+-- a publication file's name, the id of a node, and a radius
+abbrev pub reach_words : List (List ℕ) → Option Request
+reach_words (publication ∷ from ∷ radius ∷ []) = do
+  query ← near_query_of from radius
+  Some (Reach publication query)
+reach_words _ = None
+
+-- the names of files of a public key and of a reply, the id of a node, a radius, and the least version that is taken
+abbrev pub check_reach_words : List (List ℕ) → Option Request
+check_reach_words (key ∷ reply ∷ from ∷ radius ∷ least ∷ []) = do
+  query ← near_query_of from radius
+  least ← wide_natural_of least
+  Some (CheckReach key reply query least)
+check_reach_words _ = None
+
+-- the names of files of a public key, a publication and a reply, the id of a node, and a radius
+abbrev pub audit_reach_words : List (List ℕ) → Option Request
+audit_reach_words (key ∷ publication ∷ reply ∷ from ∷ radius ∷ []) = do
+  query ← near_query_of from radius
+  Some (AuditReach key publication reply query)
+audit_reach_words _ = None
+
 -- the command that words ask for, if they fit one
 abbrev pub request_of : List (List ℕ) → Option Request
 request_of [] = None
@@ -187,4 +220,7 @@ request_of (verb ∷ words) =
     else if bytes_eq verb (codes "check") then check_words words
     else if bytes_eq verb (codes "audit") then audit_words words
     else if bytes_eq verb (codes "survey") then survey_words words
+    else if bytes_eq verb (codes "reach") then reach_words words
+    else if bytes_eq verb (codes "check-reach") then check_reach_words words
+    else if bytes_eq verb (codes "audit-reach") then audit_reach_words words
     else None

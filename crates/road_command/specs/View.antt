@@ -28,3 +28,6 @@ shown (command.Serve publication) = request.Serve publication.now
 shown (command.Check key reply query least) = request.Check key.now reply.now query least
 shown (command.Audit key publication reply query) = request.Audit key.now publication.now reply.now query
 shown (command.Survey asked) = survey_shown asked
+shown (command.Reach publication query) = request.Reach publication.now query
+shown (command.CheckReach key reply query least) = request.CheckReach key.now reply.now query least
+shown (command.AuditReach key publication reply query) = request.AuditReach key.now publication.now reply.now query

@@ -2,14 +2,15 @@
 
 ghost use Rattle.std.specs.Prelude.{◌≡◌, ◌<◌, length, drop};
 ghost use Rattle.std.specs.Option.{option_map};
-ghost use Rattle.road_command.specs.Requests.{request_of, route_words, root_words, dimacs_words, key_words, desk_words, publish_words, prove_words, serve_words, check_words, audit_words, survey_words};
+ghost use Rattle.road_command.specs.Requests.{request_of, route_words, root_words, dimacs_words, key_words, desk_words, publish_words, prove_words, serve_words, check_words, audit_words, survey_words, reach_words, check_reach_words, audit_reach_words};
 ghost use Rattle.road_command.specs.View.{shown};
 
 use crate::asked::Survey;
 use crate::kind::KeyKind;
-use crate::reading::{fan, kind, parameters, query, settings, survey};
+use crate::reading::{fan, kind, near_query, parameters, query, settings, survey};
 use crate::words::Words;
 use book_model::{Query, Settings};
+use near_model::NearQuery;
 use road_reader::{natural, wide_natural};
 
 /// A command, with its words read.
@@ -68,6 +69,25 @@ pub enum Command<'a> {
     },
     /// Publish a grid in memory, answer drawn queries over it, check each reply, and write the counts.
     Survey(Survey),
+    /// Answer over a publication which nodes lie within a radius, and write the reply.
+    Reach {
+        publication: &'a str,
+        query: NearQuery,
+    },
+    /// Check a reply on a radius with a public key, and a least version that is taken, and write the verdict.
+    CheckReach {
+        key: &'a str,
+        reply: &'a str,
+        query: NearQuery,
+        least: u64,
+    },
+    /// Find out what an accepted reply on a radius is evidence of, with the owner's disk and a publication.
+    AuditReach {
+        key: &'a str,
+        publication: &'a str,
+        reply: &'a str,
+        query: NearQuery,
+    },
 }
 
 /// The command that the words ask for, if they fit one.
@@ -89,6 +109,9 @@ pub fn command_of(words: &Words) -> Option<Command<'_>>
         "check" => check_of(words),
         "audit" => audit_of(words),
         "survey" => survey_of(words),
+        "reach" => reach_of(words),
+        "check-reach" => check_reach_of(words),
+        "audit-reach" => audit_reach_of(words),
         _ => None,
     }
 }
@@ -250,4 +273,51 @@ fn survey_of(words: &Words) -> Option<Command<'_>>
     }
     let asked = survey(words.word(1), words.word(2), words.word(3), words.word(4))?;
     Some(Command::Survey(asked))
+}
+
+fn reach_of(words: &Words) -> Option<Command<'_>>
+    requires { 0 < length words.now }
+    ensures { option_map shown result ≡ reach_words (drop 1 words.now) }
+{
+    if words.count() != 4 {
+        return None;
+    }
+    let query = near_query(words.word(2), words.word(3))?;
+    Some(Command::Reach {
+        publication: words.word(1),
+        query,
+    })
+}
+
+fn check_reach_of(words: &Words) -> Option<Command<'_>>
+    requires { 0 < length words.now }
+    ensures { option_map shown result ≡ check_reach_words (drop 1 words.now) }
+{
+    if words.count() != 6 {
+        return None;
+    }
+    let query = near_query(words.word(3), words.word(4))?;
+    let least = wide_natural(words.word(5).as_bytes())?;
+    Some(Command::CheckReach {
+        key: words.word(1),
+        reply: words.word(2),
+        query,
+        least,
+    })
+}
+
+fn audit_reach_of(words: &Words) -> Option<Command<'_>>
+    requires { 0 < length words.now }
+    ensures { option_map shown result ≡ audit_reach_words (drop 1 words.now) }
+{
+    if words.count() != 6 {
+        return None;
+    }
+    let query = near_query(words.word(4), words.word(5))?;
+    Some(Command::AuditReach {
+        key: words.word(1),
+        publication: words.word(2),
+        reply: words.word(3),
+        query,
+    })
 }

@@ -2,6 +2,7 @@
 
 use crate::{Command, KeyKind, MOST_WORDS, Survey, Words, command_of};
 use book_model::{Query, Settings};
+use near_model::NearQuery;
 use std::alloc::Global;
 use std::process::Abort;
 use std::test::Fail;
@@ -28,6 +29,10 @@ fn each_command_line_is_read(rt: HostRuntime) -> Result<(), Fail> {
         p3: 2,
     };
     let query = Query { from: 1, to: 3 };
+    let near = NearQuery {
+        from: 1,
+        radius: 18_446_744_073_709_551_615,
+    };
     for (line, command) in [
         (
             "root a.roads 2",
@@ -98,6 +103,31 @@ fn each_command_line_is_read(rt: HostRuntime) -> Result<(), Fail> {
                 queries: 1000,
             }),
         ),
+        (
+            "reach a.pub 1 18446744073709551615",
+            Command::Reach {
+                publication: "a.pub",
+                query: near,
+            },
+        ),
+        (
+            "check-reach k.hex a.reply 1 18446744073709551615 3",
+            Command::CheckReach {
+                key: "k.hex",
+                reply: "a.reply",
+                query: near,
+                least: 3,
+            },
+        ),
+        (
+            "audit-reach k.hex a.pub a.reply 1 18446744073709551615",
+            Command::AuditReach {
+                key: "k.hex",
+                publication: "a.pub",
+                reply: "a.reply",
+                query: near,
+            },
+        ),
     ] {
         let words = words_of(&rt, rt.alloc(), line)?;
         assert_eq!(rt; command_of(&words), Some(command), "at {line}");
@@ -125,6 +155,10 @@ fn other_command_lines_fit_no_command(rt: HostRuntime) -> Result<(), Fail> {
         "survey 2 0 dij 1001",
         "serve",
         "serve a.pub 1",
+        "reach a.pub 1",
+        "reach a.pub 1 18446744073709551616",
+        "check-reach k r 1 3",
+        "audit-reach k p r 4294967296 3",
         "",
     ] {
         let words = words_of(&rt, rt.alloc(), line)?;

@@ -94,7 +94,8 @@ fn print_bad_signature(text: &mut String, name: &str) -> Result<(), AllocError>
     write!(text, "BadSignature {name}")
 }
 
-fn name_of_seal(why: SealError) -> &'static str
+/// The name of why a signature is not verified.
+pub fn name_of_seal(why: SealError) -> &'static str
     ensures { result.now ≡ seal_name why }
 {
     match why {
@@ -104,7 +105,8 @@ fn name_of_seal(why: SealError) -> &'static str
     }
 }
 
-fn name_of_cover(why: CoverFault) -> &'static str
+/// The name of why items and a cover don't give a root.
+pub fn name_of_cover(why: CoverFault) -> &'static str
     ensures { result.now ≡ cover_name why }
 {
     match why {

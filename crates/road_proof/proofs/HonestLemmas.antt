@@ -1,4 +1,4 @@
--- `check` accepts honest replies.
+-- `check` and `check-reach` accept honest replies.
 use Rattle.std.proofs.Common.{◌≡◌, ℕ, List, [], subst, IfSome}
 use Rattle.std.specs.declared.option.Option.{Option}
 use Rattle.std.specs.declared.option.Option.TheVariants.{None, Some}
@@ -13,20 +13,42 @@ use Rattle.route_client.specs.declared.accepted.Accepted.{Accepted}
 use Rattle.route_client.specs.declared.errors.CheckError.{CheckError}
 use Rattle.route_client.specs.Verdicts.{IsVerdict}
 use Rattle.route_laws.specs.Honest.{AnswersAreAccepted, AreAccepted}
-use Rattle.road_command.specs.Requests.{Request, Route, Root, Dimacs, Key, Desk, Publish, Prove, Serve, Check, Audit, Survey}
+use Rattle.road_command.specs.Requests.{Request, Route, Root, Dimacs, Key, Desk, Publish, Prove, Serve, Check, Audit, Survey, Reach, CheckReach, AuditReach}
 use Rattle.command_files.specs.HexFiles.{public_key_at}
 use Rattle.command_files.specs.Reading.{octets_at}
 use Rattle.command_files.specs.Endings.{EndsReading, Answered}
 use Rattle.command_files.proofs.Written.{read_as}
 use Rattle.client_commands.specs.Checking.{EndsCheck, ends_check}
 use Rattle.road_proof.specs.Commands.{Ends}
-use Rattle.road_proof.specs.Accepting.{WritesAccepted, IsHonestFile, AcceptsHonest}
+use Rattle.road_proof.specs.Accepting.{IsAcceptedLine, IsWithinLine, WritesAccepted, IsHonestFile, IsHonestReach, AcceptsHonest}
 use Rattle.command_files.specs.declared.fault.Fault.{Fault}
 use Rattle.command_files.specs.declared.fault.Fault.TheVariants.{TruncatedFrame, FrameTooLong, Library, Source, Sink, Disk, Memory, UnknownNode, NoRoute, TooManyFrames}
 use Rattle.command_files.specs.declared.ended.Verdict.{Verdict}
 use Rattle.command_files.specs.declared.ended.Verdict.TheVariants.{Done, Refused, Evidence}
 use Rattle.client_commands.proofs.OneCheck.{OneVerdict}
 use Rattle.audit_commands.proofs.OneAudit.{AcceptanceIsVerdict}
+use Rattle.near_model.specs.declared.query.NearQuery.{NearQuery}
+use Rattle.near_model.specs.Radius.{AreWithin}
+use Rattle.near_client.specs.declared.within.Within.{Within}
+use Rattle.near_client.specs.declared.errors.NearError.{NearError}
+use Rattle.near_client.specs.NearVerdicts.{IsNearVerdict}
+use Rattle.near_proof.specs.NearLaws.{NearRepliesAreAccepted}
+use Rattle.near_proof.specs.NearLaws as near
+use Rattle.near_client_commands.specs.NearChecking.{EndsCheckReach, ends_check_reach}
+use Rattle.near_client_commands.proofs.OneNearCheck.{OneNearVerdict}
+use Rattle.near_audit_commands.proofs.OneNearAudit.{NearAcceptanceIsVerdict}
+
+-- octets have one verdict at most, and what is accepted has it, for routes and for radii
+pub record Verdicts : Type 0 where
+  pub one : OneVerdict
+  pub accepted : AcceptanceIsVerdict
+  pub near_one : OneNearVerdict
+  pub near_accepted : NearAcceptanceIsVerdict
+
+-- honest replies are accepted, on routes and on radii
+pub record AcceptedLaws : Type 0 where
+  pub answers : AnswersAreAccepted
+  pub near_replies : NearRepliesAreAccepted
 
 module _ (one : OneVerdict) (verdict : AcceptanceIsVerdict) (laws : AnswersAreAccepted) (shelf : Shelf) (key reply : List ℕ) (q : Query) (least : ℕ) (p : Publication) (file : IsHonestFile shelf key reply q least p) where
   accepted : AreAccepted sha256 file.key file.octets q least p.parts
@@ -44,7 +66,7 @@ module _ (one : OneVerdict) (verdict : AcceptanceIsVerdict) (laws : AnswersAreAc
   differ : (x : Accepted) (e : CheckError) → Ok x ≡ Err e → ⊥
   differ x e is = cc
 
-  writes : (old new : Option (List ℕ)) (o : Result Verdict Fault) → Answered (ends_check key reply q least shelf) old new o → WritesAccepted p.parts q old new o
+  writes : (old new : Option (List ℕ)) (o : Result Verdict Fault) → Answered (ends_check key reply q least shelf) old new o → WritesAccepted (IsAcceptedLine p.parts q) old new o
   writes old new (Ok Done) a =
       let e = ends (Ok Done) a.0 a.1 in
       let same : Ok accepted.accepted ≡ Ok e.0 = one sha256 file.key file.octets q least (Ok accepted.accepted) (Ok e.0) says e.1 in
@@ -67,18 +89,60 @@ module _ (one : OneVerdict) (verdict : AcceptanceIsVerdict) (laws : AnswersAreAc
   writes old new (Err Source) a = absurd (ends (Err Source) a.0 a.1)
   writes old new (Err fault) a = absurd (ends (Err fault) [] a)
 
+module _ (one : OneNearVerdict) (verdict : NearAcceptanceIsVerdict) (laws : NearRepliesAreAccepted) (shelf : Shelf) (key reply : List ℕ) (q : NearQuery) (least : ℕ) (p : Publication) (file : IsHonestReach shelf key reply q least p) where
+  near_accepted : near.AreAccepted sha256 file.key file.octets q least p.parts
+  near_accepted = laws sha256 sha256 file.key file.octets p q least file.signed file.fresh file.honest
+
+  near_says : IsNearVerdict sha256 file.key file.octets q least (Ok near_accepted.accepted)
+  near_says = verdict sha256 file.key file.octets q least near_accepted.accepted near_accepted.accepts
+
+  -- the end over what the files spell
+  near_ends : (o : Result Verdict Fault) (text : List ℕ) → ends_check_reach key reply q least shelf o text → EndsCheckReach file.key file.octets q least o text
+  near_ends o text h =
+      let by_key = read_as (public_key_at shelf key) file.key (λ k. EndsReading (octets_at shelf reply) (λ octets. EndsCheckReach k octets q least)) o text file.key_read h in
+      read_as (octets_at shelf reply) file.octets (λ octets. EndsCheckReach file.key octets q least) o text file.reply_read by_key
+
+  near_differ : (x : Within) (e : NearError) → Ok x ≡ Err e → ⊥
+  near_differ x e is = cc
+
+  near_writes : (old new : Option (List ℕ)) (o : Result Verdict Fault) → Answered (ends_check_reach key reply q least shelf) old new o → WritesAccepted (IsWithinLine p.parts q) old new o
+  near_writes old new (Ok Done) a =
+      let e = near_ends (Ok Done) a.0 a.1 in
+      let same : Ok near_accepted.accepted ≡ Ok e.0 = one sha256 file.key file.octets q least (Ok near_accepted.accepted) (Ok e.0) near_says e.1 in
+      let is : near_accepted.accepted ≡ e.0 = cc in
+      (a.0, record { nodes = e.0.nodes; within = subst (λ (x : Within). AreWithin p.parts q x.nodes) is near_accepted.within; line = e.2 }, a.2)
+  near_writes old new (Ok Refused) a =
+      let e = near_ends (Ok Refused) a.0 a.1 in
+      absurd (near_differ near_accepted.accepted e.0 (one sha256 file.key file.octets q least (Ok near_accepted.accepted) (Err e.0) near_says e.2))
+  near_writes old new (Ok Evidence) a = absurd (near_ends (Ok Evidence) a.0 a.1)
+  near_writes old new (Err Memory) a = tt
+  near_writes old new (Err Library) a = tt
+  near_writes old new (Err Sink) a = tt
+  near_writes old new (Err Disk) a = tt
+  near_writes old new (Err (UnknownNode id)) a = absurd (near_ends (Err (UnknownNode id)) a.0 a.1)
+  near_writes old new (Err NoRoute) a = absurd (near_ends (Err NoRoute) a.0 a.1)
+  near_writes old new (Err TruncatedFrame) a = absurd (near_ends (Err TruncatedFrame) a.0 a.1)
+  near_writes old new (Err FrameTooLong) a = absurd (near_ends (Err FrameTooLong) a.0 a.1)
+  near_writes old new (Err TooManyFrames) a = absurd (near_ends (Err TooManyFrames) a.0 a.1)
+  near_writes old new (Err Source) a = absurd (near_ends (Err Source) a.0 a.1)
+  near_writes old new (Err fault) a = absurd (near_ends (Err fault) [] a)
+
 -- the same for a request and the library of a run
-pub accepts_honest : OneVerdict → AcceptanceIsVerdict → AnswersAreAccepted → (request : Request) (files : Option Shelf) (content : Option (List ℕ)) (old new : Option (List ℕ)) (o : Result Verdict Fault)
+pub accepts_honest : Verdicts → AcceptedLaws → (request : Request) (files : Option Shelf) (content : Option (List ℕ)) (old new : Option (List ℕ)) (o : Result Verdict Fault)
     → IfSome files (λ shelf. Answered (Ends content request shelf) old new o) → AcceptsHonest request files old new o
-accepts_honest one verdict laws (Check key reply q least) (Some shelf) content old new o a = λ p file. writes one verdict laws shelf key reply q least p file old new o a
-accepts_honest one verdict laws (Check key reply q least) None content old new o a = tt
-accepts_honest one verdict laws (Route roads from to) files content old new o a = tt
-accepts_honest one verdict laws (Root roads fan) files content old new o a = tt
-accepts_honest one verdict laws (Dimacs graph places) files content old new o a = tt
-accepts_honest one verdict laws (Key secret kind) files content old new o a = tt
-accepts_honest one verdict laws Desk files content old new o a = tt
-accepts_honest one verdict laws (Publish roads settings) files content old new o a = tt
-accepts_honest one verdict laws (Prove publication q) files content old new o a = tt
-accepts_honest one verdict laws (Serve publication) files content old new o a = tt
-accepts_honest one verdict laws (Audit key publication reply q) files content old new o a = tt
-accepts_honest one verdict laws (Survey width seed method queries) files content old new o a = tt
+accepts_honest verdicts laws (Check key reply q least) (Some shelf) content old new o a = λ p file. writes verdicts.one verdicts.accepted laws.answers shelf key reply q least p file old new o a
+accepts_honest verdicts laws (Check key reply q least) None content old new o a = tt
+accepts_honest verdicts laws (Route roads from to) files content old new o a = tt
+accepts_honest verdicts laws (Root roads fan) files content old new o a = tt
+accepts_honest verdicts laws (Dimacs graph places) files content old new o a = tt
+accepts_honest verdicts laws (Key secret kind) files content old new o a = tt
+accepts_honest verdicts laws Desk files content old new o a = tt
+accepts_honest verdicts laws (Publish roads settings) files content old new o a = tt
+accepts_honest verdicts laws (Prove publication q) files content old new o a = tt
+accepts_honest verdicts laws (Serve publication) files content old new o a = tt
+accepts_honest verdicts laws (Audit key publication reply q) files content old new o a = tt
+accepts_honest verdicts laws (Survey width seed method queries) files content old new o a = tt
+accepts_honest verdicts laws (Reach publication q) files content old new o a = tt
+accepts_honest verdicts laws (CheckReach key reply q least) (Some shelf) content old new o a = λ p file. near_writes verdicts.near_one verdicts.near_accepted laws.near_replies shelf key reply q least p file old new o a
+accepts_honest verdicts laws (CheckReach key reply q least) None content old new o a = tt
+accepts_honest verdicts laws (AuditReach key publication reply q) files content old new o a = tt

@@ -1,9 +1,9 @@
 -- What each command promises, joined to what a run promises.
-use Rattle.std.proofs.Common.{◌≡◌, ℕ, List, refl, sym, subst, IfSome}
+use Rattle.std.proofs.Common.{◌≡◌, ℕ, List, refl, subst, IfSome}
 use Rattle.std.specs.declared.option.Option.{Option}
 use Rattle.std.specs.declared.option.Option.TheVariants.{None, Some}
 use Rattle.std.specs.declared.result.Result.{Result}
-use Rattle.std.specs.declared.result.Result.TheVariants.{Ok, Err}
+use Rattle.std.specs.declared.result.Result.TheVariants.{Err}
 use Rattle.road_io.specs.declared.disk.Disk.{Ghosts}
 use Rattle.road_io.specs.Causes.{Rose}
 use Rattle.road_io.specs.Contents.{Shelf}
@@ -13,8 +13,7 @@ use Rattle.road_map.specs.Laws.{ArcLaws}
 use Rattle.road_map.specs.declared.parts.Parts.{Parts}
 use Rattle.key_desk.specs.Stands.{KeepsStanding}
 use Rattle.key_desk.proofs.Standing.{standing_same}
-use Rattle.road_command.specs.Requests.{Request, Route, Root, Dimacs, Key, Desk, Publish, Prove, Serve, Check, Audit, Survey}
-use Rattle.route_laws.specs.Honest.{AnswersAreAccepted}
+use Rattle.road_command.specs.Requests.{Request, Route, Root, Dimacs, Key, Desk, Publish, Prove, Serve, Check, Audit, Survey, Reach, CheckReach, AuditReach}
 use Rattle.command_files.specs.Endings.{NoDisk, Promises}
 use Rattle.command_files.specs.Exact.{NoneFailed, IsExact, HasOneEnd}
 use Rattle.command_files.specs.declared.fault.Fault.{Fault}
@@ -25,18 +24,21 @@ use Rattle.command_files.proofs.OneMap.{Faults}
 use Rattle.command_files.proofs.Written.{beside_disk, keeps_same}
 use Rattle.command_desks.proofs.Disks.{no_moment, no_step}
 use Rattle.command_books.proofs.OneBuilding.{OneMaking}
-use Rattle.client_commands.proofs.OneCheck.{OneVerdict, only_check}
+use Rattle.client_commands.proofs.OneCheck.{only_check}
 use Rattle.map_commands.proofs.OneMapEnd.{only_route, only_root, only_dimacs}
 use Rattle.server_commands.proofs.OneProve.{only_prove}
 use Rattle.server_commands.proofs.OneServe.{exact_serve}
 use Rattle.server_commands.specs.Serving.{ServesFrames}
 use Rattle.owner_commands.proofs.OneOwner.{only_key, only_desk, only_publish}
-use Rattle.audit_commands.proofs.OneAudit.{AcceptanceIsVerdict, only_audit}
+use Rattle.audit_commands.proofs.OneAudit.{only_audit}
 use Rattle.survey_commands.proofs.SurveyLemmas.{only_survey}
+use Rattle.near_client_commands.proofs.OneNearCheck.{only_check_reach}
+use Rattle.near_server_commands.proofs.OneNearReach.{only_reach}
+use Rattle.near_audit_commands.proofs.OneNearAudit.{only_audit_reach}
 use Rattle.road_proof.specs.Accepting.{AcceptsHonest}
 use Rattle.road_proof.specs.Commands.{Ends, IsTold, TellsClient, OnDisk, RunPromises}
 use Rattle.road_proof.specs.Sources.{IfServe, UnlessServe, RunTakes, IsExactServing}
-use Rattle.road_proof.proofs.HonestLemmas.{accepts_honest}
+use Rattle.road_proof.proofs.HonestLemmas.{Verdicts, AcceptedLaws, accepts_honest}
 
 module _ {D : Type 0} (g : Ghosts D) (old new : D) (asked : Option Request) (files : Option Shelf) (l l' : ℕ) (taken_before taken_now : Option (List ℕ)) (k k' : ℕ) (o : Result Verdict Fault) where
   -- what is promised of a request is promised of the words that ask for it
@@ -77,7 +79,7 @@ run_nothing g disk asked files l taken k is = subst (λ (a : Option Request). Ru
 -- ---- one end
 
 -- the files, and the disk where it must be told, let a command end in one way
-one_end : Faults → ((parts : Parts) (u : ℕ) → ArcLaws parts u) → OneMaking → OneVerdict × AcceptanceIsVerdict → (content : Option (List ℕ)) (request : Request) → IsTold request content → (shelf : Shelf) → HasOneEnd (Ends content request shelf)
+one_end : Faults → ((parts : Parts) (u : ℕ) → ArcLaws parts u) → OneMaking → Verdicts → (content : Option (List ℕ)) (request : Request) → IsTold request content → (shelf : Shelf) → HasOneEnd (Ends content request shelf)
 one_end faults arcs makings verdicts content (Route roads from to) told shelf o p s t = only_route faults arcs roads from to shelf o p s t
 one_end faults arcs makings verdicts content (Root roads fan) told shelf o p s t = only_root faults roads fan shelf o p s t
 one_end faults arcs makings verdicts content (Dimacs graph places) told shelf o p s t = only_dimacs graph places shelf o p s t
@@ -89,14 +91,18 @@ one_end faults arcs makings verdicts (Some content) (Publish roads settings) tol
 one_end faults arcs makings verdicts None (Publish roads settings) told shelf o p s t = absurd (told refl)
 one_end faults arcs makings verdicts content (Prove file q) told shelf o p s t = only_prove makings file q shelf o p s t
 one_end faults arcs makings verdicts content (Serve publication) told shelf o p s t = absurd told
-one_end faults arcs makings verdicts content (Check key reply q least) told shelf o p s t = only_check verdicts.0 key reply q least shelf o p s t
-one_end faults arcs makings verdicts (Some content) (Audit key publication reply q) told shelf o p s t = only_audit makings verdicts.0 verdicts.1 content key publication reply q shelf o p s t
+one_end faults arcs makings verdicts content (Check key reply q least) told shelf o p s t = only_check verdicts.one key reply q least shelf o p s t
+one_end faults arcs makings verdicts (Some content) (Audit key publication reply q) told shelf o p s t = only_audit makings verdicts.one verdicts.accepted content key publication reply q shelf o p s t
 one_end faults arcs makings verdicts None (Audit key publication reply q) told shelf o p s t = absurd (told refl)
 one_end faults arcs makings verdicts content (Survey width seed method queries) told shelf o p s t = only_survey width seed method queries o p s t
+one_end faults arcs makings verdicts content (Reach file q) told shelf o p s t = only_reach makings file q shelf o p s t
+one_end faults arcs makings verdicts content (CheckReach key reply q least) told shelf o p s t = only_check_reach verdicts.near_one key reply q least shelf o p s t
+one_end faults arcs makings verdicts (Some content) (AuditReach key publication reply q) told shelf o p s t = only_audit_reach makings verdicts.near_one verdicts.near_accepted content key publication reply q shelf o p s t
+one_end faults arcs makings verdicts None (AuditReach key publication reply q) told shelf o p s t = absurd (told refl)
 
 module _ {D : Type 0} (g : Ghosts D) (old new : D) (asked : Option Request) (files : Option Shelf) (l l' : ℕ) (taken_before taken_now : Option (List ℕ)) (k k' : ℕ) (o : Result Verdict Fault) where
   -- what a run promises is exact where no object outside failed
-  pub exact_run : Faults → ((parts : Parts) (u : ℕ) → ArcLaws parts u) → OneMaking → OneVerdict × AcceptanceIsVerdict → RunPromises g old new asked files l l' taken_before taken_now k k' o
+  pub exact_run : Faults → ((parts : Parts) (u : ℕ) → ArcLaws parts u) → OneMaking → Verdicts → RunPromises g old new asked files l l' taken_before taken_now k k' o
       → NoneFailed l l' k k' (g.faults old) (g.faults new) → IfSome asked (λ request. IfSome files (λ shelf. IsTold request (g.content old) → IsExact (Ends (g.content old) request shelf) o))
   exact_run faults arcs makings verdicts r n = by asked r.command
     where
@@ -113,14 +119,14 @@ module _ {D : Type 0} (g : Ghosts D) (old new : D) (asked : Option Request) (fil
       by (Some request) p = of request files p
 
   -- and accepts honest replies
-  pub honest_run : OneVerdict → AcceptanceIsVerdict → AnswersAreAccepted → RunPromises g old new asked files l l' taken_before taken_now k k' o
+  pub honest_run : Verdicts → AcceptedLaws → RunPromises g old new asked files l l' taken_before taken_now k k' o
       → IfSome asked (λ request. AcceptsHonest request files taken_before taken_now o)
-  honest_run one verdict laws r = by asked r.command
+  honest_run verdicts laws r = by asked r.command
     where
       by : (asked : Option Request) → IfSome asked (λ request. Promises (Ends (g.content old) request) (TellsClient request) (Rose (g.faults old) (g.faults new)) files l l' taken_before taken_now k k' o)
           → IfSome asked (λ request. AcceptsHonest request files taken_before taken_now o)
       by None p = tt
-      by (Some request) p = accepts_honest one verdict laws request files (g.content old) taken_before taken_now o p.answered
+      by (Some request) p = accepts_honest verdicts laws request files (g.content old) taken_before taken_now o p.answered
 
 -- ---- the source
 
@@ -155,4 +161,7 @@ exact_serving g old new makings asked files left rest l l' s s' taken_before tak
     by (Some (Check key reply q least)) p a = tt
     by (Some (Audit key publication reply q)) p a = tt
     by (Some (Survey width seed method queries)) p a = tt
+    by (Some (Reach publication q)) p a = tt
+    by (Some (CheckReach key reply q least)) p a = tt
+    by (Some (AuditReach key publication reply q)) p a = tt
     by None p a = tt

@@ -1,9 +1,9 @@
 -- How the files let each command end, and what a run promises.
-use Rattle.std.specs.Prelude.{◌≡◌, ◌≢◌, ◌↔◌, ℕ, List, [], IfSome, IfNone}
+use Rattle.std.specs.Prelude.{◌≡◌, ◌≢◌, ◌↔◌, ℕ, List, IfSome, IfNone}
 use Rattle.std.specs.declared.option.Option.{Option}
-use Rattle.std.specs.declared.option.Option.TheVariants.{None, Some}
+use Rattle.std.specs.declared.option.Option.TheVariants.{None}
 use Rattle.std.specs.declared.result.Result.{Result}
-use Rattle.std.specs.declared.result.Result.TheVariants.{Ok, Err}
+use Rattle.std.specs.declared.result.Result.TheVariants.{Err}
 use Rattle.std.specs.Io.KnownBytes.{Keeps}
 use Rattle.road_io.specs.declared.disk.Disk.{Ghosts}
 use Rattle.road_io.specs.Causes.{Rose}
@@ -11,7 +11,7 @@ use Rattle.road_io.specs.Contents.{Shelf}
 use Rattle.road_io.specs.Disk.{Stays}
 use Rattle.road_io.specs.Moments.{AtEachMoment}
 use Rattle.key_desk.specs.Stands.{KeepsStanding}
-use Rattle.road_command.specs.Requests.{Request, Route, Root, Dimacs, Key, Desk, Publish, Prove, Serve, Check, Audit, Survey}
+use Rattle.road_command.specs.Requests.{Request, Route, Root, Dimacs, Key, Desk, Publish, Prove, Serve, Check, Audit, Survey, Reach, CheckReach, AuditReach}
 use Rattle.command_files.specs.Endings.{Ending, Promises, TellsNone}
 use Rattle.command_files.specs.declared.fault.Fault.{Fault}
 use Rattle.command_files.specs.declared.fault.Fault.TheVariants.{Words}
@@ -27,8 +27,12 @@ use Rattle.owner_commands.specs.OwnerDesk.{EndsDesk}
 use Rattle.owner_commands.specs.Publishing.{ends_publish}
 use Rattle.owner_commands.specs.Signing.{SealsWhatItWrites, SignsAtMostOne}
 use Rattle.audit_commands.specs.Auditing.{ends_audit}
-use Rattle.audit_commands.specs.Headline.{WritesFindings, AuditsAccepted}
+use Rattle.audit_commands.specs.Headline.{IsHeaderSigned, WritesFindings, AuditsAccepted}
 use Rattle.survey_commands.specs.Surveying.{EndsSurvey}
+use Rattle.near_server_commands.specs.NearReaching.{ends_reach}
+use Rattle.near_client_commands.specs.NearChecking.{ends_check_reach}
+use Rattle.near_audit_commands.specs.NearAuditing.{ends_audit_reach}
+use Rattle.near_audit_commands.specs.NearHeadline.{IsNearHeaderSigned, AuditsAcceptedReach}
 
 -- With which outcome the files, and what the disk holds, let a command end, and which text it then writes. Under `serve`
 -- the end also rests on the source's input, of which `ServesFrames` speaks.
@@ -44,6 +48,9 @@ Ends content (Serve publication) shelf = ends_serve publication shelf
 Ends content (Check key reply q least) shelf = ends_check key reply q least shelf
 Ends content (Audit key publication reply q) shelf = ends_audit content key publication reply q shelf
 Ends content (Survey width seed method queries) shelf = EndsSurvey width seed method queries
+Ends content (Reach publication q) shelf = ends_reach publication q shelf
+Ends content (CheckReach key reply q least) shelf = ends_check_reach key reply q least shelf
+Ends content (AuditReach key publication reply q) shelf = ends_audit_reach content key publication reply q shelf
 
 -- of which faults a command tells its client by a text
 abbrev pub TellsClient : Request → Fault → Type 0
@@ -57,8 +64,11 @@ OnDisk g old new (Key secret kind) files taken_before taken_now outcome = KeepsK
 OnDisk g old new (Publish roads settings) files taken_before taken_now outcome =
     SealsWhatItWrites g old new taken_before taken_now outcome × SignsAtMostOne g old new files roads settings
 OnDisk g old new (Audit key publication reply q) files taken_before taken_now outcome =
-    AtEachMoment g old new Stays × WritesFindings g new key reply files taken_before taken_now outcome
+    AtEachMoment g old new Stays × WritesFindings g new (IsHeaderSigned g new) key reply files taken_before taken_now outcome
     × AuditsAccepted g (g.content old) new key publication reply q files taken_before taken_now outcome
+OnDisk g old new (AuditReach key publication reply q) files taken_before taken_now outcome =
+    AtEachMoment g old new Stays × WritesFindings g new (IsNearHeaderSigned g new) key reply files taken_before taken_now outcome
+    × AuditsAcceptedReach g (g.content old) new key publication reply q files taken_before taken_now outcome
 OnDisk g old new request files taken_before taken_now outcome = AtEachMoment g old new Stays
 
 -- words that ask for nothing leave everything as it is
@@ -84,5 +94,6 @@ IsTold (Key file kind) content = content ≢ None
 IsTold Desk content = content ≢ None
 IsTold (Publish roads settings) content = content ≢ None
 IsTold (Audit key publication reply q) content = content ≢ None
+IsTold (AuditReach key publication reply q) content = content ≢ None
 IsTold (Serve publication) content = ⊥
 IsTold request content = Unit {0}

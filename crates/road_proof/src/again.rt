@@ -1,13 +1,16 @@
 //! What is looked at again after a run, for what is said of it.
 
-ghost use Rattle.std.specs.Prelude.{◌≤◌, vec_len};
+ghost use Rattle.std.specs.Prelude.{◌≤◌, length, vec_len};
 
+use book_model::Query;
 use command_files::{Ended, Fault};
+use near_client::check_near;
+use near_model::NearQuery;
 use octet_text::Sha;
 use road_command::{Command, Words, command_of};
 use road_io::Library;
-use road_tell::{faulty_file, keys_left};
-use route_client::{CheckError, check};
+use road_tell::{Unusable, faulty_file, keys_left};
+use route_client::check;
 use std::alloc::Global;
 
 /// The most octets of a file that is looked at again.
@@ -19,7 +22,7 @@ pub struct Again {
     /// What the file holds that the run's end is said of; nothing where that is not asked for.
     pub text: Vec<u8>,
     /// Why the client refuses the reply, where one was refused.
-    pub refusal: Option<CheckError>,
+    pub refusal: Option<Unusable>,
     /// How many one-time keys are left in the owner's file, where a command used it.
     pub left: Option<u32>,
 }
@@ -47,39 +50,88 @@ pub fn look_again<L: Library>(
         (None, Some(Command::Publish { .. } | Command::Desk)) => {
             found.left = keys_left(&load(alloc, library, "owner.desk"));
         }
-        (
-            None,
-            Some(
-                Command::Check {
-                    key,
-                    reply,
-                    query,
-                    least,
-                },
-            ),
-        ) if ended.status == 1 => {
-            let key = key_in(&load(alloc, library, key));
-            found.text = load(alloc, library, reply);
-            found.refusal = check::<Sha>(alloc, &key, &found.text, query, least).err();
-        }
-        (
-            None,
-            Some(
-                Command::Audit {
-                    key,
-                    reply,
-                    query,
-                    ..
-                },
-            ),
-        ) if ended.status == 1 => {
-            let key = key_in(&load(alloc, library, key));
-            found.text = load(alloc, library, reply);
-            found.refusal = check::<Sha>(alloc, &key, &found.text, query, 0).err();
+        (None, Some(command)) if ended.status == 1 => {
+            if let Some(refused) = refused_by(command) {
+                let key = key_in(&load(alloc, library, refused.key));
+                found.text = load(alloc, library, refused.reply);
+                found.refusal = refused.why(alloc, &key, &found.text);
+            }
         }
         _ => {}
     }
     found
+}
+
+/// What was asked of a reply that was refused.
+#[derive(Clone, Copy)]
+enum Asked {
+    Route(Query),
+    Nodes(NearQuery),
+}
+
+/// The files of a refused reply, and what was asked of it.
+#[derive(Clone, Copy)]
+struct Refused<'a> {
+    key: &'a str,
+    reply: &'a str,
+    asked: Asked,
+    /// The least version that is taken.
+    least: u64,
+}
+
+impl Refused<'_> {
+    /// Why the client refuses the reply.
+    fn why(&self, alloc: Global, key: &[u8], reply: &[u8]) -> Option<Unusable>
+        requires { length reply.now ≤ 268435456 }
+    {
+        match self.asked {
+            Asked::Route(query) => {
+                let why = check::<Sha>(alloc, key, reply, query, self.least).err()?;
+                Some(Unusable::Route(why))
+            }
+            Asked::Nodes(query) => {
+                let why = check_near::<Sha>(alloc, key, reply, query, self.least).err()?;
+                Some(Unusable::Nodes(why))
+            }
+        }
+    }
+}
+
+/// The reply that a command refuses, if it may refuse one.
+fn refused_by(command: Command<'_>) -> Option<Refused<'_>> {
+    let (key, reply, asked, least) = match command {
+        Command::Check {
+            key,
+            reply,
+            query,
+            least,
+        } => (key, reply, Asked::Route(query), least),
+        Command::Audit {
+            key,
+            reply,
+            query,
+            ..
+        } => (key, reply, Asked::Route(query), 0),
+        Command::CheckReach {
+            key,
+            reply,
+            query,
+            least,
+        } => (key, reply, Asked::Nodes(query), least),
+        Command::AuditReach {
+            key,
+            reply,
+            query,
+            ..
+        } => (key, reply, Asked::Nodes(query), 0),
+        _ => return None,
+    };
+    Some(Refused {
+        key,
+        reply,
+        asked,
+        least,
+    })
 }
 
 /// What a file holds, and nothing where it can't be read.

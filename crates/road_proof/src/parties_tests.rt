@@ -180,3 +180,53 @@ fn frames_are_answered(
     }
     Ok(())
 }
+
+#[test]
+fn nodes_within_a_radius_are_shown_and_audited(rt: HostRuntime) -> Result<(), Fail> {
+    let alloc = rt.alloc();
+    let mut world = new_world(alloc)?;
+    let key = written(&rt, alloc, &mut world, "key secret h5", 0, None)?;
+    world.library.put("key", &key)?;
+    let publication = written(&rt, alloc, &mut world, PUBLISH, 0, None)?;
+    world.library.put("pub", &publication)?;
+    for (name, line) in [
+        ("here", "reach pub 1 0"),
+        ("near", "reach pub 1 4"),
+        ("all", "reach pub 1 18446744073709551615"),
+    ] {
+        let reply = written(&rt, alloc, &mut world, line, 0, None)?;
+        world.library.put(name, &reply)?;
+        if name == "near" {
+            assert_eq!(rt; reply.len(), 1585);
+            let mut longer = reply.to_vec(alloc)?;
+            longer.push(0)?;
+            world.library.put("longer", &longer)?;
+        }
+    }
+    let unknown = Some(Fault::UnknownNode(9));
+    let malformed = "refused Malformed 1585\n";
+    for (line, text, status, fault) in [
+        ("reach pub 9 4", "", 11, unknown),
+        ("check-reach key here 1 0 3", "within 1: 1\n", 0, None),
+        ("check-reach key near 1 4 3", "within 3: 1 2 4\n", 0, None),
+        (
+            "check-reach key all 1 18446744073709551615 3",
+            "within 4: 1 2 3 4\n",
+            0,
+            None,
+        ),
+        (
+            "check-reach key near 1 9 3",
+            "refused MissingTuple 3\n",
+            1,
+            None,
+        ),
+        ("check-reach key longer 1 4 3", malformed, 1, None),
+        ("audit-reach key pub near 1 4", "right\n", 0, None),
+        ("audit-reach key pub longer 1 4", malformed, 1, None),
+    ] {
+        let out = written(&rt, alloc, &mut world, line, status, fault)?;
+        assert_eq!(rt; out.as_slice(), text.as_bytes(), "at {line}");
+    }
+    Ok(())
+}

@@ -13,6 +13,11 @@ use audit_commands::audit;
 use client_commands::check;
 use command_files::{Ended, Fault, Verdict};
 use map_commands::{dimacs, root, route};
+use near_audit_commands::audit_reach;
+use near_client::near_verdict_laws;
+use near_client_commands::check_reach;
+use near_proof::near_laws;
+use near_server_commands::reach;
 use owner_commands::{desk, key, publish};
 use road_command::{Command, Words, command_of};
 use road_io::{Disk, Library, Sink, Source};
@@ -54,6 +59,8 @@ pub fn run<L: Library, S: Source, K: Sink, D: Disk>(
     server_laws();
     verdict_laws();
     honest_laws();
+    near_verdict_laws();
+    near_laws();
     Ended::of(work(alloc, words, library, source, sink, disk))
 }
 
@@ -104,5 +111,24 @@ fn work<L: Library, S: Source, K: Sink, D: Disk>(
             },
         ) => audit(alloc, library, sink, disk, key, publication, reply, query),
         Some(Command::Survey(asked)) => survey(alloc, sink, asked),
+        Some(Command::Reach { publication, query }) => {
+            reach(alloc, library, sink, publication, query)
+        }
+        Some(
+            Command::CheckReach {
+                key,
+                reply,
+                query,
+                least,
+            },
+        ) => check_reach(alloc, library, sink, key, reply, query, least),
+        Some(
+            Command::AuditReach {
+                key,
+                publication,
+                reply,
+                query,
+            },
+        ) => audit_reach(alloc, library, sink, disk, key, publication, reply, query),
     }
 }

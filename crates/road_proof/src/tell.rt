@@ -10,7 +10,6 @@ use road_tell::{
     Commands, Look, Unusable, WrongHex, faulty_file, look_of, place_of, plan_rule, setting_name,
     wrong_words,
 };
-use route_client::CheckError;
 use std::fmt::{self, Display, Formatter};
 use std::io::{self, ErrorKind};
 
@@ -30,7 +29,7 @@ pub struct Facts<'a> {
     /// The system's reason why the owner's file failed.
     pub desk_error: Option<io::Error>,
     /// Why the client refuses the reply, where one was refused.
-    pub refusal: Option<CheckError>,
+    pub refusal: Option<Unusable>,
     /// How many one-time keys are left in the owner's file, where it was read again.
     pub left: Option<u32>,
 }
@@ -89,16 +88,18 @@ impl<'a> Message<'a> {
         match (self.ended.status, self.facts.refusal) {
             (0, _) => self.few_left(f),
             (1, Some(why)) => {
-                write!(f, "road_proof: {reply}: {}", Unusable(why))?;
-                self.look(f, Look::Reply)
+                write!(f, "road_proof: {reply}: {why}")?;
+                self.look(f, reply_look(self.command))
             }
             (1, None) => write!(
                 f,
-                "road_proof: {reply}: The route is not to be used: the reply is refused."
+                "road_proof: {reply}: {} not to be used: the reply is refused.",
+                brought(self.command)
             ),
             _ => write!(
                 f,
-                "road_proof: {reply}: The route is not to be used: it rests on a header that the owner never signed, or on two texts of one digest, as the line that was written says. Keep that line with the three files."
+                "road_proof: {reply}: {} not to be used: the reply rests on a header that the owner never signed, or on two texts of one digest, as the line that was written says. Keep that line with the three files.",
+                brought(self.command)
             ),
         }
     }
@@ -166,8 +167,10 @@ impl<'a> Message<'a> {
             Fault::NoRoute => f.write_str("No route joins the two nodes."),
             Fault::HeaderWrong => f.write_str("Its header is not that of its map and settings."),
             Fault::OtherKey => f.write_str("This public key is not that of the key in owner.desk."),
-            Fault::OtherPublication => f.write_str(
-                "The route is not to be used before the reply is audited with its own publication, which is another one of the owner's.",
+            Fault::OtherPublication => write!(
+                f,
+                "{} not to be used before the reply is audited with its own publication, which is another one of the owner's.",
+                brought(self.command)
             ),
             Fault::Disk | Fault::KeysUsedUp | Fault::Held | Fault::NoKey | Fault::BadBlock =>
                 self.desk(f, fault),
@@ -228,7 +231,13 @@ impl<'a> Message<'a> {
     /// The rule of maps that is broken, with the line of a road file.
     fn map<W: fmt::Write>(&self, f: &mut Formatter<W>, fault: MapError) -> fmt::Result {
         let place = match self.command {
-            Some(Command::Prove { .. } | Command::Serve { .. } | Command::Audit { .. }) => None,
+            Some(
+                Command::Prove { .. }
+                | Command::Serve { .. }
+                | Command::Audit { .. }
+                | Command::Reach { .. }
+                | Command::AuditReach { .. },
+            ) => None,
             _ => place_of(self.facts.text, fault),
         };
         match place {
@@ -309,15 +318,41 @@ fn reason<W: fmt::Write>(f: &mut Formatter<W>, error: Option<io::Error>) -> fmt:
 /// The name of a command's reply.
 fn reply_of(command: Option<Command<'_>>) -> &str {
     match command {
-        Some(Command::Check { reply, .. } | Command::Audit { reply, .. }) => reply,
+        Some(
+            Command::Check { reply, .. }
+            | Command::Audit { reply, .. }
+            | Command::CheckReach { reply, .. }
+            | Command::AuditReach { reply, .. },
+        ) => reply,
         _ => "reply",
+    }
+}
+
+/// What a command's reply brings, with its verb.
+fn brought(command: Option<Command<'_>>) -> &'static str {
+    match command {
+        Some(Command::CheckReach { .. } | Command::AuditReach { .. }) => "The nodes are",
+        _ => "The route is",
+    }
+}
+
+/// What a command's reply should look like.
+fn reply_look(command: Option<Command<'_>>) -> Look {
+    match command {
+        Some(Command::CheckReach { .. } | Command::AuditReach { .. }) => Look::NearReply,
+        _ => Look::Reply,
     }
 }
 
 /// The name of a command's public key.
 fn key_of(command: Option<Command<'_>>) -> &str {
     match command {
-        Some(Command::Check { key, .. } | Command::Audit { key, .. }) => key,
+        Some(
+            Command::Check { key, .. }
+            | Command::Audit { key, .. }
+            | Command::CheckReach { key, .. }
+            | Command::AuditReach { key, .. },
+        ) => key,
         _ => "key",
     }
 }
@@ -333,7 +368,9 @@ fn map_of(command: Option<Command<'_>>) -> &str {
         Some(
             Command::Prove { publication, .. }
             | Command::Serve { publication }
-            | Command::Audit { publication, .. },
+            | Command::Audit { publication, .. }
+            | Command::Reach { publication, .. }
+            | Command::AuditReach { publication, .. },
         ) => publication,
         Some(Command::Survey(_)) => "grid",
         _ => "map",

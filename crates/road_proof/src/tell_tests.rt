@@ -6,7 +6,9 @@ use crate::run;
 use crate::tell::{Facts, message_on};
 use book_model::PlanError;
 use command_files::{Ended, Fault};
+use near_client::NearError;
 use road_io::{MemDisk, MemLibrary, MemSink, MemSource};
+use road_tell::Unusable;
 use route_client::CheckError;
 use std::alloc::Global;
 use std::io::{self, ErrorKind};
@@ -199,7 +201,7 @@ fn ends_over_real_files_are_told(rt: HostRuntime) -> Result<(), Fail> {
             None,
             ErrorKind::Other,
             None,
-            "road_proof: r: The route is not to be used: it rests on a header that the owner never signed, or on two texts of one digest, as the line that was written says. Keep that line with the three files.",
+            "road_proof: r: The route is not to be used: the reply rests on a header that the owner never signed, or on two texts of one digest, as the line that was written says. Keep that line with the three files.",
         ),
         (
             audit,
@@ -214,8 +216,32 @@ fn ends_over_real_files_are_told(rt: HostRuntime) -> Result<(), Fail> {
             1,
             None,
             ErrorKind::Other,
-            Some(CheckError::Malformed(0)),
+            Some(Unusable::Route(CheckError::Malformed(0))),
             "road_proof: r: The route is not to be used: the file is no reply, and can't be read from place 0 on. It looks like a publication.",
+        ),
+        (
+            "check-reach k r 1 4 3",
+            1,
+            None,
+            ErrorKind::Other,
+            Some(Unusable::Nodes(NearError::Malformed(0))),
+            "road_proof: r: The nodes are not to be used: the file is no reply on a radius, and can't be read from place 0 on. It looks like a publication.",
+        ),
+        (
+            "audit-reach k p r 1 4",
+            14,
+            Some(Fault::OtherPublication),
+            ErrorKind::Other,
+            None,
+            "road_proof: r: The nodes are not to be used before the reply is audited with its own publication, which is another one of the owner's.",
+        ),
+        (
+            "reach r 9 4",
+            11,
+            Some(Fault::UnknownNode(9)),
+            ErrorKind::Other,
+            None,
+            "road_proof: r: It has no node 9.",
         ),
     ] {
         let facts = Facts {

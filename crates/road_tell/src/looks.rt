@@ -11,6 +11,7 @@ pub enum Look {
     RoadFile,
     Publication,
     Reply,
+    NearReply,
 }
 
 /// What octets look like, if they look like anything known here.
@@ -22,6 +23,7 @@ pub fn look_of(text: &[u8]) -> Option<Look> {
         [b'r', b'o', b'a', b'd', b's', b' ', ..] => Some(Look::RoadFile),
         [b'R', b'P', b'P', b'1', ..] => Some(Look::Publication),
         [0, b'R', b'P', b'F', b'1', ..] | [1] | [2] => Some(Look::Reply),
+        [b'R', b'P', b'N', b'1', ..] => Some(Look::NearReply),
         _ => None,
     }
 }
@@ -34,7 +36,8 @@ impl Display for Look {
             Look::ByteOrderMark => "It begins with a byte order mark, which must not stand there.",
             Look::RoadFile => "It looks like a road file.",
             Look::Publication => "It looks like a publication.",
-            Look::Reply => "It looks like a reply.",
+            Look::Reply => "It looks like a reply on a route.",
+            Look::NearReply => "It looks like a reply on a radius.",
         })
     }
 }

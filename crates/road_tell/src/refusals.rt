@@ -1,18 +1,45 @@
-//! Refused replies, for somebody who plans a route.
+//! Refused replies, for somebody who plans by them.
 
 use lms_tree::SealError;
+use near_client::NearError;
 use proof_judge::Refusal;
 use route_client::CheckError;
 use std::fmt::{self, Display, Formatter};
 
+/// What is said of items that don't fold to a signed root.
+const COVER: &str = "the roads in the reply are not shown to be those that were signed.";
+
+/// What is said where memory ran out.
+const MEMORY: &str = "there was not enough memory to check it.";
+
 /// The sentence on a reply that a client refused for this reason.
 #[derive(Clone, Copy)]
-pub struct Unusable(pub CheckError);
+pub enum Unusable {
+    /// The reply brings a route.
+    Route(CheckError),
+    /// The reply brings the nodes within a radius.
+    Nodes(NearError),
+}
 
 impl Display for Unusable {
     fn fmt<W: fmt::Write>(&self, f: &mut Formatter<W>) -> fmt::Result {
-        f.write_str("The route is not to be used: ")?;
-        match self.0 {
+        match self {
+            Unusable::Route(why) => {
+                f.write_str("The route is not to be used: ")?;
+                Unusable::route(f, *why)
+            }
+            Unusable::Nodes(why) => {
+                f.write_str("The nodes are not to be used: ")?;
+                Unusable::nodes(f, *why)
+            }
+        }
+    }
+}
+
+impl Unusable {
+    /// Why a route is refused.
+    fn route<W: fmt::Write>(f: &mut Formatter<W>, why: CheckError) -> fmt::Result {
+        match why {
             CheckError::NotAnswer(1) => f.write_str(
                 "there is none, and the server says, without proof, that an end is no node of the map.",
             ),
@@ -27,24 +54,47 @@ impl Display for Unusable {
                 f,
                 "the reply is of version {version} of the map, which is older than LEAST asks for."
             ),
-            CheckError::BadSignature(SealError::BadKey) => f.write_str(
-                "the public key is of no kind that is known here, so that nothing is signed under it.",
-            ),
-            CheckError::BadSignature(_) => f.write_str(
-                "the reply is not signed under this public key.",
-            ),
-            CheckError::BadCover(_, _) => f.write_str(
-                "the roads in the reply are not shown to be those that were signed.",
-            ),
-            CheckError::Judged(why) => self.judged(f, why),
-            CheckError::Memory => f.write_str("there was not enough memory to check it."),
+            CheckError::BadSignature(why) => Unusable::seal(f, why),
+            CheckError::BadCover(_, _) => f.write_str(COVER),
+            CheckError::Judged(why) => Unusable::judged(f, why),
+            CheckError::Memory => f.write_str(MEMORY),
         }
     }
-}
 
-impl Unusable {
+    /// Why nodes are refused.
+    fn nodes<W: fmt::Write>(f: &mut Formatter<W>, why: NearError) -> fmt::Result {
+        match why {
+            NearError::Malformed(place) => write!(
+                f,
+                "the file is no reply on a radius, and can't be read from place {place} on."
+            ),
+            NearError::Stale(version) => write!(
+                f,
+                "the reply is of version {version} of the map, which is older than LEAST asks for."
+            ),
+            NearError::BadSignature(why) => Unusable::seal(f, why),
+            NearError::BadCover(_) => f.write_str(COVER),
+            NearError::RepeatedNode(id) => write!(f, "the reply has the node {id} twice."),
+            NearError::MissingTuple(id) => write!(
+                f,
+                "the reply leaves out the node {id}, which its roads show to be within the radius."
+            ),
+            NearError::Memory => f.write_str(MEMORY),
+        }
+    }
+
+    /// Why a header is not signed.
+    fn seal<W: fmt::Write>(f: &mut Formatter<W>, why: SealError) -> fmt::Result {
+        f.write_str(match why {
+            SealError::BadKey => {
+                "the public key is of no kind that is known here, so that nothing is signed under it."
+            }
+            _ => "the reply is not signed under this public key.",
+        })
+    }
+
     /// What the signed roads say against the route.
-    fn judged<W: fmt::Write>(&self, f: &mut Formatter<W>, why: Refusal) -> fmt::Result {
+    fn judged<W: fmt::Write>(f: &mut Formatter<W>, why: Refusal) -> fmt::Result {
         match why {
             Refusal::RepeatedNode(id) => write!(f, "the reply has the node {id} twice."),
             Refusal::BadRoute(_) => f.write_str("it does not lead from S to T over signed roads."),
@@ -64,7 +114,7 @@ impl Unusable {
                 f,
                 "it is not as long as the signed distance of its ends, {distance}."
             ),
-            Refusal::Memory => f.write_str("there was not enough memory to check it."),
+            Refusal::Memory => f.write_str(MEMORY),
         }
     }
 }

@@ -6,6 +6,7 @@ use crate::{
 };
 use dimacs_reader::DimacsError;
 use lms_tree::SealError;
+use near_client::NearError;
 use proof_judge::Refusal;
 use road_command::{MOST_WORDS, Words, command_of};
 use road_map::MapError;
@@ -54,6 +55,10 @@ fn the_wrong_word_is_named(rt: HostRuntime) -> Result<(), Fail> {
         (
             "publish m dijkstra 1 id 0 2 0 0 0",
             "dijkstra: METHOD must be dij, full, ldm or hyp.",
+        ),
+        (
+            "reach m.pub 1 -4",
+            "-4: RADIUS must be a whole number from 0 to 18446744073709551615.",
         ),
         (
             "publish m dij 1 id 0 2 0 0 x",
@@ -192,6 +197,7 @@ fn files_are_known_by_their_first_octets(rt: HostRuntime) -> Result<(), Fail> {
         (b"RPP1RPF1".as_slice(), Some(Look::Publication)),
         (b"\x00RPF1".as_slice(), Some(Look::Reply)),
         (b"\x02".as_slice(), Some(Look::Reply)),
+        (b"RPN1RPF1".as_slice(), Some(Look::NearReply)),
         (b"\x02\x02".as_slice(), None),
     ] {
         assert_eq!(rt; look_of(text), look);
@@ -231,8 +237,22 @@ fn refusals_are_sentences_for_planners(rt: HostRuntime) -> Result<(), Fail> {
             "the signed roads have a walk of length 9, which is shorter.",
         ),
     ] {
-        let told = format!(in alloc; "{}", Unusable(why))?;
+        let told = format!(in alloc; "{}", Unusable::Route(why))?;
         let wanted = format!(in alloc; "The route is not to be used: {message}")?;
+        assert_eq!(rt; told.as_str(), wanted.as_str());
+    }
+    for (why, message) in [
+        (
+            NearError::Malformed(0),
+            "the file is no reply on a radius, and can't be read from place 0 on.",
+        ),
+        (
+            NearError::MissingTuple(4),
+            "the reply leaves out the node 4, which its roads show to be within the radius.",
+        ),
+    ] {
+        let told = format!(in alloc; "{}", Unusable::Nodes(why))?;
+        let wanted = format!(in alloc; "The nodes are not to be used: {message}")?;
         assert_eq!(rt; told.as_str(), wanted.as_str());
     }
     Ok(())

@@ -15,7 +15,7 @@ pub struct Usage {
 }
 
 /// The commands.
-pub const USAGES: [Usage; 11] = [
+pub const USAGES: [Usage; 14] = [
     Usage {
         words: "route ROADS S T",
         does: "writes the length and the nodes of a shortest route from S to T",
@@ -55,6 +55,18 @@ pub const USAGES: [Usage; 11] = [
     Usage {
         words: "audit PUBKEY PUB REPLY S T",
         does: "writes what a reply is evidence of, by owner.desk and a publication",
+    },
+    Usage {
+        words: "reach PUB S RADIUS",
+        does: "writes a reply that shows which nodes lie within RADIUS of S",
+    },
+    Usage {
+        words: "check-reach PUBKEY REPLY S RADIUS LEAST",
+        does: "writes what a client says of such a reply: how many nodes lie within RADIUS,\n      and which, by version LEAST or later, or why it does not accept it",
+    },
+    Usage {
+        words: "audit-reach PUBKEY PUB REPLY S RADIUS",
+        does: "writes what such a reply is evidence of, by owner.desk and a publication",
     },
     Usage {
         words: "survey WIDTH SEED METHOD QUERIES",

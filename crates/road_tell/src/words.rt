@@ -77,7 +77,7 @@ fn fits(place: &str, word: &str) -> bool {
         "KIND" => reading::kind(word).is_some(),
         "METHOD" => reading::method(word).is_some(),
         "ORDER" => reading::order(word).is_some(),
-        "VERSION" | "SEED" | "P1" | "P2" | "P3" | "LEAST" => wide_natural(
+        "VERSION" | "SEED" | "P1" | "P2" | "P3" | "LEAST" | "RADIUS" => wide_natural(
             word.as_bytes(),
         ).is_some(),
         _ => true,

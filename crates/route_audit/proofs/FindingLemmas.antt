@@ -176,7 +176,7 @@ verdict_is : (hash sha : List ℕ → List ℕ) (u : Audited) (v : Result Accept
 verdict_is hash sha u v one accepts c is =
     one u.desk_key u.reply u.query 0 v (Ok c.accepted) is (accepts u.desk_key u.reply u.query 0 c.accepted (any_least hash u.desk_key u.reply u.query c.least c.accepted c.accepts))
 
-installable : (hash sha : List ℕ → List ℕ) (p : Publication) (e : InstallError) → OneMade hash sha → HasHeader hash sha p.parts p.settings p.header → Installs hash sha p (Err e) → e ≢ install.Memory → ⊥
+pub installable : (hash sha : List ℕ → List ℕ) (p : Publication) (e : InstallError) → OneMade hash sha → HasHeader hash sha p.parts p.settings p.header → Installs hash sha p (Err e) → e ≢ install.Memory → ⊥
 installable hash sha p install.Memory one has is other = other refl
 installable hash sha p install.HeaderWrong one has is other =
     let same : ◌≡◌ {A = Result Header BuildError} (Ok is.0) (Ok p.header) = one p.parts p.settings (Ok is.0) (Ok p.header) is.1 has (λ e. absurd cc) (λ e. absurd cc) in

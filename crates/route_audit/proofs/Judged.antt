@@ -48,10 +48,10 @@ pub record Met (hash : List ℕ → List ℕ) (k : Kept) (q : Query) (x : Accept
 
 -- ---- the parts are those of the publication
 
-part_with : Part → List (List ℕ) → Part
+pub part_with : Part → List (List ℕ) → Part
 part_with part leaves = record { leaves = leaves; fan = part.fan; places = part.places; texts = part.texts; cover = part.cover }
 
-leaves_same : (k : Kept) (kept : IsKept k) → k.nodes ≡ leaves_of kept.book (leaf_order sha256 k.map.parts k.settings)
+pub leaves_same : (k : Kept) (kept : IsKept k) → k.nodes ≡ leaves_of kept.book (leaf_order sha256 k.map.parts k.settings)
 leaves_same k kept = kept.nodes ∙ ap (leaves_of kept.book) kept.order
 
 pub nodes_same : (hash : List ℕ → List ℕ) (k : Kept) (kept : IsKept k) (a : answers.Answer) → node_part_of k a ≡ node_part sha256 (publication_in hash k) kept.book a
@@ -86,7 +86,7 @@ own_of hash k kept a nodes pairs = record {
 
 -- ---- items that are the trees' own are authentic
 
-kind_of_items : (hash : List ℕ → List ℕ) (k : Kept) (h : Header) (kind : Kind) → h ≡ header_in hash k → kind_of k.settings.method ≡ Some kind → leaf_kind h ≡ kind_of_leaves kind k.numbers
+pub kind_of_items : (hash : List ℕ → List ℕ) (k : Kept) (h : Header) (kind : Kind) → h ≡ header_in hash k → kind_of k.settings.method ≡ Some kind → leaf_kind h ≡ kind_of_leaves kind k.numbers
 unfolding header_of
 kind_of_items hash k h kind e method =
     leaf_kind_is h kind (ap (λ (x : Header). x.method) e ∙ code_is k.settings.method kind method) ∙ ap (λ (x : Header). kind_of_leaves kind x.numbers) e

@@ -12,7 +12,7 @@ use Rattle.route_audit.specs.Evidence.{Part}
 use Rattle.route_audit.proofs.Folded.{leaves_are}
 
 -- what is covered under these numbers is covered under those that are the same
-covered_same : (hash : List ℕ → List ℕ) (which : ℕ) (part : Part) (count fan : ℕ) (top : List ℕ) → count ≡ length part.leaves → fan ≡ part.fan → top ≡ root_or_zeros hash part.fan part.leaves
+pub covered_same : (hash : List ℕ → List ℕ) (which : ℕ) (part : Part) (count fan : ℕ) (top : List ℕ) → count ≡ length part.leaves → fan ≡ part.fan → top ≡ root_or_zeros hash part.fan part.leaves
     → covered hash which count fan part.places part.texts part.cover top ≡ Ok tt → FoldsUnder hash which part
 covered_same hash which part count fan top counts fans tops is =
     ap (λ (n : ℕ). covered hash which n part.fan part.places part.texts part.cover (root_or_zeros hash part.fan part.leaves)) (sym counts)

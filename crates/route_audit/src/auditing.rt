@@ -25,8 +25,8 @@ use route_client::verdict_laws;
 use route_server::{Held, server_laws};
 use std::alloc::Global;
 
-// Whether a header is signed in a slot.
-fn is_signed<D: Disk>(desk: &mut Desk, disk: &mut D, header: &Header) -> Result<bool, DeskError>
+/// Whether a header is signed in a slot.
+pub fn is_signed<D: Disk>(desk: &mut Desk, disk: &mut D, header: &Header) -> Result<bool, DeskError>
     requires { Fits D.Disk desk.old disk.old }
     ensures says { Says (look_at D.Disk desk.old disk.old disk.new) (header_text header.now) result }
     ensures left { IsLeft D.Disk desk.old disk.old desk.new disk.new }
@@ -63,32 +63,6 @@ fn find_in<H: Hasher, D: Disk>(
     }
 }
 
-// The finding.
-fn find<H: Hasher, D: Disk>(
-    alloc: Global,
-    public: &[u8],
-    reply: &[u8],
-    query: Query,
-    publication: Publication,
-    desk: &mut Desk,
-    disk: &mut D,
-) -> Result<Finding, AuditError>
-    requires fits { Fits D.Disk desk.old disk.old }
-    requires short { length reply.now < 2 ^ 32 }
-    ensures finds { Finds H.hash sha256 (look_at D.Disk desk.old disk.old disk.new)
-        (record { desk_key = public_key desk.old.key; public = public.now; reply = reply.now; query = query; publication = publication }) result }
-    ensures untouched { BeforeLook result ((desk.new ≡ desk.old) × (disk.new ≡ disk.old)) }
-    ensures left { IsLeft D.Disk desk.old disk.old desk.new disk.new }
-{
-    method_laws();
-    if !is_key_of(desk, public) {
-        return Err(AuditError::OtherKey);
-    }
-    let answer = accepted_answer::<H>(alloc, public, reply, query)?;
-    let held = install::<H>(alloc, publication)?;
-    find_in::<H, D>(alloc, &held, answer, desk, disk)
-}
-
 /// What a reply that a client accepted is evidence of, by the owner's desk and a publication. The first of
 /// these is answered:
 ///
@@ -117,5 +91,11 @@ pub fn audit<H: Hasher, D: Disk>(
 {
     verdict_laws();
     server_laws();
-    find::<H, D>(alloc, public, reply, query, publication, desk, disk)
+    method_laws();
+    if !is_key_of(desk, public) {
+        return Err(AuditError::OtherKey);
+    }
+    let answer = accepted_answer::<H>(alloc, public, reply, query)?;
+    let held = install::<H>(alloc, publication)?;
+    find_in::<H, D>(alloc, &held, answer, desk, disk)
 }

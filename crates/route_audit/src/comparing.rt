@@ -14,9 +14,9 @@ use proof_octets::Answer;
 use route_server::Held;
 use std::alloc::Global;
 
-// Two texts with one digest, where what is brought of a tree of a book, 1 that of nodes or 2 that of pairs,
-// folds to the tree's root and is not the tree's own.
-fn clash_under<H: Hasher>(
+/// Two texts with one digest, where what is brought of a tree of a book, 1 that of nodes or 2 that of pairs,
+/// folds to the tree's root and is not the tree's own.
+pub fn clash_under<H: Hasher>(
     alloc: Global,
     held: &Held<H>,
     which: u8,

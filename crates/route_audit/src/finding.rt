@@ -11,8 +11,8 @@ use proof_octets::Answer;
 /// What an accepted reply is evidence of.
 #[derive(Debug, Drop)]
 pub enum Finding {
-    /// Its items and covers are those of the publication's own trees, and its route is a shortest one in
-    /// the publication's map.
+    /// Its items and covers are those of the publication's own trees, and what the client takes from it
+    /// holds in the publication's map: its route is a shortest one.
     Right,
     /// Two different texts have one digest: the left one of the publication's trees, the right one of what
     /// the reply brings.

@@ -4,8 +4,6 @@ ghost use Rattle.std.specs.Bool.{OnTrue, OnFalse};
 ghost use Rattle.sha2.specs.Sha256.{sha256};
 ghost use Rattle.lms_tree.specs.Signatures.{public_key};
 ghost use Rattle.route_client.specs.Rooms.{IsRead};
-ghost use Rattle.route_client.specs.Verdicts.{IsVerdict};
-ghost use Rattle.route_client.specs.declared.accepted.Accepted.{Accepted};
 ghost use Rattle.route_server.specs.Installing.{Installs};
 ghost use Rattle.route_server.specs.Keeping.{HasSpellings};
 ghost use Rattle.route_audit.specs.Comparing.{IsAnswerTo, IsNotInstalled, IsRefused};
@@ -13,9 +11,9 @@ ghost use Rattle.route_audit.specs.Comparing.{IsAnswerTo, IsNotInstalled, IsRefu
 use crate::AuditError;
 use book_model::Query;
 use key_desk::Desk;
-use octet_text::{Hasher, ReadError};
-use proof_octets::{Answer, Header, Publication, Reply};
-use route_client::{CheckError, check, verdict_laws};
+use octet_text::Hasher;
+use proof_octets::{Answer, Header, Publication};
+use route_client::{CheckError, check_answer, verdict_laws};
 use route_server::{Held, InstallError};
 use std::alloc::Global;
 
@@ -36,24 +34,6 @@ pub fn is_same_header(left: &Header, right: &Header) -> bool
     left == right
 }
 
-// Whether the client accepts octets as a reply to a query.
-fn test_reply<H: Hasher>(
-    alloc: Global,
-    public: &[u8],
-    reply: &[u8],
-    query: Query,
-) -> Result<(), AuditError>
-    requires { length reply.now < 2 ^ 32 }
-    ensures accepted { IfOk result (λ _. (x : Accepted) × IsVerdict H.hash public.now reply.now query 0 (Ok x)) }
-    ensures refused { IfErr result (IsRefused H.hash public.now reply.now query) }
-{
-    match check::<H>(alloc, public, reply, query, 0) {
-        Ok(_) => Ok(()),
-        Err(CheckError::Memory) => Err(AuditError::Memory),
-        Err(refusal) => Err(AuditError::Refused(refusal)),
-    }
-}
-
 /// The answer that octets spell, where the client accepts them as a reply to a query, whatever its version.
 pub fn accepted_answer<H: Hasher>(
     alloc: Global,
@@ -67,11 +47,10 @@ pub fn accepted_answer<H: Hasher>(
     ensures refused { IfErr result (IsRefused H.hash public.now reply.now query) }
 {
     verdict_laws();
-    test_reply::<H>(alloc, public, reply, query)?;
-    match Reply::read(alloc, reply) {
-        Ok(Reply::Answer(answer)) => Ok(answer),
-        Err(ReadError::Memory) => Err(AuditError::Memory),
-        _ => unreachable!(),
+    match check_answer::<H>(alloc, public, reply, query, 0) {
+        Ok(checked) => Ok(checked.answer),
+        Err(CheckError::Memory) => Err(AuditError::Memory),
+        Err(refusal) => Err(AuditError::Refused(refusal)),
     }
 }
 

@@ -6,6 +6,4 @@ pub use publishing::{Signable, make_signable, publish_text};
 
 mod errors;
 mod publishing;
-#[cfg(test)]
-mod tests;
 mod widths;

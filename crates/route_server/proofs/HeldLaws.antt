@@ -21,7 +21,7 @@ pub few_pairs : (kind : Kind) (b : Book) → FitsFormats kind b → length b.pai
 few_pairs kind b fits = omega (arith, fits.pairs_few, most_pairs_few kind)
 
 -- what is kept of a map's book under a method
-pub is_kept : (kind : Kind) (map : Charted) (s : Settings) (order places : List ℕ) (b : Book) (nodes : Leaves) (pairs : Option Leaves) (signature : List ℕ) → IsHeldBook kind map s order places b nodes pairs → IsKept (kept_as map s order b signature)
+abbrev pub is_kept : (kind : Kind) (map : Charted) (s : Settings) (order places : List ℕ) (b : Book) (nodes : Leaves) (pairs : Option Leaves) (signature : List ℕ) → IsHeldBook kind map s order places b nodes pairs → IsKept (kept_as map s order b signature)
 is_kept kind map s order places b nodes pairs signature held = record {
   is_map = held.is_map;
   by_id = held.by_id;

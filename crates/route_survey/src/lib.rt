@@ -11,5 +11,3 @@ mod line;
 mod publishing;
 mod surveying;
 mod tally;
-#[cfg(test)]
-mod tests;

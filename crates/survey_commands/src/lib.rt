@@ -4,5 +4,3 @@
 pub use surveying::survey;
 
 mod surveying;
-#[cfg(test)]
-mod tests;

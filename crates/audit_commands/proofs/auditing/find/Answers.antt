@@ -2,7 +2,8 @@ use Rattle.std.proofs.lemmas.Result.{err_from_is_err_and}
 use Rattle.road_io.specs.Causes.{Rose}
 use Rattle.command_files.specs.declared.told.Told.{Told}
 use Rattle.command_desks.proofs.Openings.{stays_twice}
-use Rattle.audit_commands.proofs.AuditLemmas.{if_ok, if_err, ends_of, why_not, look_failed, not_opened, rests_on}
+use Rattle.audit_commands.proofs.Steps.{if_ok, if_err}
+use Rattle.audit_commands.proofs.AuditLemmas.{ends_of, why_not, look_failed, not_opened, rests_on}
 use Rattle.audit_commands.proofs.auditing.find.Goals as goal
 
 pub returns-in_err-desk-clause-refused : goal.returns-in_err-desk-clause-refused

@@ -1,5 +1,7 @@
 use Rattle.std.proofs.lemmas.Result.{err_from_is_err_and}
-use Rattle.audit_commands.proofs.AuditLemmas.{moved, reply_as, audit_refused, audit_told, found}
+use Rattle.audit_commands.specs.Headline.{IsHeaderSigned}
+use Rattle.audit_commands.proofs.Steps.{moved, reply_as, found}
+use Rattle.audit_commands.proofs.AuditLemmas.{audit_refused, audit_told}
 use Rattle.audit_commands.proofs.auditing.write_findings.Goals as goal
 
 pub returns-in_err-told-clause-promised : goal.returns-in_err-told-clause-promised
@@ -18,6 +20,5 @@ returns-clause-promised g c =
 
 pub returns-clause-finds : goal.returns-clause-finds
 returns-clause-finds g c =
-    found (g.L.Library.files c.args.library.now) (g.D.Disk.content c.args.disk.now) c.args.key.now c.args.publication.now c.args.reply.now _ c.deref.result.now _ c.args.query
-    c.in_ok-key.ensures.loads.read (moved _ _ _ c.in_ok-key.ensures.same c.in_ok-publication.ensures.loads.read)
-    (reply_as _ _ _ _ _ _ c.in_ok-publication.ensures.same c.in_ok-key.ensures.same c.deref.ensures.value c.in_ok-reply.ensures.loads.read) g.D.Disk c.find.new.disk _ _ _ _ _ _ _ c.in_ok-told.ensures.rests c.write_told.ensures
+    found (g.L.Library.files c.args.library.now) c.args.key.now c.args.reply.now _ c.deref.result.now c.in_ok-key.ensures.loads.read
+    (reply_as _ _ _ _ _ _ c.in_ok-publication.ensures.same c.in_ok-key.ensures.same c.deref.ensures.value c.in_ok-reply.ensures.loads.read) g.D.Disk c.find.new.disk (IsHeaderSigned g.D.Disk c.find.new.disk) _ _ _ _ _ _ _ c.in_ok-told.ensures.rests c.write_told.ensures

@@ -4,12 +4,17 @@ use Rattle.merkle_cover.specs.Trees.{Levels, tree_of, leaf_count, digest}
 use Rattle.merkle_cover.specs.Covers.{cover_of, fold_of, folded}
 use Rattle.merkle_cover.specs.Clashes.{AreHashed, folded_text}
 use Rattle.merkle_cover.proofs.ShapeLemmas.{top-covers}
-use Rattle.merkle_cover.proofs.FoldLemmas.{IsRising-from_fault}
+use Rattle.merkle_cover.proofs.FoldLemmas.{IsRising-from_fault, rising-first_fault}
 use Rattle.merkle_cover.proofs.TreeLemmas.{leaf_count-tree_of}
 use Rattle.merkle_cover.proofs.ClashTop.{GoodFold, GoodFold-ok, CanCompare-start, SameBelow-all, IsClash-apart, AreHashed-clash, length-levels-tree_of, root-tree_of}
 use Rattle.merkle_cover.proofs.clashes.clash.Given.{Over}
 use Rattle.merkle_cover.proofs.clashes.clash.Goals as goal
 use Rattle.merkle_cover.proofs.clashes.clash.Goals.{After-from-2, After-top_of-level}
+
+pub are_own-requires-clause-places : goal.are_own-requires-clause-places
+are_own-requires-clause-places g c =
+    rising-first_fault (length c.args.leaves.now) c.args.places.now
+    (GoodFold-ok g.H.Hasher.hash (length c.args.leaves.now) c.args.tree.now.fan c.args.places.now c.args.texts.now c.args.cover.now c.args.tree.now.root c.requires.folds).none
 
 some : (g : Over) (c : After-from-2 g) → 1 ≤ length c.args.leaves.now
 some g c =

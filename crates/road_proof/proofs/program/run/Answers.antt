@@ -1,5 +1,21 @@
 use Rattle.road_proof.proofs.RunLemmas.{exact_run, honest_run, exact_serving}
+use Rattle.road_proof.proofs.HonestLemmas.{Verdicts, AcceptedLaws}
+use Rattle.road_proof.proofs.program.run.Given.{Over}
 use Rattle.road_proof.proofs.program.run.Goals as goal
+use Rattle.road_proof.proofs.program.run.Goals.{After-near_laws}
+
+-- what the laws say of verdicts
+verdicts : (g : Over) (c : After-near_laws g) → Verdicts
+verdicts g c = record {
+  one = c.verdict_laws.ensures.one;
+  accepted = λ hash key octets q least x h. (c.verdict_laws.ensures.accepts hash key octets q least x).0 h;
+  near_one = c.near_verdict_laws.ensures.one;
+  near_accepted = λ hash key octets q least x h. (c.near_verdict_laws.ensures.accepts hash key octets q least x).0 h;
+}
+
+-- and of honest replies
+laws : (g : Over) (c : After-near_laws g) → AcceptedLaws
+laws g c = record { answers = c.honest_laws.ensures.accepted; near_replies = c.near_laws.ensures }
 
 pub returns-clause-promised : goal.returns-clause-promised
 returns-clause-promised g c = rw c.of.ensures.outcome c.work.ensures.promised
@@ -8,13 +24,13 @@ pub returns-clause-exact : goal.returns-clause-exact
 returns-clause-exact g c =
     rw c.of.ensures.outcome
     (exact_run g.D.Disk c.args.disk.now c.work.new.disk _ _ _ _ _ _ _ _ _ c.map_laws.ensures.faults c.map_laws.ensures.arcs c.server_laws.ensures
-    (c.verdict_laws.ensures.one, λ hash key octets q least x h. (c.verdict_laws.ensures.accepts hash key octets q least x).0 h) c.work.ensures.promised)
+    (verdicts g (goal.at.returns-clause-exact g c).After-near_laws) c.work.ensures.promised)
 
 pub returns-clause-honest : goal.returns-clause-honest
 returns-clause-honest g c =
     rw c.of.ensures.outcome
-    (honest_run g.D.Disk c.args.disk.now c.work.new.disk _ _ _ _ _ _ _ _ _ c.verdict_laws.ensures.one
-    (λ hash key octets q least x h. (c.verdict_laws.ensures.accepts hash key octets q least x).0 h) c.honest_laws.ensures.accepted c.work.ensures.promised)
+    (honest_run g.D.Disk c.args.disk.now c.work.new.disk _ _ _ _ _ _ _ _ _ (verdicts g (goal.at.returns-clause-honest g c).After-near_laws)
+    (laws g (goal.at.returns-clause-honest g c).After-near_laws) c.work.ensures.promised)
 
 pub returns-clause-takes : goal.returns-clause-takes
 returns-clause-takes g c = rw c.of.ensures.outcome c.work.ensures.takes

@@ -92,3 +92,27 @@ returns-in-Some-Publish-clause-takes g c =
 pub returns-in-Some-Audit-clause-takes : goal.returns-in-Some-Audit-clause-takes
 returns-in-Some-Audit-clause-takes g c =
     run_takes _ _ _ _ _ _ _ _ _ _ (rw c.in-Some-Audit.field-0-is at c.in-Some-Audit.ensures) tt refl (λ e. absurd (c.audit.ensures.promised.source e))
+
+pub returns-in-Some-Reach-clause-promised : goal.returns-in-Some-Reach-clause-promised
+returns-in-Some-Reach-clause-promised g c = run_without_disk g.D.Disk c.args.disk.now _ _ _ _ _ _ _ _ _ _ (rw c.in-Some-Reach.field-0-is at c.in-Some-Reach.ensures) (λ h. h) c.reach.ensures
+
+pub returns-in-Some-CheckReach-clause-promised : goal.returns-in-Some-CheckReach-clause-promised
+returns-in-Some-CheckReach-clause-promised g c =
+    run_without_disk g.D.Disk c.args.disk.now _ _ _ _ _ _ _ _ _ _ (rw c.in-Some-CheckReach.field-0-is at c.in-Some-CheckReach.ensures) (λ h. h) c.check_reach.ensures
+
+pub returns-in-Some-AuditReach-clause-promised : goal.returns-in-Some-AuditReach-clause-promised
+returns-in-Some-AuditReach-clause-promised g c =
+    run_stays g.D.Disk c.args.disk.now c.audit_reach.new.disk _ _ _ _ _ _ _ _ _ _ (rw c.in-Some-AuditReach.field-0-is at c.in-Some-AuditReach.ensures) c.audit_reach.ensures.promised
+    (c.audit_reach.ensures.stays, c.audit_reach.ensures.finds, c.audit_reach.ensures.headline) c.audit_reach.ensures.stays
+
+pub returns-in-Some-Reach-clause-takes : goal.returns-in-Some-Reach-clause-takes
+returns-in-Some-Reach-clause-takes g c =
+    run_takes _ _ _ _ _ _ _ _ _ _ (rw c.in-Some-Reach.field-0-is at c.in-Some-Reach.ensures) tt refl (λ e. absurd (c.reach.ensures.source e))
+
+pub returns-in-Some-CheckReach-clause-takes : goal.returns-in-Some-CheckReach-clause-takes
+returns-in-Some-CheckReach-clause-takes g c =
+    run_takes _ _ _ _ _ _ _ _ _ _ (rw c.in-Some-CheckReach.field-0-is at c.in-Some-CheckReach.ensures) tt refl (λ e. absurd (c.check_reach.ensures.source e))
+
+pub returns-in-Some-AuditReach-clause-takes : goal.returns-in-Some-AuditReach-clause-takes
+returns-in-Some-AuditReach-clause-takes g c =
+    run_takes _ _ _ _ _ _ _ _ _ _ (rw c.in-Some-AuditReach.field-0-is at c.in-Some-AuditReach.ensures) tt refl (λ e. absurd (c.audit_reach.ensures.promised.source e))

@@ -1,4 +1,4 @@
-use Rattle.std.proofs.Common.{subst, sym, ◌∙◌, ◌≡◌, Ok, Result, ℕ, List}
+use Rattle.std.proofs.Common.{sym, ◌∙◌, ◌≡◌, Ok, Result, ℕ, List}
 use Rattle.book_model.specs.declared.items.Query.{Query}
 use Rattle.octet_text.specs.Format.{whole}
 use Rattle.proof_octets.specs.declared.reply.Answer as answers
@@ -7,7 +7,6 @@ use Rattle.proof_octets.specs.declared.reply.Reply.TheVariants as replies
 use Rattle.proof_octets.specs.Replies.{reply}
 use Rattle.route_client.specs.declared.accepted.Accepted.{Accepted}
 use Rattle.route_client.specs.Verdicts.{Accepts}
-use Rattle.route_client.proofs.TextRoom.{is_read}
 use Rattle.route_audit.specs.Comparing.{IsAnswerTo}
 use Rattle.route_audit.proofs.steps.accepted_answer.Goals as goal
 
@@ -18,14 +17,9 @@ answer_is hash key octets q x a accepts is = record { accepted = x; accepts = ac
     same : ◌≡◌ {A = Result Reply ℕ} (Ok (replies.Answer accepts.answer)) (Ok (replies.Answer a)) → accepts.answer ≡ a
     same e = cc
 
-pub returns-in-Ok-Answer-clause-read : goal.returns-in-Ok-Answer-clause-read
-returns-in-Ok-Answer-clause-read g c =
-    let read = c.in-Ok-Answer.ensures.found in
-    is_read c.in-Ok-Answer.answer c.args.reply.now (subst (λ r. reply.Fits r) c.in-Ok-Answer.field-0-is read.0) (subst (λ r. c.args.reply.now ≡ reply.spell r) c.in-Ok-Answer.field-0-is read.1) c.requires
-
-pub returns-in-Ok-Answer-clause-accepted : goal.returns-in-Ok-Answer-clause-accepted
-returns-in-Ok-Answer-clause-accepted g c =
+pub returns-in-Ok-clause-accepted : goal.returns-in-Ok-clause-accepted
+returns-in-Ok-clause-accepted g c =
     let hash = g.H.Hasher.hash in
-    let ok = c.in_ok-test_reply.ensures.accepted in
-    answer_is hash c.args.public.now c.args.reply.now c.args.query ok.0 c.in-Ok-Answer.answer ((c.verdict_laws.ensures.accepts hash c.args.public.now c.args.reply.now c.args.query 0 ok.0).1 ok.1)
-    (subst (λ (r : Reply). whole reply c.args.reply.now ≡ Ok r) c.in-Ok-Answer.field-0-is c.in-Ok-Answer.ensures.exact)
+    let a = c.in-Ok.checked.answer in
+    let x : Accepted = record { length = c.in-Ok.checked.length; route = a.items.route; version = a.header.version; header = a.header } in
+    answer_is hash c.args.public.now c.args.reply.now c.args.query x a ((c.verdict_laws.ensures.accepts hash c.args.public.now c.args.reply.now c.args.query 0 x).1 c.in-Ok.ensures.verdict) c.in-Ok.ensures.spelled

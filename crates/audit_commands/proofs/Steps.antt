@@ -1,0 +1,89 @@
+-- What the steps of an audit and their files give, whatever was asked for.
+use Rattle.std.proofs.Common.{◌≡◌, ◌≢◌, inl, inr, ℕ, List, Some, length, sym, ap, subst, ◌∙◌, IfSome, IfOk, IfErr, arith}
+use Rattle.std.specs.declared.option.Option.{Option}
+use Rattle.std.specs.declared.option.Option.TheVariants.{None}
+use Rattle.std.specs.declared.result.Result.{Result}
+use Rattle.std.specs.declared.result.Result.TheVariants.{Ok, Err}
+use Rattle.std.specs.Option.{ForSome}
+use Rattle.road_io.specs.declared.disk.Disk.{Ghosts}
+use Rattle.road_io.specs.Disk.{Stays}
+use Rattle.road_io.specs.Moments.{Image, EachImage, AtEachMoment}
+use Rattle.road_io.specs.Contents.{Shelf}
+use Rattle.lms_tree.specs.Signatures.{public_key}
+use Rattle.key_desk.specs.Layout.{SlotId, IsSigned}
+use Rattle.key_desk.specs.declared.desk.Desk.{Desk}
+use Rattle.command_files.specs.Reading.{octets_at}
+use Rattle.command_files.specs.HexFiles.{public_key_at}
+use Rattle.command_files.specs.Endings.{Writes}
+use Rattle.command_files.specs.declared.fault.Fault.{Fault}
+use Rattle.command_files.specs.declared.fault.Fault.TheVariants.{Sink}
+use Rattle.command_files.specs.declared.ended.Verdict.{Verdict}
+use Rattle.command_desks.specs.Opening.{IsKeyOn, HasBlock}
+use Rattle.command_desks.proofs.Openings.{same_owner}
+use Rattle.audit_commands.specs.Auditing.{IsOwnersKey}
+use Rattle.audit_commands.specs.Headline.{RestsOn, WritesFindings}
+
+-- ---- the desk's key
+
+module _ (content : Option (List ℕ)) (desk : Desk) (key : List ℕ) (block : HasBlock content desk.key) (named : length desk.key.i ≡ 16) where
+  on_disk : (c : List ℕ) → content ≡ Some c → IsKeyOn c desk.key
+  on_disk c is = record { kind = (block c is).1; secret = (block c is).2; named = named }
+
+  pub own : key ≡ public_key desk.key → ForSome content (λ c. IsOwnersKey c key)
+  own e c is = record { owner = desk.key; on_disk = on_disk c is; is = e }
+
+  pub not_own : key ≢ public_key desk.key → ForSome content (λ c. ¬ IsOwnersKey c key)
+  not_own n c is h = n (h.is ∙ ap public_key (same_owner c h.owner desk.key h.on_disk (on_disk c is)))
+
+-- ---- the slots, in every image and in what the disk reads
+
+module _ {D : Type 0} (g : Ghosts D) (old mid : D) (seen : (c : List ℕ) → g.content mid ≡ Some c → Image g mid c) (same : g.content mid ≡ g.content old) where
+  pub signed : (text : List ℕ) → ((slot : SlotId) × EachImage g mid (λ i. IsSigned i slot text)) → ForSome (g.content old) (λ c. (slot : SlotId) × IsSigned c slot text)
+  signed text h c is = (h.0, h.1 c (seen c (same ∙ is)))
+
+  pub unsigned : (text : List ℕ) → EachImage g mid (λ i. (slot : SlotId) → ¬ IsSigned i slot text) → ForSome (g.content old) (λ c. (slot : SlotId) → ¬ IsSigned c slot text)
+  unsigned text h c is = h c (seen c (same ∙ is))
+
+-- what holds of each image holds of each image afterwards, since none changes
+pub later : {D : Type 0} (g : Ghosts D) (mid new : D) (P : List ℕ → Type 0) → AtEachMoment g mid new Stays → EachImage g mid P → EachImage g new P
+later g mid new P m h i at = let w = m.each (g.clock new) i m.later (omega arith) at in subst P (sym w.2) (h w.0 w.1)
+
+-- ---- what functions give
+
+-- what follows of a value follows where there is one
+pub if_ok : {T E : Type 0} (r : Result T E) (P Q : T → Type 0) → ((x : T) → P x → Q x) → IfOk r P → IfOk r Q
+if_ok (Ok x) P Q f h = f x h
+if_ok (Err e) P Q f h = tt
+
+pub if_err : {T E : Type 0} (r : Result T E) (P Q : E → Type 0) → ((x : E) → P x → Q x) → IfErr r P → IfErr r Q
+if_err (Ok x) P Q f h = tt
+if_err (Err e) P Q f h = f e h
+
+-- ---- the files
+
+-- what a library tells later it tells before
+pub moved : (files later : Option Shelf) (P : Shelf → Type 0) → later ≡ files → IfSome later P → IfSome files P
+moved files later P same h = subst (λ (f : Option Shelf). IfSome f P) same h
+
+-- the octets of a reply, as they are read again
+pub reply_as : (files mid later : Option Shelf) (name a b : List ℕ) → later ≡ mid → mid ≡ files → a ≡ b → IfSome later (λ shelf. octets_at shelf name ≡ Ok b) → IfSome files (λ shelf. octets_at shelf name ≡ Ok a)
+reply_as files mid later name a b first second same h =
+    subst (λ (f : Option Shelf). IfSome f (λ shelf. octets_at shelf name ≡ Ok a)) (first ∙ second) (subst (λ xs. IfSome later (λ shelf. octets_at shelf name ≡ Ok xs)) (sym same) h)
+
+-- what the line rests on
+module _ (files : Option Shelf) (key_name reply_name key octets : List ℕ)
+    (key_read : IfSome files (λ shelf. public_key_at shelf key_name ≡ Ok key)) (reply_read : IfSome files (λ shelf. octets_at shelf reply_name ≡ Ok octets)) where
+  pub found : {D : Type 0} (g : Ghosts D) (disk : D) (Signed : List ℕ → Type 0) (old new : Option (List ℕ)) (k k' : ℕ) (end o : Result Verdict Fault) (t : List ℕ) → RestsOn g disk (Signed octets) key end t → Writes end t old new k k' o
+      → WritesFindings g disk Signed key_name reply_name files old new o
+  found g disk Signed old new k k' end o t rests (inr w) = subst (λ (x : Result Verdict Fault). WritesFindings g disk Signed key_name reply_name files old new x) (sym w.0) (nothing files)
+    where
+      nothing : (files : Option Shelf) → WritesFindings g disk Signed key_name reply_name files old new (Err Sink)
+      nothing None = tt
+      nothing (Some shelf) = tt
+  found g disk Signed old new k k' end o t rests (inl w) = subst (λ (x : Result Verdict Fault). WritesFindings g disk Signed key_name reply_name files old new x) (sym w.0) (by end rests files key_read reply_read)
+    where
+      by : (end : Result Verdict Fault) → RestsOn g disk (Signed octets) key end t → (files : Option Shelf) → IfSome files (λ shelf. public_key_at shelf key_name ≡ Ok key) → IfSome files (λ shelf. octets_at shelf reply_name ≡ Ok octets)
+          → WritesFindings g disk Signed key_name reply_name files old new end
+      by end rests None a c = tt
+      by (Err e) rests (Some shelf) a c = tt
+      by (Ok v) rests (Some shelf) a c = record { key = key; octets = octets; text = t; key_read = a; reply_read = c; written = w.1; rests = rests }

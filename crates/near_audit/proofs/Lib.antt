@@ -1,0 +1,4 @@
+pub mod NearSigned
+pub mod NearSound
+pub mod NearJudged
+pub mod NearFindingLemmas

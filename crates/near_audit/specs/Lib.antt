@@ -1,0 +1,3 @@
+pub mod NearComparing
+pub mod NearEvidence
+pub mod NearFindings

@@ -1,0 +1,29 @@
+//! Why there is no finding.
+
+use key_desk::DeskError;
+use near_client::NearError;
+use route_server::InstallError;
+use thiserror::Error;
+
+/// Why there is no finding. Want of memory is `Memory` alone, never inside another.
+#[derive(Clone, Copy, Debug, PartialEq, Eq, Error)]
+pub enum NearAuditError {
+    /// The public key is not the desk's.
+    #[error("The public key is not that of the desk.")]
+    OtherKey,
+    /// The client does not accept the reply, for this reason.
+    #[error("The reply is refused. {0}")]
+    Refused(NearError),
+    /// The publication is not held, for this reason.
+    #[error("{0}")]
+    Install(InstallError),
+    /// The desk could not say what it has signed, for this reason.
+    #[error("{0}")]
+    Desk(DeskError),
+    /// The header that the reply carries is signed, but is not that of the publication.
+    #[error("The reply is of another publication.")]
+    OtherPublication,
+    /// No memory was found.
+    #[error("No memory was found.")]
+    Memory,
+}

@@ -1,0 +1,3 @@
+pub mod OneNearAudit
+pub mod NearAuditLemmas
+pub mod NearHeadlineLemmas

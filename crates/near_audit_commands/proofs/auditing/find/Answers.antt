@@ -1,0 +1,46 @@
+use Rattle.std.proofs.lemmas.Result.{err_from_is_err_and}
+use Rattle.road_io.specs.Causes.{Rose}
+use Rattle.command_files.specs.declared.told.Told.{Told}
+use Rattle.command_desks.proofs.Openings.{stays_twice}
+use Rattle.audit_commands.proofs.Steps.{if_ok, if_err}
+use Rattle.near_audit_commands.proofs.NearAuditLemmas.{ends_of, why_not, look_failed, not_opened, rests_on}
+use Rattle.near_audit_commands.proofs.auditing.find.Goals as goal
+
+pub returns-in_err-desk-clause-refused : goal.returns-in_err-desk-clause-refused
+returns-in_err-desk-clause-refused g c =
+    let p = err_from_is_err_and c.from_residual.result c.from_residual.ensures.1 in
+    rw (p.1, p.2)
+    (not_opened (Rose (g.D.Disk.faults c.args.disk.now) (g.D.Disk.faults c.open_desk.new.disk)) (g.D.Disk.content c.args.disk.now) c.args.key.now c.args.publication c.args.reply.now c.args.query c.in_err-desk.field-0.0 c.in_err-desk.ensures.refused)
+
+pub returns-clause-told : goal.returns-clause-told
+returns-clause-told g c =
+    let o = c.in_ok-desk.ensures.opened in
+    if_ok _ _ _
+    (λ (told : Told). λ h. ends_of g.D.Disk c.args.disk.now c.open_desk.new.disk c.audit_near-answer.new.disk c.in_ok-desk.desk c.args.key.now c.args.reply.now c.args.query c.args.publication
+    (g.met.D.Disk.reads_image c.open_desk.new.disk) o.content o.key o.fits.named o.usable
+    c.audit_near-answer.result told.end told.text.items c.audit_near-answer.ensures.finds h)
+    c.tell.ensures.told
+
+pub returns-clause-rests : goal.returns-clause-rests
+returns-clause-rests g c =
+    let o = c.in_ok-desk.ensures.opened in
+    if_ok _ _ _
+    (λ (told : Told). λ h. rests_on g.D.Disk c.args.disk.now c.open_desk.new.disk c.audit_near-answer.new.disk c.in_ok-desk.desk c.args.key.now c.args.reply.now c.args.query c.args.publication
+    (g.met.D.Disk.reads_image c.open_desk.new.disk) o.content o.key o.fits.named
+    c.audit_near-answer.ensures.left.moments c.audit_near-answer.result told.end told.text.items c.audit_near-answer.ensures.finds h)
+    c.tell.ensures.told
+
+pub returns-clause-refused : goal.returns-clause-refused
+returns-clause-refused g c =
+    let o = c.in_ok-desk.ensures.opened in
+    if_err _ _ _
+    (λ f h. why_not g.D.Disk c.args.disk.now c.open_desk.new.disk c.audit_near-answer.new.disk c.in_ok-desk.desk c.args.key.now c.args.reply.now c.args.query c.args.publication
+    (g.met.D.Disk.reads_image c.open_desk.new.disk) o.content o.key o.fits.named _ o.usable c.audit_near-answer.result
+    (look_failed g.D.Disk c.args.disk.now c.open_desk.new.disk c.audit_near-answer.new.disk c.in_ok-desk.desk c.args.key.now c.args.reply.now c.args.query c.args.publication
+    (g.met.D.Disk.reads_image c.open_desk.new.disk) o.content o.key o.fits.named o.is_open c.in_ok-desk.ensures.faults c.audit_near-answer.result c.audit_near-answer.ensures.finds)
+    f c.audit_near-answer.ensures.finds h)
+    c.tell.ensures.refused
+
+pub returns-clause-stays : goal.returns-clause-stays
+returns-clause-stays g c =
+    stays_twice g.D.Disk c.args.disk.now c.open_desk.new.disk c.audit_near-answer.new.disk c.in_ok-desk.ensures.stays c.audit_near-answer.ensures.left.moments

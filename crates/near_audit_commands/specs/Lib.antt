@@ -1,0 +1,2 @@
+pub mod NearAuditing
+pub mod NearHeadline

@@ -1,0 +1,5 @@
+pub mod ItemRoom
+pub mod LongWalks
+pub mod MarkSteps
+pub mod Walks
+pub mod NearVerdictLaws

@@ -1,0 +1,13 @@
+use Rattle.std.proofs.Common.{List, Ok, Err, refl, subst}
+use Rattle.road_leaf.specs.declared.leaf.NodeLeaf.{NodeLeaf}
+use Rattle.near_model.specs.declared.marks.Mark.{Mark}
+use Rattle.near_client.specs.NearVerdicts.{Walked, UnlessMemory}
+use Rattle.near_client.proofs.NearVerdictLaws.{refused_walk}
+use Rattle.near_client.proofs.checking.accept.Goals as goal
+
+pub returns-in-Ok : goal.returns-in-Ok
+returns-in-Ok c = (Ok c.in-Ok.nodes, subst (λ (ns : List NodeLeaf). Walked ns c.args.query (Ok c.in-Ok.nodes)) c.as_slice.ensures c.in-Ok.ensures, refl)
+
+pub returns : goal.returns
+returns c =
+    refused_walk c.args.reply c.args.query c.in-Err.error (subst (λ (ns : List NodeLeaf). UnlessMemory {A = List Mark} (Walked ns c.args.query) (Err c.in-Err.error)) c.as_slice.ensures c.in-Err.ensures)

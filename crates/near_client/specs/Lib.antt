@@ -1,0 +1,3 @@
+pub mod NearRooms
+pub mod NearVerdicts
+pub mod Reached

@@ -1,0 +1,19 @@
+//! The client's part where the nodes within a radius are wanted: it checks a reply with nothing but
+//! the owner's public key. It stands on no code of those who made the reply.
+#![tactic(auto)]
+
+pub use checking::check_near;
+pub use errors::NearError;
+pub use laws::near_verdict_laws;
+pub use within::Within;
+
+mod checking;
+mod errors;
+mod laws;
+mod passing;
+#[cfg(test)]
+mod signed_near;
+#[cfg(test)]
+mod tests;
+mod walking;
+mod within;

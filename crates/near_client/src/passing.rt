@@ -1,0 +1,107 @@
+// The tests before the items are walked. Those of the header and of the cover stand for routes too.
+ghost use Rattle.std.specs.Prelude.{◌≡◌, ◌<◌, ◌^◌, length, IfOk};
+ghost use Rattle.octet_text.specs.Format.{whole};
+ghost use Rattle.route_client.specs.Verdicts.{Meets as MeetsTest};
+ghost use Rattle.near_model.specs.NearReplies.{near_reply};
+ghost use Rattle.near_client.specs.NearVerdicts.{Meets, near_error, items_covered, header_and_cover, after_tests, spelled, near_passed};
+ghost use Rattle.near_client.specs.NearRooms.{IsRead};
+
+use crate::NearError;
+use leaf_texts::node_texts;
+use near_model::NearReply;
+use octet_text::{Hasher, ReadError};
+use route_client::{CheckError, test_cover, test_signature, test_version};
+use std::alloc::Global;
+
+// The reply that octets spell.
+fn read_reply(alloc: Global, octets: &[u8]) -> Result<NearReply, NearError>
+    requires { length octets.now < 2 ^ 32 }
+    ensures is { Meets result (spelled (whole near_reply octets.now)) }
+    ensures read { IfOk result IsRead }
+{
+    match NearReply::read(alloc, octets) {
+        Ok(reply) => Ok(reply),
+        Err(ReadError::Malformed(malformed)) => Err(NearError::Malformed(malformed.at)),
+        Err(ReadError::Memory) => Err(NearError::Memory),
+    }
+}
+
+// Whether the items fold to the node root.
+fn test_items<H: Hasher>(alloc: Global, reply: &NearReply) -> Result<(), CheckError>
+    requires { IsRead reply.now }
+    ensures { MeetsTest result (items_covered H.hash reply.now) }
+{
+    let texts = node_texts(alloc, reply.nodes.as_slice())?;
+    let header = &reply.header;
+    test_cover::<H>(
+        1,
+        header.nodes,
+        header.fan,
+        reply.places.as_slice(),
+        &texts,
+        reply.cover.as_slice(),
+        &header.node_root,
+    )
+}
+
+// The header's version and its signature, and then the cover.
+#[tactic(auto, unfolding(crate::specs::NearVerdicts::header_and_cover))]
+fn test_reply<H: Hasher>(
+    alloc: Global,
+    public: &[u8],
+    reply: &NearReply,
+    least: u64,
+) -> Result<(), CheckError>
+    requires { IsRead reply.now }
+    ensures { MeetsTest result (header_and_cover H.hash public.now least reply.now) }
+{
+    test_version(&reply.header, least)?;
+    test_signature(public, &reply.header, reply.signature.as_slice())?;
+    test_items::<H>(alloc, reply)
+}
+
+// A failed test as a refusal of a reply. No other errors come from these tests.
+fn near_error(error: CheckError) -> NearError
+    ensures { result ≡ near_error error }
+{
+    match error {
+        CheckError::Stale(version) => NearError::Stale(version),
+        CheckError::BadSignature(why) => NearError::BadSignature(why),
+        CheckError::BadCover(_, why) => NearError::BadCover(why),
+        _ => NearError::Memory,
+    }
+}
+
+// The reply, where it passes these tests.
+fn test<H: Hasher>(
+    alloc: Global,
+    public: &[u8],
+    reply: NearReply,
+    least: u64,
+) -> Result<NearReply, NearError>
+    requires { IsRead reply }
+    ensures is { Meets result (after_tests reply (header_and_cover H.hash public.now least reply)) }
+    ensures read { IfOk result IsRead }
+{
+    match test_reply::<H>(alloc, public, &reply, least) {
+        Ok(()) => Ok(reply),
+        Err(error) => Err(near_error(error)),
+    }
+}
+
+// The reply that passes all tests before its items are walked, or the first that fails.
+pub(crate) fn pass<H: Hasher>(
+    alloc: Global,
+    public: &[u8],
+    octets: &[u8],
+    least: u64,
+) -> Result<NearReply, NearError>
+    requires { length octets.now < 2 ^ 32 }
+    ensures is { Meets result (near_passed H.hash public.now octets.now least) }
+    ensures read { IfOk result IsRead }
+{
+    match read_reply(alloc, octets) {
+        Ok(reply) => test::<H>(alloc, public, reply, least),
+        Err(error) => Err(error),
+    }
+}

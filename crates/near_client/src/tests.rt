@@ -1,0 +1,119 @@
+//! What no clause says: signed replies of another program are accepted, and changed ones are refused.
+//! `checks/near/answers.py` is that program.
+use crate::signed_near::{
+    FRONT, NOTHING, NOTHING_COVERED, PUBLIC, TWO_WITH_ONE_ID, WITH_5, WITHIN_0, WITHIN_4,
+    WITHIN_ANY, WITHOUT_4,
+};
+use crate::{NearError, check_near};
+use lms_tree::SealError;
+use near_model::{Mark, NearQuery};
+use octet_text::{Sha, Toy};
+use route_client::CoverFault;
+use std::alloc::{AllocError, Global};
+
+const WITHIN_FOUR: NearQuery = NearQuery { from: 1, radius: 4 };
+
+const NEAREST: [Mark; 3] = [
+    Mark { id: 1, distance: 0 },
+    Mark { id: 2, distance: 4 },
+    Mark { id: 4, distance: 3 },
+];
+
+// The front of a reply, and what follows it.
+fn behind_front(alloc: Global, rest: &[u8]) -> Result<Vec<u8>, AllocError> {
+    let mut octets = Vec::from_slice(alloc, &FRONT)?;
+    octets.extend_from_slice(rest)?;
+    Ok(octets)
+}
+
+// Why octets are refused, where they are.
+fn refusal(alloc: Global, octets: &[u8], query: NearQuery, least: u64) -> Option<NearError> {
+    if octets.len() > 10_000 {
+        return None;
+    }
+    check_near::<Sha>(alloc, &PUBLIC, octets, query, least).err()
+}
+
+// Whether a reply is accepted with these nodes.
+fn is_accepted(
+    alloc: Global,
+    rest: &[u8],
+    radius: u64,
+    nodes: &[Mark],
+) -> Result<bool, AllocError> {
+    let octets = behind_front(alloc, rest)?;
+    if octets.len() > 10_000 {
+        return Ok(false);
+    }
+    match check_near::<Sha>(alloc, &PUBLIC, &octets, NearQuery { from: 1, radius }, 3) {
+        Ok(within) => Ok(within.version == 3 && within.nodes.as_slice() == nodes),
+        Err(_) => Ok(false),
+    }
+}
+
+// Node 5 has an item with its right cover in one of them, and is not listed.
+#[test]
+fn the_nodes_within_a_radius(rt: HostRuntime) -> Result<(), AllocError> {
+    let alloc = rt.alloc();
+    assert!(rt; is_accepted(alloc, &WITHIN_4, 4, &NEAREST)?);
+    assert!(rt; is_accepted(alloc, &WITH_5, 4, &NEAREST)?);
+    assert!(rt; is_accepted(alloc, &WITHIN_0, 0, &NEAREST[..1])?);
+    let all = [
+        NEAREST[0],
+        NEAREST[1],
+        Mark { id: 3, distance: 9 },
+        NEAREST[2],
+    ];
+    assert!(rt; is_accepted(alloc, &WITHIN_ANY, u64::MAX, &all)?);
+    Ok(())
+}
+
+#[test]
+fn the_first_failing_test_is_named(rt: HostRuntime) -> Result<(), AllocError> {
+    let alloc = rt.alloc();
+    let rows = [
+        (WITHOUT_4.as_slice(), NearError::MissingTuple(4)),
+        (NOTHING.as_slice(), NearError::MissingTuple(1)),
+        (
+            NOTHING_COVERED.as_slice(),
+            NearError::BadCover(CoverFault::Long),
+        ),
+        (
+            TWO_WITH_ONE_ID.as_slice(),
+            NearError::BadCover(CoverFault::Differs),
+        ),
+    ];
+    for (rest, error) in rows {
+        let octets = behind_front(alloc, rest)?;
+        assert_eq!(rt; refusal(alloc, &octets, WITHIN_FOUR, 0), Some(error));
+    }
+    Ok(())
+}
+
+#[test]
+fn other_keys_versions_and_octets_are_refused(rt: HostRuntime) -> Result<(), AllocError> {
+    let alloc = rt.alloc();
+    let mut octets = behind_front(alloc, &WITHIN_4)?;
+    assert_eq!(rt;
+        refusal(alloc, &octets, WITHIN_FOUR, 4),
+        Some(NearError::Stale(3))
+    );
+    if octets.len() < 10_000 {
+        let other_hash = check_near::<Toy>(alloc, &PUBLIC, &octets, WITHIN_FOUR, 0);
+        assert_eq!(rt;
+            other_hash.err(),
+            Some(NearError::BadCover(CoverFault::Differs))
+        );
+        let other_key = check_near::<Sha>(alloc, &PUBLIC[..55], &octets, WITHIN_FOUR, 0);
+        assert_eq!(rt;
+            other_key.err(),
+            Some(NearError::BadSignature(SealError::BadKey))
+        );
+    }
+    octets.push(0)?;
+    assert_eq!(rt;
+        refusal(alloc, &octets, WITHIN_FOUR, 0),
+        Some(NearError::Malformed(1585))
+    );
+    Ok(())
+}

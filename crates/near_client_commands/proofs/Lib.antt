@@ -1,0 +1,2 @@
+pub mod NearCheckLemmas
+pub mod OneNearCheck

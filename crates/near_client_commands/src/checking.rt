@@ -1,0 +1,59 @@
+//! The command `check-reach`.
+
+ghost use Rattle.std.specs.Prelude.{IfOk, length, ◌<◌, ◌^◌};
+ghost use Rattle.command_files.specs.Endings.{Promises, TellsNone, NoDisk};
+ghost use Rattle.near_client_commands.specs.NearChecking.{EndsCheckReach, ends_check_reach};
+
+use command_files::{Fault, Told, Verdict, load_file, load_hex, write_told};
+use near_client::{NearError, check_near};
+use near_line::{line_of_refused_near, line_of_within};
+use near_model::NearQuery;
+use octet_text::{NoMemory, Sha};
+use road_io::{Library, Sink};
+use std::alloc::Global;
+
+/// Writes what a client says of a reply to a query on a radius, under a public key.
+pub fn check_reach<L: Library, K: Sink>(
+    alloc: Global,
+    library: &mut L,
+    sink: &mut K,
+    key: &str,
+    reply: &str,
+    query: NearQuery,
+    least: u64,
+) -> Result<Verdict, Fault>
+    ensures { Promises (ends_check_reach key.now reply.now query least) TellsNone NoDisk
+        (L.files library.old) (L.faults library.old) (L.faults library.new)
+        (K.taken sink.old) (K.taken sink.new) (K.faults sink.old) (K.faults sink.new) result }
+{
+    let key: [u8; 56] = load_hex(alloc, library, key)?;
+    let reply = load_file(alloc, library, reply)?;
+    match verdict_on(alloc, &key, &reply, query, least) {
+        Ok(told) => write_told(sink, &told),
+        Err(NoMemory) => Err(Fault::Memory),
+    }
+}
+
+/// The client's verdict on a reply.
+fn verdict_on(
+    alloc: Global,
+    key: &[u8],
+    reply: &[u8],
+    query: NearQuery,
+    least: u64,
+) -> Result<Told, NoMemory>
+    requires { length reply.now < 2 ^ 32 }
+    ensures { IfOk result (λ told. EndsCheckReach key.now reply.now query least told.end told.text.items) }
+{
+    match check_near::<Sha>(alloc, key, reply, query, least) {
+        Ok(within) => Ok(Told {
+            text: line_of_within(alloc, within.nodes.as_slice())?,
+            end: Ok(Verdict::Done),
+        }),
+        Err(NearError::Memory) => Err(NoMemory),
+        Err(refusal) => Ok(Told {
+            text: line_of_refused_near(alloc, refusal)?,
+            end: Ok(Verdict::Refused),
+        }),
+    }
+}

@@ -1,0 +1,2 @@
+pub mod NearFormat
+pub mod MarkLaws

@@ -1,0 +1,13 @@
+use Rattle.std.proofs.Common.{subst}
+use Rattle.octet_text.specs.Puts.{Puts}
+use Rattle.octet_text.proofs.Writes.{then}
+use Rattle.proof_octets.specs.Replies.{signature}
+use Rattle.near_model.specs.NearWriting.{near_text}
+use Rattle.near_model.proofs.reply.put_near.Goals as goal
+
+pub returns : goal.returns
+unfolding near_text
+returns c =
+    then c.in_ok-put_octets.ensures.ok (then (subst (λ t. Puts c.put_octets.new.out.items c.put_octets-2.new.out.items t) c.write.ensures c.in_ok-put_octets-2.ensures.ok)
+    (then (subst (λ t. Puts c.put_octets-2.new.out.items c.put_signature.new.out.items (signature.spell t)) c.as_slice.ensures c.in_ok-put_signature.ensures)
+    (then c.in_ok-put_node_items.ensures c.in_ok-put_digests.ensures)))

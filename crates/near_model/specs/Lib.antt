@@ -1,0 +1,3 @@
+pub mod Radius
+pub mod NearReplies
+pub mod NearWriting

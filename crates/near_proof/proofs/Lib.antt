@@ -1,0 +1,2 @@
+pub mod NearMarks
+pub mod NearHonest

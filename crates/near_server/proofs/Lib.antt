@@ -1,0 +1,2 @@
+pub mod NearReach
+pub mod NearBrought

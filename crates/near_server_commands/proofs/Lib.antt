@@ -1,0 +1,2 @@
+pub mod NearReachLemmas
+pub mod OneNearReach

@@ -1,0 +1,61 @@
+//! The command `reach`.
+
+ghost use Rattle.std.specs.Prelude.{◌≡◌, ◌≤◌, length, IfOk, IfErr, Ok};
+ghost use Rattle.command_files.specs.Endings.{Promises, TellsNone, NoDisk, WhyNot};
+ghost use Rattle.command_files.specs.declared.ended.Verdict.TheVariants.{Done};
+ghost use Rattle.sha2.specs.Sha256.{sha256};
+ghost use Rattle.route_server.specs.Keeping.{publication_in};
+ghost use Rattle.near_server_commands.specs.NearReaching.{EndsNear, EndsReach, ends_reach};
+
+use command_books::install;
+use command_files::{Fault, Verdict, load_publication, write_text};
+use near_model::NearQuery;
+use near_server::{NearRefusal, answer_near};
+use octet_text::Sha;
+use proof_octets::{Publication, range_laws};
+use road_io::{Library, Sink};
+use route_server::Held;
+use std::alloc::Global;
+
+/// Writes the reply to a query on a radius over a publication.
+pub fn reach<L: Library, K: Sink>(
+    alloc: Global,
+    library: &mut L,
+    sink: &mut K,
+    publication: &str,
+    query: NearQuery,
+) -> Result<Verdict, Fault>
+    ensures { Promises (ends_reach publication.now query) TellsNone NoDisk
+        (L.files library.old) (L.faults library.old) (L.faults library.new)
+        (K.taken sink.old) (K.taken sink.new) (K.faults sink.old) (K.faults sink.new) result }
+{
+    range_laws();
+    let publication = load_publication(alloc, library, publication)?;
+    let text = reply_over(alloc, publication, query)?;
+    write_text(sink, &text)
+}
+
+/// The reply over a publication, which is installed first.
+fn reply_over(alloc: Global, publication: Publication, query: NearQuery) -> Result<Vec<u8>, Fault>
+    requires { length publication.signature ≤ 1452 }
+    ensures replied { IfOk result (λ text. EndsReach query publication (Ok Done) text.items) }
+    ensures refused { IfErr result (WhyNot NoDisk (EndsReach query publication)) }
+{
+    match install(alloc, publication) {
+        Ok(held) => reply_of(alloc, &held, query),
+        Err(fault) => Err(fault),
+    }
+}
+
+/// The reply over a book that is held.
+fn reply_of(alloc: Global, held: &Held<Sha>, query: NearQuery) -> Result<Vec<u8>, Fault>
+    requires { length held.now.signature ≤ 1452 }
+    ensures replied { IfOk result (λ text. EndsNear query (publication_in sha256 held.now) (Ok Done) text.items) }
+    ensures refused { IfErr result (WhyNot NoDisk (EndsNear query (publication_in sha256 held.now))) }
+{
+    match answer_near::<Sha>(alloc, held, query) {
+        Ok(text) => Ok(text),
+        Err(NearRefusal::UnknownNode(id)) => Err(Fault::UnknownNode(id)),
+        Err(NearRefusal::Memory) => Err(Fault::Memory),
+    }
+}

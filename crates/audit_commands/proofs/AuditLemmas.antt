@@ -1,5 +1,5 @@
 -- What an audit's answer lets the command end with.
-use Rattle.std.proofs.Common.{◌≡◌, inl, inr, ℕ, ◌≤◌, true, List, Some, length, refl, sym, ap, subst, ◌∙◌, IfSome, arith}
+use Rattle.std.proofs.Common.{◌≡◌, inl, inr, ℕ, ◌≤◌, true, List, [], Some, length, refl, sym, ap, subst, ◌∙◌, IfSome, arith}
 use Rattle.std.specs.declared.option.Option.{Option}
 use Rattle.std.specs.declared.option.Option.TheVariants.{None}
 use Rattle.std.specs.declared.result.Result.{Result}
@@ -22,7 +22,7 @@ use Rattle.proof_octets.specs.Headers.{header_text}
 use Rattle.route_server.specs.declared.errors.BuildError.TheVariants as build
 use Rattle.route_server.specs.declared.errors.InstallError.TheVariants as install
 use Rattle.route_audit.specs.Looks.{LookFails, look_at}
-use Rattle.route_audit.specs.Findings.{Audited, Finds}
+use Rattle.route_audit.specs.Findings.{Audited, Finds, answer_of}
 use Rattle.route_audit.specs.declared.errors.AuditError.{AuditError}
 use Rattle.route_audit.specs.declared.errors.AuditError.TheVariants as audit
 use Rattle.route_audit.specs.declared.finding.Finding.{Finding}
@@ -32,6 +32,7 @@ use Rattle.command_files.specs.Reading.{octets_at, publication_at}
 use Rattle.command_files.specs.HexFiles.{public_key_at}
 use Rattle.command_files.specs.Endings.{Ending, EndsReading, NoEnd, Promises, TellsNone, MayEnd, WhyNot, Writes}
 use Rattle.command_files.specs.declared.fault.Fault.{Fault}
+use Rattle.command_files.specs.declared.fault.Fault.TheVariants.{OtherPublication}
 use Rattle.command_files.specs.declared.ended.Verdict.{Verdict}
 use Rattle.command_files.specs.declared.ended.Verdict.TheVariants.{Done, Refused, Evidence}
 use Rattle.command_files.proofs.Written.{CallsFor, reads, refused, written, why_map}
@@ -39,7 +40,7 @@ use Rattle.command_desks.specs.Opening.{IsUsable, HasBlock, EndsOpening}
 use Rattle.command_desks.proofs.Openings.{shut}
 use Rattle.command_books.specs.Installing.{EndsInstalling}
 use Rattle.audit_commands.specs.Auditing.{EndsOwnersKey, EndsClient, EndsSigned, EndsSameHeader, EndsComparing, EndsAudit, Tells, LookFailed, ends_audit}
-use Rattle.audit_commands.specs.Headline.{IsHeaderSigned, RestsOn}
+use Rattle.audit_commands.specs.Headline.{IsBrought, RestsOn}
 use Rattle.audit_commands.proofs.Steps.{own, not_own, signed, unsigned, later}
 
 -- what was asked of the audit
@@ -113,12 +114,27 @@ module _ {D : Type 0} (g : Ghosts D) (old mid new : D) (desk : Desk) (key octets
 
   -- what a line rests on
   pub rests_on : AtEachMoment g mid new Stays → (r : Result Finding AuditError) (o : Result Verdict Fault) (t : List ℕ) → Finds sha256 sha256 (look_at g desk mid new) (audited desk.key key octets q p) r → Tells r o t
-      → RestsOn g new (IsHeaderSigned g new octets) key o t
+      → RestsOn g new (IsBrought octets) key o t
   rests_on m r (Ok Refused) t f tells = tt
+  rests_on m (Err audit.OtherPublication) (Err OtherPublication) t f tells =
+      let a = f.installed.reply.accepts in
+      record { header = _; signature = a.answer.signature; brought = record { answer = a.answer; spelled = a.spelled; header_is = refl; signature_is = refl }; slot = f.signed.1.0; signed = later g mid new (λ i. IsSigned i f.signed.1.0 (header_text a.answer.header)) m f.signed.1.1 }
+  rests_on m (Ok Right) (Err OtherPublication) t f tells = absurd (cc)
+  rests_on m (Ok (Collision two)) (Err OtherPublication) t f tells = absurd (cc)
+  rests_on m (Ok (Forged header signature)) (Err OtherPublication) t f tells = absurd (cc)
+  rests_on m (Err (audit.Refused e)) (Err OtherPublication) t f tells = absurd (cc)
+  rests_on m (Err audit.OtherKey) (Err OtherPublication) t f tells = absurd (cc)
+  rests_on m (Err audit.Memory) (Err OtherPublication) t f tells = absurd tells
+  rests_on m (Err (audit.Desk e)) (Err OtherPublication) t f tells = absurd tells
+  rests_on m (Err (audit.Install (install.Build (build.Map e)))) (Err OtherPublication) t f tells = absurd (cc)
+  rests_on m (Err (audit.Install (install.Build (build.Plan e)))) (Err OtherPublication) t f tells = absurd (cc)
+  rests_on m (Err (audit.Install (install.Build build.Memory))) (Err OtherPublication) t f tells = absurd tells
+  rests_on m (Err (audit.Install install.HeaderWrong)) (Err OtherPublication) t f tells = absurd (cc)
+  rests_on m (Err (audit.Install install.Memory)) (Err OtherPublication) t f tells = absurd tells
   rests_on m r (Err e) t f tells = tt
   rests_on m (Ok Right) (Ok Done) t f tells =
       let a = f.0.installed.reply.accepts in
-      record { answer = a.answer; spelled = a.spelled; slot = f.0.signed.1.0; signed = later g mid new (λ i. IsSigned i f.0.signed.1.0 (header_text a.answer.header)) m f.0.signed.1.1 }
+      record { header = _; signature = a.answer.signature; brought = record { answer = a.answer; spelled = a.spelled; header_is = refl; signature_is = refl }; slot = f.0.signed.1.0; signed = later g mid new (λ i. IsSigned i f.0.signed.1.0 (header_text a.answer.header)) m f.0.signed.1.1 }
   rests_on m (Ok (Collision two)) (Ok Done) t f tells = absurd (cc)
   rests_on m (Ok (Forged header signature)) (Ok Done) t f tells = absurd (cc)
   rests_on m (Ok Right) (Ok Evidence) t f tells = absurd (cc)
@@ -126,6 +142,7 @@ module _ {D : Type 0} (g : Ghosts D) (old mid new : D) (desk : Desk) (key octets
   rests_on m (Ok (Forged header signature)) (Ok Evidence) t f tells = inr (record {
     header = header;
     signature = signature;
+    brought = record { answer = answer_of f.installed; spelled = f.installed.reply.accepts.spelled; header_is = f.brings.header_is; signature_is = f.brings.signature_is };
     good = subst (λ k. verified k header signature ≡ Ok tt) (sym f.installed.reply.key) f.brings.good;
     unsigned = later g mid new (λ i. (slot : SlotId) → ¬ IsSigned i slot header) m f.unsigned.1;
     line = tells.1;
@@ -150,6 +167,19 @@ module _ {D : Type 0} (g : Ghosts D) (old mid new : D) (desk : Desk) (key octets
   rests_on m (Err (audit.Install install.HeaderWrong)) (Ok Evidence) t f tells = absurd (cc)
   rests_on m (Err (audit.Install install.Memory)) (Ok Done) t f tells = absurd tells
   rests_on m (Err (audit.Install install.Memory)) (Ok Evidence) t f tells = absurd tells
+
+  -- and a fault
+  pub rests_otherwise : AtEachMoment g mid new Stays → (r : Result Finding AuditError) (f : Fault) → Finds sha256 sha256 (look_at g desk mid new) (audited desk.key key octets q p) r → WhyNot (LookFailed r) (Tells r) f
+      → RestsOn g new (IsBrought octets) key (Err f) []
+  rests_otherwise m r OtherPublication finds why = rests_on m r (Err OtherPublication) [] finds why
+  rests_otherwise m r f finds why = tt
+
+-- nothing rests on a desk that doesn't open
+pub not_opened_rests : {D : Type 0} (g : Ghosts D) (disk : D) (Brings : List ℕ → List ℕ → Type 0) (DiskFailed : Type 0) (content : Option (List ℕ)) (key : List ℕ) (f : Fault) → WhyNot DiskFailed (EndsOpening content NoEnd) f → RestsOn g disk Brings key (Err f) []
+not_opened_rests g disk Brings DiskFailed content key OtherPublication (inl h) = absurd (cc)
+not_opened_rests g disk Brings DiskFailed content key OtherPublication (inr (inl h)) = absurd (cc)
+not_opened_rests g disk Brings DiskFailed content key OtherPublication (inr (inr h)) = absurd h.1
+not_opened_rests g disk Brings DiskFailed content key f h = tt
 
 -- a desk that doesn't open
 pub not_opened : (DiskFailed : Type 0) (content : Option (List ℕ)) (key : List ℕ) (p : Publication) (octets : List ℕ) (q : Query) (f : Fault) → WhyNot DiskFailed (EndsOpening content NoEnd) f → WhyNot DiskFailed (EndsAudit content key p octets q) f

@@ -1,5 +1,5 @@
 -- What the steps of an audit and their files give, whatever was asked for.
-use Rattle.std.proofs.Common.{◌≡◌, ◌≢◌, inl, inr, ℕ, List, Some, length, sym, ap, subst, ◌∙◌, IfSome, IfOk, IfErr, arith}
+use Rattle.std.proofs.Common.{◌≡◌, ◌≢◌, inl, inr, ℕ, List, [], Some, length, sym, ap, subst, ◌∙◌, IfSome, IfOk, IfErr, arith}
 use Rattle.std.specs.declared.option.Option.{Option}
 use Rattle.std.specs.declared.option.Option.TheVariants.{None}
 use Rattle.std.specs.declared.result.Result.{Result}
@@ -12,11 +12,13 @@ use Rattle.road_io.specs.Contents.{Shelf}
 use Rattle.lms_tree.specs.Signatures.{public_key}
 use Rattle.key_desk.specs.Layout.{SlotId, IsSigned}
 use Rattle.key_desk.specs.declared.desk.Desk.{Desk}
-use Rattle.command_files.specs.Reading.{octets_at}
+use Rattle.command_files.specs.Reading.{octets_at, IsOfFiles}
 use Rattle.command_files.specs.HexFiles.{public_key_at}
-use Rattle.command_files.specs.Endings.{Writes}
+use Rattle.std.specs.Io.KnownBytes.{Appends}
+use Rattle.std.proofs.lemmas.List.{append-nil}
+use Rattle.command_files.specs.Endings.{Writes, MayEnd, TellsNone}
 use Rattle.command_files.specs.declared.fault.Fault.{Fault}
-use Rattle.command_files.specs.declared.fault.Fault.TheVariants.{Sink}
+use Rattle.command_files.specs.declared.fault.Fault.TheVariants.{Sink, OtherPublication}
 use Rattle.command_files.specs.declared.ended.Verdict.{Verdict}
 use Rattle.command_desks.specs.Opening.{IsKeyOn, HasBlock}
 use Rattle.command_desks.proofs.Openings.{same_owner}
@@ -70,20 +72,46 @@ pub reply_as : (files mid later : Option Shelf) (name a b : List ℕ) → later 
 reply_as files mid later name a b first second same h =
     subst (λ (f : Option Shelf). IfSome f (λ shelf. octets_at shelf name ≡ Ok a)) (first ∙ second) (subst (λ xs. IfSome later (λ shelf. octets_at shelf name ≡ Ok xs)) (sym same) h)
 
+-- nothing that is appended is nothing that is written
+appends_none : (old : Option (List ℕ)) → Appends old old []
+appends_none None = tt
+appends_none (Some xs) = sym (append-nil xs)
+
+-- the ends that rest on nothing
+abbrev pub RestsOnNone : Fault → Type 0
+RestsOnNone OtherPublication = ⊥
+RestsOnNone fault = Unit {0}
+
+pub nothing_found : {D : Type 0} (g : Ghosts D) (disk : D) (Brings : List ℕ → List ℕ → List ℕ → Type 0) (key_name reply_name : List ℕ) (files : Option Shelf) (old new : Option (List ℕ)) (f : Fault) → RestsOnNone f → WritesFindings g disk Brings key_name reply_name files old new (Err f)
+nothing_found g disk Brings key_name reply_name None old new f none = tt
+nothing_found g disk Brings key_name reply_name (Some shelf) old new OtherPublication none = absurd none
+nothing_found g disk Brings key_name reply_name (Some shelf) old new f none = tt
+
+-- a fault of a file that was loaded is such an end
+pub files_rest_on_none : (f : Fault) → IsOfFiles f → RestsOnNone f
+files_rest_on_none OtherPublication h = absurd h
+files_rest_on_none f h = tt
+
 -- what the line rests on
 module _ (files : Option Shelf) (key_name reply_name key octets : List ℕ)
     (key_read : IfSome files (λ shelf. public_key_at shelf key_name ≡ Ok key)) (reply_read : IfSome files (λ shelf. octets_at shelf reply_name ≡ Ok octets)) where
-  pub found : {D : Type 0} (g : Ghosts D) (disk : D) (Signed : List ℕ → Type 0) (old new : Option (List ℕ)) (k k' : ℕ) (end o : Result Verdict Fault) (t : List ℕ) → RestsOn g disk (Signed octets) key end t → Writes end t old new k k' o
-      → WritesFindings g disk Signed key_name reply_name files old new o
-  found g disk Signed old new k k' end o t rests (inr w) = subst (λ (x : Result Verdict Fault). WritesFindings g disk Signed key_name reply_name files old new x) (sym w.0) (nothing files)
+  pub found : {D : Type 0} (g : Ghosts D) (disk : D) (Brings : List ℕ → List ℕ → List ℕ → Type 0) (old new : Option (List ℕ)) (k k' : ℕ) (end o : Result Verdict Fault) (t : List ℕ) → RestsOn g disk (Brings octets) key end t → MayEnd TellsNone end → Writes end t old new k k' o
+      → WritesFindings g disk Brings key_name reply_name files old new o
+  found g disk Brings old new k k' end o t rests may (inr w) = subst (λ (x : Result Verdict Fault). WritesFindings g disk Brings key_name reply_name files old new x) (sym w.0) (nothing_found g disk Brings key_name reply_name files old new Sink tt)
+  found g disk Brings old new k k' end o t rests may (inl w) = subst (λ (x : Result Verdict Fault). WritesFindings g disk Brings key_name reply_name files old new x) (sym w.0) (by end may rests files key_read reply_read)
     where
-      nothing : (files : Option Shelf) → WritesFindings g disk Signed key_name reply_name files old new (Err Sink)
-      nothing None = tt
-      nothing (Some shelf) = tt
-  found g disk Signed old new k k' end o t rests (inl w) = subst (λ (x : Result Verdict Fault). WritesFindings g disk Signed key_name reply_name files old new x) (sym w.0) (by end rests files key_read reply_read)
+      by : (end : Result Verdict Fault) → MayEnd TellsNone end → RestsOn g disk (Brings octets) key end t → (files : Option Shelf) → IfSome files (λ shelf. public_key_at shelf key_name ≡ Ok key) → IfSome files (λ shelf. octets_at shelf reply_name ≡ Ok octets)
+          → WritesFindings g disk Brings key_name reply_name files old new end
+      by end may rests None a c = tt
+      by (Err OtherPublication) may rests (Some shelf) a c = absurd may
+      by (Err e) may rests (Some shelf) a c = tt
+      by (Ok v) may rests (Some shelf) a c = record { key = key; octets = octets; text = t; key_read = a; reply_read = c; written = w.1; rests = rests }
+
+  pub found_other : {D : Type 0} (g : Ghosts D) (disk : D) (Brings : List ℕ → List ℕ → List ℕ → Type 0) (old : Option (List ℕ)) (f : Fault) → RestsOn g disk (Brings octets) key (Err f) [] → WritesFindings g disk Brings key_name reply_name files old old (Err f)
+  found_other g disk Brings old f rests = by f rests files key_read reply_read
     where
-      by : (end : Result Verdict Fault) → RestsOn g disk (Signed octets) key end t → (files : Option Shelf) → IfSome files (λ shelf. public_key_at shelf key_name ≡ Ok key) → IfSome files (λ shelf. octets_at shelf reply_name ≡ Ok octets)
-          → WritesFindings g disk Signed key_name reply_name files old new end
-      by end rests None a c = tt
-      by (Err e) rests (Some shelf) a c = tt
-      by (Ok v) rests (Some shelf) a c = record { key = key; octets = octets; text = t; key_read = a; reply_read = c; written = w.1; rests = rests }
+      by : (f : Fault) → RestsOn g disk (Brings octets) key (Err f) [] → (files : Option Shelf) → IfSome files (λ shelf. public_key_at shelf key_name ≡ Ok key) → IfSome files (λ shelf. octets_at shelf reply_name ≡ Ok octets)
+          → WritesFindings g disk Brings key_name reply_name files old old (Err f)
+      by f rests None a c = tt
+      by OtherPublication rests (Some shelf) a c = record { key = key; octets = octets; text = []; key_read = a; reply_read = c; written = appends_none old; rests = rests }
+      by f rests (Some shelf) a c = tt

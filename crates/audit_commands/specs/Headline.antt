@@ -14,6 +14,7 @@ use Rattle.road_map.specs.Routes.{IsShortest}
 use Rattle.book_model.specs.declared.items.Query.{Query}
 use Rattle.lms_tree.specs.Signatures.{verified}
 use Rattle.key_desk.specs.Layout.{SlotId, IsSigned}
+use Rattle.proof_octets.specs.declared.header.Header.{Header}
 use Rattle.proof_octets.specs.declared.publication.Publication.{Publication}
 use Rattle.proof_octets.specs.declared.reply.Answer as answers
 use Rattle.proof_octets.specs.declared.reply.Reply.TheVariants as replies
@@ -28,9 +29,27 @@ use Rattle.command_files.specs.HexFiles.{public_key_at}
 use Rattle.command_desks.specs.Opening.{IsUsable}
 use Rattle.audit_commands.specs.Auditing.{IsOwnersKey}
 use Rattle.command_files.specs.declared.fault.Fault.{Fault}
-use Rattle.command_files.specs.declared.fault.Fault.TheVariants.{Library, Sink, Disk, Memory}
+use Rattle.command_files.specs.declared.fault.Fault.TheVariants.{Library, Sink, Disk, Memory, OtherPublication}
 use Rattle.command_files.specs.declared.ended.Verdict.{Verdict}
 use Rattle.command_files.specs.declared.ended.Verdict.TheVariants.{Done, Evidence}
+
+-- ---- what a reply brings
+
+-- the octets of the header, and the signature, of the answer that octets spell
+pub record IsBrought (octets header signature : List ℕ) : Type 0 where
+  pub answer : answers.Answer
+  pub spelled : whole formats.reply octets ≡ Ok (replies.Answer answer)
+  pub header_is : header ≡ header_text answer.header
+  pub signature_is : signature ≡ answer.signature
+
+-- Brings says which header, by its octets, and which signature a reply brings: that header stands in one slot of every
+-- image
+pub record IsHeaderSigned {D : Type 0} (g : Ghosts D) (disk : D) (Brings : List ℕ → List ℕ → Type 0) : Type 0 where
+  pub header : List ℕ
+  pub signature : List ℕ
+  pub brought : Brings header signature
+  pub slot : SlotId
+  pub signed : EachImage g disk (λ i. IsSigned i slot header)
 
 -- ---- evidence
 
@@ -42,46 +61,41 @@ pub record IsCollisionLine (text : List ℕ) : Type 0 where
   pub one_digest : sha256 left ≡ sha256 right
   pub line : text ≡ collision_line left right
 
--- the line of a header that the owner never signed, in no slot of any image, and of a signature that is verified on
--- it under the public key
-pub record IsForgedLine {D : Type 0} (g : Ghosts D) (disk : D) (key text : List ℕ) : Type 0 where
+-- the line of the header that a reply brings, which the owner never signed, in no slot of any image, and of the reply's
+-- own signature, which is verified on it under the public key
+pub record IsForgedLine {D : Type 0} (g : Ghosts D) (disk : D) (Brings : List ℕ → List ℕ → Type 0) (key text : List ℕ) : Type 0 where
   pub header : List ℕ
   pub signature : List ℕ
+  pub brought : Brings header signature
   pub good : verified key header signature ≡ Ok tt
   pub unsigned : EachImage g disk (λ i. (slot : SlotId) → ¬ IsSigned i slot header)
   pub line : text ≡ forged_line header signature
 
-abbrev pub IsEvidence : {D : Type 0} → Ghosts D → D → List ℕ → List ℕ → Type 0
-IsEvidence g disk key text = IsCollisionLine text ⊎ IsForgedLine g disk key text
+abbrev pub IsEvidence : {D : Type 0} → Ghosts D → D → (List ℕ → List ℕ → Type 0) → List ℕ → List ℕ → Type 0
+IsEvidence g disk Brings key text = IsCollisionLine text ⊎ IsForgedLine g disk Brings key text
 
--- the header of the answer that octets spell stands in one slot of every image
-pub record IsHeaderSigned {D : Type 0} (g : Ghosts D) (disk : D) (octets : List ℕ) : Type 0 where
-  pub answer : answers.Answer
-  pub spelled : whole formats.reply octets ≡ Ok (replies.Answer answer)
-  pub slot : SlotId
-  pub signed : EachImage g disk (λ i. IsSigned i slot (header_text answer.header))
+-- ---- what an audit's end rests on, in every image that a crash may leave
 
--- ---- what an audit's line rests on, in every image that a crash may leave
+abbrev pub RestsOn : {D : Type 0} → Ghosts D → D → (List ℕ → List ℕ → Type 0) → List ℕ → Result Verdict Fault → List ℕ → Type 0
+RestsOn g disk Brings key (Ok Done) text = IsHeaderSigned g disk Brings
+RestsOn g disk Brings key (Ok Evidence) text = IsEvidence g disk Brings key text
+RestsOn g disk Brings key (Err OtherPublication) text = IsHeaderSigned g disk Brings
+RestsOn g disk Brings key outcome text = Unit {0}
 
--- Signed says that the reply's header stands in one slot of every image
-abbrev pub RestsOn : {D : Type 0} → Ghosts D → D → Type 0 → List ℕ → Result Verdict Fault → List ℕ → Type 0
-RestsOn g disk Signed key (Ok Done) text = Signed
-RestsOn g disk Signed key (Ok Evidence) text = IsEvidence g disk key text
-RestsOn g disk Signed key outcome text = Unit {0}
-
--- the files of a key and of a reply, the line that was written, and what it rests on
-pub record WritesFinding {D : Type 0} (g : Ghosts D) (disk : D) (Signed : List ℕ → Type 0) (shelf : Shelf) (key_name reply_name : List ℕ) (old new : Option (List ℕ)) (verdict : Verdict) : Type 0 where
+-- the files of a key and of a reply, what was written, and what the end rests on
+pub record WritesFinding {D : Type 0} (g : Ghosts D) (disk : D) (Brings : List ℕ → List ℕ → List ℕ → Type 0) (shelf : Shelf) (key_name reply_name : List ℕ) (old new : Option (List ℕ)) (outcome : Result Verdict Fault) : Type 0 where
   pub key : List ℕ
   pub octets : List ℕ
   pub text : List ℕ
   pub key_read : public_key_at shelf key_name ≡ Ok key
   pub reply_read : octets_at shelf reply_name ≡ Ok octets
   pub written : Appends old new text
-  pub rests : RestsOn g disk (Signed octets) key (Ok verdict) text
+  pub rests : RestsOn g disk (Brings octets) key outcome text
 
-abbrev pub WritesFindings : {D : Type 0} → Ghosts D → D → (List ℕ → Type 0) → List ℕ → List ℕ → Option Shelf → Option (List ℕ) → Option (List ℕ) → Result Verdict Fault → Type 0
-WritesFindings g disk Signed key reply (Some shelf) old new (Ok verdict) = WritesFinding g disk Signed shelf key reply old new verdict
-WritesFindings g disk Signed key reply files old new outcome = Unit {0}
+abbrev pub WritesFindings : {D : Type 0} → Ghosts D → D → (List ℕ → List ℕ → List ℕ → Type 0) → List ℕ → List ℕ → Option Shelf → Option (List ℕ) → Option (List ℕ) → Result Verdict Fault → Type 0
+WritesFindings g disk Brings key reply (Some shelf) old new (Ok verdict) = WritesFinding g disk Brings shelf key reply old new (Ok verdict)
+WritesFindings g disk Brings key reply (Some shelf) old new (Err OtherPublication) = WritesFinding g disk Brings shelf key reply old new (Err OtherPublication)
+WritesFindings g disk Brings key reply files old new outcome = Unit {0}
 
 -- ---- the headline
 
@@ -94,19 +108,31 @@ pub record IsTrue {D : Type 0} (g : Ghosts D) (disk : D) (p : Publication) (q : 
   pub signed : EachImage g disk (λ i. IsSigned i slot (header_text p.header))
   pub shortest : IsShortest p.parts q.from q.to x.route x.length
 
--- what was accepted is true, or there is evidence, unless memory was short or an object outside failed
-abbrev pub FindsTruth : {D : Type 0} → Ghosts D → D → List ℕ → Type 0 → Option (List ℕ) → Option (List ℕ) → Result Verdict Fault → Type 0
-FindsTruth g disk key Truth old new (Ok Done) = Truth × Appends old new right_line
-FindsTruth g disk key Truth old new (Ok Evidence) = (text : List ℕ) × IsEvidence g disk key text × Appends old new text
-FindsTruth g disk key Truth old new (Err Memory) = Unit {0}
-FindsTruth g disk key Truth old new (Err Library) = Unit {0}
-FindsTruth g disk key Truth old new (Err Sink) = Unit {0}
-FindsTruth g disk key Truth old new (Err Disk) = Unit {0}
-FindsTruth g disk key Truth old new outcome = ⊥
+-- the accepted header is another publication's: it stands in one slot of every image
+pub record IsOthers {D : Type 0} (g : Ghosts D) (disk : D) (p : Publication) (accepted : Header) : Type 0 where
+  pub other : accepted ≢ p.header
+  pub slot : SlotId
+  pub signed : EachImage g disk (λ i. IsSigned i slot (header_text accepted))
 
--- The files spell a public key, a publication whose header is that of its parts and settings, and octets that the
--- client accepts under the key, whatever they are, with the publication's header; and the key is that of the owner's
--- disk, which can be used.
+-- the octets of the accepted header, and the signature that the reply brings with it
+abbrev pub IsAcceptedHeader : Header → (List ℕ → List ℕ → Type 0) → List ℕ → List ℕ → Type 0
+IsAcceptedHeader accepted Brings header signature = (header ≡ header_text accepted) × Brings header signature
+
+-- what was accepted is true, or there is evidence, by the accepted header and the reply's own signature where the line is
+-- the forged one, or its header is another publication's, unless memory was short or an object outside failed
+abbrev pub FindsTruth : {D : Type 0} → Ghosts D → D → (List ℕ → List ℕ → Type 0) → List ℕ → Publication → Header → Type 0 → Option (List ℕ) → Option (List ℕ) → Result Verdict Fault → Type 0
+FindsTruth g disk Brings key p accepted Truth old new (Ok Done) = Truth × Appends old new right_line
+FindsTruth g disk Brings key p accepted Truth old new (Ok Evidence) = (text : List ℕ) × IsEvidence g disk (IsAcceptedHeader accepted Brings) key text × Appends old new text
+FindsTruth g disk Brings key p accepted Truth old new (Err OtherPublication) = IsOthers g disk p accepted
+FindsTruth g disk Brings key p accepted Truth old new (Err Memory) = Unit {0}
+FindsTruth g disk Brings key p accepted Truth old new (Err Library) = Unit {0}
+FindsTruth g disk Brings key p accepted Truth old new (Err Sink) = Unit {0}
+FindsTruth g disk Brings key p accepted Truth old new (Err Disk) = Unit {0}
+FindsTruth g disk Brings key p accepted Truth old new outcome = ⊥
+
+-- The files spell a public key, a publication, of whatever header, that can be installed, as its header is that of its
+-- parts and settings, and octets that the client accepts under the key, whatever they are; and the key is that of the
+-- owner's disk, which can be used.
 pub record IsAcceptedFile (content : Option (List ℕ)) (shelf : Shelf) (key_name publication_name reply_name : List ℕ) (q : Query) (key : List ℕ) (p : Publication) (x : Accepted) : Type 0 where
   pub octets : List ℕ
   pub least : ℕ
@@ -115,14 +141,14 @@ pub record IsAcceptedFile (content : Option (List ℕ)) (shelf : Shelf) (key_nam
   pub reply_read : octets_at shelf reply_name ≡ Ok octets
   pub accepts : Accepts sha256 key octets q least x
   pub header : HasHeader sha256 sha256 p.parts p.settings p.header
-  pub same : x.header ≡ p.header
   pub image : List ℕ
   pub told : content ≡ Some image
   pub usable : IsUsable image
   pub owners : IsOwnersKey image key
 
--- whatever octets the client accepts, `audit` finds that they are true, or writes evidence
+-- whatever octets the client accepts, `audit` finds that they are true, or of another publication, or writes evidence
 abbrev pub AuditsAccepted : {D : Type 0} → Ghosts D → Option (List ℕ) → D → List ℕ → List ℕ → List ℕ → Query → Option Shelf → Option (List ℕ) → Option (List ℕ) → Result Verdict Fault → Type 0
 AuditsAccepted g content disk key publication reply q (Some shelf) old new outcome =
-    (k : List ℕ) (p : Publication) (x : Accepted) → IsAcceptedFile content shelf key publication reply q k p x → FindsTruth g disk k (IsTrue g disk p q x) old new outcome
+    (k : List ℕ) (p : Publication) (x : Accepted) → (file : IsAcceptedFile content shelf key publication reply q k p x)
+    → FindsTruth g disk (IsBrought file.octets) k p x.header (IsTrue g disk p q x) old new outcome
 AuditsAccepted g content disk key publication reply q None old new outcome = Unit {0}

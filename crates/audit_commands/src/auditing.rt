@@ -1,12 +1,12 @@
 //! The command `audit`.
 
-ghost use Rattle.std.specs.Prelude.{◌≡◌, ◌<◌, ◌^◌, length, IfOk, IfErr};
+ghost use Rattle.std.specs.Prelude.{◌≡◌, ◌<◌, ◌^◌, List, [], length, Err, IfOk, IfErr};
 ghost use Rattle.road_io.specs.Causes.{Rose};
 ghost use Rattle.road_io.specs.Disk.{Stays};
 ghost use Rattle.road_io.specs.Moments.{AtEachMoment};
 ghost use Rattle.command_files.specs.Endings.{Promises, TellsNone, MayEnd, WhyNot};
 ghost use Rattle.audit_commands.specs.Auditing.{EndsAudit, TellsFinding, Tells, LookFailed, ends_audit};
-ghost use Rattle.audit_commands.specs.Headline.{IsHeaderSigned, RestsOn, WritesFindings, AuditsAccepted};
+ghost use Rattle.audit_commands.specs.Headline.{IsBrought, RestsOn, WritesFindings, AuditsAccepted};
 
 use book_model::Query;
 use command_books::not_built;
@@ -35,7 +35,7 @@ pub fn audit<L: Library, K: Sink, D: Disk>(
     ensures promised { Promises (ends_audit (D.content disk.old) key.now publication.now reply.now query) TellsNone (Rose (D.faults disk.old) (D.faults disk.new))
         (L.files library.old) (L.faults library.old) (L.faults library.new)
         (K.taken sink.old) (K.taken sink.new) (K.faults sink.old) (K.faults sink.new) result }
-    ensures finds { WritesFindings D.Disk disk.new (IsHeaderSigned D.Disk disk.new) key.now reply.now (L.files library.old) (K.taken sink.old) (K.taken sink.new) result }
+    ensures finds { WritesFindings D.Disk disk.new IsBrought key.now reply.now (L.files library.old) (K.taken sink.old) (K.taken sink.new) result }
     ensures headline { AuditsAccepted D.Disk (D.content disk.old) disk.new key.now publication.now reply.now query
         (L.files library.old) (K.taken sink.old) (K.taken sink.new) result }
     ensures stays { AtEachMoment D.Disk disk.old disk.new Stays }
@@ -59,7 +59,7 @@ fn write_findings<L: Library, K: Sink, D: Disk>(
     ensures promised { Promises (ends_audit (D.content disk.old) key.now publication.now reply.now query) TellsNone (Rose (D.faults disk.old) (D.faults disk.new))
         (L.files library.old) (L.faults library.old) (L.faults library.new)
         (K.taken sink.old) (K.taken sink.new) (K.faults sink.old) (K.faults sink.new) result }
-    ensures finds { WritesFindings D.Disk disk.new (IsHeaderSigned D.Disk disk.new) key.now reply.now (L.files library.old) (K.taken sink.old) (K.taken sink.new) result }
+    ensures finds { WritesFindings D.Disk disk.new IsBrought key.now reply.now (L.files library.old) (K.taken sink.old) (K.taken sink.new) result }
     ensures stays { AtEachMoment D.Disk disk.old disk.new Stays }
 {
     let key: [u8; 56] = load_hex(alloc, library, key)?;
@@ -81,7 +81,8 @@ fn find<D: Disk>(
     requires { length reply.now < 2 ^ 32 }
     ensures told { IfOk result (λ told. EndsAudit (D.content disk.old) key.now publication reply.now query told.end told.text.items) }
     ensures verdict { IfOk result (λ told. MayEnd TellsNone told.end) }
-    ensures rests { IfOk result (λ told. RestsOn D.Disk disk.new (IsHeaderSigned D.Disk disk.new reply.now) key.now told.end told.text.items) }
+    ensures rests { IfOk result (λ told. RestsOn D.Disk disk.new (IsBrought reply.now) key.now told.end told.text.items) }
+    ensures others { IfErr result (λ fault. RestsOn D.Disk disk.new (IsBrought reply.now) key.now (Err fault) []) }
     ensures refused { IfErr result (WhyNot (Rose (D.faults disk.old) (D.faults disk.new)) (EndsAudit (D.content disk.old) key.now publication reply.now query)) }
     ensures stays { AtEachMoment D.Disk disk.old disk.new Stays }
 {

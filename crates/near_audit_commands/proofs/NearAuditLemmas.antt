@@ -1,5 +1,5 @@
 -- What the answer of an audit of a reply on a radius lets the command end with.
-use Rattle.std.proofs.Common.{◌≡◌, inl, inr, ℕ, ◌≤◌, true, List, Some, length, refl, sym, ap, subst, ◌∙◌, IfSome, arith}
+use Rattle.std.proofs.Common.{◌≡◌, inl, inr, ℕ, ◌≤◌, true, List, [], Some, length, refl, sym, ap, subst, ◌∙◌, IfSome, arith}
 use Rattle.std.specs.declared.option.Option.{Option}
 use Rattle.std.specs.declared.option.Option.TheVariants.{None}
 use Rattle.std.specs.declared.result.Result.{Result}
@@ -22,7 +22,7 @@ use Rattle.proof_octets.specs.Headers.{header_text}
 use Rattle.route_server.specs.declared.errors.BuildError.TheVariants as build
 use Rattle.route_server.specs.declared.errors.InstallError.TheVariants as install
 use Rattle.route_audit.specs.Looks.{LookFails, look_at}
-use Rattle.near_audit.specs.NearFindings.{Audited, NearFinds}
+use Rattle.near_audit.specs.NearFindings.{Audited, NearFinds, reply_of}
 use Rattle.near_audit.specs.declared.errors.NearAuditError.{NearAuditError}
 use Rattle.near_audit.specs.declared.errors.NearAuditError.TheVariants as audit
 use Rattle.route_audit.specs.declared.finding.Finding.{Finding}
@@ -32,6 +32,7 @@ use Rattle.command_files.specs.Reading.{octets_at, publication_at}
 use Rattle.command_files.specs.HexFiles.{public_key_at}
 use Rattle.command_files.specs.Endings.{Ending, EndsReading, NoEnd, Promises, TellsNone, MayEnd, WhyNot, Writes}
 use Rattle.command_files.specs.declared.fault.Fault.{Fault}
+use Rattle.command_files.specs.declared.fault.Fault.TheVariants.{OtherPublication}
 use Rattle.command_files.specs.declared.ended.Verdict.{Verdict}
 use Rattle.command_files.specs.declared.ended.Verdict.TheVariants.{Done, Refused, Evidence}
 use Rattle.command_files.proofs.Written.{CallsFor, reads, refused, written, why_map}
@@ -41,7 +42,7 @@ use Rattle.command_books.specs.Installing.{EndsInstalling}
 use Rattle.audit_commands.specs.Auditing.{EndsOwnersKey, EndsSigned, EndsSameHeader}
 use Rattle.near_audit_commands.specs.NearAuditing.{EndsNearClient, EndsNearComparing, EndsAuditReach, TellsNear, LookFailed, ends_audit_reach}
 use Rattle.audit_commands.specs.Headline.{RestsOn}
-use Rattle.near_audit_commands.specs.NearHeadline.{IsNearHeaderSigned}
+use Rattle.near_audit_commands.specs.NearHeadline.{IsNearBrought}
 use Rattle.audit_commands.proofs.Steps.{own, not_own, signed, unsigned, later}
 
 -- what was asked of the audit
@@ -115,12 +116,27 @@ module _ {D : Type 0} (g : Ghosts D) (old mid new : D) (desk : Desk) (key octets
 
   -- what a line rests on
   pub rests_on : AtEachMoment g mid new Stays → (r : Result Finding NearAuditError) (o : Result Verdict Fault) (t : List ℕ) → NearFinds sha256 sha256 (look_at g desk mid new) (audited desk.key key octets q p) r → TellsNear r o t
-      → RestsOn g new (IsNearHeaderSigned g new octets) key o t
+      → RestsOn g new (IsNearBrought octets) key o t
   rests_on m r (Ok Refused) t f tells = tt
+  rests_on m (Err audit.OtherPublication) (Err OtherPublication) t f tells =
+      let a = f.installed.reply.accepts in
+      record { header = _; signature = a.reply.signature; brought = record { reply = a.reply; spelled = a.spelled; header_is = refl; signature_is = refl }; slot = f.signed.1.0; signed = later g mid new (λ i. IsSigned i f.signed.1.0 (header_text a.reply.header)) m f.signed.1.1 }
+  rests_on m (Ok Right) (Err OtherPublication) t f tells = absurd (cc)
+  rests_on m (Ok (Collision two)) (Err OtherPublication) t f tells = absurd (cc)
+  rests_on m (Ok (Forged header signature)) (Err OtherPublication) t f tells = absurd (cc)
+  rests_on m (Err (audit.Refused e)) (Err OtherPublication) t f tells = absurd (cc)
+  rests_on m (Err audit.OtherKey) (Err OtherPublication) t f tells = absurd (cc)
+  rests_on m (Err audit.Memory) (Err OtherPublication) t f tells = absurd tells
+  rests_on m (Err (audit.Desk e)) (Err OtherPublication) t f tells = absurd tells
+  rests_on m (Err (audit.Install (install.Build (build.Map e)))) (Err OtherPublication) t f tells = absurd (cc)
+  rests_on m (Err (audit.Install (install.Build (build.Plan e)))) (Err OtherPublication) t f tells = absurd (cc)
+  rests_on m (Err (audit.Install (install.Build build.Memory))) (Err OtherPublication) t f tells = absurd tells
+  rests_on m (Err (audit.Install install.HeaderWrong)) (Err OtherPublication) t f tells = absurd (cc)
+  rests_on m (Err (audit.Install install.Memory)) (Err OtherPublication) t f tells = absurd tells
   rests_on m r (Err e) t f tells = tt
   rests_on m (Ok Right) (Ok Done) t f tells =
       let a = f.0.installed.reply.accepts in
-      record { reply = a.reply; spelled = a.spelled; slot = f.0.signed.1.0; signed = later g mid new (λ i. IsSigned i f.0.signed.1.0 (header_text a.reply.header)) m f.0.signed.1.1 }
+      record { header = _; signature = a.reply.signature; brought = record { reply = a.reply; spelled = a.spelled; header_is = refl; signature_is = refl }; slot = f.0.signed.1.0; signed = later g mid new (λ i. IsSigned i f.0.signed.1.0 (header_text a.reply.header)) m f.0.signed.1.1 }
   rests_on m (Ok (Collision two)) (Ok Done) t f tells = absurd (cc)
   rests_on m (Ok (Forged header signature)) (Ok Done) t f tells = absurd (cc)
   rests_on m (Ok Right) (Ok Evidence) t f tells = absurd (cc)
@@ -128,6 +144,7 @@ module _ {D : Type 0} (g : Ghosts D) (old mid new : D) (desk : Desk) (key octets
   rests_on m (Ok (Forged header signature)) (Ok Evidence) t f tells = inr (record {
     header = header;
     signature = signature;
+    brought = record { reply = reply_of f.installed; spelled = f.installed.reply.accepts.spelled; header_is = f.brings.header_is; signature_is = f.brings.signature_is };
     good = subst (λ k. verified k header signature ≡ Ok tt) (sym f.installed.reply.key) f.brings.good;
     unsigned = later g mid new (λ i. (slot : SlotId) → ¬ IsSigned i slot header) m f.unsigned.1;
     line = tells.1;
@@ -152,6 +169,12 @@ module _ {D : Type 0} (g : Ghosts D) (old mid new : D) (desk : Desk) (key octets
   rests_on m (Err (audit.Install install.HeaderWrong)) (Ok Evidence) t f tells = absurd (cc)
   rests_on m (Err (audit.Install install.Memory)) (Ok Done) t f tells = absurd tells
   rests_on m (Err (audit.Install install.Memory)) (Ok Evidence) t f tells = absurd tells
+
+  -- and a fault
+  pub rests_otherwise : AtEachMoment g mid new Stays → (r : Result Finding NearAuditError) (f : Fault) → NearFinds sha256 sha256 (look_at g desk mid new) (audited desk.key key octets q p) r → WhyNot (LookFailed r) (TellsNear r) f
+      → RestsOn g new (IsNearBrought octets) key (Err f) []
+  rests_otherwise m r OtherPublication finds why = rests_on m r (Err OtherPublication) [] finds why
+  rests_otherwise m r f finds why = tt
 
 -- a desk that doesn't open
 pub not_opened : (DiskFailed : Type 0) (content : Option (List ℕ)) (key : List ℕ) (p : Publication) (octets : List ℕ) (q : NearQuery) (f : Fault) → WhyNot DiskFailed (EndsOpening content NoEnd) f → WhyNot DiskFailed (EndsAuditReach content key p octets q) f

@@ -27,12 +27,12 @@ use Rattle.command_desks.specs.Opening.{IsUsable}
 use Rattle.audit_commands.specs.Auditing.{IsOwnersKey}
 use Rattle.audit_commands.specs.Headline.{FindsTruth}
 
--- the header of the reply that octets spell stands in one slot of every image
-pub record IsNearHeaderSigned {D : Type 0} (g : Ghosts D) (disk : D) (octets : List ℕ) : Type 0 where
+-- the octets of the header, and the signature, of the reply that octets spell
+pub record IsNearBrought (octets header signature : List ℕ) : Type 0 where
   pub reply : NearReply
   pub spelled : whole near_reply octets ≡ Ok reply
-  pub slot : SlotId
-  pub signed : EachImage g disk (λ i. IsSigned i slot (header_text reply.header))
+  pub header_is : header ≡ header_text reply.header
+  pub signature_is : signature ≡ reply.signature
 
 -- the accepted nodes are exactly those within the radius of the signed map, each with its distance: the accepted header
 -- is that of the map, and stands in one slot of every image
@@ -43,9 +43,9 @@ pub record IsNearTrue {D : Type 0} (g : Ghosts D) (disk : D) (p : Publication) (
   pub signed : EachImage g disk (λ i. IsSigned i slot (header_text p.header))
   pub within : AreWithin p.parts q x.nodes
 
--- The files spell a public key, a publication whose header is that of its parts and settings, and octets that the
--- client accepts under the key, whatever they are, with the publication's header; and the key is that of the owner's
--- disk, which can be used.
+-- The files spell a public key, a publication, of whatever header, that can be installed, as its header is that of its
+-- parts and settings, and octets that the client accepts under the key, whatever they are; and the key is that of the
+-- owner's disk, which can be used.
 pub record IsAcceptedReach (content : Option (List ℕ)) (shelf : Shelf) (key_name publication_name reply_name : List ℕ) (q : NearQuery) (key : List ℕ) (p : Publication) (x : Within) : Type 0 where
   pub octets : List ℕ
   pub least : ℕ
@@ -54,14 +54,15 @@ pub record IsAcceptedReach (content : Option (List ℕ)) (shelf : Shelf) (key_na
   pub reply_read : octets_at shelf reply_name ≡ Ok octets
   pub accepts : NearAccepts sha256 key octets q least x
   pub header : HasHeader sha256 sha256 p.parts p.settings p.header
-  pub same : x.header ≡ p.header
   pub image : List ℕ
   pub told : content ≡ Some image
   pub usable : IsUsable image
   pub owners : IsOwnersKey image key
 
--- whatever octets the client accepts, `audit-reach` finds that they are true, or writes evidence
+-- whatever octets the client accepts, `audit-reach` finds that they are true, or of another publication, or writes
+-- evidence
 abbrev pub AuditsAcceptedReach : {D : Type 0} → Ghosts D → Option (List ℕ) → D → List ℕ → List ℕ → List ℕ → NearQuery → Option Shelf → Option (List ℕ) → Option (List ℕ) → Result Verdict Fault → Type 0
 AuditsAcceptedReach g content disk key publication reply q (Some shelf) old new outcome =
-    (k : List ℕ) (p : Publication) (x : Within) → IsAcceptedReach content shelf key publication reply q k p x → FindsTruth g disk k (IsNearTrue g disk p q x) old new outcome
+    (k : List ℕ) (p : Publication) (x : Within) → (file : IsAcceptedReach content shelf key publication reply q k p x)
+    → FindsTruth g disk (IsNearBrought file.octets) k p x.header (IsNearTrue g disk p q x) old new outcome
 AuditsAcceptedReach g content disk key publication reply q None old new outcome = Unit {0}

@@ -1,13 +1,13 @@
 //! The command `audit-reach`.
 
-ghost use Rattle.std.specs.Prelude.{◌≡◌, ◌<◌, ◌^◌, length, IfOk, IfErr};
+ghost use Rattle.std.specs.Prelude.{◌≡◌, ◌<◌, ◌^◌, List, [], length, Err, IfOk, IfErr};
 ghost use Rattle.road_io.specs.Causes.{Rose};
 ghost use Rattle.road_io.specs.Disk.{Stays};
 ghost use Rattle.road_io.specs.Moments.{AtEachMoment};
 ghost use Rattle.command_files.specs.Endings.{Promises, TellsNone, MayEnd, WhyNot};
 ghost use Rattle.audit_commands.specs.Headline.{RestsOn, WritesFindings};
 ghost use Rattle.near_audit_commands.specs.NearAuditing.{EndsAuditReach, TellsNear, LookFailed, ends_audit_reach};
-ghost use Rattle.near_audit_commands.specs.NearHeadline.{IsNearHeaderSigned, AuditsAcceptedReach};
+ghost use Rattle.near_audit_commands.specs.NearHeadline.{IsNearBrought, AuditsAcceptedReach};
 
 use audit_commands::line_of;
 use command_books::not_built;
@@ -37,7 +37,7 @@ pub fn audit_reach<L: Library, K: Sink, D: Disk>(
     ensures promised { Promises (ends_audit_reach (D.content disk.old) key.now publication.now reply.now query) TellsNone (Rose (D.faults disk.old) (D.faults disk.new))
         (L.files library.old) (L.faults library.old) (L.faults library.new)
         (K.taken sink.old) (K.taken sink.new) (K.faults sink.old) (K.faults sink.new) result }
-    ensures finds { WritesFindings D.Disk disk.new (IsNearHeaderSigned D.Disk disk.new) key.now reply.now (L.files library.old) (K.taken sink.old) (K.taken sink.new) result }
+    ensures finds { WritesFindings D.Disk disk.new IsNearBrought key.now reply.now (L.files library.old) (K.taken sink.old) (K.taken sink.new) result }
     ensures headline { AuditsAcceptedReach D.Disk (D.content disk.old) disk.new key.now publication.now reply.now query
         (L.files library.old) (K.taken sink.old) (K.taken sink.new) result }
     ensures stays { AtEachMoment D.Disk disk.old disk.new Stays }
@@ -61,7 +61,7 @@ fn write_findings<L: Library, K: Sink, D: Disk>(
     ensures promised { Promises (ends_audit_reach (D.content disk.old) key.now publication.now reply.now query) TellsNone (Rose (D.faults disk.old) (D.faults disk.new))
         (L.files library.old) (L.faults library.old) (L.faults library.new)
         (K.taken sink.old) (K.taken sink.new) (K.faults sink.old) (K.faults sink.new) result }
-    ensures finds { WritesFindings D.Disk disk.new (IsNearHeaderSigned D.Disk disk.new) key.now reply.now (L.files library.old) (K.taken sink.old) (K.taken sink.new) result }
+    ensures finds { WritesFindings D.Disk disk.new IsNearBrought key.now reply.now (L.files library.old) (K.taken sink.old) (K.taken sink.new) result }
     ensures stays { AtEachMoment D.Disk disk.old disk.new Stays }
 {
     let key: [u8; 56] = load_hex(alloc, library, key)?;
@@ -83,7 +83,8 @@ fn find<D: Disk>(
     requires { length reply.now < 2 ^ 32 }
     ensures told { IfOk result (λ told. EndsAuditReach (D.content disk.old) key.now publication reply.now query told.end told.text.items) }
     ensures verdict { IfOk result (λ told. MayEnd TellsNone told.end) }
-    ensures rests { IfOk result (λ told. RestsOn D.Disk disk.new (IsNearHeaderSigned D.Disk disk.new reply.now) key.now told.end told.text.items) }
+    ensures rests { IfOk result (λ told. RestsOn D.Disk disk.new (IsNearBrought reply.now) key.now told.end told.text.items) }
+    ensures others { IfErr result (λ fault. RestsOn D.Disk disk.new (IsNearBrought reply.now) key.now (Err fault) []) }
     ensures refused { IfErr result (WhyNot (Rose (D.faults disk.old) (D.faults disk.new)) (EndsAuditReach (D.content disk.old) key.now publication reply.now query)) }
     ensures stays { AtEachMoment D.Disk disk.old disk.new Stays }
 {

@@ -27,12 +27,12 @@ use Rattle.owner_commands.specs.OwnerDesk.{EndsDesk}
 use Rattle.owner_commands.specs.Publishing.{ends_publish}
 use Rattle.owner_commands.specs.Signing.{SealsWhatItWrites, SignsAtMostOne}
 use Rattle.audit_commands.specs.Auditing.{ends_audit}
-use Rattle.audit_commands.specs.Headline.{IsHeaderSigned, WritesFindings, AuditsAccepted}
+use Rattle.audit_commands.specs.Headline.{IsBrought, WritesFindings, AuditsAccepted}
 use Rattle.survey_commands.specs.Surveying.{EndsSurvey}
 use Rattle.near_server_commands.specs.NearReaching.{ends_reach}
 use Rattle.near_client_commands.specs.NearChecking.{ends_check_reach}
 use Rattle.near_audit_commands.specs.NearAuditing.{ends_audit_reach}
-use Rattle.near_audit_commands.specs.NearHeadline.{IsNearHeaderSigned, AuditsAcceptedReach}
+use Rattle.near_audit_commands.specs.NearHeadline.{IsNearBrought, AuditsAcceptedReach}
 
 -- With which outcome the files, and what the disk holds, let a command end, and which text it then writes. Under `serve`
 -- the end also rests on the source's input, of which `ServesFrames` speaks.
@@ -64,10 +64,10 @@ OnDisk g old new (Key secret kind) files taken_before taken_now outcome = KeepsK
 OnDisk g old new (Publish roads settings) files taken_before taken_now outcome =
     SealsWhatItWrites g old new taken_before taken_now outcome × SignsAtMostOne g old new files roads settings
 OnDisk g old new (Audit key publication reply q) files taken_before taken_now outcome =
-    AtEachMoment g old new Stays × WritesFindings g new (IsHeaderSigned g new) key reply files taken_before taken_now outcome
+    AtEachMoment g old new Stays × WritesFindings g new IsBrought key reply files taken_before taken_now outcome
     × AuditsAccepted g (g.content old) new key publication reply q files taken_before taken_now outcome
 OnDisk g old new (AuditReach key publication reply q) files taken_before taken_now outcome =
-    AtEachMoment g old new Stays × WritesFindings g new (IsNearHeaderSigned g new) key reply files taken_before taken_now outcome
+    AtEachMoment g old new Stays × WritesFindings g new IsNearBrought key reply files taken_before taken_now outcome
     × AuditsAcceptedReach g (g.content old) new key publication reply q files taken_before taken_now outcome
 OnDisk g old new request files taken_before taken_now outcome = AtEachMoment g old new Stays
 

@@ -2,8 +2,9 @@ use Rattle.std.proofs.lemmas.Result.{err_from_is_err_and}
 use Rattle.road_io.specs.Causes.{Rose}
 use Rattle.command_files.specs.declared.told.Told.{Told}
 use Rattle.command_desks.proofs.Openings.{stays_twice}
+use Rattle.audit_commands.specs.Headline.{IsBrought}
 use Rattle.audit_commands.proofs.Steps.{if_ok, if_err}
-use Rattle.audit_commands.proofs.AuditLemmas.{ends_of, why_not, look_failed, not_opened, rests_on}
+use Rattle.audit_commands.proofs.AuditLemmas.{ends_of, why_not, look_failed, not_opened, not_opened_rests, rests_on, rests_otherwise}
 use Rattle.audit_commands.proofs.auditing.find.Goals as goal
 
 pub returns-in_err-desk-clause-refused : goal.returns-in_err-desk-clause-refused
@@ -11,6 +12,12 @@ returns-in_err-desk-clause-refused g c =
     let p = err_from_is_err_and c.from_residual.result c.from_residual.ensures.1 in
     rw (p.1, p.2)
     (not_opened (Rose (g.D.Disk.faults c.args.disk.now) (g.D.Disk.faults c.open_desk.new.disk)) (g.D.Disk.content c.args.disk.now) c.args.key.now c.args.publication c.args.reply.now c.args.query c.in_err-desk.field-0.0 c.in_err-desk.ensures.refused)
+
+pub returns-in_err-desk-clause-others : goal.returns-in_err-desk-clause-others
+returns-in_err-desk-clause-others g c =
+    let p = err_from_is_err_and c.from_residual.result c.from_residual.ensures.1 in
+    rw (p.1, p.2)
+    (not_opened_rests g.D.Disk c.open_desk.new.disk (IsBrought c.args.reply.now) (Rose (g.D.Disk.faults c.args.disk.now) (g.D.Disk.faults c.open_desk.new.disk)) (g.D.Disk.content c.args.disk.now) c.args.key.now c.in_err-desk.field-0.0 c.in_err-desk.ensures.refused)
 
 pub returns-clause-told : goal.returns-clause-told
 returns-clause-told g c =
@@ -29,6 +36,15 @@ returns-clause-rests g c =
     (g.met.D.Disk.reads_image c.open_desk.new.disk) o.content o.key o.fits.named
     c.audit-answer.ensures.left.moments c.audit-answer.result told.end told.text.items c.audit-answer.ensures.finds h)
     c.tell.ensures.told
+
+pub returns-clause-others : goal.returns-clause-others
+returns-clause-others g c =
+    let o = c.in_ok-desk.ensures.opened in
+    if_err _ _ _
+    (λ f h. rests_otherwise g.D.Disk c.args.disk.now c.open_desk.new.disk c.audit-answer.new.disk c.in_ok-desk.desk c.args.key.now c.args.reply.now c.args.query c.args.publication
+    (g.met.D.Disk.reads_image c.open_desk.new.disk) o.content o.key o.fits.named
+    c.audit-answer.ensures.left.moments c.audit-answer.result f c.audit-answer.ensures.finds h)
+    c.tell.ensures.refused
 
 pub returns-clause-refused : goal.returns-clause-refused
 returns-clause-refused g c =

@@ -3,7 +3,7 @@
 
 From a map and a method it makes leaves, trees, covers, a header and its signature, by
 docs/FORMATS.md, docs/METHODS.md and RFC 8554, with struct and hashlib alone, and compares each
-answer with the constant of that name in crates/road_tests/src/signed_answers.rt. With NAME it prints
+answer with the constant of that name in crates/audit_tests/src/signed_answers.rt. With NAME it prints
 that one in hex. The key of height 5 has the secret of 48 zeros, and each header a one-time key of its own.
 """
 import hashlib
@@ -267,7 +267,7 @@ def main():
         print(arrays[sys.argv[1]].hex())
         return
     here = os.path.dirname(os.path.abspath(__file__))
-    tested = in_tests(os.path.join(here, "../../crates/road_tests/src/signed_answers.rt"))
+    tested = in_tests(os.path.join(here, "../../crates/audit_tests/src/signed_answers.rt"))
     for name in sorted(arrays.keys() | tested.keys()):
         same = arrays.get(name) == tested.get(name)
         print("the same" if same else "DIFFERS", name, len(arrays.get(name, b"")))

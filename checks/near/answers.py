@@ -91,7 +91,7 @@ def compare_tests(key):
         same = arrays.get(name) == tested.get(name)
         print("the same" if same else "DIFFERS", name, len(arrays.get(name, b"")))
         lacking += not same
-    with open(os.path.join(HERE, "../../crates/near_server/src/tests.rt"), encoding="utf-8") as file:
+    with open(os.path.join(HERE, "../../crates/road_tests/src/reach.rt"), encoding="utf-8") as file:
         tests = file.read()
     for method in cases.METHODS:
         for order in cases.ORDERS:

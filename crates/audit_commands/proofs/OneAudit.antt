@@ -15,7 +15,7 @@ use Rattle.proof_octets.specs.Replies as formats
 use Rattle.route_client.specs.declared.accepted.Accepted.{Accepted}
 use Rattle.route_client.specs.declared.errors.CheckError.{CheckError}
 use Rattle.route_client.specs.Verdicts.{IsVerdict, Accepts}
-use Rattle.road_io.specs.Contents.{Shelf}
+use Rattle.road_io.specs.Contents.{Folder}
 use Rattle.command_files.specs.Reading.{octets_at, publication_at}
 use Rattle.command_files.specs.HexFiles.{public_key_at}
 use Rattle.command_files.specs.Endings.{Ending, EndsReading}
@@ -27,7 +27,7 @@ use Rattle.command_books.proofs.OneBuilding.{OneMaking, one_installing}
 use Rattle.client_commands.proofs.OneCheck.{OneVerdict}
 use Rattle.audit_commands.specs.Auditing.{EndsOwnersKey, EndsClient, EndsSigned, EndsSameHeader, EndsComparing, EndsAudit, ends_audit}
 use Rattle.command_files.specs.declared.fault.Fault.{Fault}
-use Rattle.command_files.specs.declared.ended.Verdict.{Verdict}
+use Rattle.command_files.specs.declared.ended.Conclusion.{Conclusion}
 
 -- what is accepted has that verdict
 abbrev pub AcceptanceIsVerdict : Type 0
@@ -53,7 +53,7 @@ module _ (one : OneVerdict) (verdict : AcceptanceIsVerdict) (key octets : List �
   pub not_refused : (x : Accepted) (e : CheckError) → Accepts sha256 key octets q least x → IsVerdict sha256 key octets q least (Err e) → ⊥
   not_refused x e a v = differ x e (one sha256 key octets q least (Ok x) (Err e) (verdict sha256 key octets q least x a) v)
 
-module _ (o e : Result Verdict Fault) (s t : List ℕ) where
+module _ (o e : Result Conclusion Fault) (s t : List ℕ) where
   pub one_owner : (content key : List ℕ) (Next : Ending) → (Next o s → Next e t → o ≡ e) → EndsOwnersKey (Some content) key Next o s → EndsOwnersKey (Some content) key Next e t → o ≡ e
   one_owner content key Next one (inl a) (inl b) = a.0 ∙ sym b.0
   one_owner content key Next one (inl a) (inr b) = absurd (a.1 content refl (b.0 content refl))
@@ -88,21 +88,21 @@ module _ (o e : Result Verdict Fault) (s t : List ℕ) where
   one_comparing p q x a (inr h) (inr k) = h.0 ∙ sym k.0
 
 -- over what a disk holds, an audit has one end
-one_audit : OneMaking → OneVerdict → AcceptanceIsVerdict → (content key : List ℕ) (b : Publication) (octets : List ℕ) (q : Query) (o e : Result Verdict Fault) (s t : List ℕ)
+one_audit : OneMaking → OneVerdict → AcceptanceIsVerdict → (content key : List ℕ) (b : Publication) (octets : List ℕ) (q : Query) (o e : Result Conclusion Fault) (s t : List ℕ)
     → EndsAudit (Some content) key b octets q o s → EndsAudit (Some content) key b octets q e t → o ≡ e
 one_audit makings one verdict content key b octets q o e s t =
     one_opening content Owner o e s t (one_owner o e s t content key Client (one_client o e s t one verdict key octets q Install install))
   where
-    Compare : Accepted → answers.Answer → Result Verdict Fault → List ℕ → Type 0
+    Compare : Accepted → answers.Answer → Result Conclusion Fault → List ℕ → Type 0
     Compare x a = EndsComparing b q x a
 
-    Install : Accepted → answers.Answer → Result Verdict Fault → List ℕ → Type 0
+    Install : Accepted → answers.Answer → Result Conclusion Fault → List ℕ → Type 0
     Install x a = EndsInstalling b (EndsSigned (Some content) key a.header a.signature (EndsSameHeader b a.header (EndsComparing b q x a)))
 
-    Client : Result Verdict Fault → List ℕ → Type 0
+    Client : Result Conclusion Fault → List ℕ → Type 0
     Client = EndsClient key octets q Install
 
-    Owner : Result Verdict Fault → List ℕ → Type 0
+    Owner : Result Conclusion Fault → List ℕ → Type 0
     Owner = EndsOwnersKey (Some content) key Client
 
     install : (x : Accepted) (a : answers.Answer) → Install x a o s → Install x a e t → o ≡ e
@@ -111,8 +111,8 @@ one_audit makings one verdict content key b octets q o e s t =
         (one_signed o e s t content key a.header a.signature (EndsSameHeader b a.header (EndsComparing b q x a)) (one_same o e s t b a.header (EndsComparing b q x a) (one_comparing o e s t b q x a)))
 
 -- and so over its files
-pub only_audit : OneMaking → OneVerdict → AcceptanceIsVerdict → (content key publication reply : List ℕ) (q : Query) (shelf : Shelf) → HasOneEnd (ends_audit (Some content) key publication reply q shelf)
-only_audit makings one verdict content key publication reply q shelf =
-    one_reading (public_key_at shelf key) (λ k. EndsReading (publication_at shelf publication) (λ p. EndsReading (octets_at shelf reply) (λ octets. EndsAudit (Some content) k p octets q)))
-    (λ k. one_reading (publication_at shelf publication) (λ p. EndsReading (octets_at shelf reply) (λ octets. EndsAudit (Some content) k p octets q))
-    (λ p. one_reading (octets_at shelf reply) (λ octets. EndsAudit (Some content) k p octets q) (λ octets. one_audit makings one verdict content k p octets q)))
+pub only_audit : OneMaking → OneVerdict → AcceptanceIsVerdict → (content key publication reply : List ℕ) (q : Query) (folder : Folder) → HasOneEnd (ends_audit (Some content) key publication reply q folder)
+only_audit makings one verdict content key publication reply q folder =
+    one_reading (public_key_at folder key) (λ k. EndsReading (publication_at folder publication) (λ p. EndsReading (octets_at folder reply) (λ octets. EndsAudit (Some content) k p octets q)))
+    (λ k. one_reading (publication_at folder publication) (λ p. EndsReading (octets_at folder reply) (λ octets. EndsAudit (Some content) k p octets q))
+    (λ p. one_reading (octets_at folder reply) (λ octets. EndsAudit (Some content) k p octets q) (λ octets. one_audit makings one verdict content k p octets q)))

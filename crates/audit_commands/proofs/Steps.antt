@@ -8,9 +8,10 @@ use Rattle.std.specs.Option.{ForSome}
 use Rattle.road_io.specs.declared.disk.Disk.{Ghosts}
 use Rattle.road_io.specs.Disk.{Stays}
 use Rattle.road_io.specs.Moments.{Image, EachImage, AtEachMoment}
-use Rattle.road_io.specs.Contents.{Shelf}
+use Rattle.road_io.specs.Contents.{Folder}
 use Rattle.lms_tree.specs.Signatures.{public_key}
-use Rattle.key_desk.specs.Layout.{SlotId, IsSigned}
+use Rattle.desk_areas.specs.Layout.{SlotId, IsSigned}
+use Rattle.key_desk.specs.Desk.{IsSound}
 use Rattle.key_desk.specs.declared.desk.Desk.{Desk}
 use Rattle.command_files.specs.Reading.{octets_at, IsOfFiles}
 use Rattle.command_files.specs.HexFiles.{public_key_at}
@@ -19,17 +20,17 @@ use Rattle.std.proofs.lemmas.List.{append-nil}
 use Rattle.command_files.specs.Endings.{Writes, MayEnd, TellsNone}
 use Rattle.command_files.specs.declared.fault.Fault.{Fault}
 use Rattle.command_files.specs.declared.fault.Fault.TheVariants.{Sink, OtherPublication}
-use Rattle.command_files.specs.declared.ended.Verdict.{Verdict}
-use Rattle.command_desks.specs.Opening.{IsKeyOn, HasBlock}
-use Rattle.command_desks.proofs.Openings.{same_owner}
+use Rattle.command_files.specs.declared.ended.Conclusion.{Conclusion}
+use Rattle.command_desks.specs.Opening.{IsKeyOn, HasBlocks}
+use Rattle.command_desks.proofs.Openings.{key_on, same_owner}
 use Rattle.audit_commands.specs.Auditing.{IsOwnersKey}
 use Rattle.audit_commands.specs.Headline.{RestsOn, WritesFindings}
 
 -- ---- the desk's key
 
-module _ (content : Option (List ℕ)) (desk : Desk) (key : List ℕ) (block : HasBlock content desk.key) (named : length desk.key.i ≡ 16) where
+module _ (content : Option (List ℕ)) (desk : Desk) (key : List ℕ) (blocks : HasBlocks content desk) (sound : IsSound desk) where
   on_disk : (c : List ℕ) → content ≡ Some c → IsKeyOn c desk.key
-  on_disk c is = record { kind = (block c is).1; secret = (block c is).2; named = named }
+  on_disk c is = key_on desk c sound (blocks c is).1
 
   pub own : key ≡ public_key desk.key → ForSome content (λ c. IsOwnersKey c key)
   own e c is = record { owner = desk.key; on_disk = on_disk c is; is = e }
@@ -64,13 +65,13 @@ if_err (Err e) P Q f h = f e h
 -- ---- the files
 
 -- what a library tells later it tells before
-pub moved : (files later : Option Shelf) (P : Shelf → Type 0) → later ≡ files → IfSome later P → IfSome files P
-moved files later P same h = subst (λ (f : Option Shelf). IfSome f P) same h
+pub moved : (files later : Option Folder) (P : Folder → Type 0) → later ≡ files → IfSome later P → IfSome files P
+moved files later P same h = subst (λ (f : Option Folder). IfSome f P) same h
 
 -- the octets of a reply, as they are read again
-pub reply_as : (files mid later : Option Shelf) (name a b : List ℕ) → later ≡ mid → mid ≡ files → a ≡ b → IfSome later (λ shelf. octets_at shelf name ≡ Ok b) → IfSome files (λ shelf. octets_at shelf name ≡ Ok a)
+pub reply_as : (files mid later : Option Folder) (name a b : List ℕ) → later ≡ mid → mid ≡ files → a ≡ b → IfSome later (λ folder. octets_at folder name ≡ Ok b) → IfSome files (λ folder. octets_at folder name ≡ Ok a)
 reply_as files mid later name a b first second same h =
-    subst (λ (f : Option Shelf). IfSome f (λ shelf. octets_at shelf name ≡ Ok a)) (first ∙ second) (subst (λ xs. IfSome later (λ shelf. octets_at shelf name ≡ Ok xs)) (sym same) h)
+    subst (λ (f : Option Folder). IfSome f (λ folder. octets_at folder name ≡ Ok a)) (first ∙ second) (subst (λ xs. IfSome later (λ folder. octets_at folder name ≡ Ok xs)) (sym same) h)
 
 -- nothing that is appended is nothing that is written
 appends_none : (old : Option (List ℕ)) → Appends old old []
@@ -82,10 +83,10 @@ abbrev pub RestsOnNone : Fault → Type 0
 RestsOnNone OtherPublication = ⊥
 RestsOnNone fault = Unit {0}
 
-pub nothing_found : {D : Type 0} (g : Ghosts D) (disk : D) (Brings : List ℕ → List ℕ → List ℕ → Type 0) (key_name reply_name : List ℕ) (files : Option Shelf) (old new : Option (List ℕ)) (f : Fault) → RestsOnNone f → WritesFindings g disk Brings key_name reply_name files old new (Err f)
+pub nothing_found : {D : Type 0} (g : Ghosts D) (disk : D) (Brings : List ℕ → List ℕ → List ℕ → Type 0) (key_name reply_name : List ℕ) (files : Option Folder) (old new : Option (List ℕ)) (f : Fault) → RestsOnNone f → WritesFindings g disk Brings key_name reply_name files old new (Err f)
 nothing_found g disk Brings key_name reply_name None old new f none = tt
-nothing_found g disk Brings key_name reply_name (Some shelf) old new OtherPublication none = absurd none
-nothing_found g disk Brings key_name reply_name (Some shelf) old new f none = tt
+nothing_found g disk Brings key_name reply_name (Some folder) old new OtherPublication none = absurd none
+nothing_found g disk Brings key_name reply_name (Some folder) old new f none = tt
 
 -- a fault of a file that was loaded is such an end
 pub files_rest_on_none : (f : Fault) → IsOfFiles f → RestsOnNone f
@@ -93,25 +94,25 @@ files_rest_on_none OtherPublication h = absurd h
 files_rest_on_none f h = tt
 
 -- what the line rests on
-module _ (files : Option Shelf) (key_name reply_name key octets : List ℕ)
-    (key_read : IfSome files (λ shelf. public_key_at shelf key_name ≡ Ok key)) (reply_read : IfSome files (λ shelf. octets_at shelf reply_name ≡ Ok octets)) where
-  pub found : {D : Type 0} (g : Ghosts D) (disk : D) (Brings : List ℕ → List ℕ → List ℕ → Type 0) (old new : Option (List ℕ)) (k k' : ℕ) (end o : Result Verdict Fault) (t : List ℕ) → RestsOn g disk (Brings octets) key end t → MayEnd TellsNone end → Writes end t old new k k' o
+module _ (files : Option Folder) (key_name reply_name key octets : List ℕ)
+    (key_read : IfSome files (λ folder. public_key_at folder key_name ≡ Ok key)) (reply_read : IfSome files (λ folder. octets_at folder reply_name ≡ Ok octets)) where
+  pub found : {D : Type 0} (g : Ghosts D) (disk : D) (Brings : List ℕ → List ℕ → List ℕ → Type 0) (old new : Option (List ℕ)) (k k' : ℕ) (end o : Result Conclusion Fault) (t : List ℕ) → RestsOn g disk (Brings octets) key end t → MayEnd TellsNone end → Writes end t old new k k' o
       → WritesFindings g disk Brings key_name reply_name files old new o
-  found g disk Brings old new k k' end o t rests may (inr w) = subst (λ (x : Result Verdict Fault). WritesFindings g disk Brings key_name reply_name files old new x) (sym w.0) (nothing_found g disk Brings key_name reply_name files old new Sink tt)
-  found g disk Brings old new k k' end o t rests may (inl w) = subst (λ (x : Result Verdict Fault). WritesFindings g disk Brings key_name reply_name files old new x) (sym w.0) (by end may rests files key_read reply_read)
+  found g disk Brings old new k k' end o t rests may (inr w) = subst (λ (x : Result Conclusion Fault). WritesFindings g disk Brings key_name reply_name files old new x) (sym w.0) (nothing_found g disk Brings key_name reply_name files old new Sink tt)
+  found g disk Brings old new k k' end o t rests may (inl w) = subst (λ (x : Result Conclusion Fault). WritesFindings g disk Brings key_name reply_name files old new x) (sym w.0) (by end may rests files key_read reply_read)
     where
-      by : (end : Result Verdict Fault) → MayEnd TellsNone end → RestsOn g disk (Brings octets) key end t → (files : Option Shelf) → IfSome files (λ shelf. public_key_at shelf key_name ≡ Ok key) → IfSome files (λ shelf. octets_at shelf reply_name ≡ Ok octets)
+      by : (end : Result Conclusion Fault) → MayEnd TellsNone end → RestsOn g disk (Brings octets) key end t → (files : Option Folder) → IfSome files (λ folder. public_key_at folder key_name ≡ Ok key) → IfSome files (λ folder. octets_at folder reply_name ≡ Ok octets)
           → WritesFindings g disk Brings key_name reply_name files old new end
       by end may rests None a c = tt
-      by (Err OtherPublication) may rests (Some shelf) a c = absurd may
-      by (Err e) may rests (Some shelf) a c = tt
-      by (Ok v) may rests (Some shelf) a c = record { key = key; octets = octets; text = t; key_read = a; reply_read = c; written = w.1; rests = rests }
+      by (Err OtherPublication) may rests (Some folder) a c = absurd may
+      by (Err e) may rests (Some folder) a c = tt
+      by (Ok v) may rests (Some folder) a c = record { key = key; octets = octets; text = t; key_read = a; reply_read = c; written = w.1; rests = rests }
 
   pub found_other : {D : Type 0} (g : Ghosts D) (disk : D) (Brings : List ℕ → List ℕ → List ℕ → Type 0) (old : Option (List ℕ)) (f : Fault) → RestsOn g disk (Brings octets) key (Err f) [] → WritesFindings g disk Brings key_name reply_name files old old (Err f)
   found_other g disk Brings old f rests = by f rests files key_read reply_read
     where
-      by : (f : Fault) → RestsOn g disk (Brings octets) key (Err f) [] → (files : Option Shelf) → IfSome files (λ shelf. public_key_at shelf key_name ≡ Ok key) → IfSome files (λ shelf. octets_at shelf reply_name ≡ Ok octets)
+      by : (f : Fault) → RestsOn g disk (Brings octets) key (Err f) [] → (files : Option Folder) → IfSome files (λ folder. public_key_at folder key_name ≡ Ok key) → IfSome files (λ folder. octets_at folder reply_name ≡ Ok octets)
           → WritesFindings g disk Brings key_name reply_name files old old (Err f)
       by f rests None a c = tt
-      by OtherPublication rests (Some shelf) a c = record { key = key; octets = octets; text = []; key_read = a; reply_read = c; written = appends_none old; rests = rests }
-      by f rests (Some shelf) a c = tt
+      by OtherPublication rests (Some folder) a c = record { key = key; octets = octets; text = []; key_read = a; reply_read = c; written = appends_none old; rests = rests }
+      by f rests (Some folder) a c = tt

@@ -11,7 +11,7 @@ ghost use Rattle.audit_commands.specs.Headline.{IsBrought, RestsOn, WritesFindin
 use book_model::Query;
 use command_books::not_built;
 use command_desks::open_desk;
-use command_files::{Fault, Told, Verdict, load_file, load_hex, load_publication, write_told};
+use command_files::{Conclusion, Fault, Told, load_file, load_hex, load_publication, write_told};
 use octet_text::{NoMemory, Sha};
 use proof_octets::Publication;
 use road_io::{Disk, Library, Sink};
@@ -31,11 +31,12 @@ pub fn audit<L: Library, K: Sink, D: Disk>(
     publication: &str,
     reply: &str,
     query: Query,
-) -> Result<Verdict, Fault>
+) -> Result<Conclusion, Fault>
     ensures promised { Promises (ends_audit (D.content disk.old) key.now publication.now reply.now query) TellsNone (Rose (D.faults disk.old) (D.faults disk.new))
         (L.files library.old) (L.faults library.old) (L.faults library.new)
         (K.taken sink.old) (K.taken sink.new) (K.faults sink.old) (K.faults sink.new) result }
-    ensures finds { WritesFindings D.Disk disk.new IsBrought key.now reply.now (L.files library.old) (K.taken sink.old) (K.taken sink.new) result }
+    ensures finds { WritesFindings D.Disk disk.new IsBrought key.now reply.now (L.files library.old)
+        (K.taken sink.old) (K.taken sink.new) result }
     ensures headline { AuditsAccepted D.Disk (D.content disk.old) disk.new key.now publication.now reply.now query
         (L.files library.old) (K.taken sink.old) (K.taken sink.new) result }
     ensures stays { AtEachMoment D.Disk disk.old disk.new Stays }
@@ -55,11 +56,12 @@ fn write_findings<L: Library, K: Sink, D: Disk>(
     publication: &str,
     reply: &str,
     query: Query,
-) -> Result<Verdict, Fault>
+) -> Result<Conclusion, Fault>
     ensures promised { Promises (ends_audit (D.content disk.old) key.now publication.now reply.now query) TellsNone (Rose (D.faults disk.old) (D.faults disk.new))
         (L.files library.old) (L.faults library.old) (L.faults library.new)
         (K.taken sink.old) (K.taken sink.new) (K.faults sink.old) (K.faults sink.new) result }
-    ensures finds { WritesFindings D.Disk disk.new IsBrought key.now reply.now (L.files library.old) (K.taken sink.old) (K.taken sink.new) result }
+    ensures finds { WritesFindings D.Disk disk.new IsBrought key.now reply.now (L.files library.old)
+        (K.taken sink.old) (K.taken sink.new) result }
     ensures stays { AtEachMoment D.Disk disk.old disk.new Stays }
 {
     let key: [u8; 56] = load_hex(alloc, library, key)?;
@@ -79,11 +81,17 @@ fn find<D: Disk>(
     query: Query,
 ) -> Result<Told, Fault>
     requires { length reply.now < 2 ^ 32 }
-    ensures told { IfOk result (λ told. EndsAudit (D.content disk.old) key.now publication reply.now query told.end told.text.items) }
+    ensures told { IfOk result (λ told.
+        EndsAudit (D.content disk.old) key.now publication reply.now query told.end
+        told.text.items) }
     ensures verdict { IfOk result (λ told. MayEnd TellsNone told.end) }
-    ensures rests { IfOk result (λ told. RestsOn D.Disk disk.new (IsBrought reply.now) key.now told.end told.text.items) }
-    ensures others { IfErr result (λ fault. RestsOn D.Disk disk.new (IsBrought reply.now) key.now (Err fault) []) }
-    ensures refused { IfErr result (WhyNot (Rose (D.faults disk.old) (D.faults disk.new)) (EndsAudit (D.content disk.old) key.now publication reply.now query)) }
+    ensures rests { IfOk result (λ told.
+        RestsOn D.Disk disk.new (IsBrought reply.now) key.now told.end told.text.items) }
+    ensures others { IfErr result (λ fault.
+        RestsOn D.Disk disk.new (IsBrought reply.now) key.now (Err fault) []) }
+    ensures refused { IfErr result
+        (WhyNot (Rose (D.faults disk.old) (D.faults disk.new))
+        (EndsAudit (D.content disk.old) key.now publication reply.now query)) }
     ensures stays { AtEachMoment D.Disk disk.old disk.new Stays }
 {
     let mut desk = open_desk(alloc, disk)?;
@@ -123,26 +131,27 @@ pub fn line_of(alloc: Global, finding: &Finding) -> Result<Told, NoMemory>
     match finding {
         Finding::Right => Ok(Told {
             text: line_of_right(alloc)?,
-            end: Ok(Verdict::Done),
+            end: Ok(Conclusion::Done),
         }),
         Finding::Collision(two) => Ok(Told {
             text: line_of_collision(alloc, two.left.as_slice(), two.right.as_slice())?,
-            end: Ok(Verdict::Evidence),
+            end: Ok(Conclusion::Evidence),
         }),
         Finding::Forged { header, signature } => Ok(Told {
             text: line_of_forged(alloc, header, signature.as_slice())?,
-            end: Ok(Verdict::Evidence),
+            end: Ok(Conclusion::Evidence),
         }),
     }
 }
 
 /// The line of a refused reply.
 fn refusal(alloc: Global, why: CheckError) -> Result<Told, NoMemory>
-    ensures told { IfOk result (λ told. Tells (Err (AuditError.Refused why)) told.end told.text.items) }
+    ensures told { IfOk result (λ told.
+        Tells (Err (AuditError.Refused why)) told.end told.text.items) }
     ensures verdict { IfOk result (λ told. MayEnd TellsNone told.end) }
 {
     Ok(Told {
         text: line_of_refused(alloc, why)?,
-        end: Ok(Verdict::Refused),
+        end: Ok(Conclusion::Refused),
     })
 }

@@ -3,7 +3,7 @@ use Rattle.std.proofs.Common.{◌≡◌, List, ℕ, refl}
 use Rattle.std.specs.declared.result.Result.{Result}
 use Rattle.std.specs.declared.result.Result.TheVariants.{Ok, Err}
 use Rattle.sha2.specs.Sha256.{sha256}
-use Rattle.road_io.specs.Contents.{Shelf}
+use Rattle.road_io.specs.Contents.{Folder}
 use Rattle.book_model.specs.declared.items.Query.{Query}
 use Rattle.route_client.specs.declared.accepted.Accepted.{Accepted}
 use Rattle.route_client.specs.declared.errors.CheckError.{CheckError}
@@ -13,8 +13,8 @@ use Rattle.command_files.specs.HexFiles.{public_key_at}
 use Rattle.command_files.specs.Endings.{EndsReading}
 use Rattle.command_files.specs.Exact.{HasOneEnd}
 use Rattle.command_files.specs.declared.fault.Fault.{Fault}
-use Rattle.command_files.specs.declared.ended.Verdict.{Verdict}
-use Rattle.command_files.specs.declared.ended.Verdict.TheVariants.{Done, Refused}
+use Rattle.command_files.specs.declared.ended.Conclusion.{Conclusion}
+use Rattle.command_files.specs.declared.ended.Conclusion.TheVariants.{Done, Refused}
 use Rattle.command_files.proofs.OneEnd.{one_reading}
 use Rattle.client_commands.specs.Checking.{EndsCheck, ends_check}
 
@@ -27,7 +27,7 @@ differ : (x : Accepted) (e : CheckError) → Ok x ≡ Err e → ⊥
 differ x e is = cc
 
 -- over a key and octets, `check` has one end
-one_check : OneVerdict → (key octets : List ℕ) (q : Query) (least : ℕ) (o e : Result Verdict Fault) (s t : List ℕ) → EndsCheck key octets q least o s → EndsCheck key octets q least e t → o ≡ e
+one_check : OneVerdict → (key octets : List ℕ) (q : Query) (least : ℕ) (o e : Result Conclusion Fault) (s t : List ℕ) → EndsCheck key octets q least o s → EndsCheck key octets q least e t → o ≡ e
 one_check one key octets q least (Ok Done) (Ok Done) s t h k = refl
 one_check one key octets q least (Ok Done) (Ok Refused) s t h k = absurd (differ h.0 k.0 (one sha256 key octets q least (Ok h.0) (Err k.0) h.1 k.2))
 one_check one key octets q least (Ok Done) e s t h k = absurd k
@@ -37,7 +37,7 @@ one_check one key octets q least (Ok Refused) e s t h k = absurd k
 one_check one key octets q least o e s t h k = absurd h
 
 -- and so over its files
-pub only_check : OneVerdict → (key reply : List ℕ) (q : Query) (least : ℕ) (shelf : Shelf) → HasOneEnd (ends_check key reply q least shelf)
-only_check one key reply q least shelf =
-    one_reading (public_key_at shelf key) (λ k. EndsReading (octets_at shelf reply) (λ octets. EndsCheck k octets q least))
-    (λ k. one_reading (octets_at shelf reply) (λ octets. EndsCheck k octets q least) (λ octets. one_check one k octets q least))
+pub only_check : OneVerdict → (key reply : List ℕ) (q : Query) (least : ℕ) (folder : Folder) → HasOneEnd (ends_check key reply q least folder)
+only_check one key reply q least folder =
+    one_reading (public_key_at folder key) (λ k. EndsReading (octets_at folder reply) (λ octets. EndsCheck k octets q least))
+    (λ k. one_reading (octets_at folder reply) (λ octets. EndsCheck k octets q least) (λ octets. one_check one k octets q least))

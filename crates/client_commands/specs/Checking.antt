@@ -1,6 +1,6 @@
 -- What `check` writes.
 use Rattle.std.specs.Prelude.{◌≡◌, ◌≢◌, ℕ, List}
-use Rattle.road_io.specs.Contents.{Shelf}
+use Rattle.road_io.specs.Contents.{Folder}
 use Rattle.std.specs.declared.result.Result.{Result}
 use Rattle.std.specs.declared.result.Result.TheVariants.{Ok, Err}
 use Rattle.sha2.specs.Sha256.{sha256}
@@ -14,16 +14,19 @@ use Rattle.command_files.specs.Reading.{octets_at}
 use Rattle.command_files.specs.HexFiles.{public_key_at}
 use Rattle.command_files.specs.Endings.{Ending, EndsReading}
 use Rattle.command_files.specs.declared.fault.Fault.{Fault}
-use Rattle.command_files.specs.declared.ended.Verdict.{Verdict}
-use Rattle.command_files.specs.declared.ended.Verdict.TheVariants.{Done, Refused}
+use Rattle.command_files.specs.declared.ended.Conclusion.{Conclusion}
+use Rattle.command_files.specs.declared.ended.Conclusion.TheVariants.{Done, Refused}
 
 -- `check` over a public key and the octets of a reply: the line of the client's verdict
 abbrev pub EndsCheck : List ℕ → List ℕ → Query → ℕ → Ending
-EndsCheck key octets q least (Ok Done) text = (x : Accepted) × IsVerdict sha256 key octets q least (Ok x) × (text ≡ accepted_line x.length x.route)
-EndsCheck key octets q least (Ok Refused) text = (e : CheckError) × (e ≢ errors.Memory) × IsVerdict sha256 key octets q least (Err e) × (text ≡ refused_line e)
+EndsCheck key octets q least (Ok Done) text = (x : Accepted) ×
+    IsVerdict sha256 key octets q least (Ok x) × (text ≡ accepted_line x.length x.route)
+EndsCheck key octets q least (Ok Refused) text = (e : CheckError) × (e ≢ errors.Memory) ×
+    IsVerdict sha256 key octets q least (Err e) × (text ≡ refused_line e)
 EndsCheck key octets q least outcome text = ⊥
 
 -- the same over the files of these names
-abbrev pub ends_check : List ℕ → List ℕ → Query → ℕ → Shelf → Ending
-ends_check key reply q least shelf =
-    EndsReading (public_key_at shelf key) (λ k. EndsReading (octets_at shelf reply) (λ octets. EndsCheck k octets q least))
+abbrev pub ends_check : List ℕ → List ℕ → Query → ℕ → Folder → Ending
+ends_check key reply q least folder =
+    EndsReading (public_key_at folder key)
+    (λ k. EndsReading (octets_at folder reply) (λ octets. EndsCheck k octets q least))

@@ -5,7 +5,7 @@ ghost use Rattle.command_files.specs.Endings.{Promises, TellsNone, NoDisk};
 ghost use Rattle.client_commands.specs.Checking.{EndsCheck, ends_check};
 
 use book_model::Query;
-use command_files::{Fault, Told, Verdict, load_file, load_hex, write_told};
+use command_files::{Conclusion, Fault, Told, load_file, load_hex, write_told};
 use octet_text::{NoMemory, Sha};
 use road_io::{Library, Sink};
 use road_line::{line_of_accepted, line_of_refused};
@@ -21,7 +21,7 @@ pub fn check<L: Library, K: Sink>(
     reply: &str,
     query: Query,
     least: u64,
-) -> Result<Verdict, Fault>
+) -> Result<Conclusion, Fault>
     ensures { Promises (ends_check key.now reply.now query least) TellsNone NoDisk
         (L.files library.old) (L.faults library.old) (L.faults library.new)
         (K.taken sink.old) (K.taken sink.new) (K.faults sink.old) (K.faults sink.new) result }
@@ -43,17 +43,18 @@ fn verdict_on(
     least: u64,
 ) -> Result<Told, NoMemory>
     requires { length reply.now < 2 ^ 32 }
-    ensures { IfOk result (λ told. EndsCheck key.now reply.now query least told.end told.text.items) }
+    ensures { IfOk result (λ told.
+        EndsCheck key.now reply.now query least told.end told.text.items) }
 {
     match check_reply::<Sha>(alloc, key, reply, query, least) {
         Ok(accepted) => Ok(Told {
             text: line_of_accepted(alloc, accepted.length, accepted.route.as_slice())?,
-            end: Ok(Verdict::Done),
+            end: Ok(Conclusion::Done),
         }),
         Err(CheckError::Memory) => Err(NoMemory),
         Err(refusal) => Ok(Told {
             text: line_of_refused(alloc, refusal)?,
-            end: Ok(Verdict::Refused),
+            end: Ok(Conclusion::Refused),
         }),
     }
 }

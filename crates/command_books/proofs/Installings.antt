@@ -13,7 +13,7 @@ use Rattle.route_server.specs.declared.errors.BuildError.TheVariants as build
 use Rattle.command_files.specs.Endings.{Ending, WhyNot, NoEnd}
 use Rattle.command_files.specs.declared.fault.Fault.{Fault}
 use Rattle.command_files.specs.declared.fault.Fault.TheVariants.{HeaderWrong}
-use Rattle.command_files.specs.declared.ended.Verdict.{Verdict}
+use Rattle.command_files.specs.declared.ended.Conclusion.{Conclusion}
 use Rattle.command_books.specs.Installing.{fault_of_build, AfterBuild, EndsBuilding, IfInstalled, EndsInstalling, IsInstallable}
 
 -- parts and settings have no header
@@ -27,11 +27,11 @@ pub wrong_header : (p : Publication) (Next : Ending) (h : Header) → HasHeader 
 wrong_header p Next h has other = record { made = Ok h; makes = has; follows = inr (other, refl, refl) }
 
 -- behind an installing
-pub installed : (p : Publication) (Next : Ending) (o : Result Verdict Fault) (text : List ℕ) → IsInstallable p → Next o text → EndsInstalling p Next o text
+pub installed : (p : Publication) (Next : Ending) (o : Result Conclusion Fault) (text : List ℕ) → IsInstallable p → Next o text → EndsInstalling p Next o text
 installed p Next o text is h = record { made = Ok p.header; makes = is; follows = inl (refl, h) }
 
 -- what is not installed ends a command, whatever follows
-pub not_installed : (p : Publication) (Next : Ending) (o : Result Verdict Fault) (text : List ℕ) → EndsInstalling p NoEnd o text → EndsInstalling p Next o text
+pub not_installed : (p : Publication) (Next : Ending) (o : Result Conclusion Fault) (text : List ℕ) → EndsInstalling p NoEnd o text → EndsInstalling p Next o text
 not_installed p Next o text h = record { made = h.made; makes = h.makes; follows = after h.made h.follows }
   where
     after : (m : Result Header BuildError) → AfterBuild (IfInstalled p NoEnd) m o text → AfterBuild (IfInstalled p Next) m o text

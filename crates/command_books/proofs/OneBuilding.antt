@@ -13,7 +13,7 @@ use Rattle.route_server.specs.declared.errors.BuildError.TheVariants as build
 use Rattle.command_books.specs.Installing.{AfterBuild, EndsBuilding, IfInstalled, EndsInstalling}
 use Rattle.command_files.specs.Endings.{Ending}
 use Rattle.command_files.specs.declared.fault.Fault.{Fault}
-use Rattle.command_files.specs.declared.ended.Verdict.{Verdict}
+use Rattle.command_files.specs.declared.ended.Conclusion.{Conclusion}
 
 -- parts and settings make one thing at most
 abbrev pub OneMaking : Type 0
@@ -21,7 +21,7 @@ OneMaking = (hash sha : List ℕ → List ℕ) (parts : Parts) (s : Settings) (o
     → Makes hash sha parts s one → Makes hash sha parts s other → one ≢ Err build.Memory → other ≢ Err build.Memory → one ≡ other
 
 -- what follows is one
-module _ (Next : Header → Ending) (o p : Result Verdict Fault) (t u : List ℕ) where
+module _ (Next : Header → Ending) (o p : Result Conclusion Fault) (t u : List ℕ) where
   after_one : ((h : Header) → Next h o t → Next h p u → o ≡ p) → (m : Result Header BuildError) → AfterBuild Next m o t → AfterBuild Next m p u → o ≡ p
   after_one one (Ok h) a b = one h a b
   after_one one (Err (build.Map e)) a b = a.0 ∙ sym b.0
@@ -37,7 +37,7 @@ module _ (Next : Header → Ending) (o p : Result Verdict Fault) (t u : List ℕ
       after_one one k.made (subst (λ (m : Result Header BuildError). AfterBuild Next m o t) same h.follows) k.follows
 
 -- so is what follows an installing
-pub one_installing : OneMaking → (b : Publication) (Next : Ending) (o p : Result Verdict Fault) (t u : List ℕ)
+pub one_installing : OneMaking → (b : Publication) (Next : Ending) (o p : Result Conclusion Fault) (t u : List ℕ)
     → (Next o t → Next p u → o ≡ p) → EndsInstalling b Next o t → EndsInstalling b Next p u → o ≡ p
 one_installing makings b Next o p t u one =
     one_building (IfInstalled b Next) o p t u makings b.parts b.settings by

@@ -13,7 +13,7 @@ use Rattle.route_server.specs.declared.errors.BuildError.TheVariants as build
 use Rattle.command_files.specs.Endings.{Ending}
 use Rattle.command_files.specs.declared.fault.Fault.{Fault}
 use Rattle.command_files.specs.declared.fault.Fault.TheVariants.{Map, Plan, HeaderWrong, Memory}
-use Rattle.command_files.specs.declared.ended.Verdict.{Verdict}
+use Rattle.command_files.specs.declared.ended.Conclusion.{Conclusion}
 
 -- why there is no book, as a run says it
 abbrev pub fault_of_build : BuildError → Fault
@@ -27,8 +27,10 @@ AfterBuild Next (Ok h) outcome text = Next h outcome text
 AfterBuild Next (Err build.Memory) outcome text = ⊥
 AfterBuild Next (Err e) outcome text = (outcome ≡ Err (fault_of_build e)) × (text ≡ [])
 
--- parts and settings have a header, and this follows it, or they have none, for the first reason that holds
-pub record EndsBuilding (parts : Parts) (s : Settings) (Next : Header → Ending) (outcome : Result Verdict Fault) (text : List ℕ) : Type 0 where
+-- parts and settings have a header, and this follows it, or they have none, for the first reason
+-- that holds
+pub record EndsBuilding (parts : Parts) (s : Settings) (Next : Header → Ending)
+    (outcome : Result Conclusion Fault) (text : List ℕ) : Type 0 where
   pub made : Result Header BuildError
   pub makes : Makes sha256 sha256 parts s made
   pub follows : AfterBuild Next made outcome text
@@ -36,7 +38,8 @@ pub record EndsBuilding (parts : Parts) (s : Settings) (Next : Header → Ending
 -- the header that was made is the publication's, and this follows, or it is not
 abbrev pub IfInstalled : Publication → Ending → Header → Ending
 IfInstalled p Next h outcome text =
-    ((h ≡ p.header) × Next outcome text) ⊎ ((h ≢ p.header) × (outcome ≡ Err HeaderWrong) × (text ≡ []))
+    ((h ≡ p.header) × Next outcome text) ⊎
+    ((h ≢ p.header) × (outcome ≡ Err HeaderWrong) × (text ≡ []))
 
 -- a publication is installed, and this follows, or the first reason why it is not
 abbrev pub EndsInstalling : Publication → Ending → Ending

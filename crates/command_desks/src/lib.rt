@@ -1,4 +1,4 @@
-//! The owner's desk as commands open it: the key that stands on the disk.
+//! The owner's desk as commands open it: the keys that stand on the disk.
 #![tactic(auto)]
 
 pub use opening::open_desk;

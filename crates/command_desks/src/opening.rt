@@ -13,10 +13,12 @@ use key_desk::{Desk, StartError};
 use road_io::Disk;
 use std::alloc::Global;
 
-/// Opens the desk over the key that the disk holds. It changes no image.
+/// Opens the desk over the keys that the disk holds. It changes no image.
 pub fn open_desk<D: Disk>(alloc: Global, disk: &mut D) -> Result<Desk, Fault>
     ensures opened { IfOk result (IsOpened D.Disk disk.old disk.new) }
-    ensures refused { IfErr result (WhyNot (Rose (D.faults disk.old) (D.faults disk.new)) (EndsOpening (D.content disk.old) NoEnd)) }
+    ensures refused { IfErr result
+        (WhyNot (Rose (D.faults disk.old) (D.faults disk.new))
+        (EndsOpening (D.content disk.old) NoEnd)) }
     ensures faults { D.faults disk.old ≤ D.faults disk.new }
     ensures stays { AtEachMoment D.Disk disk.old disk.new Stays }
     ensures stands { KeepsStanding D.Disk disk.old disk.new }

@@ -6,8 +6,8 @@ use Rattle.std.specs.declared.result.Result.TheVariants.{Ok, Err}
 use Rattle.command_files.specs.Endings.{Ending, EndsReading, Answered}
 use Rattle.command_files.specs.Exact.{IsExact, HasOneEnd}
 use Rattle.command_files.specs.declared.fault.Fault.{Fault}
-use Rattle.command_files.specs.declared.fault.Fault.TheVariants.{TruncatedFrame, FrameTooLong, Library, Source, Sink, Disk, Memory, UnknownNode, NoRoute, TooManyFrames}
-use Rattle.command_files.specs.declared.ended.Verdict.{Verdict}
+use Rattle.command_files.specs.declared.fault.Fault.TheVariants.{TruncatedFrame, FrameTooLong, Library, Source, Sink, Disk, Memory, UnknownNode, NoRoute, TooManyFrames, MirrorLost}
+use Rattle.command_files.specs.declared.ended.Conclusion.{Conclusion}
 
 -- what a file says, or its first fault, makes the one end
 pub one_reading : {X : Type 0} (read : Result X Fault) (E : X → Ending) → ((x : X) → HasOneEnd (E x)) → HasOneEnd (EndsReading read E)
@@ -15,23 +15,24 @@ one_reading (Ok x) E one o p s t h k = one x o p s t h k
 one_reading (Err e) E one o p s t h k = h.0 ∙ sym k.0
 
 -- an answer is exact where no object outside failed
-pub exact_end : (E : Ending) → HasOneEnd E → (old new : Option (List ℕ)) (outcome : Result Verdict Fault) → Answered E old new outcome
-    → (outcome ≡ Err Library → ⊥) → (outcome ≡ Err Sink → ⊥) → (outcome ≡ Err Disk → ⊥) → IsExact E outcome
-exact_end E one old new outcome a library sink disk = by_end (called outcome a library sink disk)
+pub exact_end : (E : Ending) → HasOneEnd E → (old new : Option (List ℕ)) (outcome : Result Conclusion Fault) → Answered E old new outcome
+    → (outcome ≡ Err Library → ⊥) → (outcome ≡ Err Sink → ⊥) → (outcome ≡ Err Disk → ⊥) → (outcome ≡ Err MirrorLost → ⊥) → IsExact E outcome
+exact_end E one old new outcome a library sink disk mirror = by_end (called outcome a library sink disk mirror)
   where
-    called : (o : Result Verdict Fault) → Answered E old new o → (o ≡ Err Library → ⊥) → (o ≡ Err Sink → ⊥) → (o ≡ Err Disk → ⊥) → o ≢ Err Memory → (text : List ℕ) × E o text
-    called (Ok verdict) a l k d m = (a.0, a.1)
-    called (Err Memory) a l k d m = absurd (m refl)
-    called (Err Library) a l k d m = absurd (l refl)
-    called (Err Sink) a l k d m = absurd (k refl)
-    called (Err Disk) a l k d m = absurd (d refl)
-    called (Err (UnknownNode id)) a l k d m = (a.0, a.1)
-    called (Err NoRoute) a l k d m = (a.0, a.1)
-    called (Err TruncatedFrame) a l k d m = (a.0, a.1)
-    called (Err FrameTooLong) a l k d m = (a.0, a.1)
-    called (Err TooManyFrames) a l k d m = (a.0, a.1)
-    called (Err Source) a l k d m = (a.0, a.1)
-    called (Err fault) a l k d m = ([], a)
+    called : (o : Result Conclusion Fault) → Answered E old new o → (o ≡ Err Library → ⊥) → (o ≡ Err Sink → ⊥) → (o ≡ Err Disk → ⊥) → (o ≡ Err MirrorLost → ⊥) → o ≢ Err Memory → (text : List ℕ) × E o text
+    called (Ok verdict) a l k d g m = (a.0, a.1)
+    called (Err Memory) a l k d g m = absurd (m refl)
+    called (Err Library) a l k d g m = absurd (l refl)
+    called (Err Sink) a l k d g m = absurd (k refl)
+    called (Err Disk) a l k d g m = absurd (d refl)
+    called (Err MirrorLost) a l k d g m = absurd (g refl)
+    called (Err (UnknownNode id)) a l k d g m = (a.0, a.1)
+    called (Err NoRoute) a l k d g m = (a.0, a.1)
+    called (Err TruncatedFrame) a l k d g m = (a.0, a.1)
+    called (Err FrameTooLong) a l k d g m = (a.0, a.1)
+    called (Err TooManyFrames) a l k d g m = (a.0, a.1)
+    called (Err Source) a l k d g m = (a.0, a.1)
+    called (Err fault) a l k d g m = ([], a)
 
     by_end : (outcome ≢ Err Memory → (text : List ℕ) × E outcome text) → IsExact E outcome
     by_end end = record {

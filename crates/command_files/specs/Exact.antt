@@ -5,20 +5,23 @@ use Rattle.std.specs.declared.result.Result.TheVariants.{Err}
 use Rattle.road_io.specs.Causes.{Rose}
 use Rattle.command_files.specs.declared.fault.Fault.{Fault}
 use Rattle.command_files.specs.declared.fault.Fault.TheVariants.{Memory}
-use Rattle.command_files.specs.declared.ended.Verdict.{Verdict}
+use Rattle.command_files.specs.declared.ended.Conclusion.{Conclusion}
 use Rattle.command_files.specs.Endings.{Ending}
 
 -- no object outside failed
-pub record NoneFailed (library_before library_now sink_before sink_now disk_before disk_now : ℕ) : Type 0 where
+pub record NoneFailed (library_before library_now sink_before sink_now disk_before disk_now : ℕ) :
+    Type 0 where
   pub library_stays : ¬ Rose library_before library_now
   pub sink_stays : ¬ Rose sink_before sink_now
   pub disk_stays : ¬ Rose disk_before disk_now
 
 -- but for want of memory, the outcome is one that the files call for, and they call for no other
-pub record IsExact (Ends : Ending) (outcome : Result Verdict Fault) : Type 0 where
+pub record IsExact (Ends : Ending) (outcome : Result Conclusion Fault) : Type 0 where
   pub called_for : outcome ≢ Err Memory → (text : List ℕ) × Ends outcome text
-  pub only_one : (other : Result Verdict Fault) (text : List ℕ) → outcome ≢ Err Memory → Ends other text → outcome ≡ other
+  pub only_one : (other : Result Conclusion Fault) (text : List ℕ) → outcome ≢ Err Memory →
+      Ends other text → outcome ≡ other
 
 -- they call for one outcome at most
 abbrev pub HasOneEnd : Ending → Type 0
-HasOneEnd Ends = (one other : Result Verdict Fault) (text other_text : List ℕ) → Ends one text → Ends other other_text → one ≡ other
+HasOneEnd Ends = (one other : Result Conclusion Fault) (text other_text : List ℕ) → Ends one text →
+    Ends other other_text → one ≡ other

@@ -5,13 +5,13 @@ use Rattle.std.specs.declared.option.Option.TheVariants.{None, Some}
 use Rattle.std.specs.declared.result.Result.{Result}
 use Rattle.std.specs.declared.result.Result.TheVariants.{Ok, Err}
 use Rattle.command_files.specs.declared.fault.Fault.{Fault}
-use Rattle.command_files.specs.declared.fault.Fault.TheVariants.{Words, Missing, TooLong, Road, Dimacs, Map, Plan, Malformed, HeaderWrong, BadHex, OtherKey, TruncatedFrame, FrameTooLong, Library, Source, Sink, Disk, KeysUsedUp, Memory, UnknownNode, NoRoute, Held, NoKey, BadBlock, TooManyFrames, OtherPublication}
-use Rattle.command_files.specs.declared.ended.Verdict.{Verdict}
-use Rattle.command_files.specs.declared.ended.Verdict.TheVariants.{Done, Refused, Evidence}
+use Rattle.command_files.specs.declared.fault.Fault.TheVariants.{Words, Missing, TooLong, Road, Dimacs, Map, Plan, Malformed, HeaderWrong, BadHex, OtherKey, TruncatedFrame, FrameTooLong, Library, Source, Sink, Disk, KeysUsedUp, Memory, UnknownNode, NoRoute, Held, NoKey, BadBlock, TooManyKeys, NoSuccession, SameSecret, TooManyFrames, OtherPublication, MirrorLost}
+use Rattle.command_files.specs.declared.ended.Conclusion.{Conclusion}
+use Rattle.command_files.specs.declared.ended.Conclusion.TheVariants.{Done, Refused, Evidence}
 use Rattle.command_files.specs.declared.ended.Ended.{Ended}
 
 -- the status of an outcome
-abbrev pub status_of : Result Verdict Fault → ℕ
+abbrev pub status_of : Result Conclusion Fault → ℕ
 status_of (Ok Done) = 0
 status_of (Ok Refused) = 1
 status_of (Ok Evidence) = 10
@@ -39,17 +39,21 @@ status_of (Err NoRoute) = 11
 status_of (Err Held) = 12
 status_of (Err NoKey) = 12
 status_of (Err BadBlock) = 12
+status_of (Err TooManyKeys) = 12
+status_of (Err NoSuccession) = 12
+status_of (Err SameSecret) = 12
 status_of (Err TooManyFrames) = 13
 status_of (Err OtherPublication) = 14
+status_of (Err MirrorLost) = 15
 
 -- the verdict that a status tells where there is no fault
-abbrev pub verdict_of : ℕ → Verdict
+abbrev pub verdict_of : ℕ → Conclusion
 verdict_of status = if status == 1 then Refused else if status == 10 then Evidence else Done
 
-abbrev pub outcome_by : ℕ → Option Fault → Result Verdict Fault
+abbrev pub outcome_by : ℕ → Option Fault → Result Conclusion Fault
 outcome_by status (Some fault) = Err fault
 outcome_by status None = Ok (verdict_of status)
 
 -- the outcome that an end tells
-abbrev pub outcome_of : Ended → Result Verdict Fault
+abbrev pub outcome_of : Ended → Result Conclusion Fault
 outcome_of ended = outcome_by ended.status ended.fault

@@ -5,7 +5,7 @@ use Rattle.std.specs.declared.option.Option.TheVariants.{None, Some}
 use Rattle.std.specs.declared.result.Result.{Result}
 use Rattle.std.specs.declared.result.Result.TheVariants.{Ok, Err}
 use Rattle.road_io.specs.Causes.{Rose}
-use Rattle.road_io.specs.Contents.{Shelf}
+use Rattle.road_io.specs.Contents.{Folder}
 use Rattle.octet_text.specs.Format.{whole}
 use Rattle.proof_octets.specs.declared.publication.Publication.{Publication}
 use Rattle.proof_octets.specs.Publications.{publication}
@@ -26,8 +26,8 @@ octets_in None = Err Missing
 octets_in (Some octets) = if nat_lt 268435456 (length octets) then Err TooLong else Ok octets
 
 -- the octets of the file of this name
-abbrev pub octets_at : Shelf → List ℕ → Result (List ℕ) Fault
-octets_at shelf name = octets_in (shelf name)
+abbrev pub octets_at : Folder → List ℕ → Result (List ℕ) Fault
+octets_at folder name = octets_in (folder name)
 
 abbrev pub as_parts : Result Parts RoadError → Result Parts Fault
 as_parts (Ok parts) = Ok parts
@@ -38,8 +38,8 @@ parts_in (Ok text) = as_parts (roads_of text)
 parts_in (Err fault) = Err fault
 
 -- the parts that the road file of this name lists
-abbrev pub parts_at : Shelf → List ℕ → Result Parts Fault
-parts_at shelf name = parts_in (octets_at shelf name)
+abbrev pub parts_at : Folder → List ℕ → Result Parts Fault
+parts_at folder name = parts_in (octets_at folder name)
 
 abbrev pub as_publication : Result Publication ℕ → Result Publication Fault
 as_publication (Ok p) = Ok p
@@ -50,8 +50,8 @@ publication_in (Ok text) = as_publication (whole publication text)
 publication_in (Err fault) = Err fault
 
 -- the publication that the file of this name spells
-abbrev pub publication_at : Shelf → List ℕ → Result Publication Fault
-publication_at shelf name = publication_in (octets_at shelf name)
+abbrev pub publication_at : Folder → List ℕ → Result Publication Fault
+publication_at folder name = publication_in (octets_at folder name)
 
 -- the first reason why parts make no map
 abbrev pub IsMapFault : Parts → MapError → Type 0
@@ -100,8 +100,9 @@ IsOfMaps (Map fault) = Unit {0}
 IsOfMaps fault = IsOfFiles fault
 
 -- what a function promises that loads a file and reads it
-pub record Loads {X Y : Type 0} (view : X → Y) (meaning : Shelf → Result Y Fault) (files : Option Shelf) (before now : ℕ) (result : Result X Fault) : Type 0 where
-  pub read : IfSome files (λ shelf. Gives view result (meaning shelf))
+pub record Loads {X Y : Type 0} (view : X → Y) (meaning : Folder → Result Y Fault)
+    (files : Option Folder) (before now : ℕ) (result : Result X Fault) : Type 0 where
+  pub read : IfSome files (λ folder. Gives view result (meaning folder))
   pub missing : IfNone files (result ≡ Err Missing → Rose before now)
   pub too_long : IfNone files (result ≡ Err TooLong → Rose before now)
   pub library : result ≡ Err Library → Rose before now
@@ -109,8 +110,9 @@ pub record Loads {X Y : Type 0} (view : X → Y) (meaning : Shelf → Result Y F
   pub later : before ≤ now
 
 -- what a function promises that loads a road file and makes its map
-pub record LoadsMap (meaning : Shelf → Result Parts Fault) (files : Option Shelf) (before now : ℕ) (result : Result Charted Fault) : Type 0 where
-  pub read : IfSome files (λ shelf. GivesMap result (meaning shelf))
+pub record LoadsMap (meaning : Folder → Result Parts Fault) (files : Option Folder) (before now : ℕ)
+    (result : Result Charted Fault) : Type 0 where
+  pub read : IfSome files (λ folder. GivesMap result (meaning folder))
   pub missing : IfNone files (result ≡ Err Missing → Rose before now)
   pub too_long : IfNone files (result ≡ Err TooLong → Rose before now)
   pub library : result ≡ Err Library → Rose before now

@@ -7,7 +7,7 @@ use crate::fault::Fault;
 
 /// How a run ends that meets no fault.
 #[derive(Clone, Copy, Debug, PartialEq, Eq)]
-pub enum Verdict {
+pub enum Conclusion {
     /// The work was done.
     Done,
     /// A reply was refused, which a line says.
@@ -29,7 +29,7 @@ impl Ended {
     ghost use Rattle.command_files.specs.Outcomes.{status_of, outcome_of};
 
     /// The end of a run with this outcome.
-    pub fn of(outcome: Result<Verdict, Fault>) -> Ended
+    pub fn of(outcome: Result<Conclusion, Fault>) -> Ended
         ensures outcome { outcome_of result ≡ outcome }
         ensures status { result.status ≡ status_of outcome }
     {
@@ -46,13 +46,13 @@ impl Ended {
     }
 }
 
-fn status_of_verdict(verdict: Verdict) -> u8
+fn status_of_verdict(verdict: Conclusion) -> u8
     ensures { result ≡ status_of (Ok verdict) }
 {
     match verdict {
-        Verdict::Done => 0,
-        Verdict::Refused => 1,
-        Verdict::Evidence => 10,
+        Conclusion::Done => 0,
+        Conclusion::Refused => 1,
+        Conclusion::Evidence => 10,
     }
 }
 
@@ -80,8 +80,14 @@ fn status_of_fault(fault: Fault) -> u8
         Fault::KeysUsedUp => 8,
         Fault::Memory => 9,
         Fault::UnknownNode(_) | Fault::NoRoute => 11,
-        Fault::Held | Fault::NoKey | Fault::BadBlock => 12,
+        Fault::Held
+        | Fault::NoKey
+        | Fault::BadBlock
+        | Fault::TooManyKeys
+        | Fault::NoSuccession
+        | Fault::SameSecret => 12,
         Fault::TooManyFrames => 13,
         Fault::OtherPublication => 14,
+        Fault::MirrorLost => 15,
     }
 }

@@ -78,13 +78,25 @@ pub enum Fault {
     /// The disk holds no key.
     #[error("The owner's disk holds no key.")]
     NoKey,
-    /// The disk's key block names an unknown kind of key, or the disk is too short for its slots.
+    /// An open area of the disk can't be used.
     #[error("The key on the owner's disk can't be used.")]
     BadBlock,
+    /// The disk has eight keys, the most that it may have.
+    #[error("The owner's disk holds eight keys already.")]
+    TooManyKeys,
+    /// The current key's last one-time key was used, and not for the next key.
+    #[error("The last one-time key of the owner's key was used, so that it can't sign the next key.")]
+    NoSuccession,
+    /// A key of this secret stands on the disk.
+    #[error("The owner's disk holds a key of this secret already.")]
+    SameSecret,
     /// The input goes on behind 1,000,000 frames.
     #[error("The input has more than 1,000,000 frames.")]
     TooManyFrames,
     /// An accepted reply is of another publication of the owner's than the one at hand.
     #[error("The reply is of another publication of the owner's.")]
     OtherPublication,
+    /// All was written, and a mirror that did not take all of it was dropped.
+    #[error("A mirror did not take all that was written.")]
+    MirrorLost,
 }

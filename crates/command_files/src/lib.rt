@@ -2,7 +2,7 @@
 //! and the record of what a command promises.
 #![tactic(auto)]
 
-pub use ended::{Ended, Verdict};
+pub use ended::{Conclusion, Ended};
 pub use fault::Fault;
 pub use files::{load_file, load_hex, load_map, load_parts, load_publication};
 pub use told::{Told, write_text, write_told};
@@ -10,6 +10,4 @@ pub use told::{Told, write_text, write_told};
 mod ended;
 mod fault;
 mod files;
-#[cfg(test)]
-mod tests;
 mod told;

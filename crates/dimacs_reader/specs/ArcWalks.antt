@@ -1,5 +1,6 @@
 -- Directed walks along the arcs of a graph, and the distance of two of its nodes.
--- Source: the 9th DIMACS Implementation Challenge, Shortest Paths, 2006: paths in a directed graph and their lengths.
+-- Source: the 9th DIMACS Implementation Challenge, Shortest Paths, 2006: paths in a directed graph
+-- and their lengths.
 use Rattle.std.specs.Prelude.{◌≡◌, ℕ, ◌+◌, ◌≤◌, ◌↔◌, List, [], ◌∷◌, Contains, Option}
 use Rattle.road_map.specs.declared.parts.Parts.{Parts}
 use Rattle.road_map.specs.Least.{IsLeast}
@@ -30,7 +31,8 @@ pub record Leads (graph : Graph) (s t d : ℕ) : Type 0 where
   pub ends : end_of s walk ≡ t
   pub sums : total walk ≡ d
 
--- the length of a directed walk from s to t than which none is shorter, or none where there is no such walk
+-- the length of a directed walk from s to t than which none is shorter, or none where there is no
+-- such walk
 abbrev pub IsDirectedDistance : Graph → ℕ → ℕ → Option ℕ → Type 0
 IsDirectedDistance graph s t d = IsLeast (Leads graph s t) d
 

@@ -1,5 +1,6 @@
 -- Road files of the challenge: what a graph and its coordinates say, or their first fault.
--- Source: file formats of the 9th DIMACS Implementation Challenge, Shortest Paths, 2006; the limits, the order of the
+-- Source: file formats of the 9th DIMACS Implementation Challenge, Shortest Paths, 2006; the
+-- limits, the order of the
 -- faults and roads as pairs of arcs are this program's profile.
 use Rattle.std.specs.Prelude.{ℕ, ◌+◌, ◌==◌, Bool, false, not, ◌&&◌, nat_lt, nat_le, List, [], ◌∷◌, length, map, take, slice_get, filter, find, count_by, Option, None, Some, Result, Ok, Err, codes, if◌then◌else◌}
 use Rattle.std.specs.List.{range_with_len, filter_map}
@@ -19,7 +20,8 @@ use Rattle.dimacs_reader.specs.Told.{told_lines}
 use Rattle.dimacs_reader.specs.Fields.{size_in, arc_in, place_in}
 
 infixl 10 ◌>>=◌
-abbrev pub ◌>>=◌ : {A B : Type 0} → Result A DimacsError → (A → Result B DimacsError) → Result B DimacsError
+abbrev pub ◌>>=◌ : {A B : Type 0} → Result A DimacsError → (A → Result B DimacsError) →
+    Result B DimacsError
 Ok x >>= next = next x
 Err fault >>= next = Err fault
 
@@ -31,7 +33,9 @@ where_holds test fault value = if test then Ok value else Err fault
 abbrev pub graph_size_of : ℕ → List (List ℕ) → Result GraphSize DimacsError
 graph_size_of number (kind ∷ problem ∷ nodes ∷ arcs ∷ []) =
     if bytes_eq kind (codes "p") && bytes_eq problem (codes "sp")
-    then ok_or (size_in nodes arcs) (BadNumber 1 number) >>= (λ size. where_holds (nat_le size.nodes MOST_NODES && nat_le size.arcs MOST_ARCS) (TooMany 1) size)
+    then ok_or (size_in nodes arcs) (BadNumber 1 number) >>=
+    (λ size. where_holds (nat_le size.nodes MOST_NODES && nat_le size.arcs MOST_ARCS)
+    (TooMany 1) size)
     else Err (NoProblem 1)
 graph_size_of number _ = Err (NoProblem 1)
 
@@ -43,14 +47,17 @@ is_id nodes id = nat_le 1 id && nat_le id nodes
 abbrev pub arc_of : ℕ → ℕ → List (List ℕ) → Result Arc DimacsError
 arc_of nodes number (kind ∷ from ∷ to ∷ length ∷ []) =
     if bytes_eq kind (codes "a")
-    then ok_or (arc_in from to length) (BadNumber 1 number) >>= (λ arc. where_holds (is_id nodes arc.from && is_id nodes arc.to) (Range 1 number) arc)
+    then ok_or (arc_in from to length) (BadNumber 1 number) >>=
+    (λ arc. where_holds (is_id nodes arc.from && is_id nodes arc.to) (Range 1 number) arc)
     else Err (BadLine 1 number)
 arc_of nodes number _ = Err (BadLine 1 number)
 
 -- what each of some lines says, or the first fault
-abbrev pub each_of : {A : Type 0} → (ℕ → List (List ℕ) → Result A DimacsError) → List (ℕ × List (List ℕ)) → Result (List A) DimacsError
+abbrev pub each_of : {A : Type 0} → (ℕ → List (List ℕ) → Result A DimacsError) →
+    List (ℕ × List (List ℕ)) → Result (List A) DimacsError
 each_of says [] = Ok []
-each_of says (line ∷ lines) = says line.0 line.1 >>= (λ first. each_of says lines >>= (λ rest. Ok (first ∷ rest)))
+each_of says (line ∷ lines) = says line.0 line.1 >>=
+    (λ first. each_of says lines >>= (λ rest. Ok (first ∷ rest)))
 
 -- a graph's count of nodes and its arcs, in the order of the file
 abbrev pub graph_from : List (ℕ × List (List ℕ)) → Result Graph DimacsError
@@ -66,8 +73,10 @@ graph_of text = graph_from (told_lines 0 text)
 -- what the problem line of coordinates says: 'p aux sp co NODES'
 abbrev pub place_count_of : ℕ → List (List ℕ) → Result ℕ DimacsError
 place_count_of number (kind ∷ aux ∷ problem ∷ form ∷ nodes ∷ []) =
-    if bytes_eq kind (codes "p") && bytes_eq aux (codes "aux") && bytes_eq problem (codes "sp") && bytes_eq form (codes "co")
-    then ok_or (natural_of nodes) (BadNumber 2 number) >>= (λ count. where_holds (nat_le count MOST_NODES) (TooMany 2) count)
+    if bytes_eq kind (codes "p") && bytes_eq aux (codes "aux") && bytes_eq problem
+    (codes "sp") && bytes_eq form (codes "co")
+    then ok_or (natural_of nodes) (BadNumber 2 number) >>=
+    (λ count. where_holds (nat_le count MOST_NODES) (TooMany 2) count)
     else Err (NoProblem 2)
 place_count_of number _ = Err (NoProblem 2)
 
@@ -75,7 +84,8 @@ place_count_of number _ = Err (NoProblem 2)
 abbrev pub place_of : ℕ → ℕ → List (List ℕ) → Result Node DimacsError
 place_of nodes number (kind ∷ id ∷ x ∷ y ∷ []) =
     if bytes_eq kind (codes "v")
-    then ok_or (place_in id x y) (BadNumber 2 number) >>= (λ node. where_holds (is_id nodes node.id) (Range 2 number) node)
+    then ok_or (place_in id x y) (BadNumber 2 number) >>=
+    (λ node. where_holds (is_id nodes node.id) (Range 2 number) node)
     else Err (BadLine 2 number)
 place_of nodes number _ = Err (BadLine 2 number)
 
@@ -92,11 +102,13 @@ places_of nodes text = places_from nodes (told_lines 0 text)
 
 -- the least of so many ids that is placed twice
 unfoldable pub placed_twice : ℕ → List Node → Option ℕ
-placed_twice nodes places = find (λ id. nat_lt 1 (count_by (λ node. node.id == id) places)) (range_with_len 1 nodes)
+placed_twice nodes places = find (λ id. nat_lt 1 (count_by (λ node. node.id == id) places))
+    (range_with_len 1 nodes)
 
 -- the place of each of so many ids, by rising id
 unfoldable pub nodes_of : ℕ → List Node → List Node
-nodes_of nodes places = filter_map (λ id. find (λ node. node.id == id) places) (range_with_len 1 nodes)
+nodes_of nodes places = filter_map (λ id. find (λ node. node.id == id) places)
+    (range_with_len 1 nodes)
 
 -- two arcs are the same
 abbrev pub is_arc : Arc → Arc → Bool
@@ -110,7 +122,8 @@ turned arc = record { from = arc.to; to = arc.from; length = arc.length }
 abbrev pub lacks_back : List Arc → ℕ → Option Arc → Bool
 lacks_back arcs index None = false
 lacks_back arcs index (Some arc) =
-    not (arc.from == arc.to) && nat_lt (count_by (is_arc (turned arc)) arcs) (count_by (is_arc arc) (take (index + 1) arcs))
+    not (arc.from == arc.to) && nat_lt (count_by (is_arc (turned arc)) arcs)
+    (count_by (is_arc arc) (take (index + 1) arcs))
 
 abbrev pub is_unpaired : List Arc → ℕ → Bool
 is_unpaired arcs index = lacks_back arcs index (slice_get arcs index)
@@ -136,6 +149,7 @@ unfoldable pub dimacs_of : List ℕ → List ℕ → Result Parts DimacsError
 dimacs_of graph places = do
   graph ← graph_of graph
   places ← places_of graph.nodes places
-  nodes ← where_none (placed_twice graph.nodes places) (λ id. Repeated id) (nodes_of graph.nodes places)
+  nodes ← where_none (placed_twice graph.nodes places) (λ id. Repeated id)
+      (nodes_of graph.nodes places)
   roads ← where_none (first_unpaired graph.arcs) (λ index. Unpaired index) (roads_of graph.arcs)
   Ok (record { nodes = nodes; roads = roads })

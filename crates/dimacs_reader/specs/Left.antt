@@ -18,4 +18,5 @@ has_back left arc = (arc.from == arc.to) || nat_lt 0 (left (turned arc))
 
 -- of the arcs between two nodes, the arc back of this one alone is taken
 abbrev pub TakesBack : (Arc → ℕ) → (Arc → ℕ) → Arc → Type 0
-TakesBack before after arc = (other : Arc) → other.from ≢ other.to → after other + (if is_arc (turned other) arc then 1 else 0) ≡ before other
+TakesBack before after arc = (other : Arc) → other.from ≢ other.to →
+    after other + (if is_arc (turned other) arc then 1 else 0) ≡ before other

@@ -9,7 +9,9 @@ abbrev pub is_comment : List (List ℕ) → Bool
 is_comment [] = true
 is_comment (word ∷ words) = slice_index word 0 == 99
 
--- the lines that are no comments, each as its number and its words, where so many lines stand before the text
+-- the lines that are no comments, each as its number and its words, where so many lines stand
+-- before the text
 unfoldable pub told_lines : ℕ → List ℕ → List (ℕ × List (List ℕ))
 told_lines passed text =
-    filter (λ line. not (is_comment line.1)) (enumerate_from (passed + 1) (map words_of (lines_of text)))
+    filter (λ line. not (is_comment line.1))
+    (enumerate_from (passed + 1) (map words_of (lines_of text)))

@@ -56,9 +56,12 @@ fn read_arc(nodes: u32, line: Line) -> Result<Arc, DimacsError>
 /// The arcs of all lines.
 fn read_arcs(alloc: Global, nodes: u32, mut lines: Lines) -> Result<Vec<Arc>, DimacsError>
     requires { lines.passed + length lines.rest.now < 2 ^ 32 }
-    ensures arcs { IfOk result (λ arcs. each_of (arc_of nodes) (told_lines lines.entry.passed lines.entry.rest.now) ≡ Ok arcs.items) }
+    ensures arcs { IfOk result (λ arcs.
+        each_of (arc_of nodes) (told_lines lines.entry.passed lines.entry.rest.now) ≡ Ok
+        arcs.items) }
     ensures fault { IfErr result (λ fault. (fault ≡ DimacsError.Memory)
-        ⊎ (each_of (arc_of nodes) (told_lines lines.entry.passed lines.entry.rest.now) ≡ Err fault)) }
+        ⊎ (each_of (arc_of nodes) (told_lines lines.entry.passed lines.entry.rest.now) ≡ Err
+        fault)) }
 {
     let mut arcs = Vec::new(alloc);
     while let Some(line) = next_line(&mut lines) {
@@ -72,7 +75,8 @@ fn read_arcs(alloc: Global, nodes: u32, mut lines: Lines) -> Result<Vec<Arc>, Di
 pub fn read_graph(alloc: Global, text: &[u8]) -> Result<Graph, DimacsError>
     requires { length text.now < 2 ^ 32 }
     ensures graph { IfOk result (λ graph. graph_of text.now ≡ Ok graph) }
-    ensures fault { IfErr result (λ fault. (fault ≡ DimacsError.Memory) ⊎ (graph_of text.now ≡ Err fault)) }
+    ensures fault { IfErr result (λ fault. (fault ≡ DimacsError.Memory) ⊎
+        (graph_of text.now ≡ Err fault)) }
 {
     let mut lines = Lines {
         rest: text,

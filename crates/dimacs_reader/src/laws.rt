@@ -11,6 +11,8 @@ ghost use Rattle.dimacs_reader.specs.ArcWalks.{Agrees};
 /// length of a shortest directed walk over the graph's arcs, or none where there is no such walk.
 /// Their printed road file is read as these parts.
 pub fn dimacs_laws()
-    ensures listed { (text places : List ℕ) (parts : Parts) → dimacs_of text places ≡ Ok parts → roads_of (printed_roads parts) ≡ Ok parts }
-    ensures agrees { (text places : List ℕ) (graph : Graph) (parts : Parts) → graph_of text ≡ Ok graph → dimacs_of text places ≡ Ok parts → Agrees graph parts }
+    ensures listed { (text places : List ℕ) (parts : Parts) → dimacs_of text places ≡ Ok parts →
+        roads_of (printed_roads parts) ≡ Ok parts }
+    ensures agrees { (text places : List ℕ) (graph : Graph) (parts : Parts) →
+        graph_of text ≡ Ok graph → dimacs_of text places ≡ Ok parts → Agrees graph parts }
 {}

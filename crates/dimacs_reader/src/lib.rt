@@ -23,6 +23,3 @@ mod reader;
 pub use error::DimacsError;
 pub use laws::dimacs_laws;
 pub use reader::read_dimacs;
-
-#[cfg(test)]
-mod tests;

@@ -12,8 +12,10 @@ pub fn next_line<'a>(lines: &mut Lines<'a>) -> Option<Line<'a>>
     ensures line { MatchOption result
         (told_lines lines.old.passed lines.old.rest.now ≡ [])
         (λ line. told_lines lines.old.passed lines.old.rest.now
-        ≡ (line.number, words_of line.octets.now) ∷ told_lines lines.new.passed lines.new.rest.now) }
-    ensures fits { lines.new.passed + length lines.new.rest.now ≤ lines.old.passed + length lines.old.rest.now }
+        ≡ (line.number, words_of line.octets.now) ∷ told_lines lines.new.passed
+        lines.new.rest.now) }
+    ensures fits { lines.new.passed + length lines.new.rest.now ≤ lines.old.passed + length
+        lines.old.rest.now }
     ensures shorter { IsSome result → length lines.new.rest.now < length lines.old.rest.now }
 {
     while !lines.rest.is_empty() {

@@ -26,7 +26,8 @@ fn count_of(counts: &Counts, arc: Arc) -> u32
 
 /// Notes how many arcs like this one are left.
 fn set_count(counts: &mut Counts, arc: Arc, count: u32) -> Result<(), AllocError>
-    ensures { OnOk result ((other : Arc) → left_of counts.new other ≡ (if is_arc arc other then count else left_of counts.old other)) }
+    ensures { OnOk result ((other : Arc) →
+        left_of counts.new other ≡ (if is_arc arc other then count else left_of counts.old other)) }
 {
     counts.insert((arc.from, arc.to, arc.length), count)?;
     Ok(())
@@ -35,7 +36,8 @@ fn set_count(counts: &mut Counts, arc: Arc, count: u32) -> Result<(), AllocError
 /// How many of each arc there are.
 fn count_arcs(alloc: Global, arcs: &[Arc]) -> Result<Counts, AllocError>
     requires { length arcs.now < 2 ^ 32 }
-    ensures { IfOk result (λ counts. (arc : Arc) → left_of counts arc ≡ count_by (is_arc arc) arcs.now) }
+    ensures { IfOk result (λ counts. (arc : Arc) →
+        left_of counts arc ≡ count_by (is_arc arc) arcs.now) }
 {
     let mut counts = HashMap::new(alloc);
     for arc in arcs {
@@ -49,7 +51,8 @@ fn count_arcs(alloc: Global, arcs: &[Arc]) -> Result<Counts, AllocError>
 /// needs none.
 fn take_back(counts: &mut Counts, arc: Arc) -> Result<bool, AllocError>
     ensures paired { IfOk result (λ paired. paired ≡ has_back (left_of counts.old) arc) }
-    ensures left { IfOk result (λ paired. paired ≡ true → TakesBack (left_of counts.old) (left_of counts.new) arc) }
+    ensures left { IfOk result (λ paired. paired ≡ true →
+        TakesBack (left_of counts.old) (left_of counts.new) arc) }
 {
     if arc.from == arc.to {
         return Ok(true);
@@ -87,7 +90,8 @@ pub fn check_pairs(alloc: Global, arcs: &[Arc]) -> Result<(), DimacsError>
     requires { length arcs.now < 2 ^ 32 }
     ensures paired { OnOk result (first_unpaired arcs.now ≡ None) }
     ensures fault { IfErr result (λ fault. (fault ≡ DimacsError.Memory)
-        ⊎ ((index : ℕ) × (fault ≡ DimacsError.Unpaired index) × (first_unpaired arcs.now ≡ Some index))) }
+        ⊎ ((index : ℕ) × (fault ≡ DimacsError.Unpaired index) ×
+        (first_unpaired arcs.now ≡ Some index))) }
 {
     let counts = count_arcs(alloc, arcs)?;
     match find_unpaired(counts, arcs)? {

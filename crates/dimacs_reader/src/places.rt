@@ -44,9 +44,12 @@ fn read_place(nodes: u32, line: Line) -> Result<Node, DimacsError>
 /// The places of all lines.
 fn list_places(alloc: Global, nodes: u32, mut lines: Lines) -> Result<Vec<Node>, DimacsError>
     requires { lines.passed + length lines.rest.now < 2 ^ 32 }
-    ensures places { IfOk result (λ places. each_of (place_of nodes) (told_lines lines.entry.passed lines.entry.rest.now) ≡ Ok places.items) }
+    ensures places { IfOk result (λ places.
+        each_of (place_of nodes) (told_lines lines.entry.passed lines.entry.rest.now) ≡ Ok
+        places.items) }
     ensures fault { IfErr result (λ fault. (fault ≡ DimacsError.Memory)
-        ⊎ (each_of (place_of nodes) (told_lines lines.entry.passed lines.entry.rest.now) ≡ Err fault)) }
+        ⊎ (each_of (place_of nodes)
+        (told_lines lines.entry.passed lines.entry.rest.now) ≡ Err fault)) }
 {
     let mut places = Vec::new(alloc);
     while let Some(line) = next_line(&mut lines) {
@@ -60,7 +63,8 @@ fn list_places(alloc: Global, nodes: u32, mut lines: Lines) -> Result<Vec<Node>,
 pub fn read_places(alloc: Global, nodes: u32, text: &[u8]) -> Result<Vec<Node>, DimacsError>
     requires { length text.now < 2 ^ 32 }
     ensures places { IfOk result (λ places. places_of nodes text.now ≡ Ok places.items) }
-    ensures fault { IfErr result (λ fault. (fault ≡ DimacsError.Memory) ⊎ (places_of nodes text.now ≡ Err fault)) }
+    ensures fault { IfErr result (λ fault. (fault ≡ DimacsError.Memory) ⊎
+        (places_of nodes text.now ≡ Err fault)) }
 {
     let mut lines = Lines {
         rest: text,
@@ -102,7 +106,8 @@ fn repeated_id(nodes: &[Node]) -> Option<u32>
 /// The nodes of a graph by their ids, from places whose ids are 1 to its count of nodes.
 pub fn nodes_by_id(places: Vec<Node>, nodes: u32) -> Result<Nodes, DimacsError>
     requires { All (λ n. (1 ≤ n.id) × (n.id ≤ nodes)) places.items }
-    ensures { result ≡ where_none (placed_twice nodes places.items) (λ id. DimacsError.Repeated id) (nodes_of nodes places.items) }
+    ensures { result ≡ where_none (placed_twice nodes places.items) (λ id. DimacsError.Repeated id)
+        (nodes_of nodes places.items) }
 {
     let sorted = sorted_by_id(places);
     match repeated_id(sorted.as_slice()) {

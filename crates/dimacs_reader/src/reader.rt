@@ -20,7 +20,8 @@ pub fn read_dimacs(alloc: Global, graph: &[u8], places: &[u8]) -> Result<Parts, 
     requires graph { length graph.now < 2 ^ 32 }
     requires places { length places.now < 2 ^ 32 }
     ensures parts { IfOk result (λ parts. dimacs_of graph.now places.now ≡ Ok parts) }
-    ensures fault { IfErr result (λ fault. (fault ≡ DimacsError.Memory) ⊎ (dimacs_of graph.now places.now ≡ Err fault)) }
+    ensures fault { IfErr result (λ fault. (fault ≡ DimacsError.Memory) ⊎
+        (dimacs_of graph.now places.now ≡ Err fault)) }
 {
     let graph = read_graph(alloc, graph)?;
     let places = read_places(alloc, graph.nodes, places)?;

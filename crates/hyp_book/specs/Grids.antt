@@ -7,7 +7,12 @@ use Rattle.hyp_book.specs.declared.grid.Grid.{Grid}
 
 -- the frame of a grid
 abbrev pub frame : Grid → Frame
-frame g = record { low_x = g.frame.low_x; high_x = g.frame.high_x; low_y = g.frame.low_y; high_y = g.frame.high_y }
+frame g = record {
+  low_x = g.frame.low_x;
+  high_x = g.frame.high_x;
+  low_y = g.frame.low_y;
+  high_y = g.frame.high_y;
+}
 
 -- a grid over the frame of some nodes
 pub record IsGridOf (nodes : List Node) (g : Grid) : Type 0 where

@@ -72,9 +72,12 @@ pub fn borders(alloc: Global, map: &Map, grid: &Grid) -> Result<Ids, NoMemory>
 pub fn table_of(alloc: Global, map: &Map, borders: &Ids) -> Result<PairLeaves, PlanError>
     requires known { (id : ℕ) → Contains borders.now id → Knows map.now.parts id }
     requires counted { length borders.now ≤ 65536 }
-    ensures leaves { IfOk result (λ leaves. leaves ≡ pairs_of (distance map.now.parts) borders.now) }
+    ensures leaves { IfOk result (λ leaves.
+        leaves ≡ pairs_of (distance map.now.parts) borders.now) }
     ensures few { OnOk result (length borders.now ≤ 2048) }
-    ensures refused { IfErr result (λ e. (e ≡ plan_error.Memory) ⊎ ((e ≡ plan_error.TooManyBorders (length borders.now)) × (2048 < length borders.now))) }
+    ensures refused { IfErr result
+        (λ e. (e ≡ plan_error.Memory) ⊎
+        ((e ≡ plan_error.TooManyBorders (length borders.now)) × (2048 < length borders.now))) }
 {
     let ids = borders.as_slice();
     match pair_leaves(alloc, map, ids) {

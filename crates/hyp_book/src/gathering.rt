@@ -38,7 +38,9 @@ pub fn wanted_nodes(
     far: &Labels,
     most: u64,
 ) -> Result<Ids, NoMemory>
-    ensures { IfOk result (Lists (λ id. Contains route.now id ⊎ IsTrue (is_within most (length_at near.now id)) ⊎ IsTrue (is_within most (length_at far.now id)))) }
+    ensures { IfOk result (Lists (λ id. Contains route.now id ⊎
+        IsTrue (is_within most (length_at near.now id)) ⊎
+        IsTrue (is_within most (length_at far.now id)))) }
 {
     let near = near.near(alloc, most)?;
     let far = far.near(alloc, most)?;
@@ -55,7 +57,8 @@ pub fn reached(
     borders: &[u32],
     labels: &Labels,
 ) -> Result<Vec<(u32, u64)>, AllocError>
-    ensures { IfOk result (λ v. v.items ≡ filter_map (with_length (length_at labels.now)) borders.now) }
+    ensures { IfOk result (λ v. v.items ≡ filter_map
+        (with_length (length_at labels.now)) borders.now) }
 {
     let mut list = Vec::new(alloc);
     for id in borders {
@@ -138,7 +141,8 @@ fn add_rows(
     requires there { HasPairs pairs.now borders.now }
     requires near { (b : ℕ × ℕ) → Contains near.now b → Contains borders.now b.0 }
     requires far { (c : ℕ × ℕ) → Contains far.now c → Contains borders.now c.0 }
-    ensures { OnOk result (AddsAll (IsInRow pairs.now most far.now) near.now places.old places.new) }
+    ensures { OnOk result (AddsAll
+        (IsInRow pairs.now most far.now) near.now places.old places.new) }
 {
     for border in near {
         add_row(places, pairs, borders, most, *border, far)?;
@@ -168,7 +172,8 @@ pub fn wanted_pairs(
     requires rise { PairsRise pairs.now }
     requires few { length pairs.now < 2 ^ 32 }
     requires there { HasPairs pairs.now borders.now }
-    ensures { IfOk result (Lists (IsWantedPlace pairs.now borders.now (length_at near.now) (length_at far.now) most)) }
+    ensures { IfOk result (Lists (IsWantedPlace pairs.now borders.now (length_at near.now)
+        (length_at far.now) most)) }
 {
     let near = reached(alloc, borders, near)?;
     let far = reached(alloc, borders, far)?;

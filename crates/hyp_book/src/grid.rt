@@ -53,7 +53,8 @@ fn cell(grid: &Grid, node: Node) -> u32
 pub fn cell_at(map: &Map, grid: &Grid, position: u32) -> u32
     requires within { position < length map.now.order }
     requires grid { IsGridOf map.now.parts.nodes grid.now }
-    ensures { (n : Node) → slice_get map.now.order position ≡ Some n → result ≡ cell_of map.now.parts.nodes grid.now.columns grid.now.rows n.id }
+    ensures { (n : Node) → slice_get map.now.order position ≡ Some n →
+        result ≡ cell_of map.now.parts.nodes grid.now.columns grid.now.rows n.id }
 {
     let _parts = map.parts();
     let node = map.node(position);
@@ -74,7 +75,9 @@ fn is_elsewhere(map: &Map, grid: &Grid, id: u32, cell: u32) -> bool
 pub fn is_border_at(map: &Map, grid: &Grid, position: u32) -> bool
     requires within { position < length map.now.order }
     requires grid { IsGridOf map.now.parts.nodes grid.now }
-    ensures { (n : Node) → slice_get map.now.order position ≡ Some n → result ≡ is_border (cell_of map.now.parts.nodes grid.now.columns grid.now.rows) (neighbours map.now.parts.roads) n.id }
+    ensures { (n : Node) → slice_get map.now.order position ≡ Some n →
+        result ≡ is_border (cell_of map.now.parts.nodes grid.now.columns grid.now.rows)
+        (neighbours map.now.parts.roads) n.id }
 {
     let _parts = map.parts();
     let _node = map.node(position);

@@ -114,7 +114,9 @@ impl MethodBook for HypBook {
 /// The leaf of a node: its place, its arcs, its cell, and whether it is a border.
 fn leaf_of(alloc: Global, book: &HypBook, id: u32) -> Result<NodeLeaf, NoMemory>
     requires { Knows book.now.map.parts id }
-    ensures { IfOk result (λ found. leaf (hyp_book book.now.map.parts book.now.grid.columns book.now.grid.rows book.now.pairs) id ≡ Some found) }
+    ensures { IfOk result (λ found.
+        leaf (hyp_book book.now.map.parts book.now.grid.columns book.now.grid.rows book.now.pairs)
+        id ≡ Some found) }
 {
     let _parts = book.map.parts();
     let position = book.map.place(id);

@@ -15,7 +15,8 @@ use road_search::Ground;
 
 /// The arcs out of an id, if it is known.
 fn arcs_at(map: &Map, id: u32) -> Option<&[Arc]>
-    ensures { (extra_of : ℕ → Extra) → option_copied result ≡ option_map (λ n. n.arcs) (leaf_of map.now.parts extra_of id) }
+    ensures { (extra_of : ℕ → Extra) →
+        option_copied result ≡ option_map (λ n. n.arcs) (leaf_of map.now.parts extra_of id) }
 {
     let _parts = map.parts();
     match map.position(id) {
@@ -27,7 +28,8 @@ fn arcs_at(map: &Map, id: u32) -> Option<&[Arc]>
 /// Whether walks go on from an id: from a border node none does.
 fn lets_on(map: &Map, grid: &Grid, id: u32) -> bool
     requires { IsGridOf map.now.parts.nodes grid.now }
-    ensures { result ≡ not (marks (leaf_of map.now.parts (cell_extra map.now.parts grid.now.columns grid.now.rows) id)) }
+    ensures { result ≡ not (marks (leaf_of map.now.parts
+        (cell_extra map.now.parts grid.now.columns grid.now.rows) id)) }
 {
     let _parts = map.parts();
     match map.position(id) {
@@ -43,7 +45,9 @@ pub struct Inland<'a> {
 }
 
 impl Ground for Inland<'_> {
-    ghost ways = { λ w. inner_ways (leaf (hyp_book w.book.now.map.parts w.book.now.grid.columns w.book.now.grid.rows w.book.now.pairs)) };
+    ghost ways = { λ w. inner_ways
+        (leaf (hyp_book w.book.now.map.parts w.book.now.grid.columns w.book.now.grid.rows
+        w.book.now.pairs)) };
 
     fn arcs(&self, id: u32) -> Option<&[Arc]> {
         let book = self.book;

@@ -10,5 +10,3 @@ mod gathering;
 mod grid;
 mod hyp;
 mod inland;
-#[cfg(test)]
-mod tests;

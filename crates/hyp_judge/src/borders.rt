@@ -26,7 +26,9 @@ fn inner_length(by_id: &NodesById<'_>, labels: &Labels, id: u32) -> Option<u64>
 
 /// Notes a length, if it is there.
 fn note(near: &mut BTreeMap<u32, u64>, id: u32, length: Option<u64>) -> Result<(), AllocError>
-    ensures { OnOk result ((q : ℕ) → get nat_cmp near.new q ≡ (if is_some length && (id == q) then length else get nat_cmp near.old q)) }
+    ensures { OnOk result ((q : ℕ) →
+        get nat_cmp near.new q ≡ (if is_some length &&
+        (id == q) then length else get nat_cmp near.old q)) }
 {
     if let Some(length) = length {
         near.insert(id, length)?;
@@ -42,7 +44,8 @@ fn borders(
     labels: &Labels,
 ) -> Result<BTreeMap<u32, u64>, AllocError>
     requires { by_id.now ≡ nodes.now }
-    ensures { IfOk result (λ near. (id : ℕ) → get nat_cmp near id ≡ border_length nodes.now (length_at labels.now) id) }
+    ensures { IfOk result (λ near. (id : ℕ) →
+        get nat_cmp near id ≡ border_length nodes.now (length_at labels.now) id) }
 {
     let mut near = BTreeMap::new(alloc);
     for node in nodes {

@@ -50,8 +50,10 @@ fn pair_tests(
     length: u64,
 ) -> Result<u64, Refusal>
     requires same { by_id.now ≡ items.now.nodes }
-    requires near { (v : ℕ) → IsLeastPassing (inner_ways (item_at items.now.nodes)) query.from length v (length_at near.now v) }
-    requires far { (v : ℕ) → IsLeastPassing (inner_ways (item_at items.now.nodes)) query.to length v (length_at far.now v) }
+    requires near { (v : ℕ) → IsLeastPassing
+        (inner_ways (item_at items.now.nodes)) query.from length v (length_at near.now v) }
+    requires far { (v : ℕ) → IsLeastPassing (inner_ways (item_at items.now.nodes)) query.to length v
+        (length_at far.now v) }
     ensures { UnlessMemory (PairTests items.now query length) result }
 {
     let nodes = items.nodes.as_slice();

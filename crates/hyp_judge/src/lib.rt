@@ -8,5 +8,3 @@ mod borders;
 mod hyp;
 mod items;
 mod scan;
-#[cfg(test)]
-mod tests;

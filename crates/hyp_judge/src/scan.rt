@@ -31,7 +31,8 @@ fn fault_below(
     near: (u32, u64),
     far: (u32, u64),
 ) -> Option<Refusal>
-    ensures { result ≡ (if nat_lt (near.1 + far.1) most then pair_fault pairs.now most near.0 far.0 (near.1 + far.1) else None) }
+    ensures { result ≡ (if nat_lt (near.1 + far.1) most then pair_fault pairs.now most near.0 far.0
+        (near.1 + far.1) else None) }
 {
     if near.1 < most && far.1 < most - near.1 {
         fault(pairs, most, near.0, far.0, near.1 + far.1)

@@ -1,13 +1,18 @@
 -- The one-time keys that are left, by a desk's counts and by the gates on its disk.
-use Rattle.std.proofs.Common.{◌≡◌, ◌⊎◌, inl, inr, ℕ, zero, suc, ◌+◌, ◌<◌, ◌==◌, true, false, Bool, List, [], ◌∷◌, length, get_or, arith, refl, sym, ap, ◌∙◌, subst, cond}
+use Rattle.std.proofs.Common.{◌≡◌, ◌≢◌, ◌⊎◌, inl, inr, ℕ, zero, suc, ◌+◌, ◌-◌, ◌<◌, ◌≤◌, ◌==◌, true, false, Bool, List, [], ◌∷◌, length, take, get_or, arith, refl, sym, ap, ◌∙◌, subst, cond}
 use Rattle.std.proofs.lemmas.Bool.{ne_eqb}
+use Rattle.std.proofs.lemmas.List.{length-take-le, get_or-take}
 use Rattle.std.proofs.lemmas.List.Sums.{sum_by-cons}
 use Rattle.std.specs.List.{count_by, range_with_len}
+use Rattle.road_io.specs.declared.disk.Disk.{Ghosts}
+use Rattle.road_io.specs.Moments.{Image}
+use Rattle.desk_areas.specs.declared.area.Count.{Count}
+use Rattle.desk_areas.specs.declared.area.Count.TheVariants
+use Rattle.desk_areas.specs.Layout.{gate_at, gate_of, place_in, base_of, slots_at, slots_of, keys_left}
 use Rattle.key_desk.specs.declared.desk.Desk.{Desk}
-use Rattle.key_desk.specs.declared.desk.Count.{Count}
-use Rattle.key_desk.specs.declared.desk.Count.TheVariants
-use Rattle.key_desk.specs.Layout.{gate_at, place_of, kind_at, slots_of, keys_left}
-use Rattle.key_desk.specs.Desk.{is_free, free_slots}
+use Rattle.key_desk.specs.Desk.{is_free, free_slots, count_at, slot_here, Fits}
+use Rattle.key_desk.proofs.Counts.{count_here, own_here, sized_here, free_isnt_spent}
+use Rattle.key_desk.proofs.Successors.{slots_on}
 
 closed : (gate : ℕ) → gate ≡ 0 → (gate == 0) ≡ true
 closed gate is = subst (λ g. (g == 0) ≡ true) (sym is) refl
@@ -37,19 +42,34 @@ same_counts (count ∷ counts) a p agree =
     moved : (s : ℕ) → a + suc s ≡ a + 1 + s
     moved s = omega arith
 
--- what was read of the gates counts the keys that are left
-pub free_are_left : (desk : Desk) (counts : List Count) (image : List ℕ) (n kind : ℕ) → desk.counts ≡ counts → length counts ≡ n → n ≡ slots_of kind → kind ≡ kind_at image 0
-    → ((s : ℕ) → s < n → get_or counts s TheVariants.Spent ≡ TheVariants.Free → gate_at image (place_of s) ≡ 0)
-    → ((s : ℕ) → s < n → get_or counts s TheVariants.Spent ≡ TheVariants.Spent → 0 < gate_at image (place_of s))
-    → ((s : ℕ) → (get_or counts s TheVariants.Spent ≡ TheVariants.Free) ⊎ (get_or counts s TheVariants.Spent ≡ TheVariants.Spent))
-    → free_slots desk ≡ keys_left image
-free_are_left desk counts image n kind is size sized named free spent either =
-    ap (λ xs. count_by is_free xs) is ∙ same_counts counts 0 closed_at (λ s lt. agree s lt ∙ ap closed_at (omega arith)) ∙ ap (λ m. count_by closed_at (range_with_len 0 m)) (size ∙ sized ∙ ap slots_of named)
-  where
-    closed_at : ℕ → Bool
-    closed_at slot = gate_at image (place_of slot) == 0
+-- whether a gate is closed
+abbrev closed_in : List ℕ → ℕ → ℕ → Bool
+closed_in image base number = gate_at image (place_in base number) == 0
 
-    agree : (s : ℕ) → s < length counts → is_free (get_or counts s TheVariants.Spent) ≡ closed_at s
+-- an open desk that has no signing begun counts the keys that are left on each of its images
+pub free_are_left : {D : Type 0} (g : Ghosts D) (desk : Desk) (disk : D) (image : List ℕ) → Fits g desk disk → desk.is_open ≡ true → Image g disk image
+    → ((s : ℕ) → (count_at desk s ≡ TheVariants.Free) ⊎ (count_at desk s ≡ TheVariants.Spent)) → free_slots desk ≡ keys_left image desk.base
+free_are_left g desk disk image fits is_open now either =
+    same_counts (take (length desk.counts - 1) desk.counts) 0 (closed_in image desk.base) (λ s lt. agree s (omega (arith, lt, long)) ∙ ap (closed_in image desk.base) (moved s))
+    ∙ ap (λ (m : ℕ). count_by (closed_in image desk.base) (range_with_len 0 m)) (long ∙ ap (λ (n : ℕ). n - 1) sized)
+  where
+    moved : (s : ℕ) → s ≡ 0 + s
+    moved s = omega arith
+
+    long : length (take (length desk.counts - 1) desk.counts) ≡ length desk.counts - 1
+    long = length-take-le (length desk.counts - 1) desk.counts (omega arith)
+
+    sized : length desk.counts ≡ slots_at image desk.base
+    sized = let areas = fits.areas image now in sized_here desk fits.sound ∙ sym (slots_on desk image areas) ∙ ap (λ (b : ℕ). slots_at image b) areas.based
+
+    here : (s : ℕ) → gate_of image (slot_here desk s) ≡ gate_at image (place_in desk.base s)
+    here s = let areas = fits.areas image now in ap (λ (b : ℕ). gate_at image (place_in b s)) areas.based
+
+    agree : (s : ℕ) → s < length desk.counts - 1 → is_free (get_or (take (length desk.counts - 1) desk.counts) s TheVariants.Spent) ≡ closed_in image desk.base s
     agree s lt =
-        let within : s < n = subst (λ m. s < m) size lt in
-        free_by_gate (get_or counts s TheVariants.Spent) (gate_at image (place_of s)) (free s within) (spent s within) (either s)
+        let own = own_here desk s (omega (arith, lt, sized_here desk fits.sound)) in
+        ap is_free (get_or-take (length desk.counts - 1) desk.counts s TheVariants.Spent lt)
+        ∙ free_by_gate (count_at desk s) (gate_at image (place_in desk.base s))
+        (λ free. sym (here s) ∙ fits.others is_open image now (slot_here desk s) own (λ spent. absurd (free_isnt_spent (sym free ∙ sym (count_here desk (slot_here desk s) refl) ∙ spent))))
+        (λ spent. let same = fits.spent is_open image image now now (slot_here desk s) own (count_here desk (slot_here desk s) refl ∙ spent) in omega (arith, same.open_gate, here s))
+        (either s)

@@ -1,17 +1,19 @@
+pub mod Blanks
 pub mod Blocks
 pub mod Counts
 pub mod Finding
-pub mod Frame
-pub mod Later
+mod FreeSlots
+pub mod LinkLemmas
 pub mod OnOks
-pub mod Pieces
+pub mod Raising
+pub mod RaisingSteps
+pub mod ReadFits
+pub mod ReadGood
+pub mod ReadMore
+pub mod Refusals
+pub mod RunLaws
 pub mod Runs
-pub mod Signed
 pub mod Standing
 pub mod Steps
-pub mod Texts
-pub mod KeyLemmas
-pub mod RunLaws
+pub mod Successors
 pub mod Tickets
-pub mod Blanks
-mod FreeSlots

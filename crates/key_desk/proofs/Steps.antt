@@ -1,167 +1,252 @@
 -- What one stored slot leaves of a desk and of its disk.
-use Rattle.std.proofs.Common.{◌≡◌, ◌≢◌, ℕ, ◌+◌, ◌<◌, ◌≤◌, true, false, List, length, arith, inl, inr, sym, ◌∙◌, ap, subst}
+use Rattle.std.proofs.Common.{◌≡◌, ◌≢◌, ◌⊎◌, ℕ, suc, ◌+◌, ◌-◌, ◌<◌, ◌≤◌, Bool, true, false, List, length, set, arith, inl, inr, refl, sym, ◌∙◌, ap, subst}
 use Rattle.std.proofs.lemmas.Bool.{cases_eq}
 use Rattle.road_io.specs.declared.disk.Disk.{Ghosts}
-use Rattle.road_io.specs.Disk.{written}
+use Rattle.road_io.specs.Disk.{Stays}
 use Rattle.road_io.specs.Moments.{Image, EachImage, AtEachMoment}
-use Rattle.road_io.proofs.MomentLaws.{weaker}
-use Rattle.road_io.proofs.WrittenLaws.{length-written, written_below, written_above}
+use Rattle.road_io.proofs.MomentLaws.{weaker, at_end}
 use Rattle.key_desk.specs.declared.desk.Desk.{Desk}
-use Rattle.key_desk.specs.declared.desk.Count.{Count}
-use Rattle.key_desk.specs.declared.desk.Count.TheVariants
-use Rattle.lms_tree.specs.Signatures.{KeyOf}
-use Rattle.key_desk.specs.Layout.{slots_of, place_of, gate_at, text_at, IsSigned, AgreesOutside, SameSigned, SignsAtMost, OutsideSlot}
-use Rattle.key_desk.specs.Desk.{count_of, HasKey, SameSpent, Fits, KnowsTexted, KeepsKnown, IsBlank}
-use Rattle.key_desk.proofs.Pieces.{widen}
-use Rattle.key_desk.proofs.Frame.{Apart, back, range_apart, text_apart, gate_apart, kind_kept, signed_kept, slots_apart, text_behind}
+use Rattle.desk_areas.specs.declared.area.Count.{Count}
+use Rattle.desk_areas.specs.declared.area.Count.TheVariants
+use Rattle.lms_tree.specs.Signatures.{KeyOf, public_key}
+use Rattle.lms_tree.specs.Links.{IsLink, link_text}
+use Rattle.desk_areas.specs.Layout.{SlotId, slots_of, slots_at, place_in, base_of, place_of, gate_at, text_at, gate_of, text_of, last_slot, HasLink, IsAreaOpen, IsSigned, AgreesOutside, SameSigned, SignsAtMost, OutsideSlot}
+use Rattle.key_desk.specs.Desk.{key_of, counts_of, count_of, count_at, slot_here, IsSlotOf, IsSound, HasKey, HasAreas, SameSpent, Fits, KnowsTexted, KnowsSpent, KeepsKnown, IsBlank}
+use Rattle.desk_areas.proofs.Areas
+use Rattle.desk_areas.proofs.Pairs.{text_signs_nothing, gate_signs_text}
+use Rattle.key_desk.proofs.Counts.{changed, key_here, counts_here, count_here, own_here, counted_within, count_other, this_count, sound_changed, sound_closed, written_isnt_spent}
 
-pub written_outside : (at : ℕ) (octets d : List ℕ) → at + length octets ≤ length d → AgreesOutside at (at + length octets) d (written at octets d)
-written_outside at octets d fits = record {
-  long = length-written at octets d fits;
-  same = λ k out. elim out [ inl below ↦ written_below at octets d fits k below | inr above ↦ written_above at octets d fits k above ];
+-- ---- areas on an image
+
+-- a slot of the desk is one of its area on the image
+pub known_on : (desk : Desk) (d : List ℕ) (slot : SlotId) → HasAreas desk d → IsSlotOf desk slot → slot.number < slots_at d (base_of d slot.area)
+known_on desk d slot areas own = let key = areas.keys slot.area own.area in subst (λ (k : ℕ). slot.number < slots_of k) (sym key.kind) own.known
+
+-- where the slot of a number in the current area begins
+pub place_here : (desk : Desk) (d : List ℕ) (number : ℕ) → HasAreas desk d → place_of d (slot_here desk number) ≡ place_in desk.base number
+place_here desk d number areas = ap (λ (b : ℕ). place_in b number) areas.based
+
+-- all of it is there
+pub whole_on : (desk : Desk) (d : List ℕ) (slot : SlotId) → HasAreas desk d → IsSlotOf desk slot → place_of d slot + 128 ≤ length d
+whole_on desk d slot areas own = let key = areas.keys slot.area own.area in omega (arith, key.within, own.known)
+
+pub areas_as : (desk : Desk) (counts : List Count) (is_open : Bool) (d : List ℕ) → HasAreas desk d → HasAreas (changed desk counts is_open) d
+areas_as desk counts is_open d h = record {
+  current = h.current;
+  based = h.based;
+  keys = h.keys;
+  linked = h.linked;
+  plain = λ s own. h.plain s (record { area = own.area; known = own.known });
 }
 
-pub key_kept : (key : KeyOf) (from to : ℕ) (d i : List ℕ) → 64 ≤ from → AgreesOutside from to d i → HasKey key d → HasKey key i
-key_kept key from to d i le h k =
-    let first = h.same 0 (inl (omega arith)) in
-    record {
-      key_open = omega (arith, k.key_open, first);
-      kind = kind_kept from to d i h 0 (inl le) ∙ k.kind;
-      secret = range_apart from to d i h 5 48 (inl (omega arith)) ∙ k.secret;
-      within = omega (arith, k.within, h.long);
-    }
+pub own_as : (desk : Desk) (counts : List Count) (is_open : Bool) (slot : SlotId) → IsSlotOf (changed desk counts is_open) slot → IsSlotOf desk slot
+own_as desk counts is_open slot own = record { area = own.area; known = own.known }
 
--- a text under a closed gate signs nothing
-pub text_signs_nothing : (q from to : ℕ) (d i : List ℕ) → place_of q < from → to ≤ place_of q + 128 → gate_at d (place_of q) ≡ 0 → AgreesOutside from to d i → OutsideSlot q d i × SameSigned d i
-text_signs_nothing q from to d i low high shut h =
-    let slot : OutsideSlot q d i = widen from to (place_of q) (place_of q + 128) d i (omega arith) high h in
-    let gate = gate_apart from to d i h (place_of q) (inl (omega arith)) in (
-      slot,
+-- what a change within a slot of the current area keeps of the other slots
+module _ (desk : Desk) (q : ℕ) (d i : List ℕ) (areas : HasAreas desk d) (lt : q < slots_of desk.key.kind) (outside : OutsideSlot (slot_here desk q) d i) where
+  known_here : q < slots_at d (base_of d (length desk.earlier))
+  known_here = known_on desk d (slot_here desk q) areas (own_here desk q lt)
+
+  pub linked_kept : (area : ℕ) → area < length desk.earlier → text_of i (last_slot i area) ≡ link_text (public_key (key_of desk (suc area)))
+  linked_kept area lt =
+      let has = Areas.open_link d area (Areas.open_down d (suc area) (length desk.earlier) lt areas.current.is_open) in
+      let ne : last_slot d area ≢ slot_here desk q = λ is. let same : area ≡ length desk.earlier = ap (λ (s : SlotId). s.area) is in omega (arith, same, lt) in
+      ap (λ (s : SlotId). text_of i s) (Areas.lasts (slot_here desk q) d i outside known_here area)
+      ∙ Areas.text_same (slot_here desk q) d i outside known_here (last_slot d area) ne has.place.known
+      ∙ areas.linked area lt
+
+  pub plain_kept : (s : SlotId) → s ≢ slot_here desk q → IsSlotOf desk s → 0 < gate_of i s → IsLink (text_of i s) → (s ≡ last_slot i s.area) × (s.area < length desk.earlier)
+  plain_kept s ne own gate link =
+      let there = known_on desk d s areas own in
+      let gate_was : 0 < gate_of d s = omega (arith, gate, Areas.gate_same (slot_here desk q) d i outside known_here s ne there) in
+      let was = areas.plain s own gate_was (subst IsLink (Areas.text_same (slot_here desk q) d i outside known_here s ne there) link) in
+      (was.0 ∙ sym (Areas.lasts (slot_here desk q) d i outside known_here s.area), was.1)
+
+-- a change within a slot of the current area keeps the areas, where the slot holds no link before and after
+module _ (desk : Desk) (q : ℕ) (d i : List ℕ) (areas : HasAreas desk d) (lt : q < slots_of desk.key.kind) (outside : OutsideSlot (slot_here desk q) d i)
+    (none_d : (a : ℕ) → HasLink d a → last_slot d a ≢ slot_here desk q) (none_i : (a : ℕ) → HasLink i a → last_slot i a ≢ slot_here desk q) where
+  known : q < slots_at d (base_of d (length desk.earlier))
+  known = known_on desk d (slot_here desk q) areas (own_here desk q lt)
+
+  open_kept : (area : ℕ) → IsAreaOpen d area → IsAreaOpen i area
+  open_kept area = Areas.open_kept (slot_here desk q) d i outside known area (λ a lt. none_d a)
+
+  open_back : (area : ℕ) → IsAreaOpen i area → IsAreaOpen d area
+  open_back area = Areas.open_kept (slot_here desk q) i d (Areas.turned (slot_here desk q) d i outside known) (Areas.known_turned (slot_here desk q) d i outside known) area (λ a lt. none_i a)
+
+  key_kept : (area : ℕ) → area ≤ length desk.earlier → HasKey (key_of desk area) (base_of i area) i
+  key_kept area le =
+      let key = areas.keys area le in
       record {
-        keeps = λ s t signed. elim (cases_eq s q) [
-          | inl is ↦ let here : 0 < gate_at d (place_of q) = subst (λ (x : ℕ). 0 < gate_at d (place_of x)) is signed.spent.gate in absurd (omega (arith, here, shut))
-          | inr ne ↦ signed_kept (place_of q) (place_of q + 128) d i slot (omega arith) s t (slots_apart s q ne) signed
-        ];
-        adds_none = λ s t signed. elim (cases_eq s q) [
-          | inl is ↦ let here : 0 < gate_at i (place_of q) = subst (λ (x : ℕ). 0 < gate_at i (place_of x)) is signed.spent.gate in absurd (omega (arith, here, shut, gate))
-          | inr ne ↦ signed_kept (place_of q) (place_of q + 128) i d (back (place_of q) (place_of q + 128) d i slot) (omega arith) s t (slots_apart s q ne) signed
-        ];
-      },
-    )
+        kind = Areas.kinds (slot_here desk q) d i outside known area ∙ key.kind;
+        secret = Areas.secrets (slot_here desk q) d i outside known area ∙ key.secret;
+        within = omega (arith, key.within, outside.long, Areas.bases (slot_here desk q) d i outside known area);
+      }
 
--- an opened gate signs the text behind it at most
-pub gate_signs_text : (q : ℕ) (text d i : List ℕ) → gate_at d (place_of q) ≡ 0 → text_at d (place_of q) ≡ text → AgreesOutside (place_of q) (place_of q + 1) d i → OutsideSlot q d i × SignsAtMost q text d i
-gate_signs_text q text d i shut text_is h =
-    let slot : OutsideSlot q d i = widen (place_of q) (place_of q + 1) (place_of q) (place_of q + 128) d i (omega arith) (omega arith) h in
-    let text_stays : text_at i (place_of q) ≡ text_at d (place_of q) = behind in (
-      slot,
-      record {
-        keeps = λ s t signed. elim (cases_eq s q) [
-          | inl is ↦ let here : 0 < gate_at d (place_of q) = subst (λ (x : ℕ). 0 < gate_at d (place_of x)) is signed.spent.gate in absurd (omega (arith, here, shut))
-          | inr ne ↦ signed_kept (place_of q) (place_of q + 128) d i slot (omega arith) s t (slots_apart s q ne) signed
-        ];
-        adds = λ s t signed. elim (cases_eq s q) [
-          | inl is ↦ inr (is, sym signed.spent.text_is ∙ ap (λ (x : ℕ). text_at i (place_of x)) is ∙ text_stays ∙ text_is)
-          | inr ne ↦ inl (signed_kept (place_of q) (place_of q + 128) i d (back (place_of q) (place_of q + 128) d i slot) (omega arith) s t (slots_apart s q ne) signed)
-        ];
-      },
-    )
-  where
-    behind : text_at i (place_of q) ≡ text_at d (place_of q)
-    behind = text_behind (place_of q) d i h
-
-module _ {D : Type 0} (g : Ghosts D) (old : Desk) (before after : D) (q : ℕ) (fits : Fits g old before) (is_open : old.is_open ≡ true) where
-  pub write_moments : count_of old q ≢ TheVariants.Spent → q < slots_of old.key.kind
-      → AtEachMoment g before after (AgreesOutside (place_of q + 1) (place_of q + 128)) → AtEachMoment g before after (λ d i. OutsideSlot q d i × SameSigned d i)
-  write_moments isnt lt m = weaker g before after _ (λ d i. OutsideSlot q d i × SameSigned d i) m
-      (λ d i now h. text_signs_nothing q _ _ d i (omega arith) (omega arith) (fits.others is_open d now q lt isnt) h)
-
-  pub spend_moments : (text : List ℕ) → KnowsTexted g old before q text
-      → AtEachMoment g before after (AgreesOutside (place_of q) (place_of q + 1)) → AtEachMoment g before after (λ d i. OutsideSlot q d i × SignsAtMost q text d i)
-  spend_moments text knows m = weaker g before after _ (λ d i. OutsideSlot q d i × SignsAtMost q text d i) m
-      (λ d i now h. gate_signs_text q text d i (knows.gate d now) (knows.text_is d now) h)
-
-module _ {D : Type 0} (g : Ghosts D) (old new : Desk) (before after : D) (q : ℕ) where
-  -- each image after the call has an image before it outside the slot
-  abbrev pub Frame : Type 0
-  Frame = (i : List ℕ) → Image g after i → (d : List ℕ) × Image g before d × OutsideSlot q d i
-
-  pub fits_closed : Fits g old before → new.key ≡ old.key → new.counts ≡ old.counts → new.is_open ≡ false → Frame → Fits g new after
-  fits_closed fits key counts shut frame = record {
-    sized = ap length counts ∙ fits.sized ∙ ap (λ (k : KeyOf). slots_of k.kind) (sym key);
-    named = ap (λ (k : KeyOf). length k.i) key ∙ fits.named;
-    key = λ i now. let f = frame i now in rw key (key_kept old.key (place_of q) (place_of q + 128) f.0 i (omega arith) f.2 (fits.key f.0 f.1));
-    spent = λ is. absurd (cc (shut, is));
-    others = λ is. absurd (cc (shut, is));
+  pub areas_kept : (0 < gate_of i (slot_here desk q) → IsLink (text_of i (slot_here desk q)) → ⊥) → HasAreas desk i
+  areas_kept plain = record {
+    current = record { is_open = open_kept (length desk.earlier) areas.current.is_open; no_later = λ later. areas.current.no_later (open_back (suc (length desk.earlier)) later) };
+    based = Areas.bases (slot_here desk q) d i outside known (length desk.earlier) ∙ areas.based;
+    keys = key_kept;
+    linked = linked_kept desk q d i areas lt outside;
+    plain = λ s own gate link. elim (Areas.slot_cases s (slot_here desk q)) [
+      | inl here ↦ absurd (plain (subst (λ (x : SlotId). 0 < gate_of i x) here gate) (subst (λ (x : SlotId). IsLink (text_of i x)) here link))
+      | inr ne ↦ plain_kept desk q d i areas lt outside s ne own gate link
+    ];
   }
 
-  pub fits_open : Fits g old before → new.key ≡ old.key → length new.counts ≡ length old.counts → old.is_open ≡ true → Frame
-      → ((s : ℕ) → s ≢ q → count_of new s ≡ count_of old s)
-      → (count_of new q ≡ TheVariants.Spent → (i j : List ℕ) → Image g after i → Image g after j → SameSpent q i j)
-      → (count_of new q ≢ TheVariants.Spent → (i : List ℕ) → Image g after i → gate_at i (place_of q) ≡ 0)
-      → Fits g new after
-  fits_open fits key same is_open frame counts here_spent here_other = record {
-    sized = same ∙ fits.sized ∙ ap (λ (k : KeyOf). slots_of k.kind) (sym key);
-    named = ap (λ (k : KeyOf). length k.i) key ∙ fits.named;
-    key = λ i now. let f = frame i now in rw key (key_kept old.key (place_of q) (place_of q + 128) f.0 i (omega arith) f.2 (fits.key f.0 f.1));
-    spent = λ _ i j now_i now_j s lt is. elim (cases_eq s q) [
-      | inl here ↦ subst (λ (x : ℕ). SameSpent x i j) (sym here) (here_spent (subst (λ (x : ℕ). count_of new x ≡ TheVariants.Spent) here is) i j now_i now_j)
+-- so does one within a slot before the last
+pub areas_kept_early : (desk : Desk) (q : ℕ) (d i : List ℕ) → HasAreas desk d → q + 1 < slots_of desk.key.kind → OutsideSlot (slot_here desk q) d i
+    → (0 < gate_of i (slot_here desk q) → IsLink (text_of i (slot_here desk q)) → ⊥) → HasAreas desk i
+areas_kept_early desk q d i areas early outside plain =
+    areas_kept desk q d i areas (omega (arith, early)) outside (Areas.early_no_link (slot_here desk q) d early_d) (Areas.early_no_link (slot_here desk q) i early_i) plain
+  where
+    early_d : q + 1 < slots_at d (base_of d (length desk.earlier))
+    early_d =
+        let key = areas.keys (length desk.earlier) (omega arith) in
+        subst (λ (k : ℕ). q + 1 < slots_of k) (sym key.kind) (subst (λ (k : KeyOf). q + 1 < slots_of k.kind) (sym (key_here desk (length desk.earlier) refl)) early)
+
+    early_i : q + 1 < slots_at i (base_of i (length desk.earlier))
+    early_i = omega (arith, early_d, Areas.slots_same (slot_here desk q) d i outside (known_on desk d (slot_here desk q) areas (own_here desk q (omega (arith, early)))) (length desk.earlier))
+
+-- ---- a stored slot
+
+module _ {D : Type 0} (g : Ghosts D) (old : Desk) (before after : D) (q : ℕ) (fits : Fits g old before) (early : q + 1 < slots_of old.key.kind) where
+  own : IsSlotOf old (slot_here old q)
+  own = own_here old q (omega arith)
+
+  -- a change of octets at places of the current area, as one of the slot
+  at_place : (from to : ℕ) → AtEachMoment g before after (AgreesOutside (place_in old.base q + from) (place_in old.base q + to)) → AtEachMoment g before after (λ d i. AgreesOutside (place_of d (slot_here old q) + from) (place_of d (slot_here old q) + to) d i)
+  at_place from to m = weaker g before after _ (λ d i. AgreesOutside (place_of d (slot_here old q) + from) (place_of d (slot_here old q) + to) d i) m
+      (λ d i now h. subst (λ (p : ℕ). AgreesOutside (p + from) (p + to) d i) (sym (place_here old d q (fits.areas d now))) h)
+
+  pub write_moments : old.is_open ≡ true → count_at old q ≢ TheVariants.Spent
+      → AtEachMoment g before after (AgreesOutside (place_in old.base q + 1) (place_in old.base q + 128)) → AtEachMoment g before after (λ d i. OutsideSlot (slot_here old q) d i × SameSigned d i)
+  write_moments is_open isnt m = weaker g before after _ (λ d i. OutsideSlot (slot_here old q) d i × SameSigned d i) (at_place 1 128 m)
+      (λ d i now h. text_signs_nothing (slot_here old q) _ _ d i (omega arith) (omega arith) (known_on old d (slot_here old q) (fits.areas d now) own) (fits.others is_open d now (slot_here old q) own (λ is. isnt (sym (count_here old (slot_here old q) refl) ∙ is))) h)
+
+  pub spend_moments : (text : List ℕ) → KnowsTexted g old before (slot_here old q) text
+      → AtEachMoment g before after (AgreesOutside (place_in old.base q) (place_in old.base q + 1)) → AtEachMoment g before after (λ d i. OutsideSlot (slot_here old q) d i × SignsAtMost (slot_here old q) text d i)
+  spend_moments text knows m = weaker g before after _ (λ d i. OutsideSlot (slot_here old q) d i × SignsAtMost (slot_here old q) text d i) m
+      (λ d i now h.
+      let areas = fits.areas d now in
+      let there : AgreesOutside (place_of d (slot_here old q)) (place_of d (slot_here old q) + 1) d i = subst (λ (p : ℕ). AgreesOutside p (p + 1) d i) (sym (place_here old d q areas)) h in
+      gate_signs_text (slot_here old q) text d i (known_on old d (slot_here old q) areas own) (knows.gate d now) (knows.text_is d now) there (early_on d areas))
+    where
+      early_on : (d : List ℕ) → HasAreas old d → q + 1 < slots_at d (base_of d (length old.earlier))
+      early_on d areas =
+          let key = areas.keys (length old.earlier) (omega arith) in
+          subst (λ (k : ℕ). q + 1 < slots_of k) (sym key.kind) (subst (λ (k : KeyOf). q + 1 < slots_of k.kind) (sym (key_here old (length old.earlier) refl)) early)
+
+  -- each image after the call has an image before it outside the slot
+  abbrev pub Frame : Type 0
+  Frame = (i : List ℕ) → Image g after i → (d : List ℕ) × Image g before d × OutsideSlot (slot_here old q) d i
+
+  -- no image spends a link text there
+  abbrev pub Plain : Type 0
+  Plain = (i : List ℕ) → Image g after i → 0 < gate_of i (slot_here old q) → IsLink (text_of i (slot_here old q)) → ⊥
+
+  areas_after : Frame → Plain → EachImage g after (HasAreas old)
+  areas_after frame plain i now = let f = frame i now in areas_kept_early old q f.0 i (fits.areas f.0 f.1) early f.2 (plain i now)
+
+  pub fits_closed : Frame → Plain → Fits g (changed old old.counts false) after
+  fits_closed frame plain = record {
+    sound = sound_closed old false fits.sound;
+    areas = λ i now. areas_as old old.counts false i (areas_after frame plain i now);
+    spent = λ is. absurd (cc (is));
+    others = λ is. absurd (cc (is));
+  }
+
+  pub fits_open : (count : Count) → old.is_open ≡ true → count_at old q ≢ TheVariants.Spent → Frame → Plain
+      → (count ≡ TheVariants.Spent → (i j : List ℕ) → Image g after i → Image g after j → SameSpent (slot_here old q) i j)
+      → (count ≢ TheVariants.Spent → (i : List ℕ) → Image g after i → gate_of i (slot_here old q) ≡ 0)
+      → Fits g (changed old (set old.counts q count) old.is_open) after
+  fits_open count is_open wasnt frame plain here_spent here_other = record {
+    sound = sound_changed old q count old.is_open fits.sound early;
+    areas = λ i now. areas_as old (set old.counts q count) old.is_open i (areas_after frame plain i now);
+    spent = λ _ i j now_i now_j s own_s is. elim (Areas.slot_cases s (slot_here old q)) [
+      | inl here ↦ subst (λ (x : SlotId). SameSpent x i j) (sym here) (here_spent (sym now_count ∙ subst (λ (x : SlotId). count_of (changed old (set old.counts q count) old.is_open) x ≡ TheVariants.Spent) here is) i j now_i now_j)
       | inr ne ↦
           let f = frame i now_i in
           let h = frame j now_j in
-          let was = fits.spent is_open f.0 h.0 f.1 h.1 s (subst (λ (k : KeyOf). s < slots_of k.kind) key lt) (sym (counts s ne) ∙ is) in
-          let gate_i = gate_apart (place_of q) (place_of q + 128) f.0 i f.2 (place_of s) (gates s ne) in
-          let gate_j = gate_apart (place_of q) (place_of q + 128) h.0 j h.2 (place_of s) (gates s ne) in
-          let text_i = text_apart (place_of q) (place_of q + 128) f.0 i f.2 (place_of s) (slots_apart s q ne) in
-          let text_j = text_apart (place_of q) (place_of q + 128) h.0 j h.2 (place_of s) (slots_apart s q ne) in
+          let own_was = own_as old (set old.counts q count) old.is_open s own_s in
+          let was = fits.spent is_open f.0 h.0 f.1 h.1 s own_was (sym (count_other old q count old.is_open s own_s.area ne) ∙ is) in
+          let gate_i = gate_kept f.0 i f.1 f.2 s own_was ne in
+          let gate_j = gate_kept h.0 j h.1 h.2 s own_was ne in
+          let text_i = text_kept f.0 i f.1 f.2 s own_was ne in
+          let text_j = text_kept h.0 j h.1 h.2 s own_was ne in
           record { open_gate = omega (arith, was.open_gate, gate_i); gate = gate_i ∙ was.gate ∙ sym gate_j; text = text_i ∙ was.text ∙ sym text_j }
     ];
-    others = λ _ i now s lt isnt. elim (cases_eq s q) [
-      | inl here ↦ subst (λ (x : ℕ). gate_at i (place_of x) ≡ 0) (sym here) (here_other (subst (λ (x : ℕ). count_of new x ≢ TheVariants.Spent) here isnt) i now)
+    others = λ _ i now s own_s isnt. elim (Areas.slot_cases s (slot_here old q)) [
+      | inl here ↦ subst (λ (x : SlotId). gate_of i x ≡ 0) (sym here) (here_other (λ is. isnt (ap (λ (x : SlotId). count_of (changed old (set old.counts q count) old.is_open) x) here ∙ now_count ∙ is)) i now)
       | inr ne ↦
           let f = frame i now in
-          let gate = gate_apart (place_of q) (place_of q + 128) f.0 i f.2 (place_of s) (gates s ne) in
-          gate ∙ fits.others is_open f.0 f.1 s (subst (λ (k : KeyOf). s < slots_of k.kind) key lt) (λ was. isnt (counts s ne ∙ was))
+          let own_was = own_as old (set old.counts q count) old.is_open s own_s in
+          gate_kept f.0 i f.1 f.2 s own_was ne ∙ fits.others is_open f.0 f.1 s own_was (λ was. isnt (count_other old q count old.is_open s own_s.area ne ∙ was))
     ];
   }
     where
-      gates : (s : ℕ) → s ≢ q → Apart (place_of s) (place_of s + 1) (place_of q) (place_of q + 128)
-      gates s ne = elim (slots_apart s q ne) [ inl low ↦ inl (omega arith) | inr high ↦ inr (omega arith) ]
+      now_count : count_of (changed old (set old.counts q count) old.is_open) (slot_here old q) ≡ count
+      now_count = count_here (changed old (set old.counts q count) old.is_open) (slot_here old q) refl ∙ this_count old.counts q count wasnt
 
-  pub known_kept : new.key ≡ old.key → Frame → ((s : ℕ) → s ≢ q → count_of new s ≡ count_of old s) → KeepsKnown g q old before new after
-  known_kept key frame counts = record {
-    texted = λ s t ne k. record {
-      count = counts s ne ∙ k.count;
-      gate = λ i now. let f = frame i now in gate_apart (place_of q) (place_of q + 128) f.0 i f.2 (place_of s) (gates s ne) ∙ k.gate f.0 f.1;
-      text_is = λ i now. let f = frame i now in text_apart (place_of q) (place_of q + 128) f.0 i f.2 (place_of s) (slots_apart s q ne) ∙ k.text_is f.0 f.1;
-    };
-    spent = λ s t ne k. record {
-      within = subst (λ (x : KeyOf). s < slots_of x.kind) (sym key) k.within;
-      count = counts s ne ∙ k.count;
-      signed = λ i now. let f = frame i now in signed_kept (place_of q) (place_of q + 128) f.0 i f.2 (omega arith) s t (slots_apart s q ne) (k.signed f.0 f.1);
-    };
+      gate_kept : (d i : List ℕ) → Image g before d → OutsideSlot (slot_here old q) d i → (s : SlotId) → IsSlotOf old s → s ≢ slot_here old q → gate_of i s ≡ gate_of d s
+      gate_kept d i now outside s own_s ne = let areas = fits.areas d now in Areas.gate_same (slot_here old q) d i outside (known_on old d (slot_here old q) areas own) s ne (known_on old d s areas own_s)
+
+      text_kept : (d i : List ℕ) → Image g before d → OutsideSlot (slot_here old q) d i → (s : SlotId) → IsSlotOf old s → s ≢ slot_here old q → text_of i s ≡ text_of d s
+      text_kept d i now outside s own_s ne = let areas = fits.areas d now in Areas.text_same (slot_here old q) d i outside (known_on old d (slot_here old q) areas own) s ne (known_on old d s areas own_s)
+
+  -- what is known of the other slots stays known
+  pub known_kept : (counts : List Count) (is_open : Bool) → Frame → ((s : ℕ) → s ≢ q → count_at (changed old counts is_open) s ≡ count_at old s) → KeepsKnown g (slot_here old q) old before (changed old counts is_open) after
+  known_kept counts is_open frame same = record {
+    texted = λ s t ne k.
+        let number_ne : s.number ≢ q = λ is. ne (Areas.slot_eq s (slot_here old q) k.area is) in
+        let own_s = own_of s k.area (counted_within old s.number fits.sound (λ is. written_isnt_spent _ k.count is)) in
+        record {
+          area = k.area;
+          count = same s.number number_ne ∙ k.count;
+          gate = λ i now.
+              let f = frame i now in
+              let areas = fits.areas f.0 f.1 in
+              Areas.gate_same (slot_here old q) f.0 i f.2 (known_on old f.0 (slot_here old q) areas own) s ne (known_on old f.0 s areas own_s) ∙ k.gate f.0 f.1;
+          text_is = λ i now.
+              let f = frame i now in
+              let areas = fits.areas f.0 f.1 in
+              Areas.text_same (slot_here old q) f.0 i f.2 (known_on old f.0 (slot_here old q) areas own) s ne (known_on old f.0 s areas own_s) ∙ k.text_is f.0 f.1;
+        };
+    spent = λ s t ne k.
+        let number_ne : s.number ≢ q = λ is. ne (Areas.slot_eq s (slot_here old q) k.area is) in
+        record {
+          area = k.area;
+          within = k.within;
+          count = same s.number number_ne ∙ k.count;
+          signed = λ i now.
+              let f = frame i now in
+              let areas = fits.areas f.0 f.1 in
+              let known_d = known_on old f.0 (slot_here old q) areas own in
+              Areas.signed_kept (slot_here old q) f.0 i f.2 known_d s t
+              (λ a lt has is. let same_area : a ≡ length old.earlier = ap (λ (x : SlotId). x.area) is in omega (arith, same_area, lt, k.area)) ne (k.signed f.0 f.1);
+        };
   }
     where
-      gates : (s : ℕ) → s ≢ q → Apart (place_of s) (place_of s + 1) (place_of q) (place_of q + 128)
-      gates s ne = elim (slots_apart s q ne) [ inl low ↦ inl (omega arith) | inr high ↦ inr (omega arith) ]
+      own_of : (s : SlotId) → s.area ≡ length old.earlier → s.number < slots_of old.key.kind → IsSlotOf old s
+      own_of s area lt = record { area = omega (arith, area); known = subst (λ (k : KeyOf). s.number < slots_of k.kind) (sym (key_here old s.area area)) lt }
 
--- an open gate of a known key's slot signs its text
-pub signed_by : (key : KeyOf) (i : List ℕ) (q : ℕ) (text : List ℕ) → HasKey key i → q < slots_of key.kind → 0 < gate_at i (place_of q) → text_at i (place_of q) ≡ text → IsSigned i q text
-signed_by key i q text k lt gate text_is = record {
-  area = record { gate = k.key_open };
-  place = record { known = subst (λ (n : ℕ). q < slots_of n) (sym k.kind) lt; whole = omega (arith, k.within, lt) };
+-- an open gate of a desk's slot signs its text
+pub signed_by : (desk : Desk) (i : List ℕ) (slot : SlotId) (text : List ℕ) → HasAreas desk i → IsSlotOf desk slot → 0 < gate_of i slot → text_of i slot ≡ text → IsSigned i slot text
+signed_by desk i slot text areas own gate text_is = record {
+  area = Areas.open_down i slot.area (length desk.earlier) own.area areas.current.is_open;
+  place = record { known = known_on desk i slot areas own; whole = whole_on desk i slot areas own };
   spent = record { gate = gate; text_is = text_is };
 }
 
--- a desk of free slots fits blank images
-pub blank_fits : {D : Type 0} (g : Ghosts D) (desk : Desk) (disk : D) → length desk.counts ≡ slots_of desk.key.kind → length desk.key.i ≡ 16 → EachImage g disk (IsBlank desk.key) → ((s : ℕ) → s < slots_of desk.key.kind → count_of desk s ≡ TheVariants.Free) → Fits g desk disk
-blank_fits g desk disk sized named blank free = record {
-  sized = sized;
-  named = named;
-  key = λ i now. let b = blank i now in b.block;
-  spent = λ _ i j now_i now_j s lt spent. let f = free s lt in absurd (free_isnt_spent _ f spent);
-  others = λ _ i now s lt isnt. let b = blank i now in b.shut s lt;
+-- where no image changes, a desk fits as before
+pub fits_stays : {D : Type 0} (g : Ghosts D) (desk : Desk) (disk new : D) → Fits g desk disk → AtEachMoment g disk new Stays → Fits g desk new
+fits_stays g desk disk new fits moments = record {
+  sound = fits.sound;
+  areas = λ i now. fits.areas i (was i now);
+  spent = λ opened i j now_i now_j. fits.spent opened i j (was i now_i) (was j now_j);
+  others = λ opened i now. fits.others opened i (was i now);
 }
   where
-    free_isnt_spent : (count : Count) → count ≡ TheVariants.Free → count ≡ TheVariants.Spent → ⊥
-    free_isnt_spent count is was = cc
+    was : (i : List ℕ) → Image g new i → Image g disk i
+    was i now = let e = at_end g disk new Stays moments i now in subst (Image g disk) (sym e.2) e.1

@@ -1,5 +1,5 @@
 -- What a desk and its disk have in common, and what a state of signing knows.
-use Rattle.std.specs.Prelude.{◌≡◌, ◌≢◌, ◌⊎◌, ℕ, ◌<◌, ◌≤◌, true, false, Bool, List, ◌++◌, take, drop, length, slice_index_or, Ok}
+use Rattle.std.specs.Prelude.{◌≡◌, ◌≢◌, ◌⊎◌, ℕ, suc, ◌+◌, ◌-◌, ◌<◌, ◌≤◌, true, false, Bool, List, ◌++◌, take, drop, length, map, get_or, slice_index_or, Ok}
 use Rattle.std.specs.List.{count_by}
 use Rattle.road_io.specs.declared.disk.Disk.{Ghosts}
 use Rattle.road_io.specs.Moments.{Image, EachImage}
@@ -7,87 +7,172 @@ use Rattle.key_desk.specs.declared.desk.Desk.{Desk}
 use Rattle.key_desk.specs.declared.desk.Texted.{Texted}
 use Rattle.key_desk.specs.declared.desk.Spent.{Spent}
 use Rattle.lms_tree.specs.Signatures.{KeyOf, number_at, public_key, verified}
-use Rattle.key_desk.specs.declared.desk.Count.{Count}
-use Rattle.key_desk.specs.declared.desk.Count.TheVariants
-use Rattle.key_desk.specs.Layout.{slots_of, place_of, gate_at, text_at, kind_at, secret_at, SlotId, IsSigned, IsOpen}
+use Rattle.lms_tree.specs.Links.{IsLink, link_text}
+use Rattle.desk_areas.specs.declared.area.Count.{Count}
+use Rattle.desk_areas.specs.declared.area.Count.TheVariants
+use Rattle.desk_areas.specs.Layout.{slots_of, place_in, base_of, gate_at, gate_of, text_of, kind_at, secret_at, last_slot, SlotId, IsSigned, IsOpen, IsCurrent}
+
+-- ---- a desk's areas
+
+-- the key of an area
+abbrev pub key_of : Desk → ℕ → KeyOf
+key_of desk area = slice_index_or (map (λ a. a.key) desk.earlier) area desk.key
+
+-- how the slots of an area are counted
+abbrev pub counts_of : Desk → ℕ → List Count
+counts_of desk area = slice_index_or (map (λ a. a.counts) desk.earlier) area desk.counts
+
+-- the slot of a number in the current area
+abbrev pub slot_here : Desk → ℕ → SlotId
+slot_here desk number = record { area = length desk.earlier; number = number }
 
 -- how the desk counts a slot
 abbrev pub count_of : Desk → SlotId → Count
-count_of desk slot = slice_index_or desk.counts slot TheVariants.Spent
+count_of desk slot = slice_index_or (counts_of desk slot.area) slot.number TheVariants.Spent
 
--- how many slots the desk counts as free
+-- how the desk counts the slot of a number in the current area
+abbrev pub count_at : Desk → ℕ → Count
+count_at desk number = slice_index_or desk.counts number TheVariants.Spent
+
+-- how many slots the desk counts as free in its current area, without the last one
 abbrev pub is_free : Count → Bool
 is_free TheVariants.Free = true
 is_free count = false
 
 abbrev pub free_slots : Desk → ℕ
-free_slots desk = count_by is_free desk.counts
+free_slots desk = count_by is_free (take (length desk.counts - 1) desk.counts)
 
--- the image has this key's open block, and all its slots
-pub record HasKey (key : KeyOf) (image : List ℕ) : Type 0 where
-  pub key_open : 0 < gate_at image 0
-  pub kind : kind_at image 0 ≡ key.kind
-  pub secret : secret_at image 0 ≡ key.i ++ key.seed
-  pub within : place_of (slots_of key.kind) ≤ length image
+-- a slot of one of the desk's areas
+pub record IsSlotOf (desk : Desk) (slot : SlotId) : Type 0 where
+  pub area : slot.area ≤ length desk.earlier
+  pub known : slot.number < slots_of (key_of desk slot.area).kind
+
+-- no slot of the current area is free but the last, which is kept for a link text
+abbrev pub IsUsedUp : Desk → Type 0
+IsUsedUp desk = (number : ℕ) → number + 1 < slots_of desk.key.kind →
+    count_at desk number ≢ TheVariants.Free
+
+-- the desk counts the slots of each area, no two areas have one I, and the last slot of the current
+-- area is in no
+-- signing
+pub record IsSound (desk : Desk) : Type 0 where
+  pub few : length desk.earlier < 8
+  pub known : 0 < slots_of desk.key.kind
+  pub sized : (area : ℕ) → area ≤ length desk.earlier →
+      length (counts_of desk area) ≡ slots_of (key_of desk area).kind
+  pub named : (area : ℕ) → area ≤ length desk.earlier → length (key_of desk area).i ≡ 16
+  pub distinct : (a b : ℕ) → a < b → b ≤ length desk.earlier → (key_of desk a).i ≢ (key_of desk b).i
+  pub last : (count_at desk (slots_of desk.key.kind - 1) ≡ TheVariants.Free) ⊎
+      (count_at desk (slots_of desk.key.kind - 1) ≡ TheVariants.Spent)
+
+-- the desk has the areas that it had
+pub record SameAreas (old new : Desk) : Type 0 where
+  pub earlier : new.earlier ≡ old.earlier
+  pub base : new.base ≡ old.base
+  pub key : new.key ≡ old.key
+
+-- ---- a desk and its disk
+
+-- the image has this key's block at a base, and all its slots
+pub record HasKey (key : KeyOf) (base : ℕ) (image : List ℕ) : Type 0 where
+  pub kind : kind_at image base ≡ key.kind
+  pub secret : secret_at image base ≡ key.i ++ key.seed
+  pub within : place_in base (slots_of key.kind) ≤ length image
+
+-- the open areas of the image have the desk's keys, each later one is named by the link text before
+-- it, and no other
+-- spent slot holds a link text
+pub record HasAreas (desk : Desk) (image : List ℕ) : Type 0 where
+  pub current : IsCurrent image (length desk.earlier)
+  pub based : base_of image (length desk.earlier) ≡ desk.base
+  pub keys : (area : ℕ) → area ≤ length desk.earlier →
+      HasKey (key_of desk area) (base_of image area) image
+  pub linked : (area : ℕ) → area < length desk.earlier →
+      text_of image (last_slot image area) ≡ link_text (public_key (key_of desk (suc area)))
+  pub plain : (slot : SlotId) → IsSlotOf desk slot → 0 < gate_of image slot →
+      IsLink (text_of image slot) → (slot ≡ last_slot image slot.area) ×
+      (slot.area < length desk.earlier)
 
 -- two images have the same open gate and text at a slot
 pub record SameSpent (slot : SlotId) (i j : List ℕ) : Type 0 where
-  pub open_gate : 0 < gate_at i (place_of slot)
-  pub gate : gate_at i (place_of slot) ≡ gate_at j (place_of slot)
-  pub text : text_at i (place_of slot) ≡ text_at j (place_of slot)
+  pub open_gate : 0 < gate_of i slot
+  pub gate : gate_of i slot ≡ gate_of j slot
+  pub text : text_of i slot ≡ text_of j slot
 
--- the desk's counts are true of the image
+-- the desk's areas are those of each image, and while it is open its counts are true of it
 pub record Fits {D : Type 0} (g : Ghosts D) (desk : Desk) (disk : D) : Type 0 where
-  pub sized : length desk.counts ≡ slots_of desk.key.kind
-  pub named : length desk.key.i ≡ 16
-  pub key : EachImage g disk (HasKey desk.key)
-  pub spent : desk.is_open ≡ true → (i j : List ℕ) → Image g disk i → Image g disk j → (slot : SlotId) → slot < slots_of desk.key.kind → count_of desk slot ≡ TheVariants.Spent → SameSpent slot i j
-  pub others : desk.is_open ≡ true → (i : List ℕ) → Image g disk i → (slot : SlotId) → slot < slots_of desk.key.kind → count_of desk slot ≢ TheVariants.Spent → gate_at i (place_of slot) ≡ 0
+  pub sound : IsSound desk
+  pub areas : EachImage g disk (HasAreas desk)
+  pub spent : desk.is_open ≡ true → (i j : List ℕ) → Image g disk i → Image g disk j →
+      (slot : SlotId) → IsSlotOf desk slot → count_of desk slot ≡ TheVariants.Spent →
+      SameSpent slot i j
+  pub others : desk.is_open ≡ true → (i : List ℕ) → Image g disk i → (slot : SlotId) →
+      IsSlotOf desk slot → count_of desk slot ≢ TheVariants.Spent → gate_of i slot ≡ 0
 
--- the slot has this text and a closed gate in every image
-pub record KnowsTexted {D : Type 0} (g : Ghosts D) (desk : Desk) (disk : D) (slot : SlotId) (text : List ℕ) : Type 0 where
-  pub count : count_of desk slot ≡ TheVariants.Written
-  pub gate : EachImage g disk (λ i. gate_at i (place_of slot) ≡ 0)
-  pub text_is : EachImage g disk (λ i. text_at i (place_of slot) ≡ text)
+-- ---- states of signing
 
--- the pair is signed in every image
-pub record KnowsSpent {D : Type 0} (g : Ghosts D) (desk : Desk) (disk : D) (slot : SlotId) (text : List ℕ) : Type 0 where
-  pub within : slot < slots_of desk.key.kind
-  pub count : count_of desk slot ≡ TheVariants.Spent
+-- the slot is of the current area, and has this text and a closed gate in every image
+pub record KnowsTexted {D : Type 0} (g : Ghosts D) (desk : Desk) (disk : D) (slot : SlotId)
+    (text : List ℕ) : Type 0 where
+  pub area : slot.area ≡ length desk.earlier
+  pub count : count_at desk slot.number ≡ TheVariants.Written
+  pub gate : EachImage g disk (λ i. gate_of i slot ≡ 0)
+  pub text_is : EachImage g disk (λ i. text_of i slot ≡ text)
+
+-- the slot is of the current area, and the pair is signed in every image
+pub record KnowsSpent {D : Type 0} (g : Ghosts D) (desk : Desk) (disk : D) (slot : SlotId)
+    (text : List ℕ) : Type 0 where
+  pub area : slot.area ≡ length desk.earlier
+  pub within : slot.number < slots_of desk.key.kind
+  pub count : count_at desk slot.number ≡ TheVariants.Spent
   pub signed : EachImage g disk (λ i. IsSigned i slot text)
 
 -- what is known of every other slot stays known
-pub record KeepsKnown {D : Type 0} (g : Ghosts D) (slot : SlotId) (old_desk : Desk) (old_disk : D) (new_desk : Desk) (new_disk : D) : Type 0 where
-  pub texted : (s : SlotId) (t : List ℕ) → s ≢ slot → KnowsTexted g old_desk old_disk s t → KnowsTexted g new_desk new_disk s t
-  pub spent : (s : SlotId) (t : List ℕ) → s ≢ slot → KnowsSpent g old_desk old_disk s t → KnowsSpent g new_desk new_disk s t
+pub record KeepsKnown {D : Type 0} (g : Ghosts D) (slot : SlotId) (old_desk : Desk) (old_disk : D)
+    (new_desk : Desk) (new_disk : D) : Type 0 where
+  pub texted : (s : SlotId) (t : List ℕ) → s ≢ slot → KnowsTexted g old_desk old_disk s t →
+      KnowsTexted g new_desk new_disk s t
+  pub spent : (s : SlotId) (t : List ℕ) → s ≢ slot → KnowsSpent g old_desk old_disk s t →
+      KnowsSpent g new_desk new_disk s t
+
+-- what is known of each state stays known
+pub record KeepsAllKnown {D : Type 0} (g : Ghosts D) (old_desk : Desk) (old_disk : D)
+    (new_desk : Desk) (new_disk : D) : Type 0 where
+  pub texted : (s : SlotId) (t : List ℕ) → KnowsTexted g old_desk old_disk s t →
+      KnowsTexted g new_desk new_disk s t
+  pub spent : (s : SlotId) (t : List ℕ) → KnowsSpent g old_desk old_disk s t →
+      KnowsSpent g new_desk new_disk s t
 
 -- a signature with this number, which is verified on the text under the key
-pub record IsSignature (key : KeyOf) (slot : SlotId) (text out : List ℕ) : Type 0 where
-  pub number : number_at out 0 ≡ slot
+pub record IsSignature (key : KeyOf) (number : ℕ) (text out : List ℕ) : Type 0 where
+  pub number_is : number_at out 0 ≡ number
   pub good : verified (public_key key) text out ≡ Ok tt
 
 -- the slot and the text of a state
 abbrev pub texted_slot : Texted → SlotId
-texted_slot texted = texted.slot
+texted_slot texted = record { area = texted.area; number = texted.number }
 
 abbrev pub texted_text : Texted → List ℕ
 texted_text texted = take texted.len (drop 1 texted.piece)
 
 abbrev pub spent_slot : Spent → SlotId
-spent_slot spent = spent.slot
+spent_slot spent = record { area = spent.area; number = spent.number }
 
 abbrev pub spent_text : Spent → List ℕ
 spent_text spent = take spent.len (drop 1 spent.piece)
 
--- what is known of each state stays known
-pub record KeepsAllKnown {D : Type 0} (g : Ghosts D) (old_desk : Desk) (old_disk : D) (new_desk : Desk) (new_disk : D) : Type 0 where
-  pub texted : (s : SlotId) (t : List ℕ) → KnowsTexted g old_desk old_disk s t → KnowsTexted g new_desk new_disk s t
-  pub spent : (s : SlotId) (t : List ℕ) → KnowsSpent g old_desk old_disk s t → KnowsSpent g new_desk new_disk s t
+-- ---- a new key
 
--- the image has this key's open block and no spent slot
+-- the image has this key's whole block at a base, and behind its 53 octets zeros to the area's end:
+-- no slot is spent
+pub record IsBlankArea (key : KeyOf) (base : ℕ) (image : List ℕ) : Type 0 where
+  pub block : HasKey key base image
+  pub zero : (k : ℕ) → base + 53 ≤ k → k < place_in base (slots_of key.kind) → get_or image k 0 ≡ 0
+
+-- the image has this key's open block in its first area, which is blank
 pub record IsBlank (key : KeyOf) (image : List ℕ) : Type 0 where
-  pub block : HasKey key image
-  pub shut : (slot : SlotId) → slot < slots_of key.kind → gate_at image (place_of slot) ≡ 0
+  pub key_open : 0 < gate_at image 0
+  pub area : IsBlankArea key 0 image
 
 -- what a crash may leave while a key is made
 abbrev pub IsFresh : KeyOf → List ℕ → Type 0

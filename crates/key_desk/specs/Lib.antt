@@ -1,6 +1,6 @@
 pub mod Desk
-pub mod Keys
-pub mod Layout
-pub mod Stands
-pub mod View
+pub mod Links
 pub mod Runs
+pub mod Stands
+pub mod Succession
+pub mod View

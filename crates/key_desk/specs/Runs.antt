@@ -3,25 +3,34 @@ use Rattle.std.specs.Prelude.{◌≡◌, ◌≢◌, ℕ, ◌≤◌, List, [], �
 use Rattle.std.specs.List.{All}
 use Rattle.road_io.specs.declared.disk.Disk.{Ghosts}
 use Rattle.road_io.specs.Moments.{Image, EachImage}
-use Rattle.key_desk.specs.Layout.{SlotId, gate_at, place_of, IsSigned}
+use Rattle.desk_areas.specs.Layout.{SlotId, gate_of, IsSigned}
 use Rattle.key_desk.specs.Stands.{Stands, KeepsStanding}
 
 -- new is what a crash at a moment left of old: each of its images is one that the crash may leave
 pub record Crashed {D : Type 0} (g : Ghosts D) (k : ℕ) (old new : D) : Type 0 where
   pub left : (i : List ℕ) → Image g new i → g.image_at old k i
 
--- One step of a run, from a disk and the pairs that were signed so far. A call, `create` and `reopen` among
--- them, keeps what stands, whatever it answers. One that signs had a closed gate in every image before, and
--- has its pair signed in every image after. A crash cuts a call at one of its moments, or comes before it.
-pub data Step {D : Type 0} (g : Ghosts D) (old new : D) (before after : List (SlotId × List ℕ)) : Type 0 where
+-- One step of a run, from a disk and the pairs that were signed so far. A call, `create` and
+-- `reopen` among
+-- them, keeps what stands, whatever it answers. One that signs had a closed gate in every image
+-- before, and
+-- has its pair signed in every image after. A crash cuts a call at one of its moments, or comes
+-- before it.
+pub data Step {D : Type 0} (g : Ghosts D) (old new : D)
+    (before after : List (SlotId × List ℕ)) : Type 0 where
   Called : KeepsStanding g old new → after ≡ before → Step g old new before after
-  Signed : (slot : SlotId) (text : List ℕ) → KeepsStanding g old new → EachImage g old (λ i. gate_at i (place_of slot) ≡ 0) → EachImage g new (λ i. IsSigned i slot text) → after ≡ before ++ (slot, text) ∷ [] → Step g old new before after
-  Cut : (called : D) (k : ℕ) → KeepsStanding g old called → g.clock old ≤ k → k ≤ g.clock called → Crashed g k called new → after ≡ before → Step g old new before after
+  Signed : (slot : SlotId) (text : List ℕ) → KeepsStanding g old new →
+      EachImage g old (λ i. gate_of i slot ≡ 0) → EachImage g new (λ i. IsSigned i slot text) →
+      after ≡ before ++ (slot, text) ∷ [] → Step g old new before after
+  Cut : (called : D) (k : ℕ) → KeepsStanding g old called → g.clock old ≤ k → k ≤ g.clock called →
+      Crashed g k called new → after ≡ before → Step g old new before after
 
 -- these disks, each with the pairs that were signed so far, follow one another by steps
-abbrev pub IsRun : {D : Type 0} → Ghosts D → D → List (SlotId × List ℕ) → List (D × List (SlotId × List ℕ)) → Type 0
+abbrev pub IsRun : {D : Type 0} → Ghosts D → D → List (SlotId × List ℕ) →
+    List (D × List (SlotId × List ℕ)) → Type 0
 IsRun g disk pairs [] = Unit {0}
-IsRun g disk pairs (state ∷ states) = Step g disk state.0 pairs state.1 × IsRun g state.0 state.1 states
+IsRun g disk pairs (state ∷ states) = Step g disk state.0 pairs state.1 ×
+    IsRun g state.0 state.1 states
 
 -- no two pairs have one slot
 abbrev pub HasDistinctSlots : List (SlotId × List ℕ) → Type 0
@@ -31,4 +40,5 @@ HasDistinctSlots (pair ∷ pairs) = All (λ other. other.0 ≢ pair.0) pairs × 
 -- at each of these states the pairs stand on the disk, and no two have one slot
 abbrev pub StandThroughout : {D : Type 0} → Ghosts D → List (D × List (SlotId × List ℕ)) → Type 0
 StandThroughout g [] = Unit {0}
-StandThroughout g (state ∷ states) = Stands g state.0 state.1 × HasDistinctSlots state.1 × StandThroughout g states
+StandThroughout g (state ∷ states) = Stands g state.0 state.1 × HasDistinctSlots state.1 ×
+    StandThroughout g states

@@ -1,9 +1,14 @@
 -- A desk as its callers see it.
-use Rattle.std.specs.Prelude.{List, Bool}
+use Rattle.std.specs.Prelude.{ℕ, List, Bool}
 use Rattle.lms_tree.specs.Signatures.{KeyOf}
-use Rattle.key_desk.specs.declared.desk.Count.{Count}
+use Rattle.desk_areas.specs.Area.{AreaView}
+use Rattle.desk_areas.specs.declared.area.Count.{Count}
 
+-- the areas before the current one, where the current one begins, its key, and how its slots are
+-- counted
 pub record View : Type 0 where
+  pub earlier : List AreaView
+  pub base : ℕ
   pub key : KeyOf
   pub counts : List Count
   pub is_open : Bool

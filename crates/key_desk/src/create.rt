@@ -1,30 +1,34 @@
-// The making of a key on a disk that holds none.
+//! The making of a key on a disk that holds none.
 ghost use Rattle.std.specs.Prelude.{◌≡◌, ◌≢◌, ◌⊎◌, ◌+◌, ◌*◌, ◌<◌, ◌≤◌, ◌-◌, [], ◌∷◌, ◌++◌, List, ℕ, Some, Err, length, take, drop, replicate, IfOk, OnOk, IsOk, IsErrOf, IsErr, true, slice_index_or, get_or};
 ghost use Rattle.std.specs.Option.{ForSome};
 ghost use Rattle.road_io.specs.Causes.{HasCause, Rose};
 ghost use Rattle.road_io.specs.Disk.{Stays, Turns};
 ghost use Rattle.road_io.specs.Moments.{Image, EachImage, AtEachMoment};
-ghost use Rattle.key_desk.specs.Layout.{slots_of, place_of, gate_at, kind_at, secret_at, IsOpen, IsClear, IsSigned, AgreesOutside, signed};
+ghost use Rattle.desk_areas.specs.Layout.{slots_of, place_in, gate_at, kind_at, secret_at, IsOpen, IsClear, AgreesOutside};
+ghost use Rattle.desk_areas.specs.Signed.{signed};
 ghost use Rattle.key_desk.specs.Desk.{IsBlank, IsFresh};
 ghost use Rattle.key_desk.specs.Stands.{KeepsStanding};
-ghost use Rattle.key_desk.specs.Keys.{key_from};
+ghost use Rattle.desk_areas.specs.Keys.{key_from};
 
-use crate::desk::{Count, Desk};
-use crate::start::{StartError, build_key, slots_of};
-use crate::store::{put, store};
+use crate::desk::Desk;
+use desk_areas::{Count, StartError, build_key, put, slots_of, store};
 use road_io::{Disk, Failed};
 use std::alloc::Global;
 
 // Whether a key stands there; and how long the disk is.
 fn look<D: Disk>(disk: &mut D) -> Result<u64, StartError>
-    ensures shut { IfOk result (λ n. EachImage D.Disk disk.new (λ i. (IsOpen i → ⊥) × (length i ≡ n))) }
-    ensures was_shut { IfOk result (λ n. ForSome (D.content disk.old) (λ c. (IsOpen c → ⊥) × (length c ≡ n))) }
+    ensures shut { IfOk result (λ n.
+        EachImage D.Disk disk.new (λ i. (IsOpen i → ⊥) × (length i ≡ n))) }
+    ensures was_shut { IfOk result
+        (λ n. ForSome (D.content disk.old) (λ c. (IsOpen c → ⊥) × (length c ≡ n))) }
     ensures one { OnOk result (EachImage D.Disk disk.new (λ i. D.content disk.old ≡ Some i)) }
     ensures held { IsErrOf result StartError.Held → ForSome (D.content disk.old) IsOpen }
-    ensures other { IsErr result → (result ≡ Err StartError.DiskFault) ⊎ (result ≡ Err StartError.Held) }
-    ensures fault { IsErrOf result StartError.DiskFault → Rose (D.faults disk.old) (D.faults disk.new) }
+    ensures other { IsErr result → (result ≡ Err StartError.DiskFault) ⊎
+        (result ≡ Err StartError.Held) }
+    ensures fault { IsErrOf result StartError.DiskFault →
+        Rose (D.faults disk.old) (D.faults disk.new) }
     ensures faults { D.faults disk.old ≤ D.faults disk.new }
-    ensures content { D.content disk.new ≡ D.content disk.old }
+    ensures content { OnOk result (D.content disk.new ≡ D.content disk.old) }
     ensures moments { AtEachMoment D.Disk disk.old disk.new Stays }
 {
     disk.sync()?;
@@ -70,7 +74,8 @@ fn zero_all<D: Disk>(disk: &mut D, zeros: &[u8]) -> Result<(), Failed>
 fn close<D: Disk>(disk: &mut D) -> Result<(), Failed>
     requires short { EachImage D.Disk disk.old (λ i. length i < 64) }
     ensures moments { AtEachMoment D.Disk disk.old disk.new (λ d i. length i < 64) }
-    ensures closed { OnOk result (EachImage D.Disk disk.new (λ i. (0 < length i) × (gate_at i 0 ≡ 0))) }
+    ensures closed { OnOk result (EachImage D.Disk disk.new
+        (λ i. (0 < length i) × (gate_at i 0 ≡ 0))) }
     ensures cause { HasCause (D.faults disk.old) (D.faults disk.new) result }
 {
     put(disk, 0, &[0])
@@ -78,8 +83,9 @@ fn close<D: Disk>(disk: &mut D) -> Result<(), Failed>
 
 // The key block, and then its gate.
 fn open_key<D: Disk>(disk: &mut D, kind: u32, secret: &[u8; 48]) -> Result<(), Failed>
-    requires clear { EachImage D.Disk disk.old (IsClear (place_of (slots_of kind))) }
-    ensures moments { AtEachMoment D.Disk disk.old disk.new (λ d i. IsFresh (key_from kind secret.now) i) }
+    requires clear { EachImage D.Disk disk.old (IsClear (place_in 0 (slots_of kind))) }
+    ensures moments { AtEachMoment D.Disk disk.old disk.new
+        (λ d i. IsFresh (key_from kind secret.now) i) }
     ensures blank { OnOk result (EachImage D.Disk disk.new (IsBlank (key_from kind secret.now))) }
     ensures cause { HasCause (D.faults disk.old) (D.faults disk.new) result }
 {
@@ -89,10 +95,13 @@ fn open_key<D: Disk>(disk: &mut D, kind: u32, secret: &[u8; 48]) -> Result<(), F
 
 // The octets 1 to 52 of the key block, behind its closed gate.
 fn put_block<D: Disk>(disk: &mut D, kind: u32, secret: &[u8; 48]) -> Result<(), Failed>
-    requires clear { EachImage D.Disk disk.old (IsClear (place_of (slots_of kind))) }
+    requires clear { EachImage D.Disk disk.old (IsClear (place_in 0 (slots_of kind))) }
     ensures moments { AtEachMoment D.Disk disk.old disk.new (λ d i. gate_at i 0 ≡ 0) }
-    ensures block { OnOk result (EachImage D.Disk disk.new (λ i. (kind_at i 0 ≡ kind) × (secret_at i 0 ≡ secret.now))) }
-    ensures rest { OnOk result (EachImage D.Disk disk.new (λ i. (place_of (slots_of kind) ≤ length i) × ((k : ℕ) → 64 ≤ k → k < place_of (slots_of kind) → get_or i k 0 ≡ 0))) }
+    ensures block { OnOk result (EachImage D.Disk disk.new
+        (λ i. (kind_at i 0 ≡ kind) × (secret_at i 0 ≡ secret.now))) }
+    ensures rest { OnOk result (EachImage D.Disk disk.new
+        (λ i. (place_in 0 (slots_of kind) ≤ length i) ×
+        ((k : ℕ) → 53 ≤ k → k < place_in 0 (slots_of kind) → get_or i k 0 ≡ 0))) }
     ensures cause { HasCause (D.faults disk.old) (D.faults disk.new) result }
 {
     let block = block_of(kind, secret);
@@ -100,8 +109,9 @@ fn put_block<D: Disk>(disk: &mut D, kind: u32, secret: &[u8; 48]) -> Result<(), 
 }
 
 // The kind in four octets, and the secret.
-fn block_of(kind: u32, secret: &[u8; 48]) -> [u8; 52]
-    ensures kind { ((get_or result 0 0 * 256 + get_or result 1 0) * 256 + get_or result 2 0) * 256 + get_or result 3 0 ≡ kind }
+pub(crate) fn block_of(kind: u32, secret: &[u8; 48]) -> [u8; 52]
+    ensures kind { ((get_or result 0 0 * 256 + get_or result 1 0) * 256 + get_or result 2 0) * 256 +
+        get_or result 3 0 ≡ kind }
     ensures secret { take 48 (drop 4 result) ≡ secret.now }
 {
     let mut block = [0u8; 52];
@@ -124,7 +134,7 @@ fn open_block<D: Disk>(disk: &mut D) -> Result<(), Failed>
 }
 
 impl Desk {
-    ghost use Rattle.key_desk.specs.Desk.{count_of, Fits, IsBlank, IsFresh};
+    ghost use Rattle.key_desk.specs.Desk.{count_at, Fits, IsBlank, IsFresh};
 
     /// Makes a key on a disk that holds none, and opens its desk.
     pub fn create<D: Disk>(
@@ -137,42 +147,25 @@ impl Desk {
         ensures fits { IfOk result (λ desk. Fits D.Disk desk disk.new) }
         ensures opened { IfOk result (λ desk. desk.is_open ≡ true) }
         ensures key { IfOk result (λ desk. desk.key ≡ key_from kind secret.now) }
-        ensures free { IfOk result (λ desk. (s : ℕ) → s < slots_of kind → count_of desk s ≡ Count.Free) }
+        ensures first { IfOk result (λ desk. desk.earlier ≡ []) }
+        ensures free { IfOk result
+            (λ desk. (s : ℕ) → s < slots_of kind → count_at desk s ≡ Count.Free) }
         ensures blank { IfOk result (λ desk. EachImage D.Disk disk.new (IsBlank desk.key)) }
         ensures unsigned { OnOk result (EachImage D.Disk disk.new (λ i. signed i ≡ [])) }
         ensures was_shut { OnOk result (ForSome (D.content disk.old) (λ c. IsOpen c → ⊥)) }
         ensures held { IsErrOf result StartError.Held → ForSome (D.content disk.old) IsOpen }
-        ensures held_else { ForSome (D.content disk.old) (λ c. IsOpen c → (result ≡ Err StartError.Held) ⊎ (result ≡ Err StartError.DiskFault)) }
-        ensures held_stays { ForSome (D.content disk.old) IsOpen → AtEachMoment D.Disk disk.old disk.new Stays }
+        ensures held_else { ForSome (D.content disk.old)
+            (λ c. IsOpen c → (result ≡ Err StartError.Held) ⊎ (result ≡ Err StartError.DiskFault)) }
+        ensures untouched { IsErr result → result ≢ Err StartError.DiskFault →
+            AtEachMoment D.Disk disk.old disk.new Stays }
+        ensures held_stays { ForSome (D.content disk.old) IsOpen →
+            AtEachMoment D.Disk disk.old disk.new Stays }
         ensures stands { KeepsStanding D.Disk disk.old disk.new }
-        ensures moments { Turns D.clock D.image_at disk.old disk.new (IsFresh (key_from kind secret.now)) }
+        ensures moments { Turns D.clock D.image_at disk.old disk.new
+            (IsFresh (key_from kind secret.now)) }
         ensures faults { D.faults disk.old ≤ D.faults disk.new }
-        ensures fault { IsErrOf result StartError.DiskFault → Rose (D.faults disk.old) (D.faults disk.new) }
-        ensures not_others { (result ≢ Err StartError.NoKey) × (result ≢ Err StartError.BadBlock) }
-    {
-        Self::make_desk(alloc, disk, kind, secret)
-    }
-
-    // Looks, clears and opens.
-    fn make_desk<D: Disk>(
-        alloc: Global,
-        disk: &mut D,
-        kind: u32,
-        secret: &[u8; 48],
-    ) -> Result<Desk, StartError>
-        requires { (kind ≡ 5) ⊎ (kind ≡ 6) }
-        ensures fits { IfOk result (λ desk. Fits D.Disk desk disk.new) }
-        ensures opened { IfOk result (λ desk. desk.is_open ≡ true) }
-        ensures key { IfOk result (λ desk. desk.key ≡ key_from kind secret.now) }
-        ensures free { IfOk result (λ desk. (s : ℕ) → s < slots_of kind → count_of desk s ≡ Count.Free) }
-        ensures blank { IfOk result (λ desk. EachImage D.Disk disk.new (IsBlank desk.key)) }
-        ensures was_shut { OnOk result (ForSome (D.content disk.old) (λ c. IsOpen c → ⊥)) }
-        ensures held { IsErrOf result StartError.Held → ForSome (D.content disk.old) IsOpen }
-        ensures held_else { ForSome (D.content disk.old) (λ c. IsOpen c → (result ≡ Err StartError.Held) ⊎ (result ≡ Err StartError.DiskFault)) }
-        ensures held_stays { ForSome (D.content disk.old) IsOpen → AtEachMoment D.Disk disk.old disk.new Stays }
-        ensures moments { Turns D.clock D.image_at disk.old disk.new (IsFresh (key_from kind secret.now)) }
-        ensures faults { D.faults disk.old ≤ D.faults disk.new }
-        ensures fault { IsErrOf result StartError.DiskFault → Rose (D.faults disk.old) (D.faults disk.new) }
+        ensures fault { IsErrOf result StartError.DiskFault →
+            Rose (D.faults disk.old) (D.faults disk.new) }
         ensures not_others { (result ≢ Err StartError.NoKey) × (result ≢ Err StartError.BadBlock) }
     {
         let len = look(disk)?;
@@ -182,6 +175,6 @@ impl Desk {
         let counts = vec![in alloc; Count::Free; slots as usize]?;
         clear(disk, len, &zeros)?;
         open_key(disk, kind, secret)?;
-        Ok(Desk::from_parts(key, counts))
+        Ok(Desk::from_parts(Vec::new(alloc), 0, key, counts))
     }
 }

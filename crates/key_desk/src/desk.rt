@@ -1,30 +1,17 @@
-// The desk, and the states of one signing.
-ghost use Rattle.std.specs.Prelude.{◌≡◌, ◌≢◌, ◌+◌, ◌*◌, ◌<◌, ◌≤◌, ◌↔◌, List, ℕ, true, false, length, slice_set, slice_index_or, IfOk, OnOk, IsErrOf, IsErr, IsOk, Err, IfSome, IfNone, take, drop, ◌∷◌};
+//! The desk, and the states of one signing.
+ghost use Rattle.std.specs.Prelude.{◌≡◌, ◌≢◌, ◌+◌, ◌*◌, ◌^◌, ◌<◌, ◌≤◌, ◌↔◌, List, ℕ, true, false, length, slice_set, slice_index_or, IfOk, OnOk, IsErrOf, IsErr, IsOk, Err, IfSome, IfNone, take, drop, ◌∷◌};
 ghost use Rattle.road_io.specs.Causes.{Rose};
 ghost use Rattle.road_io.specs.Moments.{Image, EachImage, AtEachMoment};
-ghost use Rattle.key_desk.specs.Layout.{SlotId, slots_of, place_of, gate_at, text_at, IsSigned, SameSigned, SignsAtMost, OutsideSlot};
+ghost use Rattle.desk_areas.specs.Layout.{SlotId, slots_of, place_in, gate_of, IsSigned, SameSigned, SignsAtMost, OutsideSlot};
 ghost use Rattle.key_desk.specs.Stands.{KeepsStanding};
 ghost use Rattle.lms_tree.specs.Signatures.{height_of, public_key, seal_len};
+ghost use Rattle.lms_tree.specs.Links.{IsLink};
 
-use crate::start::slots_of;
-use crate::store::{open_gate, put_text};
+use desk_areas::{Area, Count, open_gate, place_in, put_text};
 use lms_tree::{Key, sig_len};
 use road_io::{Disk, Failed};
 use std::marker::Model;
 use thiserror::Error;
-
-/// How a desk counts a slot.
-#[derive(Clone, Copy, Debug, PartialEq, Eq)]
-pub enum Count {
-    /// No signing has it.
-    Free,
-    /// A ticket has it.
-    Out,
-    /// A text stands behind its closed gate.
-    Written,
-    /// Its gate is open: it has signed, or may have.
-    Spent,
-}
 
 /// Why a desk refuses.
 #[derive(Clone, Copy, Debug, PartialEq, Eq, Error)]
@@ -40,29 +27,32 @@ pub enum DeskError {
     Closed,
 }
 
-/// An owner's desk over the key that a disk holds. It signs each text with a one-time key of its own,
-/// whose slot it spends on the disk before the signature is made. While it is open it takes no memory.
+/// An owner's desk over the keys that a disk holds. It signs each text with a one-time key of its own in the
+/// disk's last open area, whose slot it spends on the disk before the signature is made. While it is open it
+/// takes no memory but in `links`.
 #[derive(Drop)]
 pub struct Desk {
-    key: Key,
-    counts: Vec<Count>,
-    is_open: bool,
+    pub(crate) earlier: Vec<Area>,
+    pub(crate) base: u64,
+    pub(crate) key: Key,
+    pub(crate) counts: Vec<Count>,
+    pub(crate) is_open: bool,
 }
 
 impl Model for Desk {
-    ghost use Rattle.std.specs.Prelude.{◌≡◌, length};
+    ghost use Rattle.std.specs.Prelude.{◌≡◌, ◌≤◌, ◌*◌, length};
     ghost use Rattle.key_desk.specs.View.{View};
-    ghost use Rattle.key_desk.specs.Layout.{slots_of};
+    ghost use Rattle.desk_areas.specs.Layout.{slots_of};
 
     ghost Value = { View };
 
-    ghost view = { λ d. record { key = d.key; counts = d.counts.items; is_open = d.is_open } };
+    ghost view = { λ d. record { earlier = d.earlier.items; base = d.base; key = d.key; counts = d.counts.items; is_open = d.is_open } };
 
-    ghost invariant = { λ d. length d.counts.items ≡ slots_of d.key.kind };
+    ghost invariant = { λ d. (length d.counts.items ≡ slots_of d.key.kind) × (d.base ≤ 131136 * length d.earlier.items) × (length d.earlier.items ≤ 7) };
 }
 
 impl Desk {
-    ghost use Rattle.key_desk.specs.Layout.{slots_of};
+    ghost use Rattle.desk_areas.specs.Layout.{slots_of};
     ghost use Rattle.key_desk.specs.Desk.{IsSignature};
 
     /// The public key, 56 octets.
@@ -76,18 +66,7 @@ impl Desk {
     pub fn sig_len(&self) -> u32
         ensures { result ≡ seal_len (height_of self.now.key.kind) }
     {
-        match sig_len(self.key.kind()) {
-            Some(len) => len,
-            // No key has another type: its signatures would have no path.
-            None => 1132,
-        }
-    }
-
-    /// How many one-time keys there are, used ones among them.
-    pub fn size(&self) -> u32
-        ensures { result ≡ slots_of self.now.key.kind }
-    {
-        slots_of(self.key.kind())
+        signature_len(self.key.kind())
     }
 
     // Writes the signature of a text by the one-time key of a slot.
@@ -106,12 +85,53 @@ impl Desk {
         self.is_open
     }
 
-    // How each slot is counted.
+    // How each slot of the current area is counted.
     pub(crate) fn counts(&self) -> &[Count]
         ensures counts { result.now ≡ self.now.counts }
+        ensures sized { length result.now ≡ slots_of self.now.key.kind }
         ensures few { length result.now ≤ 1024 }
     {
         &self.counts
+    }
+
+    // The key of the current area.
+    pub(crate) fn key(&self) -> &Key
+        ensures { result.now ≡ self.now.key }
+    {
+        &self.key
+    }
+
+    // The number of the current area.
+    pub(crate) fn area(&self) -> u32
+        ensures { result ≡ length self.now.earlier }
+    {
+        self.earlier.len() as u32
+    }
+
+    // Where the current area begins.
+    pub(crate) fn base(&self) -> u64
+        ensures base { result ≡ self.now.base }
+        ensures low { result ≤ 131136 * length self.now.earlier }
+        ensures few { length self.now.earlier ≤ 7 }
+    {
+        self.base
+    }
+
+    // Where a slot of the current area begins.
+    fn place(&self, number: u32) -> u64
+        requires { number < slots_of self.now.key.kind }
+        ensures place { result ≡ place_in self.now.base number }
+        ensures low { result < 2 ^ 63 }
+    {
+        place_in(self.base, number)
+    }
+
+    // The areas before the current one.
+    pub(crate) fn earlier(&self) -> &[Area]
+        ensures areas { result.now ≡ self.now.earlier }
+        ensures few { length result.now ≤ 7 }
+    {
+        &self.earlier
     }
 
     // Counts a slot otherwise.
@@ -130,16 +150,60 @@ impl Desk {
     }
 
     // A desk of these parts.
-    pub(crate) fn from_parts(key: Key, counts: Vec<Count>) -> Desk
-        requires { length counts.items ≡ slots_of key.kind }
-        ensures parts { (result.key ≡ key) × (result.counts ≡ counts.items) × (result.is_open ≡ true) }
-        ensures sized { length result.counts ≡ slots_of result.key.kind }
+    pub(crate) fn from_parts(earlier: Vec<Area>, base: u64, key: Key, counts: Vec<Count>) -> Desk
+        requires sized { length counts.items ≡ slots_of key.kind }
+        requires low { base ≤ 131136 * length earlier.items }
+        requires few { length earlier.items ≤ 7 }
+        ensures { result ≡ record {
+          earlier = earlier.items;
+          base = base;
+          key = key;
+          counts = counts.items;
+          is_open = true;
+        } }
     {
         Desk {
+            earlier,
+            base,
             key,
             counts,
             is_open: true,
         }
+    }
+}
+
+impl Desk {
+    // A desk whose current area is this one.
+    pub(crate) fn with_current(earlier: Vec<Area>, base: u64, area: Area) -> Desk
+        requires low { base ≤ 131136 * length earlier.items }
+        requires few { length earlier.items ≤ 7 }
+        ensures { result ≡ record {
+          earlier = earlier.items;
+          base = base;
+          key = area.key;
+          counts = area.counts;
+          is_open = true;
+        } }
+    {
+        let (key, counts) = area.into_parts();
+        Desk {
+            earlier,
+            base,
+            key,
+            counts,
+            is_open: true,
+        }
+    }
+}
+
+// How many octets a signature by a key of this type has.
+pub(crate) fn signature_len(kind: u32) -> u32
+    ensures { result ≡ seal_len (height_of kind) }
+{
+    match sig_len(kind) {
+        Some(len) => len,
+        // No key has another type: its signatures would have no path.
+        None => 1132,
     }
 }
 
@@ -158,33 +222,40 @@ impl Model for Ticket {
 
 /// A slot whose text stands on the disk behind its closed gate. It must be spent.
 pub struct Texted {
-    slot: u32,
+    area: u32,
+    number: u32,
     len: usize,
     piece: [u8; 127],
     ghost short: { len ≤ 126 },
+    ghost plain: { IsLink (take len (drop 1 piece)) → ⊥ },
 }
 
 /// A slot whose gate is open on the disk, with its text. It must be sealed.
 pub struct Spent {
-    slot: u32,
+    area: u32,
+    number: u32,
     len: usize,
     piece: [u8; 127],
     ghost short: { len ≤ 126 },
 }
 
 impl Desk {
-    ghost use Rattle.key_desk.specs.Desk.{count_of, Fits, KnowsTexted, KnowsSpent, KeepsKnown, KeepsAllKnown, texted_slot, texted_text, spent_slot, spent_text};
+    ghost use Rattle.key_desk.specs.Desk.{count_at, slot_here, IsUsedUp, SameAreas, Fits, KnowsTexted, KnowsSpent, KeepsKnown, KeepsAllKnown, texted_slot, texted_text, spent_slot, spent_text};
     ghost use Rattle.key_desk.specs.Desk.{IsSignature};
 
-    /// Takes the lowest slot that is free.
+    /// Takes the lowest slot of the current area that is free. Its last slot is kept for the link to the next key.
     pub fn ticket(&mut self) -> Result<Ticket, DeskError>
-        ensures out { IfOk result (λ t. (count_of self.old t ≡ Count.Free) × (self.new.counts ≡ slice_set self.old.counts t Count.Out)) }
-        ensures lowest { IfOk result (λ t. (s : ℕ) → s < t → count_of self.old s ≢ Count.Free) }
-        ensures same { (self.new.key ≡ self.old.key) × (self.new.is_open ≡ self.old.is_open) }
-        ensures refused { IsErr result → self.new.counts ≡ self.old.counts }
-        ensures used_up { IsErrOf result DeskError.KeysUsedUp → (self.old.is_open ≡ true) × ((s : ℕ) → count_of self.old s ≢ Count.Free) }
+        ensures out { IfOk result (λ t. (count_at self.old t ≡ Count.Free) ×
+            (self.new ≡ record self.old { counts = slice_set self.old.counts t Count.Out })) }
+        ensures early { IfOk result (λ t. t + 1 < slots_of self.old.key.kind) }
+        ensures lowest { IfOk result (λ t. (s : ℕ) → s < t → count_at self.old s ≢ Count.Free) }
+        ensures same { SameAreas self.old self.new }
+        ensures refused { IsErr result → self.new ≡ self.old }
+        ensures used_up { IsErrOf result DeskError.KeysUsedUp → (self.old.is_open ≡ true) ×
+            IsUsedUp self.old }
         ensures closed { IsErrOf result DeskError.Closed ↔ (self.old.is_open ≡ false) }
-        ensures not_free { ((s : SlotId) → count_of self.old s ≢ Count.Free) → self.old.is_open ≡ true → result ≡ Err DeskError.KeysUsedUp }
+        ensures not_free { IsUsedUp self.old → self.old.is_open ≡ true →
+            result ≡ Err DeskError.KeysUsedUp }
         ensures open { IsOk result → self.old.is_open ≡ true }
         ensures no_fault { result ≢ Err DeskError.DiskFault }
     {
@@ -210,25 +281,43 @@ impl Desk {
     ) -> Result<u32, DeskError>
         requires fits { Fits D.Disk self.old disk.old }
         requires short { length text.now ≤ 126 }
+        requires plain { IsLink text.now → ⊥ }
         requires out { length out.old ≡ seal_len (height_of self.old.key.kind) }
         ensures fits { Fits D.Disk self.new disk.new }
-        ensures signed { IfOk result (λ q. KnowsSpent D.Disk self.new disk.new q text.now) }
-        ensures was_free { IfOk result (λ q. EachImage D.Disk disk.old (λ i. gate_at i (place_of q) ≡ 0)) }
+        ensures signed { IfOk result
+            (λ q. KnowsSpent D.Disk self.new disk.new (slot_here self.old q) text.now) }
+        ensures was_free { IfOk result
+            (λ q. EachImage D.Disk disk.old (λ i. gate_of i (slot_here self.old q) ≡ 0)) }
+        ensures early { IfOk result (λ q. q + 1 < slots_of self.old.key.kind) }
         ensures signature { IfOk result (λ q. IsSignature self.new.key q text.now out.new) }
         ensures out { IsErr result → out.new ≡ out.old }
-        ensures same { self.new.key ≡ self.old.key }
+        ensures same { SameAreas self.old self.new }
         ensures stays_open { IsOk result → self.new.is_open ≡ true }
-        ensures succeeds { self.old.is_open ≡ true → (s : SlotId) → count_of self.old s ≡ Count.Free → (Rose (D.faults disk.old) (D.faults disk.new) → ⊥) → IsOk result }
-        ensures counts { IfOk result (λ q. self.new.counts ≡ slice_set self.old.counts q Count.Spent) }
-        ensures used_up_stays { IsErrOf result DeskError.KeysUsedUp → self.new.is_open ≡ true }
-        ensures not_free { ((s : ℕ) → count_of self.old s ≢ Count.Free) → self.old.is_open ≡ true → result ≡ Err DeskError.KeysUsedUp }
+        ensures succeeds { self.old.is_open ≡ true → (s : ℕ) → s + 1 < slots_of self.old.key.kind →
+            count_at self.old s ≡ Count.Free → (Rose (D.faults disk.old) (D.faults disk.new) → ⊥) →
+            IsOk result }
+        ensures counts { IfOk result
+            (λ q. self.new.counts ≡ slice_set self.old.counts q Count.Spent) }
+        ensures others { (q : ℕ) × (IfOk result (λ number. number ≡ q)) ×
+            ((s : ℕ) → s ≢ q → count_at self.new s ≡ count_at self.old s) }
+        ensures taken { (s : ℕ) → count_at self.old s ≢ Count.Free →
+            count_at self.new s ≡ count_at self.old s }
+        ensures untouched { IsErr result → result ≢ Err DeskError.DiskFault →
+            (self.new ≡ self.old) × (disk.new ≡ disk.old) }
+        ensures not_free { IsUsedUp self.old → self.old.is_open ≡ true →
+            result ≡ Err DeskError.KeysUsedUp }
         ensures known { KeepsAllKnown D.Disk self.old disk.old self.new disk.new }
-        ensures moments { (slot : ℕ) × (IfOk result (λ q. q ≡ slot)) × AtEachMoment D.Disk disk.old disk.new (λ d i. OutsideSlot slot d i × SignsAtMost slot text.now d i) }
+        ensures moments { (q : ℕ) × (IfOk result (λ number. number ≡ q)) ×
+            AtEachMoment D.Disk disk.old disk.new
+            (λ d i. OutsideSlot (slot_here self.old q) d i ×
+            SignsAtMost (slot_here self.old q) text.now d i) }
         ensures stands { KeepsStanding D.Disk disk.old disk.new }
         ensures faults { D.faults disk.old ≤ D.faults disk.new }
-        ensures fault { IsErrOf result DeskError.DiskFault → Rose (D.faults disk.old) (D.faults disk.new) × (self.new.is_open ≡ false) }
+        ensures fault { IsErrOf result DeskError.DiskFault →
+            Rose (D.faults disk.old) (D.faults disk.new) × (self.new.is_open ≡ false) }
         ensures closed { IsErrOf result DeskError.Closed ↔ (self.old.is_open ≡ false) }
-        ensures used_up { IsErrOf result DeskError.KeysUsedUp → (self.old.is_open ≡ true) × ((s : ℕ) → count_of self.old s ≢ Count.Free) }
+        ensures used_up { IsErrOf result DeskError.KeysUsedUp → (self.old.is_open ≡ true) ×
+            IsUsedUp self.old }
     {
         let ticket = self.ticket()?;
         let texted = ticket.write(self, disk, text)?;
@@ -237,22 +326,18 @@ impl Desk {
     }
 }
 
-// Where a slot begins.
-fn place_of(slot: u32) -> u64
-    ensures { result ≡ place_of slot }
-{
-    64 + 128 * slot as u64
-}
-
-// The lowest free slot.
+// The lowest free slot that is not the last.
 fn first_free(counts: &[Count]) -> Option<u32>
     requires { length counts.now ≤ 1024 }
-    ensures some { IfSome result (λ s. (slice_index_or counts.now s Count.Spent ≡ Count.Free) × (s < length counts.now)) }
-    ensures lowest { IfSome result (λ s. (k : ℕ) → k < s → slice_index_or counts.now k Count.Spent ≢ Count.Free) }
-    ensures none { IfNone result ((k : ℕ) → slice_index_or counts.now k Count.Spent ≢ Count.Free) }
+    ensures some { IfSome result (λ s. (slice_index_or counts.now s Count.Spent ≡ Count.Free) ×
+        (s + 1 < length counts.now)) }
+    ensures lowest { IfSome result
+        (λ s. (k : ℕ) → k < s → slice_index_or counts.now k Count.Spent ≢ Count.Free) }
+    ensures none { IfNone result ((k : ℕ) → k + 1 < length counts.now →
+        slice_index_or counts.now k Count.Spent ≢ Count.Free) }
 {
     for (i, count) in counts.iter().enumerate() {
-        if *count == Count::Free {
+        if i + 1 < counts.len() && *count == Count::Free {
             return Some(i as u32);
         }
     }
@@ -267,7 +352,7 @@ impl Ticket {
         slot
     }
 
-    ghost use Rattle.key_desk.specs.Desk.{count_of, Fits, KnowsTexted, KnowsSpent, KeepsKnown, texted_slot, texted_text, spent_slot, spent_text};
+    ghost use Rattle.key_desk.specs.Desk.{count_at, slot_here, SameAreas, Fits, KnowsTexted, KnowsSpent, KeepsKnown, texted_slot, texted_text, spent_slot, spent_text};
 
     /// The slot's number.
     pub fn slot(&self) -> u32
@@ -278,9 +363,11 @@ impl Ticket {
 
     /// Makes the slot free again.
     pub fn give_back(self, desk: &mut Desk)
-        requires { count_of desk.old self ≡ Count.Out }
-        ensures free { desk.new.counts ≡ slice_set desk.old.counts self Count.Free }
-        ensures same { (desk.new.key ≡ desk.old.key) × (desk.new.is_open ≡ desk.old.is_open) }
+        requires { count_at desk.old self ≡ Count.Out }
+        ensures free { desk.new ≡ record desk.old {
+          counts = slice_set desk.old.counts self
+              Count.Free;
+        } }
     {
         let Ticket { slot } = self;
         desk.count(slot, Count::Free);
@@ -294,68 +381,51 @@ impl Ticket {
         text: &[u8],
     ) -> Result<Texted, DeskError>
         requires fits { Fits D.Disk desk.old disk.old }
-        requires out { count_of desk.old self ≡ Count.Out }
+        requires out { count_at desk.old self ≡ Count.Out }
         requires short { length text.now ≤ 126 }
+        requires plain { IsLink text.now → ⊥ }
         ensures fits { Fits D.Disk desk.new disk.new }
-        ensures knows { IfOk result (λ it. KnowsTexted D.Disk desk.new disk.new self text.now) }
-        ensures carries { IfOk result (λ it. (texted_slot it ≡ self) × (texted_text it ≡ text.now)) }
-        ensures counts { OnOk result (desk.new.counts ≡ slice_set desk.old.counts self Count.Written) }
-        ensures same { desk.new.key ≡ desk.old.key }
+        ensures knows { IfOk result
+            (λ it. KnowsTexted D.Disk desk.new disk.new (slot_here desk.old self) text.now) }
+        ensures carries { IfOk result
+            (λ it. (texted_slot it ≡ slot_here desk.old self) × (texted_text it ≡ text.now)) }
+        ensures counts { OnOk result
+            (desk.new ≡ record desk.old { counts = slice_set desk.old.counts self Count.Written }) }
+        ensures same { SameAreas desk.old desk.new }
         ensures stays_open { OnOk result (desk.new.is_open ≡ true) }
         ensures refused { IsErr result → desk.new.counts ≡ desk.old.counts }
-        ensures others { KeepsKnown D.Disk self desk.old disk.old desk.new disk.new }
-        ensures moments { AtEachMoment D.Disk disk.old disk.new (λ d i. OutsideSlot self d i × SameSigned d i) }
+        ensures untouched { IsErr result → result ≢ Err DeskError.DiskFault →
+            (desk.new ≡ desk.old) × (disk.new ≡ disk.old) }
+        ensures closes { IsErrOf result DeskError.DiskFault →
+            desk.new ≡ record desk.old { is_open = false } }
+        ensures others { KeepsKnown D.Disk
+            (slot_here desk.old self) desk.old disk.old desk.new disk.new }
+        ensures moments { AtEachMoment D.Disk disk.old disk.new
+            (λ d i. OutsideSlot (slot_here desk.old self) d i × SameSigned d i) }
         ensures stands { KeepsStanding D.Disk disk.old disk.new }
         ensures faults { D.faults disk.old ≤ D.faults disk.new }
-        ensures fault { IsErrOf result DeskError.DiskFault → Rose (D.faults disk.old) (D.faults disk.new) × (desk.new.is_open ≡ false) }
+        ensures fault { IsErrOf result DeskError.DiskFault →
+            Rose (D.faults disk.old) (D.faults disk.new) × (desk.new.is_open ≡ false) }
         ensures closed { IsErrOf result DeskError.Closed ↔ (desk.old.is_open ≡ false) }
         ensures not_used_up { result ≢ Err DeskError.KeysUsedUp }
     {
-        Self::write_slot(self.into_slot(), desk, disk, text)
-    }
-}
-
-impl Ticket {
-    ghost use Rattle.key_desk.specs.Desk.{count_of, Fits, KnowsTexted, KnowsSpent, KeepsKnown, texted_slot, texted_text, spent_slot, spent_text};
-
-    // The same, by the slot's number.
-    fn write_slot<D: Disk>(
-        slot: u32,
-        desk: &mut Desk,
-        disk: &mut D,
-        text: &[u8],
-    ) -> Result<Texted, DeskError>
-        requires fits { Fits D.Disk desk.old disk.old }
-        requires out { count_of desk.old slot ≡ Count.Out }
-        requires short { length text.now ≤ 126 }
-        ensures fits { Fits D.Disk desk.new disk.new }
-        ensures knows { IfOk result (λ it. KnowsTexted D.Disk desk.new disk.new slot text.now) }
-        ensures carries { IfOk result (λ it. (texted_slot it ≡ slot) × (texted_text it ≡ text.now)) }
-        ensures counts { OnOk result (desk.new.counts ≡ slice_set desk.old.counts slot Count.Written) }
-        ensures same { desk.new.key ≡ desk.old.key }
-        ensures stays_open { OnOk result (desk.new.is_open ≡ true) }
-        ensures refused { IsErr result → desk.new.counts ≡ desk.old.counts }
-        ensures others { KeepsKnown D.Disk slot desk.old disk.old desk.new disk.new }
-        ensures moments { AtEachMoment D.Disk disk.old disk.new (λ d i. OutsideSlot slot d i × SameSigned d i) }
-        ensures stands { KeepsStanding D.Disk disk.old disk.new }
-        ensures faults { D.faults disk.old ≤ D.faults disk.new }
-        ensures fault { IsErrOf result DeskError.DiskFault → Rose (D.faults disk.old) (D.faults disk.new) × (desk.new.is_open ≡ false) }
-        ensures closed { IsErrOf result DeskError.Closed ↔ (desk.old.is_open ≡ false) }
-        ensures not_used_up { result ≢ Err DeskError.KeysUsedUp }
-    {
+        let slot = self.into_slot();
         let is_open = desk.is_open();
         if !is_open {
             return Err(DeskError::Closed);
         }
-        match put_text(disk, place_of(slot), text) {
+        let place = desk.place(slot);
+        match put_text(disk, place, text) {
             Err(Failed) => {
                 desk.close();
                 Err(DeskError::DiskFault)
             }
             Ok(piece) => {
+                let area = desk.area();
                 desk.count(slot, Count::Written);
                 Ok(Texted {
-                    slot,
+                    area,
+                    number: slot,
                     len: text.len(),
                     piece,
                 })
@@ -365,47 +435,72 @@ impl Ticket {
 }
 
 impl Texted {
-    ghost use Rattle.key_desk.specs.Desk.{count_of, Fits, KnowsTexted, KnowsSpent, KeepsKnown, texted_slot, texted_text, spent_slot, spent_text};
+    ghost use Rattle.key_desk.specs.Desk.{count_at, slot_here, SameAreas, Fits, KnowsTexted, KnowsSpent, KeepsKnown, texted_slot, texted_text, spent_slot, spent_text};
 
     /// Opens the slot's gate. From then on the pair counts as signed.
     pub fn spend<D: Disk>(self, desk: &mut Desk, disk: &mut D) -> Result<Spent, DeskError>
         requires fits { Fits D.Disk desk.old disk.old }
-        requires knows { KnowsTexted D.Disk desk.old disk.old (texted_slot self) (texted_text self) }
+        requires knows { KnowsTexted D.Disk desk.old disk.old (texted_slot self)
+            (texted_text self) }
         ensures fits { Fits D.Disk desk.new disk.new }
-        ensures knows { IfOk result (λ it. KnowsSpent D.Disk desk.new disk.new (texted_slot self) (texted_text self)) }
-        ensures carries { IfOk result (λ it. (spent_slot it ≡ texted_slot self) × (spent_text it ≡ texted_text self)) }
-        ensures counts { OnOk result (desk.new.counts ≡ slice_set desk.old.counts (texted_slot self) Count.Spent) }
-        ensures same { desk.new.key ≡ desk.old.key }
+        ensures knows { IfOk result
+            (λ it. KnowsSpent D.Disk desk.new disk.new (texted_slot self) (texted_text self)) }
+        ensures carries { IfOk result
+            (λ it. (spent_slot it ≡ texted_slot self) × (spent_text it ≡ texted_text self)) }
+        ensures counts { OnOk result
+            (desk.new ≡ record desk.old {
+              counts = slice_set desk.old.counts
+                  (texted_slot self).number Count.Spent;
+            }) }
+        ensures same { SameAreas desk.old desk.new }
         ensures stays_open { OnOk result (desk.new.is_open ≡ true) }
         ensures refused { IsErr result → desk.new.counts ≡ desk.old.counts }
+        ensures untouched { IsErr result → result ≢ Err DeskError.DiskFault →
+            (desk.new ≡ desk.old) × (disk.new ≡ disk.old) }
+        ensures closes { IsErrOf result DeskError.DiskFault →
+            desk.new ≡ record desk.old { is_open = false } }
         ensures others { KeepsKnown D.Disk (texted_slot self) desk.old disk.old desk.new disk.new }
-        ensures moments { AtEachMoment D.Disk disk.old disk.new (λ d i. OutsideSlot (texted_slot self) d i × SignsAtMost (texted_slot self) (texted_text self) d i) }
+        ensures moments { AtEachMoment D.Disk disk.old disk.new
+            (λ d i. OutsideSlot (texted_slot self) d i ×
+            SignsAtMost (texted_slot self) (texted_text self) d i) }
         ensures stands { KeepsStanding D.Disk disk.old disk.new }
         ensures faults { D.faults disk.old ≤ D.faults disk.new }
-        ensures fault { IsErrOf result DeskError.DiskFault → Rose (D.faults disk.old) (D.faults disk.new) × (desk.new.is_open ≡ false) }
+        ensures fault { IsErrOf result DeskError.DiskFault →
+            Rose (D.faults disk.old) (D.faults disk.new) × (desk.new.is_open ≡ false) }
         ensures closed { IsErrOf result DeskError.Closed ↔ (desk.old.is_open ≡ false) }
         ensures not_used_up { result ≢ Err DeskError.KeysUsedUp }
     {
-        let Texted { slot, len, piece } = self;
+        let Texted {
+            area,
+            number,
+            len,
+            piece,
+        } = self;
         let is_open = desk.is_open();
         if !is_open {
             return Err(DeskError::Closed);
         }
-        match open_gate(disk, place_of(slot)) {
+        let place = desk.place(number);
+        match open_gate(disk, place) {
             Err(Failed) => {
                 desk.close();
                 Err(DeskError::DiskFault)
             }
             Ok(()) => {
-                desk.count(slot, Count::Spent);
-                Ok(Spent { slot, len, piece })
+                desk.count(number, Count::Spent);
+                Ok(Spent {
+                    area,
+                    number,
+                    len,
+                    piece,
+                })
             }
         }
     }
 }
 
 impl Spent {
-    ghost use Rattle.key_desk.specs.Desk.{count_of, Fits, KnowsTexted, KnowsSpent, KeepsKnown, texted_slot, texted_text, spent_slot, spent_text};
+    ghost use Rattle.key_desk.specs.Desk.{count_at, slot_here, SameAreas, Fits, KnowsTexted, KnowsSpent, KeepsKnown, texted_slot, texted_text, spent_slot, spent_text};
     ghost use Rattle.key_desk.specs.Desk.{IsSignature};
 
     /// Writes the signature of the text by the slot's one-time key, and answers the slot's number. It makes no
@@ -413,11 +508,17 @@ impl Spent {
     pub fn seal<D: Disk>(self, desk: &Desk, _disk: &D, out: &mut [u8]) -> u32
         requires knows { KnowsSpent D.Disk desk.now _disk.now (spent_slot self) (spent_text self) }
         requires out { length out.old ≡ seal_len (height_of desk.now.key.kind) }
-        ensures number { result ≡ spent_slot self }
-        ensures signature { IsSignature desk.now.key (spent_slot self) (spent_text self) out.new }
+        ensures number { result ≡ (spent_slot self).number }
+        ensures signature { IsSignature desk.now.key (spent_slot self).number
+            (spent_text self) out.new }
     {
-        let Spent { slot, len, piece } = self;
-        desk.sign_with(slot, &piece[1..len + 1], out);
-        slot
+        let Spent {
+            area: _area,
+            number,
+            len,
+            piece,
+        } = self;
+        desk.sign_with(number, &piece[1..len + 1], out);
+        number
     }
 }

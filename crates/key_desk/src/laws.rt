@@ -1,46 +1,54 @@
 // What the calls' clauses come to together.
-ghost use Rattle.std.specs.Prelude.{◌≡◌, ◌≢◌, ◌+◌, ◌↔◌, slice_set, ℕ, List, [], ◌∷◌, ◌++◌};
+ghost use Rattle.std.specs.Prelude.{◌≡◌, ◌≢◌, ◌+◌, ◌<◌, slice_set, ℕ, List, [], ◌∷◌, ◌++◌};
 ghost use Rattle.std.specs.List.{All};
 ghost use Rattle.road_io.specs.Moments.{Image, EachImage};
-ghost use Rattle.key_desk.specs.Layout.{SlotId, gate_at, place_of, IsListed, IsSigned, signed};
+ghost use Rattle.desk_areas.specs.Layout.{SlotId, slots_of, gate_of, IsSigned};
 ghost use Rattle.key_desk.specs.Runs.{IsRun, HasDistinctSlots, StandThroughout};
 ghost use Rattle.key_desk.specs.Stands.{Stands, KeepsStanding};
-ghost use Rattle.key_desk.specs.Desk.{count_of, Fits, KeepsAllKnown};
+ghost use Rattle.key_desk.specs.Desk.{count_at, Fits, KeepsAllKnown};
 ghost use Rattle.key_desk.specs.declared.desk.Desk.{Desk};
-ghost use Rattle.key_desk.specs.declared.desk.Count.TheVariants;
+ghost use Rattle.desk_areas.specs.declared.area.Count.TheVariants;
 
 use road_io::Disk;
 
 /// What a call signs stands beside all that stood before it.
 pub fn signing_adds<D: Disk>()
-    ensures { (old new : D) (pairs : List (SlotId × List ℕ)) (slot : SlotId) (text : List ℕ) → KeepsStanding D.Disk old new → Stands D.Disk old pairs → EachImage D.Disk new (λ i. IsSigned i slot text) → Stands D.Disk new (pairs ++ (slot, text) ∷ []) }
+    ensures { (old new : D) (pairs : List (SlotId × List ℕ)) (slot : SlotId) (text : List ℕ) →
+        KeepsStanding D.Disk old new → Stands D.Disk old pairs →
+        EachImage D.Disk new (λ i. IsSigned i slot text) →
+        Stands D.Disk new (pairs ++ (slot, text) ∷ []) }
 {}
 
 /// A slot whose gate is closed in an image is in no list that stands.
 pub fn closed_slots_are_new<D: Disk>()
-    ensures { (disk : D) (pairs : List (SlotId × List ℕ)) (slot : SlotId) (i : List ℕ) → Image D.Disk disk i → gate_at i (place_of slot) ≡ 0 → Stands D.Disk disk pairs → All (λ pair. pair.0 ≢ slot) pairs }
+    ensures { (disk : D) (pairs : List (SlotId × List ℕ)) (slot : SlotId) (i : List ℕ) →
+        Image D.Disk disk i → gate_of i slot ≡ 0 → Stands D.Disk disk pairs →
+        All (λ pair. pair.0 ≢ slot) pairs }
 {}
 
 /// A ticket that is taken keeps the desk fit for its disk, and what is known of each state.
 pub fn tickets_keep_fits<D: Disk>()
-    ensures { (old new : Desk) (disk : D) (slot : SlotId) → Fits D.Disk old disk → new.key ≡ old.key → new.is_open ≡ old.is_open
-        → count_of old slot ≡ TheVariants.Free → new.counts ≡ slice_set old.counts slot TheVariants.Out → Fits D.Disk new disk × KeepsAllKnown D.Disk old disk new disk }
+    ensures { (old : Desk) (disk : D) (slot : ℕ) → Fits D.Disk old disk →
+        count_at old slot ≡ TheVariants.Free → slot + 1 < slots_of old.key.kind
+        → Fits D.Disk (record old { counts = slice_set old.counts slot TheVariants.Out }) disk ×
+        KeepsAllKnown D.Disk old disk
+        (record old { counts = slice_set old.counts slot TheVariants.Out }) disk }
 {}
 
 /// A ticket that is given back keeps the desk fit for its disk, and what is known of each state.
 pub fn tickets_back_keep_fits<D: Disk>()
-    ensures { (old new : Desk) (disk : D) (slot : SlotId) → Fits D.Disk old disk → new.key ≡ old.key → new.is_open ≡ old.is_open
-        → count_of old slot ≡ TheVariants.Out → new.counts ≡ slice_set old.counts slot TheVariants.Free → Fits D.Disk new disk × KeepsAllKnown D.Disk old disk new disk }
+    ensures { (old : Desk) (disk : D) (slot : ℕ) → Fits D.Disk old disk →
+        count_at old slot ≡ TheVariants.Out
+        → Fits D.Disk (record old { counts = slice_set old.counts slot TheVariants.Free }) disk ×
+        KeepsAllKnown D.Disk old disk
+        (record old { counts = slice_set old.counts slot TheVariants.Free }) disk }
 {}
 
 /// Over every run of calls, of crashes inside or between them and of reopenings, on a disk that tells its
 /// content, the pairs that were signed stand in every image, and no one-time key has signed twice.
 pub fn no_slot_signs_twice<D: Disk>()
-    ensures { (disk : D) (pairs : List (SlotId × List ℕ)) (states : List (D × List (SlotId × List ℕ))) → ((d : D) → (i : List ℕ) × Image D.Disk d i)
-        → IsRun D.Disk disk pairs states → Stands D.Disk disk pairs → HasDistinctSlots pairs → StandThroughout D.Disk states }
-{}
-
-/// The list of signed pairs has exactly the pairs that are signed.
-pub fn signed_lists_pairs()
-    ensures { (image : List ℕ) (slot : SlotId) (text : List ℕ) → (IsListed (signed image) slot text) ↔ (IsSigned image slot text) }
+    ensures { (disk : D) (pairs : List (SlotId × List ℕ))
+        (states : List (D × List (SlotId × List ℕ))) → ((d : D) → (i : List ℕ) × Image D.Disk d i)
+        → IsRun D.Disk disk pairs states → Stands D.Disk disk pairs → HasDistinctSlots pairs →
+        StandThroughout D.Disk states }
 {}

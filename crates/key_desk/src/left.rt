@@ -1,16 +1,26 @@
-// The count of a desk's one-time keys.
-ghost use Rattle.std.specs.Prelude.{◌≡◌, ◌≤◌, length};
+//! The count of a desk's one-time keys.
+ghost use Rattle.std.specs.Prelude.{◌≡◌, ◌≤◌, ◌-◌, length};
 ghost use Rattle.std.specs.List.{count_by};
+ghost use Rattle.desk_areas.specs.Layout.{slots_of};
 ghost use Rattle.key_desk.specs.Desk.{is_free, free_slots};
 
-use crate::desk::{Count, Desk};
+use crate::desk::Desk;
+use desk_areas::Count;
 
 impl Desk {
-    /// How many one-time keys are left, of which none has signed.
+    /// How many texts the current area's key has left to sign: its last one-time key is kept for the next key.
     pub fn left(&self) -> u32
         ensures { result ≡ free_slots self.now }
     {
-        count_free(self.counts())
+        let counts = self.counts();
+        count_free(&counts[..counts.len().saturating_sub(1)])
+    }
+
+    /// How many texts the current area's key can sign in all, 31 or 1,023.
+    pub fn size(&self) -> u32
+        ensures { result ≡ slots_of self.now.key.kind - 1 }
+    {
+        self.counts().len().saturating_sub(1) as u32
     }
 }
 

@@ -6,15 +6,15 @@ mod desk;
 mod find;
 mod laws;
 mod left;
+mod links;
 mod start;
-mod store;
+mod succeed;
 
-pub use desk::{Count, Desk, DeskError, Spent, Texted, Ticket};
+pub use desk::{Desk, DeskError, Spent, Texted, Ticket};
+pub use desk_areas::{Count, StartError, signed_lists_pairs};
 pub use laws::{
-    closed_slots_are_new, no_slot_signs_twice, signed_lists_pairs, signing_adds,
-    tickets_back_keep_fits, tickets_keep_fits,
+    closed_slots_are_new, no_slot_signs_twice, signing_adds, tickets_back_keep_fits,
+    tickets_keep_fits,
 };
-pub use start::StartError;
-
-#[cfg(test)]
-mod tests;
+pub use links::LinksError;
+pub use succeed::SucceedError;

@@ -42,9 +42,11 @@ pub record IsCodable (step place : ℕ) (row : List (Option ℕ)) : Type 0 where
 
 -- all lengths of so many places
 abbrev pub AreCodable : ℕ → ℕ → List (List (Option ℕ)) → Type 0
-AreCodable step count rows = (k place : ℕ) (row : List (Option ℕ)) → place < count → slice_get rows k ≡ Some row → IsCodable step place row
+AreCodable step count rows = (k place : ℕ) (row : List (Option ℕ)) → place < count →
+    slice_get rows k ≡ Some row → IsCodable step place row
 
 -- rows of so many lengths, all below 2 to the 48th
 pub record AreShort (count : ℕ) (rows : List (List (Option ℕ))) : Type 0 where
   pub long : (row : List (Option ℕ)) → Contains rows row → length row ≡ count
-  pub short : (row : List (Option ℕ)) (d : ℕ) → Contains rows row → Contains row (Some d) → d < 2 ^ 48
+  pub short : (row : List (Option ℕ)) (d : ℕ) → Contains rows row → Contains row (Some d) →
+      d < 2 ^ 48

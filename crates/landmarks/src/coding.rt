@@ -88,7 +88,8 @@ fn code_at(step: u64, row: &[Option<u64>], place: usize) -> u16
 /// The codes at a place, one from each row.
 fn codes_at(alloc: Global, step: u64, rows: &[Lengths], place: usize) -> Result<Codes, NoMemory>
     requires step { 0 < step }
-    requires codable { (k : ℕ) (row : List (Option ℕ)) → slice_get rows.now k ≡ Some row → IsCodable step place row }
+    requires codable { (k : ℕ) (row : List (Option ℕ)) → slice_get rows.now k ≡ Some row →
+        IsCodable step place row }
     ensures { IfOk result (λ codes. codes ≡ map (code_in step place) rows.now) }
 {
     let mut codes = Vec::with_capacity(alloc, rows.len())?;
@@ -107,7 +108,9 @@ fn coded(
 ) -> Result<HashMap<u32, Codes>, NoMemory>
     requires step { 0 < step }
     requires codable { AreCodable step (length ids.now) rows.now }
-    ensures { IfOk result (λ codes. (dist : ℕ → ℕ → Option ℕ) (chosen : List ℕ) → rows.now ≡ rows_of dist ids.now chosen → AreCodes dist step chosen ids.now (get nat_eq codes)) }
+    ensures { IfOk result (λ codes. (dist : ℕ → ℕ → Option ℕ) (chosen : List ℕ) →
+        rows.now ≡ rows_of dist ids.now chosen →
+        AreCodes dist step chosen ids.now (get nat_eq codes)) }
 {
     let mut codes = HashMap::new(alloc);
     for (place, id) in ids.iter().enumerate() {
@@ -122,7 +125,9 @@ fn table_of(alloc: Global, ids: &[u32], rows: &[Lengths], bits: u8) -> Result<Co
     requires high { bits ≤ 16 }
     requires short { AreShort (length ids.now) rows.now }
     ensures step { IfOk result (λ table. table.step ≡ step_of (greatest_row rows.now) bits) }
-    ensures codes { IfOk result (λ table. (dist : ℕ → ℕ → Option ℕ) (chosen : List ℕ) → rows.now ≡ rows_of dist ids.now chosen → AreCodes dist table.step chosen ids.now (λ v. lookup (nat_eq v) table.entries)) }
+    ensures codes { IfOk result (λ table. (dist : ℕ → ℕ → Option ℕ) (chosen : List ℕ) →
+        rows.now ≡ rows_of dist ids.now chosen →
+        AreCodes dist table.step chosen ids.now (λ v. lookup (nat_eq v) table.entries)) }
 {
     let step = step_for(greatest_of_rows(rows), bits);
     let codes = coded(alloc, step, ids, rows)?;
@@ -133,7 +138,8 @@ fn table_of(alloc: Global, ids: &[u32], rows: &[Lengths], bits: u8) -> Result<Co
 /// the whole map; all use the same room.
 fn rows_from(alloc: Global, map: &Map, chosen: &[u32]) -> Result<Vec<Lengths>, NoMemory>
     requires { (id : ℕ) → Contains chosen.now id → Knows map.now.parts id }
-    ensures { IfOk result (λ rows. rows.items ≡ rows_of (distance map.now.parts) (by_id map.now.parts.nodes) chosen.now) }
+    ensures { IfOk result (λ rows.
+        rows.items ≡ rows_of (distance map.now.parts) (by_id map.now.parts.nodes) chosen.now) }
 {
     let mut survey = Survey::of(alloc, map);
     let mut rows = Vec::with_capacity(alloc, chosen.len())?;

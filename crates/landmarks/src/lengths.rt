@@ -61,7 +61,8 @@ pub fn no_lengths(alloc: Global, ids: &[u32]) -> Result<Lengths, NoMemory>
 /// The lengths that a survey has measured to all nodes, by rising id.
 fn lengths_of(alloc: Global, survey: &Survey<'_>, count: u32) -> Result<Lengths, NoMemory>
     requires { length survey.now.map.order ≡ count }
-    ensures { IfOk result (λ lengths. (f : ℕ → Option ℕ) → Gives survey.now f → lengths ≡ map f (ids survey.now.map.order)) }
+    ensures { IfOk result (λ lengths. (f : ℕ → Option ℕ) → Gives survey.now f →
+        lengths ≡ map f (ids survey.now.map.order)) }
 {
     let mut items = Vec::with_capacity(alloc, count as usize)?;
     for position in 0..count {
@@ -80,7 +81,8 @@ pub fn lengths_from(
     requires known { Knows map.now.parts from }
     requires same { survey.old.map ≡ map.now }
     ensures same { survey.new.map ≡ map.now }
-    ensures row { IfOk result (λ lengths. lengths ≡ row_of (distance map.now.parts) (by_id map.now.parts.nodes) from) }
+    ensures row { IfOk result (λ lengths.
+        lengths ≡ row_of (distance map.now.parts) (by_id map.now.parts.nodes) from) }
 {
     book_laws();
     let _parts = map.parts();

@@ -54,7 +54,8 @@ fn consider(
     id: u32,
     near: Option<u64>,
 ) -> Option<(u32, Option<u64>)>
-    ensures best { (f : ℕ → Option ℕ) (b : Option ℕ) → best ≡ option_map (λ u. (u, f u)) b → near ≡ f id → result ≡ option_map (λ u. (u, f u)) (considered f chosen.now b id) }
+    ensures best { (f : ℕ → Option ℕ) (b : Option ℕ) → best ≡ option_map (λ u. (u, f u)) b →
+        near ≡ f id → result ≡ option_map (λ u. (u, f u)) (considered f chosen.now b id) }
     ensures known { IfSome result (λ r. (r.0 ≡ id) ⊎ IsSomeAnd best (λ b. r.0 ≡ b.0)) }
 {
     if let Some((_, length)) = best {
@@ -71,7 +72,8 @@ fn consider(
 /// The first of the ids than which none is farther, among those that are not chosen.
 fn next(ids: &[u32], near: &[Option<u64>], chosen: &[u32]) -> Option<u32>
     requires { length near.now ≡ length ids.now }
-    ensures farthest { (f : ℕ → Option ℕ) → near.now ≡ map f ids.now → result ≡ farthest f chosen.now ids.now }
+    ensures farthest { (f : ℕ → Option ℕ) → near.now ≡ map f ids.now →
+        result ≡ farthest f chosen.now ids.now }
     ensures known { IfSome result (Contains ids.now) }
 {
     let mut best = None;
@@ -102,12 +104,18 @@ fn pick_next(
 ) -> Result<(), NoMemory>
     requires same { survey.old.map ≡ map.now }
     requires ids { ids.now ≡ by_id map.now.parts.nodes }
-    requires near { picked.old.near ≡ nearest_row (distance map.now.parts) ids.now picked.old.chosen.items }
-    requires rows { picked.old.rows.items ≡ rows_of (distance map.now.parts) ids.now picked.old.chosen.items }
+    requires near { picked.old.near ≡ nearest_row
+        (distance map.now.parts) ids.now picked.old.chosen.items }
+    requires rows { picked.old.rows.items ≡ rows_of
+        (distance map.now.parts) ids.now picked.old.chosen.items }
     ensures same { survey.new.map ≡ map.now }
-    ensures chosen { OnOk result (picked.new.chosen.items ≡ picked.old.chosen.items ++ option_to_list (farthest (nearest (distance map.now.parts) picked.old.chosen.items) picked.old.chosen.items ids.now)) }
-    ensures near { OnOk result (picked.new.near ≡ nearest_row (distance map.now.parts) ids.now picked.new.chosen.items) }
-    ensures rows { OnOk result (picked.new.rows.items ≡ rows_of (distance map.now.parts) ids.now picked.new.chosen.items) }
+    ensures chosen { OnOk result (picked.new.chosen.items ≡ picked.old.chosen.items ++
+        option_to_list (farthest (nearest (distance map.now.parts) picked.old.chosen.items)
+        picked.old.chosen.items ids.now)) }
+    ensures near { OnOk result (picked.new.near ≡ nearest_row
+        (distance map.now.parts) ids.now picked.new.chosen.items) }
+    ensures rows { OnOk result (picked.new.rows.items ≡ rows_of
+        (distance map.now.parts) ids.now picked.new.chosen.items) }
 {
     let Some(id) = next(ids, picked.near.as_slice(), &picked.chosen) else {
         return Ok(());
@@ -124,7 +132,9 @@ fn pick_next(
 pub fn picks(alloc: Global, map: &Map, ids: &[u32], count: u32) -> Result<Picked, NoMemory>
     requires ids { ids.now ≡ by_id map.now.parts.nodes }
     ensures chosen { IfOk result (λ picked. picked.chosen.items ≡ landmarks map.now.parts count) }
-    ensures rows { IfOk result (λ picked. picked.rows.items ≡ rows_of (distance map.now.parts) ids.now (landmarks map.now.parts count)) }
+    ensures rows { IfOk result (λ picked.
+        picked.rows.items ≡ rows_of (distance map.now.parts) ids.now
+        (landmarks map.now.parts count)) }
 {
     let mut survey = Survey::of(alloc, map);
     let mut picked = Picked {
@@ -146,7 +156,8 @@ pub fn pick(alloc: Global, map: &Map, count: u32) -> Result<Vec<u32>, PickError>
     ensures picked { IfOk result (λ chosen. chosen.items ≡ landmarks map.now.parts count) }
     ensures count { IfOk result (λ chosen. length chosen.items ≡ count) }
     ensures good { OnOk result ((0 < count) × (count ≤ 64) × (count ≤ length map.now.parts.nodes)) }
-    ensures refused { result ≡ Err PickError.Count → (count ≡ 0) ⊎ (64 < count) ⊎ (length map.now.parts.nodes < count) }
+    ensures refused { result ≡ Err PickError.Count → (count ≡ 0) ⊎ (64 < count) ⊎
+        (length map.now.parts.nodes < count) }
 {
     landmark_laws();
     let nodes = map.parts().nodes.as_slice().len();

@@ -62,7 +62,8 @@ fn extra_for(
     id: u32,
     threshold: u16,
 ) -> Result<Extra, NoMemory>
-    ensures { IfOk result (λ extra. extra ≡ extra_of (codes_in table.now) threshold (reverse kept.now) id) }
+    ensures { IfOk result (λ extra.
+        extra ≡ extra_of (codes_in table.now) threshold (reverse kept.now) id) }
 {
     let codes = table.codes_of(id);
     let recent = &kept[kept.len().saturating_sub(CANDIDATES)..];
@@ -74,7 +75,8 @@ fn extra_for(
 
 /// Notes a node that keeps its own codes.
 fn keep(kept: &mut Vec<u32>, extra: &Extra, id: u32) -> Result<(), AllocError>
-    ensures { OnOk result (reverse kept.new.items ≡ kept_after extra.now id (reverse kept.old.items)) }
+    ensures { OnOk result (reverse kept.new.items ≡ kept_after extra.now id
+        (reverse kept.old.items)) }
 {
     if let Extra::Own(_) = extra {
         kept.push(id)?;
@@ -94,7 +96,8 @@ pub fn compress(
     order: &[u32],
     threshold: u16,
 ) -> Result<Vec<Extra>, NoMemory>
-    ensures { IfOk result (λ extras. extras.items ≡ extras_of (codes_in table.now) threshold [] order.now) }
+    ensures { IfOk result (λ extras.
+        extras.items ≡ extras_of (codes_in table.now) threshold [] order.now) }
 {
     let mut extras = Vec::with_capacity(alloc, order.len())?;
     let mut kept = Vec::new(alloc);

@@ -11,7 +11,7 @@ use Rattle.road_map.specs.declared.parts.Parts.{Parts}
 use Rattle.road_map.specs.Walks.{ids}
 use Rattle.road_map.specs.Maps.{IsMap, IsById}
 use Rattle.road_map.specs.ArcsOut.{arcs_out}
-use Rattle.road_search.proofs.WholeLaws.{known_none}
+use Rattle.road_search.proofs.WholeMapLaws.{known_none}
 use Rattle.road_leaf.specs.declared.leaf.Extra.{Extra}
 use Rattle.road_leaf.specs.declared.leaf.Extra.TheVariants.{Plain}
 use Rattle.road_leaf.specs.declared.leaf.NodeLeaf.{NodeLeaf}

@@ -21,7 +21,8 @@ pub struct LdmBook {
     pub(crate) map: Map,
     pub(crate) extras: HashMap<u32, Extra>,
     pub(crate) numbers: Numbers,
-    ghost covers: { (id : ℕ) → is_some (lookup (nat_eq id) extras.entries) ≡ list_any (nat_eq id) (ids map.parts.nodes) },
+    ghost covers: { (id : ℕ) → is_some (lookup (nat_eq id) extras.entries) ≡ list_any (nat_eq id)
+        (ids map.parts.nodes) },
 }
 
 impl Lookup for LdmBook {
@@ -70,7 +71,8 @@ pub fn by_id(
     requires long { length extras.items ≡ length order.now }
     requires distinct { IsDistinct nat_eq order.now }
     ensures adds { IfOk result (λ by_id. map (extra_in by_id.entries) order.now ≡ extras.items) }
-    ensures covers { IfOk result (λ by_id. (id : ℕ) → is_some (lookup (nat_eq id) by_id.entries) ≡ list_any (nat_eq id) order.now) }
+    ensures covers { IfOk result (λ by_id. (id : ℕ) →
+        is_some (lookup (nat_eq id) by_id.entries) ≡ list_any (nat_eq id) order.now) }
 {
     let mut by_id = HashMap::new(alloc);
     let mut extras = extras;

@@ -96,7 +96,8 @@ impl MethodBook for LdmBook {
 /// The number of the first parameter that is out of its range, over a map of so many nodes: 1 to 64
 /// landmarks and no more than nodes, 1 to 16 bits of a code, a threshold of at most 65,534.
 fn refused_parameter(settings: &Settings, nodes: usize) -> Option<u8>
-    ensures { (parts : Parts) → nodes ≡ length parts.nodes → result ≡ first_failed 3 (own_tests ByLdm parts settings.now) }
+    ensures { (parts : Parts) → nodes ≡ length parts.nodes →
+        result ≡ first_failed 3 (own_tests ByLdm parts settings.now) }
 {
     if settings.p1 < 1 || settings.p1 > 64 || settings.p1 > nodes as u64 {
         return Some(3);

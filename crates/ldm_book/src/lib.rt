@@ -7,5 +7,3 @@ pub use book::LdmBook;
 mod book;
 mod ldm;
 mod near;
-#[cfg(test)]
-mod tests;

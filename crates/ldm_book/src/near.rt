@@ -25,7 +25,8 @@ fn has_length(labels: &Labels, id: u32) -> bool
 
 /// Adds the nodes that walks lead to, by rising id.
 fn add_reached(ids: &mut Vec<u32>, map: &Map, labels: &Labels) -> Result<(), AllocError>
-    ensures { OnOk result (ids.new.items ≡ ids.old.items ++ filter (λ id. is_some (length_at labels.now id)) (ids_of map.now.order)) }
+    ensures { OnOk result (ids.new.items ≡ ids.old.items ++ filter
+        (λ id. is_some (length_at labels.now id)) (ids_of map.now.order)) }
 {
     for position in 0..map.count() {
         let id = map.node(position).id;
@@ -38,7 +39,8 @@ fn add_reached(ids: &mut Vec<u32>, map: &Map, labels: &Labels) -> Result<(), All
 
 /// Adds the node whose codes stand for those of a node, if there is one.
 fn add_reference(ids: &mut Vec<u32>, book: &LdmBook, id: u32) -> Result<(), AllocError>
-    ensures { OnOk result (ids.new.items ≡ ids.old.items ++ option_to_list (reference_in book.now.extras.entries id)) }
+    ensures { OnOk result (ids.new.items ≡ ids.old.items ++ option_to_list
+        (reference_in book.now.extras.entries id)) }
 {
     if let Some(Extra::Near { reference, .. }) = book.extras.get(&id) {
         ids.push(*reference)?;
@@ -48,7 +50,8 @@ fn add_reference(ids: &mut Vec<u32>, book: &LdmBook, id: u32) -> Result<(), Allo
 
 /// The ids, and then the nodes whose codes stand for theirs.
 fn with_references(alloc: Global, book: &LdmBook, ids: &[u32]) -> Result<Vec<u32>, NoMemory>
-    ensures { IfOk result (λ all. all.items ≡ ids.now ++ filter_map (reference_in book.now.extras.entries) ids.now) }
+    ensures { IfOk result (λ all. all.items ≡ ids.now ++ filter_map
+        (reference_in book.now.extras.entries) ids.now) }
 {
     let mut all = ids.to_vec(alloc)?;
     for id in ids {
@@ -69,7 +72,8 @@ fn rising(mut ids: Vec<u32>) -> Ids
 /// The nodes on a route and those that live walks lead to, with the nodes whose codes stand for
 /// theirs, each once, by rising id.
 pub fn needed(alloc: Global, book: &LdmBook, route: &Ids, labels: &Labels) -> Result<Ids, NoMemory>
-    ensures { IfOk result (Lists (IsNeeded book.now.map.order book.now.extras.entries route.now (length_at labels.now))) }
+    ensures { IfOk result (Lists (IsNeeded book.now.map.order book.now.extras.entries route.now
+        (length_at labels.now))) }
 {
     let mut ids = route.as_slice().to_vec(alloc)?;
     add_reached(&mut ids, &book.map, labels)?;

@@ -41,7 +41,9 @@ impl<L: Lookup> Ground for Live<'_, L> {
         u128::from(length) + bound < u128::from(self.most)
     }
 
-    ghost lets_shorter = { λ w id short long le h. live_shorter (bound w.step (L.leaves w.leaves.now) (L.leaves w.leaves.now id) (L.leaves w.leaves.now w.to)) w.most short long le h };
+    ghost lets_shorter = { λ w id short long le h.
+        live_shorter (bound w.step (L.leaves w.leaves.now) (L.leaves w.leaves.now id)
+        (L.leaves w.leaves.now w.to)) w.most short long le h };
 }
 
 /// The least lengths of live walks to all nodes that these lead to, towards an end below a limit.
@@ -55,8 +57,12 @@ pub fn live_labels<L: Lookup>(
     most: u64,
 ) -> Result<Labels, NoMemory>
     requires { most < 2 ^ 48 }
-    ensures lengths { IfOk result (λ found. (v : ℕ) → IsLeastPassing (live_ways step (L.leaves leaves.now) query.to most) query.from (most + 2 ^ 32) v (length_at found v)) }
-    ensures missing { IfOk result (λ found. IsLeast (λ v. IsSome (length_at found v) × ((live_ways step (L.leaves leaves.now) query.to most).arcs v ≡ None)) found.missing) }
+    ensures lengths { IfOk result (λ found. (v : ℕ) →
+        IsLeastPassing (live_ways step (L.leaves leaves.now) query.to most) query.from
+        (most + 2 ^ 32) v (length_at found v)) }
+    ensures missing { IfOk result (λ found.
+        IsLeast (λ v. IsSome (length_at found v) ×
+        ((live_ways step (L.leaves leaves.now) query.to most).arcs v ≡ None)) found.missing) }
 {
     let live = Live {
         leaves,

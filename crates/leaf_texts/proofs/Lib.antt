@@ -1,1 +1,2 @@
 pub mod TextRoom
+pub mod TextLength

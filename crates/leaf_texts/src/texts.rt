@@ -1,4 +1,4 @@
-//! The texts of node leaves and of pair leaves.
+//! The text of a node's leaf, and the texts of pair leaves.
 
 ghost use Rattle.std.specs.Prelude.{◌≡◌, ◌+◌, ◌≤◌, ◌<◌, ◌^◌, ◌∷◌, ◌++◌, [], length, map, OnOk, IfOk, All};
 ghost use Rattle.std.specs.List.{flat_map};
@@ -19,20 +19,6 @@ pub fn push_leaf(texts: &mut Texts, text: &mut Vec<u8>, leaf: &NodeLeaf) -> Resu
     text.clear();
     put_node_leaf(text, leaf)?;
     texts.push(text)
-}
-
-/// The texts of node leaves.
-pub fn node_texts(alloc: Global, leaves: &[NodeLeaf]) -> Result<Texts, NoMemory>
-    requires arcs { All (λ l. length l.arcs ≤ 255) leaves.now }
-    requires few { length leaves.now + length (flat_map node_leaf_text leaves.now) < 2 ^ 32 }
-    ensures { IfOk result (λ t. t ≡ map node_leaf_text leaves.now) }
-{
-    let mut texts = Texts::new(alloc);
-    let mut text = Vec::new(alloc);
-    for leaf in leaves {
-        push_leaf(&mut texts, &mut text, leaf)?;
-    }
-    Ok(texts)
 }
 
 /// The numbers of a pair's leaf have their widths, so that it has a spelling where the ids rise.

@@ -72,12 +72,12 @@ length-step_of : (i : List ℕ) (q at j : ℕ) (x : List ℕ) → length (step_o
 unfolding step_of
 length-step_of i q at j x = length-sha256 (prefix i q at ++ j ∷ [] ++ x)
 
-length-chain_of : (i : List ℕ) (q at from n : ℕ) (x : List ℕ) → length x ≡ 32 → length (chain_of i q at from n x) ≡ 32
+pub length-chain_of : (i : List ℕ) (q at from n : ℕ) (x : List ℕ) → length x ≡ 32 → length (chain_of i q at from n x) ≡ 32
 unfolding chain_of
 length-chain_of i q at from zero x l = l
 length-chain_of i q at from (suc n) x l = length-step_of i q at (from + n) (chain_of i q at from n x)
 
-length-secret_of : (i : List ℕ) (q : ℕ) (seed : List ℕ) (at : ℕ) → length (secret_of i q seed at) ≡ 32
+pub length-secret_of : (i : List ℕ) (q : ℕ) (seed : List ℕ) (at : ℕ) → length (secret_of i q seed at) ≡ 32
 unfolding secret_of
 length-secret_of i q seed at = length-sha256 (prefix i q at ++ 0xff ∷ [] ++ seed)
 
@@ -127,7 +127,7 @@ unfolding signature_of
 signature-randomiser i q seed text =
     take_at (randomiser_of i q seed) (flat_map (shown_value i q seed (digits_of i q (randomiser_of i q seed) text)) (range_with_len 0 34)) 32 (length-randomiser_of i q seed)
 
-signature-value : (i : List ℕ) (q : ℕ) (seed text : List ℕ) (at : ℕ) → at < 34 → take 32 (drop (36 + 32 * at) (signature_of i q seed text)) ≡ shown_value i q seed (digits_of i q (randomiser_of i q seed) text) at
+pub signature-value : (i : List ℕ) (q : ℕ) (seed text : List ℕ) (at : ℕ) → at < 34 → take 32 (drop (36 + 32 * at) (signature_of i q seed text)) ≡ shown_value i q seed (digits_of i q (randomiser_of i q seed) text) at
 unfolding signature_of
 signature-value i q seed text at h =
     let c = randomiser_of i q seed in
@@ -163,11 +163,11 @@ unfolding digest_bytes
 octets-digest_bytes h zero i = omega arith
 octets-digest_bytes h (suc n) i = octets-append (digest_bytes h n) (to_be_bytes w32 (get_or h n 0)) (octets-digest_bytes h n) (octets_4 (get_or h n 0)) i
 
-octets-sha256 : (m : List ℕ) (i : ℕ) → get_or (sha256 m) i 0 < 256
+pub octets-sha256 : (m : List ℕ) (i : ℕ) → get_or (sha256 m) i 0 < 256
 unfolding sha256
 octets-sha256 m i = octets-digest_bytes (final_hash initial_hash_256 m) 8 i
 
-octets-digits_of : (i : List ℕ) (q : ℕ) (c text : List ℕ) (at : ℕ) → get_or (digits_of i q c text) at 0 < 256
+pub octets-digits_of : (i : List ℕ) (q : ℕ) (c text : List ℕ) (at : ℕ) → get_or (digits_of i q c text) at 0 < 256
 unfolding digits_of text_hash
 octets-digits_of i q c text at =
     octets-append (sha256 (prefix i q 0x8181 ++ c ++ text)) (to_be_bytes w16 (checksum (sha256 (prefix i q 0x8181 ++ c ++ text)))) (octets-sha256 (prefix i q 0x8181 ++ c ++ text)) (octets_2 (checksum (sha256 (prefix i q 0x8181 ++ c ++ text)))) at

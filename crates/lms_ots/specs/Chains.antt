@@ -23,7 +23,8 @@ unfoldable pub chain_of : List ℕ → ℕ → ℕ → ℕ → ℕ → List ℕ 
 chain_of i q at from zero x = x
 chain_of i q at from (suc count) x = step_of i q at (from + count) (chain_of i q at from count x)
 
--- the hash of 34 values, one for each chain: H(I || u32str(q) || D_PBLC || value[0] || .. || value[33])
+-- the hash of 34 values, one for each chain: H(I || u32str(q) || D_PBLC || value[0] || .. ||
+-- value[33])
 -- (§ 4.3 and § 4.6)
 unfoldable pub key_of : List ℕ → ℕ → (ℕ → List ℕ) → List ℕ
 key_of i q values = sha256 (prefix i q 0x8080 ++ flat_map values (range_with_len 0 34))
@@ -60,13 +61,16 @@ shown_value i q seed digits at = chain_of i q at 0 (slice_index digits at) (secr
 unfoldable pub signature_of : List ℕ → ℕ → List ℕ → List ℕ → List ℕ
 signature_of i q seed text =
     let c = randomiser_of i q seed in
-    to_be_bytes w32 4 ++ c ++ flat_map (shown_value i q seed (digits_of i q c text)) (range_with_len 0 34)
+    to_be_bytes w32 4 ++ c ++ flat_map (shown_value i q seed (digits_of i q c text))
+    (range_with_len 0 34)
 
 -- the value z[at]: the end of the chain, from the value that a signature shows (§ 4.6)
 unfoldable pub ended_value : List ℕ → ℕ → List ℕ → List ℕ → ℕ → List ℕ
 ended_value i q digits ots at =
-    chain_of i q at (slice_index digits at) (255 - slice_index digits at) (take 32 (drop (36 + 32 * at) ots))
+    chain_of i q at (slice_index digits at) (255 - slice_index digits at)
+    (take 32 (drop (36 + 32 * at) ots))
 
 -- the candidate Kc: the public key's hash that a signature shows for a text (§ 4.6, algorithm 4b)
 unfoldable pub candidate_of : List ℕ → ℕ → List ℕ → List ℕ → List ℕ
-candidate_of i q ots text = key_of i q (ended_value i q (digits_of i q (take 32 (drop 4 ots)) text) ots)
+candidate_of i q ots text = key_of i q
+    (ended_value i q (digits_of i q (take 32 (drop 4 ots)) text) ots)

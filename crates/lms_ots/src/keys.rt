@@ -1,3 +1,4 @@
+//! One-time keys: secrets, chains and public keys.
 ghost use Rattle.std.specs.Prelude.{◌≡◌, ℕ, ◌-◌, ◌<◌, ◌≤◌, [], ◌∷◌, ◌++◌, length, take, drop};
 ghost use Rattle.sha2.specs.Sha256.{sha256};
 ghost use Rattle.octet_text.specs.Sha.{HoldsText};

@@ -8,7 +8,7 @@
 
 pub use keys::{chain, public_hash, secret};
 pub use places::{array_at, write_array};
-pub use signatures::{candidate, digits, sign_ots};
+pub use signatures::{candidate, digits, randomiser, sign_ots};
 
 mod keys;
 mod places;

@@ -1,3 +1,4 @@
+//! Octets written at places of a text.
 ghost use Rattle.std.specs.Prelude.{◌≡◌, ◌+◌, ◌≤◌, ◌++◌, length, take, drop};
 
 /// The octets from a place on, as many as the array has.

@@ -1,3 +1,4 @@
+//! One-time signatures, and the candidate key that one shows.
 ghost use Rattle.std.specs.Prelude.{◌≡◌, ℕ, ◌+◌, ◌-◌, ◌*◌, List, length};
 ghost use Rattle.lms_ots.specs.Chains.{public_of, randomiser_of, digits_of, signature_of, candidate_of, checksum};
 
@@ -14,9 +15,9 @@ const RANDOMISER: u16 = 0xfffd;
 // The type LMOTS_SHA256_N32_W8 (§ 4.1).
 const LMOTS_SHA256_N32_W8: u32 = 4;
 
-// The randomiser `C` that a one-time key signs with.
+/// The randomiser `C` that a one-time key signs with, made from the seed.
 #[tactic(auto, unfolding(crate::specs::Chains::randomiser_of))]
-fn randomiser(i: &[u8; 16], q: u32, seed: &[u8; 32]) -> Digest32
+pub fn randomiser(i: &[u8; 16], q: u32, seed: &[u8; 32]) -> Digest32
     ensures { result ≡ randomiser_of i.now q seed.now }
 {
     let mut hasher = begin(i, q, RANDOMISER);

@@ -10,6 +10,8 @@ use std::alloc::Global;
 use std::marker::Model;
 use thiserror::Error;
 
+mod parts;
+
 // As many zero digests as a count says.
 fn zeros(alloc: Global, count: usize) -> Result<Vec<Digest32>, NoMemory>
     ensures { IfOk result (λ v. length v.items ≡ count) }
@@ -32,7 +34,8 @@ fn node_at(i: &[u8; 16], seed: &[u8; 32], height: u32, nodes: &[Digest32], r: u3
     requires low { 1 ≤ r }
     requires high { r < 2 * 2 ^ height }
     requires nodes { HasNodes i.now seed.now height nodes.now (r + 1) }
-    ensures { (k j : ℕ) → j + k ≡ height → 2 ^ j ≤ r → r < 2 * 2 ^ j → result ≡ node_of i.now seed.now height k r }
+    ensures { (k j : ℕ) → j + k ≡ height → 2 ^ j ≤ r → r < 2 * 2 ^ j →
+        result ≡ node_of i.now seed.now height k r }
 {
     let leaves: u32 = 1 << height;
     if r >= leaves {
@@ -105,7 +108,8 @@ impl Key {
     /// The key of a type, 5 or 6, whose one-time keys are made from `I` and `SEED` (§ 5.2,
     /// Appendix A). All of its memory is taken before the first hash.
     pub fn build(alloc: Global, kind: u32, i: &[u8; 16], seed: &[u8; 32]) -> Result<Key, KeyError>
-        ensures key { IfOk result (λ key. key ≡ record { kind = kind; i = i.now; seed = seed.now }) }
+        ensures key { IfOk result (λ key.
+            key ≡ record { kind = kind; i = i.now; seed = seed.now }) }
         ensures kind { (result ≡ Err KeyError.Kind) ↔ (is_kind kind ≡ false) }
     {
         if !is_kind(kind) {
@@ -170,7 +174,8 @@ impl Key {
     fn write_path(&self, q: u32, out: &mut [u8])
         requires slot { q < 2 ^ height_of self.now.kind }
         requires room { length out.old ≡ seal_len (height_of self.now.kind) }
-        ensures { out.new ≡ take 1132 out.old ++ path_of self.now.i self.now.seed (height_of self.now.kind) q }
+        ensures { out.new ≡ take 1132 out.old ++ path_of self.now.i self.now.seed
+            (height_of self.now.kind) q }
     {
         let leaf: u32 = (1 << self.height) + q;
         for level in 0..self.height {

@@ -5,13 +5,15 @@
 //! count of them: who calls `Key::sign_into` must never use a one-time key for two texts.
 #![tactic(auto)]
 
+pub use chain_files::{read_links, write_links};
 pub use keys::{Key, KeyError};
 pub use kinds::sig_len;
+pub use links::{Link, follow, is_link, link_text, verify_along};
 pub use seals::{SealError, verify};
 
+mod chain_files;
 mod hashes;
 mod keys;
 mod kinds;
+mod links;
 mod seals;
-#[cfg(test)]
-mod tests;

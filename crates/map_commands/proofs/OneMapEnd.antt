@@ -2,7 +2,7 @@
 use Rattle.std.proofs.Common.{◌≡◌, ℕ, List, refl, ap}
 use Rattle.std.specs.declared.result.Result.{Result}
 use Rattle.std.specs.declared.result.Result.TheVariants.{Ok, Err}
-use Rattle.road_io.specs.Contents.{Shelf}
+use Rattle.road_io.specs.Contents.{Folder}
 use Rattle.road_map.specs.Walks.{Knows}
 use Rattle.road_map.specs.Laws.{ArcLaws}
 use Rattle.road_map.specs.declared.parts.Parts.{Parts}
@@ -11,8 +11,8 @@ use Rattle.command_files.specs.TwoEnds.{IsFirstUnknown, AreApart}
 use Rattle.command_files.specs.Exact.{HasOneEnd}
 use Rattle.command_files.specs.declared.fault.Fault.{Fault}
 use Rattle.command_files.specs.declared.fault.Fault.TheVariants.{Map, UnknownNode, NoRoute}
-use Rattle.command_files.specs.declared.ended.Verdict.{Verdict}
-use Rattle.command_files.specs.declared.ended.Verdict.TheVariants.{Done}
+use Rattle.command_files.specs.declared.ended.Conclusion.{Conclusion}
+use Rattle.command_files.specs.declared.ended.Conclusion.TheVariants.{Done}
 use Rattle.command_files.proofs.Ends.{both_known, one_unknown, shortest_joins}
 use Rattle.command_files.proofs.OneMap.{Faults, not_map, one_map_fault}
 use Rattle.command_files.proofs.OneEnd.{one_reading}
@@ -31,7 +31,7 @@ not_apart : (parts : Parts) → ((u : ℕ) → ArcLaws parts u) → (from to : �
 not_apart parts laws from to text a h = a.apart h.length (shortest_joins parts laws from to h.length h.route h.shortest)
 
 -- over parts, `route` has one end
-one_route_end : Faults → ((parts : Parts) (u : ℕ) → ArcLaws parts u) → (from to : ℕ) (parts : Parts) (o p : Result Verdict Fault) (s t : List ℕ)
+one_route_end : Faults → ((parts : Parts) (u : ℕ) → ArcLaws parts u) → (from to : ℕ) (parts : Parts) (o p : Result Conclusion Fault) (s t : List ℕ)
     → EndsRoute from to parts o s → EndsRoute from to parts p t → o ≡ p
 one_route_end faults arcs from to parts (Ok Done) (Ok Done) s t h k = refl
 one_route_end faults arcs from to parts (Ok Done) (Err (Map f)) s t h k = absurd (not_map faults parts f h.0 k.0)
@@ -56,7 +56,7 @@ one_route_end faults arcs from to parts (Err NoRoute) p s t h k = absurd k
 one_route_end faults arcs from to parts o p s t h k = absurd h
 
 -- over parts, `root` has one end
-one_root_end : Faults → (fan : ℕ) (parts : Parts) (o p : Result Verdict Fault) (s t : List ℕ) → EndsRoot fan parts o s → EndsRoot fan parts p t → o ≡ p
+one_root_end : Faults → (fan : ℕ) (parts : Parts) (o p : Result Conclusion Fault) (s t : List ℕ) → EndsRoot fan parts o s → EndsRoot fan parts p t → o ≡ p
 one_root_end faults fan parts (Ok Done) (Ok Done) s t h k = refl
 one_root_end faults fan parts (Ok Done) (Err (Map f)) s t h k = absurd (not_map faults parts f h.0 k.0)
 one_root_end faults fan parts (Ok Done) p s t h k = absurd k
@@ -66,17 +66,17 @@ one_root_end faults fan parts (Err (Map e)) p s t h k = absurd k
 one_root_end faults fan parts o p s t h k = absurd h
 
 -- over parts, `dimacs` has one end
-one_dimacs_end : (parts : Parts) (o p : Result Verdict Fault) (s t : List ℕ) → EndsDimacs parts o s → EndsDimacs parts p t → o ≡ p
+one_dimacs_end : (parts : Parts) (o p : Result Conclusion Fault) (s t : List ℕ) → EndsDimacs parts o s → EndsDimacs parts p t → o ≡ p
 one_dimacs_end parts (Ok Done) (Ok Done) s t h k = refl
 one_dimacs_end parts (Ok Done) p s t h k = absurd k
 one_dimacs_end parts o p s t h k = absurd h
 
 -- and so over their files
-pub only_route : Faults → ((parts : Parts) (u : ℕ) → ArcLaws parts u) → (roads : List ℕ) (from to : ℕ) (shelf : Shelf) → HasOneEnd (ends_route roads from to shelf)
-only_route faults arcs roads from to shelf = one_reading (parts_at shelf roads) (EndsRoute from to) (λ parts. one_route_end faults arcs from to parts)
+pub only_route : Faults → ((parts : Parts) (u : ℕ) → ArcLaws parts u) → (roads : List ℕ) (from to : ℕ) (folder : Folder) → HasOneEnd (ends_route roads from to folder)
+only_route faults arcs roads from to folder = one_reading (parts_at folder roads) (EndsRoute from to) (λ parts. one_route_end faults arcs from to parts)
 
-pub only_root : Faults → (roads : List ℕ) (fan : ℕ) (shelf : Shelf) → HasOneEnd (ends_root roads fan shelf)
-only_root faults roads fan shelf = one_reading (parts_at shelf roads) (EndsRoot fan) (λ parts. one_root_end faults fan parts)
+pub only_root : Faults → (roads : List ℕ) (fan : ℕ) (folder : Folder) → HasOneEnd (ends_root roads fan folder)
+only_root faults roads fan folder = one_reading (parts_at folder roads) (EndsRoot fan) (λ parts. one_root_end faults fan parts)
 
-pub only_dimacs : (graph places : List ℕ) (shelf : Shelf) → HasOneEnd (ends_dimacs graph places shelf)
-only_dimacs graph places shelf = one_reading (dimacs_at shelf graph places) EndsDimacs one_dimacs_end
+pub only_dimacs : (graph places : List ℕ) (folder : Folder) → HasOneEnd (ends_dimacs graph places folder)
+only_dimacs graph places folder = one_reading (dimacs_at folder graph places) EndsDimacs one_dimacs_end

@@ -2,7 +2,7 @@
 use Rattle.std.specs.Prelude.{◌≡◌, List, ℕ}
 use Rattle.std.specs.declared.result.Result.{Result}
 use Rattle.std.specs.declared.result.Result.TheVariants.{Ok, Err}
-use Rattle.road_io.specs.Contents.{Shelf}
+use Rattle.road_io.specs.Contents.{Folder}
 use Rattle.road_map.specs.declared.parts.Parts.{Parts}
 use Rattle.road_reader.specs.RoadText.{printed_roads}
 use Rattle.dimacs_reader.specs.Dimacs.{dimacs_of}
@@ -11,7 +11,7 @@ use Rattle.command_files.specs.Reading.{octets_at}
 use Rattle.command_files.specs.Endings.{Ending, EndsReading}
 use Rattle.command_files.specs.declared.fault.Fault.{Fault}
 use Rattle.command_files.specs.declared.fault.Fault.TheVariants.{Dimacs}
-use Rattle.command_files.specs.declared.ended.Verdict.TheVariants.{Done}
+use Rattle.command_files.specs.declared.ended.Conclusion.TheVariants.{Done}
 
 abbrev pub as_dimacs : Result Parts DimacsError → Result Parts Fault
 as_dimacs (Ok parts) = Ok parts
@@ -22,9 +22,10 @@ dimacs_in (Ok graph) (Ok places) = as_dimacs (dimacs_of graph places)
 dimacs_in (Ok graph) (Err fault) = Err fault
 dimacs_in (Err fault) places = Err fault
 
--- the parts of the graph and its coordinates in the files of these names, of which both are loaded first
-abbrev pub dimacs_at : Shelf → List ℕ → List ℕ → Result Parts Fault
-dimacs_at shelf graph places = dimacs_in (octets_at shelf graph) (octets_at shelf places)
+-- the parts of the graph and its coordinates in the files of these names, of which both are loaded
+-- first
+abbrev pub dimacs_at : Folder → List ℕ → List ℕ → Result Parts Fault
+dimacs_at folder graph places = dimacs_in (octets_at folder graph) (octets_at folder places)
 
 -- `dimacs` over the parts of a graph and its coordinates: their printed road file
 abbrev pub EndsDimacs : Parts → Ending
@@ -32,5 +33,5 @@ EndsDimacs parts (Ok Done) text = text ≡ printed_roads parts
 EndsDimacs parts outcome text = ⊥
 
 -- the same over the files of these names
-abbrev pub ends_dimacs : List ℕ → List ℕ → Shelf → Ending
-ends_dimacs graph places shelf = EndsReading (dimacs_at shelf graph places) EndsDimacs
+abbrev pub ends_dimacs : List ℕ → List ℕ → Folder → Ending
+ends_dimacs graph places folder = EndsReading (dimacs_at folder graph places) EndsDimacs

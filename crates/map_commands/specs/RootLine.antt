@@ -12,16 +12,22 @@ use Rattle.road_leaf.specs.Leaves.{node_leaf_text}
 use Rattle.road_leaf.specs.declared.leaf.NodeLeaf.{NodeLeaf}
 use Rattle.road_leaf.specs.declared.leaf.Extra.TheVariants.{Plain}
 use Rattle.std.specs.declared.result.Result.TheVariants.{Ok, Err}
-use Rattle.road_io.specs.Contents.{Shelf}
+use Rattle.road_io.specs.Contents.{Folder}
 use Rattle.road_map.specs.Maps.{IsMap}
 use Rattle.command_files.specs.Reading.{parts_at, IsMapFault}
 use Rattle.command_files.specs.Endings.{Ending, EndsReading}
 use Rattle.command_files.specs.declared.fault.Fault.TheVariants.{Map as MapFault}
-use Rattle.command_files.specs.declared.ended.Verdict.TheVariants.{Done}
+use Rattle.command_files.specs.declared.ended.Conclusion.TheVariants.{Done}
 
 -- the leaf of a node that says its place and its arcs alone
 abbrev pub plain_leaf : Parts → Node → NodeLeaf
-plain_leaf parts node = record { id = node.id; x = node.x; y = node.y; arcs = arcs_out parts.roads node.id; extra = Plain }
+plain_leaf parts node = record {
+  id = node.id;
+  x = node.x;
+  y = node.y;
+  arcs = arcs_out parts.roads node.id;
+  extra = Plain;
+}
 
 -- the texts of the plain leaves of nodes, in their order
 abbrev pub plain_texts : Parts → List Node → List (List ℕ)
@@ -37,7 +43,8 @@ pub record IsPlainTextAt (map : Charted) (place : ℕ) (text : List ℕ) : Type 
 abbrev pub root_line : ℕ → List ℕ → List ℕ
 root_line count root = decimal count ++ codes " " ++ encode_lower root ++ codes "\n"
 
--- the line of how many nodes there are, and of the root of the tree over their plain leaves by rising id
+-- the line of how many nodes there are, and of the root of the tree over their plain leaves by
+-- rising id
 pub record IsRootLine (parts : Parts) (fan : ℕ) (text : List ℕ) : Type 0 where
   pub order : List Node
   pub by_id : IsById parts.nodes order
@@ -50,5 +57,5 @@ EndsRoot fan parts (Err (MapFault fault)) text = IsMapFault parts fault × (text
 EndsRoot fan parts outcome text = ⊥
 
 -- the same over the road file of this name
-abbrev pub ends_root : List ℕ → ℕ → Shelf → Ending
-ends_root roads fan shelf = EndsReading (parts_at shelf roads) (EndsRoot fan)
+abbrev pub ends_root : List ℕ → ℕ → Folder → Ending
+ends_root roads fan folder = EndsReading (parts_at folder roads) (EndsRoot fan)

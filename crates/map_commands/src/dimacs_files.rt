@@ -4,7 +4,7 @@ ghost use Rattle.command_files.specs.Reading.{Loads};
 ghost use Rattle.command_files.specs.Endings.{Promises, TellsNone, NoDisk};
 ghost use Rattle.map_commands.specs.DimacsFiles.{dimacs_at, ends_dimacs};
 
-use command_files::{Fault, Verdict, load_file, write_text};
+use command_files::{Conclusion, Fault, load_file, write_text};
 use dimacs_reader::{DimacsError, read_dimacs};
 use road_io::{Library, Sink};
 use road_map::Parts;
@@ -18,7 +18,7 @@ pub fn dimacs<L: Library, K: Sink>(
     sink: &mut K,
     graph: &str,
     places: &str,
-) -> Result<Verdict, Fault>
+) -> Result<Conclusion, Fault>
     ensures { Promises (ends_dimacs graph.now places.now) TellsNone NoDisk
         (L.files library.old) (L.faults library.old) (L.faults library.new)
         (K.taken sink.old) (K.taken sink.new) (K.faults sink.old) (K.faults sink.new) result }
@@ -37,7 +37,8 @@ fn load_dimacs<L: Library>(
     graph: &str,
     places: &str,
 ) -> Result<Parts, Fault>
-    ensures { Loads (λ parts. parts) (λ shelf. dimacs_at shelf graph.now places.now) (L.files library.old) (L.faults library.old) (L.faults library.new) result }
+    ensures { Loads (λ parts. parts) (λ folder. dimacs_at folder graph.now places.now)
+        (L.files library.old) (L.faults library.old) (L.faults library.new) result }
 {
     let graph = load_file(alloc, library, graph)?;
     let places = load_file(alloc, library, places)?;

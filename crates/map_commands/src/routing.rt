@@ -3,7 +3,7 @@
 ghost use Rattle.command_files.specs.Endings.{Promises, TellsNone, NoDisk};
 ghost use Rattle.map_commands.specs.RouteLine.{GivesLine, ends_route};
 
-use command_files::{Fault, Verdict, load_map, write_text};
+use command_files::{Conclusion, Fault, load_map, write_text};
 use road_io::{Library, Sink};
 use road_line::line_of_route;
 use road_map::Map;
@@ -18,7 +18,7 @@ pub fn route<L: Library, K: Sink>(
     roads: &str,
     from: u32,
     to: u32,
-) -> Result<Verdict, Fault>
+) -> Result<Conclusion, Fault>
     ensures { Promises (ends_route roads.now from to) TellsNone NoDisk
         (L.files library.old) (L.faults library.old) (L.faults library.new)
         (K.taken sink.old) (K.taken sink.new) (K.faults sink.old) (K.faults sink.new) result }

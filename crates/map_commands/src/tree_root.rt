@@ -1,14 +1,14 @@
 //! The command `root`.
 
-ghost use Rattle.std.specs.Prelude.{◌≡◌, ◌≤◌, ◌<◌, length, string_bytes, IfOk};
+ghost use Rattle.std.specs.Prelude.{◌≡◌, ◌<◌, length, string_bytes, IfOk};
 ghost use Rattle.sha2.specs.Sha256.{sha256};
 ghost use Rattle.merkle_cover.specs.Trees.{root};
 ghost use Rattle.command_files.specs.Endings.{Promises, TellsNone, NoDisk};
 ghost use Rattle.map_commands.specs.RootLine.{IsPlainTextAt, plain_texts, root_line, IsRootLine, ends_root};
 
-use command_files::{Fault, Verdict, load_map, write_text};
-use merkle_cover::{Texts, Tree};
+use command_files::{Conclusion, Fault, load_map, write_text};
 use octet_text::{Digest32, NoMemory, Sha};
+use rising_tree::Rising;
 use road_io::{Library, Sink};
 use road_leaf::{Extra, NodeLeaf};
 use road_map::{Arc, Arcs, Map, Node};
@@ -21,7 +21,7 @@ pub fn root<L: Library, K: Sink>(
     sink: &mut K,
     roads: &str,
     fan: u8,
-) -> Result<Verdict, Fault>
+) -> Result<Conclusion, Fault>
     ensures { Promises (ends_root roads.now fan) TellsNone NoDisk
         (L.files library.old) (L.faults library.old) (L.faults library.new)
         (K.taken sink.old) (K.taken sink.new) (K.faults sink.old) (K.faults sink.new) result }
@@ -38,43 +38,33 @@ fn root_line(alloc: Global, map: &Map, fan: u8) -> Result<Vec<u8>, NoMemory>
     ensures { IfOk result (λ line. IsRootLine map.now.parts fan line.items) }
 {
     let count = map.parts().nodes.as_slice().len();
-    let texts = plain_texts(alloc, map)?;
-    let root = root_of(alloc, &texts, fan)?;
+    let root = plain_root(alloc, map, fan)?;
     let line = line_of_root(alloc, count, &root)?;
     Ok(line)
 }
 
-/// The root of the tree over texts. There are some, and the fan-out is one of a tree, so that memory
-/// alone can be missing.
-#[tactic(auto, unfolding(merkle_cover::specs::Trees::tree_of))]
-fn root_of(alloc: Global, texts: &Texts, fan: u8) -> Result<Digest32, NoMemory>
-    ensures { IfOk result (λ digest. digest ≡ root sha256 texts.now fan) }
-{
-    match Tree::<Sha>::build(alloc, texts, fan) {
-        Ok(tree) => Ok(tree.root()),
-        Err(_) => Err(NoMemory),
-    }
-}
-
-/// The texts of the plain leaves of a map's nodes, by rising id.
-fn plain_texts(alloc: Global, map: &Map) -> Result<Texts, NoMemory>
-    ensures { IfOk result (λ texts. texts ≡ plain_texts map.now.parts map.now.order) }
+/// The root of the tree over the plain leaves of a map's nodes, by rising id, of which one at a time is
+/// spelled. There are some, and the fan-out is one of a tree, so that memory alone can be missing.
+fn plain_root(alloc: Global, map: &Map, fan: u8) -> Result<Digest32, NoMemory>
+    ensures { IfOk result (λ digest.
+        digest ≡ root sha256 (plain_texts map.now.parts map.now.order) fan) }
 {
     let _parts = map.parts();
     let count = map.count();
-    let mut texts = Texts::new(alloc);
+    let Ok(mut rising) = Rising::<Sha>::new(alloc, count, fan, &[]) else {
+        return Err(NoMemory);
+    };
     for position in 0..count {
         let text = leaf_text(alloc, map, position)?;
-        texts.push(text.as_slice())?;
+        rising.push(text.as_slice());
     }
-    Ok(texts)
+    Ok(rising.end().root)
 }
 
 /// The text of the plain leaf of the node at a position.
 fn leaf_text(alloc: Global, map: &Map, position: u32) -> Result<Vec<u8>, NoMemory>
     requires { position < length map.now.order }
-    ensures text { IfOk result (λ text. IsPlainTextAt map.now position text.items) }
-    ensures few { IfOk result (λ text. length text.items ≤ 2055) }
+    ensures { IfOk result (λ text. IsPlainTextAt map.now position text.items) }
 {
     let _parts = map.parts();
     let node = map.node(position);
@@ -105,7 +95,14 @@ fn printed(alloc: Global, count: usize, root: &Digest32) -> Result<String, Alloc
 
 /// The plain leaf of a node with these arcs.
 fn plain_leaf(alloc: Global, node: Node, arcs: &[Arc]) -> Result<NodeLeaf, NoMemory>
-    ensures { IfOk result (λ leaf. leaf ≡ record { id = node.id; x = node.x; y = node.y; arcs = arcs.now; extra = Extra.Plain }) }
+    ensures { IfOk result (λ leaf.
+        leaf ≡ record {
+          id = node.id;
+          x = node.x;
+          y = node.y;
+          arcs = arcs.now;
+          extra = Extra.Plain;
+        }) }
 {
     let arcs = arcs.to_vec(alloc)?;
     Ok(NodeLeaf {

@@ -1,5 +1,5 @@
 -- Where a tree and a fold hash different texts to one digest.
-use Rattle.std.proofs.Common.{◌≡◌, ◌≢◌, ℕ, suc, zero, ◌+◌, ◌-◌, ◌*◌, ◌^◌, ◌<◌, ◌≤◌, min, Bool, true, false, ◌&&◌, List, [], ◌∷◌, ◌++◌, replicate, length, get_or, take, drop, refl, sym, ap, ◌∙◌, subst, arith, inl, inr}
+use Rattle.std.proofs.Common.{◌≡◌, ◌≢◌, ℕ, suc, zero, ◌+◌, ◌-◌, ◌*◌, ◌/◌, ◌^◌, ◌<◌, ◌≤◌, min, Bool, true, false, ◌&&◌, List, [], ◌∷◌, ◌++◌, replicate, length, get_or, take, drop, refl, sym, ap, ◌∙◌, subst, arith, inl, inr}
 use Rattle.std.specs.Bool.{OnTrue, OnFalse}
 use Rattle.std.specs.List.{range_with_len, sum_by, flat_map}
 use Rattle.std.proofs.lemmas.Bool.{cases_lt}
@@ -9,10 +9,10 @@ use Rattle.std.proofs.lemmas.List.Sums.{sum_by-append, sum_by-cons}
 use Rattle.std.proofs.lemmas.List.FromFn.{length-range_with_len}
 use Rattle.std.proofs.Math.Seq.{take-add}
 use Rattle.std.proofs.Math.Nat.{pow-zero, le_refl, one-le-pow}
-use Rattle.std.proofs.lemmas.Nat.{mul-le}
+use Rattle.std.proofs.lemmas.Nat.{mul-le, div-mul-add}
 use Rattle.merkle_cover.specs.Shape.{places_at, children}
 use Rattle.merkle_cover.specs.Trees.{digest}
-use Rattle.merkle_cover.specs.Covers.{has_chosen, need, cover_below, text_for, folded_in_turn, folded}
+use Rattle.merkle_cover.specs.Covers.{has_chosen, left_of, need, cover_below, text_for, folded_in_turn, folded}
 use Rattle.merkle_cover.specs.Folding.{SplitsAt, CanWalk, CanFold}
 use Rattle.merkle_cover.specs.Clashes.{hashed_text, folded_text, SameBelow, CanCompare, IsClash, CanRead}
 use Rattle.merkle_cover.proofs.ShapeLemmas.{places_at-lt-mul}
@@ -87,6 +87,16 @@ pub record SameSoFar (hash : List ℕ → List ℕ) (leaves : List (List ℕ)) (
   pub texts : (q : ℕ) → item ≤ q → q < next → get_or given q [] ≡ get_or leaves (get_or chosen q 0) []
   pub covers : take (sum_by (need (length leaves) f chosen j) (range_with_len first m)) (drop start cover) ≡ flat_map (cover_below (digest hash leaves f) (length leaves) f chosen j) (range_with_len first m)
 
+-- ---- digests left of a place
+
+pub left-top : (n f : ℕ) (chosen : List ℕ) (k p : ℕ) → 0 ≡ left_of n f chosen 0 k p
+unfolding left_of
+left-top n f chosen k p = refl
+
+left-child : (n f : ℕ) (chosen : List ℕ) (d j p child : ℕ) → child / f ≡ p → left_of n f chosen (suc d) j child ≡ left_of n f chosen d (suc j) p + sum_by (need n f chosen j) (range_with_len (p * f) (child - p * f))
+unfolding left_of
+left-child n f chosen d j p child e = ap (λ x. left_of n f chosen d (suc j) x + sum_by (need n f chosen j) (range_with_len (x * f) (child - x * f))) e
+
 module _ (hash : List ℕ → List ℕ) (leaves : List (List ℕ)) (f : ℕ) (chosen : List ℕ) (given cover : List (List ℕ)) (levels : List (List (List ℕ))) (whole : List (List ℕ)) where
   -- a child can be compared
   pub CanCompare-child : {k p w item start : ℕ} → CanCompare hash leaves f chosen given cover levels whole k p w item start → has_chosen f chosen k p ≡ true → (j b end child item' taken : ℕ) → k ≡ suc j → b ≡ f ^ j → end ≡ min (p * f + f) (places_at (length leaves) f j) → p * f ≤ child → child < end → SplitsAt chosen (child * b) item' → taken ≤ child * b → taken ≡ start + sum_by (need (length leaves) f chosen j) (range_with_len (p * f) (child - p * f)) → CanCompare hash leaves f chosen given cover levels whole j child b item' taken
@@ -108,6 +118,7 @@ module _ (hash : List ℕ → List ℕ) (leaves : List (List ℕ)) (f : ℕ) (ch
       let before : length (flat_map g (range_with_len first m)) ≡ sum_by t (range_with_len first m) =
       length-flat_map g (range_with_len first m) ∙ sum_by-same (λ x. length (g x)) t (range_with_len first m) (length-cover_below (digest hash leaves f) n f chosen j) in
       let rest = flat_map g (range_with_len (first + m + 1) (c - m - 1)) in
+      let parent : child / f ≡ p = ap (λ x. x / f) (sym here) ∙ div-mul-add p f m (omega (arith, ee, l)) in
       record {
         fold = record {
           walk = CanWalk-child q.fold.walk j b end child item' e eb ee l at;
@@ -119,6 +130,7 @@ module _ (hash : List ℕ → List ℕ) (leaves : List (List ℕ)) (f : ℕ) (ch
           sizes = λ i le. q.levels_in.sizes i (omega (arith, le, e));
         };
         digests = λ i x le lt. q.digests i x (omega (arith, le, e)) lt;
+        left = (suc q.left.0, omega (arith, q.left.1, e), et ∙ ap (λ x. x + sum_by t (range_with_len first m)) (q.left.2 ∙ ap (λ x. left_of n f chosen q.left.0 x p) e) ∙ sym (left-child n f chosen q.left.0 j p child parent));
         enough = omega (arith, q.enough, all, within, et, ap t here);
         rest = (
           rest ++ q.rest.0,

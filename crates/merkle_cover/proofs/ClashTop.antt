@@ -5,7 +5,7 @@ use Rattle.std.proofs.lemmas.Bool.Decides.{nat_tests}
 use Rattle.std.proofs.lemmas.List.{append-nil, take_all, same_lists, get_or-map, length-map, get_or_default}
 use Rattle.merkle_cover.specs.Shape.{children, top}
 use Rattle.merkle_cover.specs.Trees.{digest, root, tree_of}
-use Rattle.merkle_cover.specs.Covers.{has_chosen, need, cover_below, cover_of, chosen_texts, folded, first_fault, fold_exact, fold_of, after_fault}
+use Rattle.merkle_cover.specs.Covers.{has_chosen, left_of, need, cover_below, cover_of, chosen_texts, folded, first_fault, fold_exact, fold_of, after_fault}
 use Rattle.merkle_cover.specs.Folding.{SplitsAt, HasLevels, digest_in}
 use Rattle.merkle_cover.specs.Clashes.{hashed_text, folded_text, SameBelow, CanCompare, IsClash, CanRead, AreHashed}
 use Rattle.merkle_cover.specs.declared.folds.FoldError.{FoldError}
@@ -15,6 +15,7 @@ use Rattle.merkle_cover.proofs.CoverLemmas.{cover_below-above, in_turn, folded-c
 use Rattle.merkle_cover.proofs.TreeLemmas.{digest_in-tree_of, cover_of-some}
 use Rattle.merkle_cover.proofs.LevelLemmas.{levels-tree_of, length-levels_to, get_or-levels_to, length-level}
 use Rattle.merkle_cover.proofs.WalkLemmas.{walk-some}
+use Rattle.merkle_cover.proofs.ClashLemmas.{left-top}
 use Rattle.merkle_cover.proofs.ShapeLemmas.{places_at-lt-mul}
 
 -- ---- what a good fold says
@@ -77,6 +78,7 @@ CanCompare-start hash leaves f places given cover levels k w d f2 f32 n1 n32 p1 
       fold = record { walk = CanWalk-start n f places k w f2 f32 n1 n32 (rising-first_fault n places g.none) ew small; texts = l; taken = omega arith };
       levels_in = subst (λ x. HasLevels n f levels x) (sym ek) (subst (λ ls. HasLevels n f ls (top n f)) (sym el) (HasLevels-tree_of hash leaves f));
       digests = λ j q le lt. ap (λ (ls : List (List (List ℕ))). digest_in ls j q) el ∙ digest_in-tree_of hash leaves f j q (omega (arith, le, ek)) lt;
+      left = (0, omega (arith, ek), left-top n f places k 0);
       enough = omega (arith, g.count, ap (λ x. need n f places x 0) ek);
       rest = ([], sym (cover_of-some hash leaves f places (omega (arith, p1))) ∙ ap (λ x. cover_below (digest hash leaves f) n f places x 0) (sym ek) ∙ sym (append-nil (cover_below (digest hash leaves f) n f places k 0)));
     }
@@ -132,12 +134,11 @@ pub AreHashed-clash : (hash : List ℕ → List ℕ) (leaves : List (List ℕ)) 
 AreHashed-clash hash leaves f places given cover levels whole k p w item start left right c count el er = record {
   k = k;
   p = p;
-  start = start;
   level = omega (arith, c.at.levels_in.levels_in k (omega arith), count);
   place = places_at-lt-mul (length leaves) f k p (omega (arith, c.at.fold.walk.fan)) (omega (arith, c.at.fold.walk.place, ap (λ x. p * x) c.at.fold.walk.span));
   some = walk-some c.at.fold.walk c.next.0 c.next.1;
   of_tree = el;
-  of_fold = er;
+  of_fold = er ∙ ap (λ s. folded_text hash (length leaves) f places given k p (drop s cover)) (c.at.left.2 ∙ ap (λ d. left_of (length leaves) f places d k p) (omega (arith, c.at.left.1)));
 }
 
 pub root-tree_of : (hash : List ℕ → List ℕ) (leaves : List (List ℕ)) (f : ℕ) → (tree_of hash leaves f).root ≡ digest hash leaves f (top (length leaves) f) 0

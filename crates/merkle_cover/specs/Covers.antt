@@ -1,6 +1,6 @@
 -- Chosen leaves, the cover of all others, and the fold of texts at chosen places and a cover.
-use Rattle.std.specs.Prelude.{ℕ, zero, suc, ◌+◌, ◌*◌, ◌^◌, ◌<◌, ◌==◌, ◌&&◌, Bool, List, [], ◌∷◌, ◌++◌, length, map, drop, replicate, slice_index, slice_index_or, nat_le, nat_lt, if◌then◌else◌, Option, None, Some, Result, Ok, Err}
-use Rattle.std.specs.List.{flat_map, list_any, sum_by}
+use Rattle.std.specs.Prelude.{ℕ, zero, suc, ◌+◌, ◌-◌, ◌*◌, ◌/◌, ◌^◌, ◌<◌, ◌==◌, ◌&&◌, Bool, List, [], ◌∷◌, ◌++◌, length, map, drop, replicate, slice_index, slice_index_or, nat_le, nat_lt, if◌then◌else◌, Option, None, Some, Result, Ok, Err}
+use Rattle.std.specs.List.{flat_map, list_any, range_with_len, sum_by}
 use Rattle.merkle_cover.specs.Shape.{children, top}
 use Rattle.merkle_cover.specs.Trees.{digest}
 use Rattle.merkle_cover.specs.declared.folds.FoldError.{FoldError}
@@ -24,7 +24,8 @@ has_chosen f chosen k p = list_any (is_below f k p) chosen
 unfoldable pub cover_below : (ℕ → ℕ → List ℕ) → ℕ → ℕ → List ℕ → ℕ → ℕ → List (List ℕ)
 cover_below at n f chosen zero p = if has_chosen f chosen 0 p then [] else at 0 p ∷ []
 cover_below at n f chosen (suc k) p =
-    if has_chosen f chosen (suc k) p then flat_map (cover_below at n f chosen k) (children n f k p) else at (suc k) p ∷ []
+    if has_chosen f chosen (suc k) p then flat_map (cover_below at n f chosen k)
+    (children n f k p) else at (suc k) p ∷ []
 
 -- the cover of the chosen leaves, and nothing where none is chosen
 abbrev pub cover_of : (List ℕ → List ℕ) → List (List ℕ) → ℕ → List ℕ → List (List ℕ)
@@ -42,6 +43,15 @@ need n f chosen zero p = if has_chosen f chosen 0 p then 0 else 1
 need n f chosen (suc k) p =
     if has_chosen f chosen (suc k) p then sum_by (need n f chosen k) (children n f k p) else 1
 
+-- how many digests of the cover, over n leaves, stand left of a place of level k that has a chosen
+-- leaf and lies d levels
+-- below the top: those left of its parent, and those of the places before it below that parent
+unfoldable pub left_of : ℕ → ℕ → List ℕ → ℕ → ℕ → ℕ → ℕ
+left_of n f chosen zero k p = 0
+left_of n f chosen (suc d) k p =
+    left_of n f chosen d (suc k) (p / f) + sum_by (need n f chosen k)
+    (range_with_len (p / f * f) (p - p / f * f))
+
 -- the text that is given for a place
 unfoldable pub text_for : List ℕ → List (List ℕ) → ℕ → List ℕ
 text_for [] texts p = []
@@ -53,33 +63,42 @@ abbrev pub next_digest : List (List ℕ) → List ℕ
 next_digest cover = slice_index_or cover 0 (replicate 32 0)
 
 -- the digests of places from left to right, each from the front of what is left of the cover
-unfoldable pub folded_in_turn : (ℕ → ℕ) → (ℕ → List (List ℕ) → List ℕ) → List ℕ → List (List ℕ) → List ℕ
+unfoldable pub folded_in_turn : (ℕ → ℕ) → (ℕ → List (List ℕ) → List ℕ) → List ℕ → List (List ℕ) →
+    List ℕ
 folded_in_turn taken folded [] cover = []
-folded_in_turn taken folded (p ∷ ps) cover = folded p cover ++ folded_in_turn taken folded ps (drop (taken p) cover)
+folded_in_turn taken folded (p ∷ ps) cover = folded p cover ++ folded_in_turn taken folded ps
+    (drop (taken p) cover)
 
--- the digest of place p of level k: a place with no chosen leaf takes the next digest of the cover, a
+-- the digest of place p of level k: a place with no chosen leaf takes the next digest of the cover,
+-- a
 -- chosen leaf has the digest of its text, and any other place that of its children's digests
-unfoldable pub folded : (List ℕ → List ℕ) → ℕ → ℕ → List ℕ → List (List ℕ) → ℕ → ℕ → List (List ℕ) → List ℕ
+unfoldable pub folded : (List ℕ → List ℕ) → ℕ → ℕ → List ℕ → List (List ℕ) → ℕ → ℕ → List (List ℕ) →
+    List ℕ
 folded hash n f chosen texts zero p cover =
     if has_chosen f chosen 0 p then hash (0 ∷ text_for chosen texts p) else next_digest cover
 folded hash n f chosen texts (suc k) p cover =
-    if has_chosen f chosen (suc k) p then hash (1 ∷ folded_in_turn (need n f chosen k) (folded hash n f chosen texts k) (children n f k p) cover) else next_digest cover
+    if has_chosen f chosen (suc k) p then hash
+    (1 ∷ folded_in_turn (need n f chosen k) (folded hash n f chosen texts k)
+    (children n f k p) cover) else next_digest cover
 
 -- the first index whose place is not below n or below the least that is allowed there
 abbrev pub fault_from : ℕ → ℕ → ℕ → List ℕ → Option ℕ
 fault_from n least i [] = None
-fault_from n least i (p ∷ ps) = if nat_le least p && nat_lt p n then fault_from n (p + 1) (i + 1) ps else Some i
+fault_from n least i (p ∷ ps) = if nat_le least p && nat_lt p n then fault_from n (p + 1)
+    (i + 1) ps else Some i
 
 -- the first index whose place is not below n or does not exceed the one before
 abbrev pub first_fault : ℕ → List ℕ → Option ℕ
 first_fault n places = fault_from n 0 0 places
 
 -- the fold of a cover that has as many digests as the places need, or too few or too many
-abbrev pub fold_exact : (List ℕ → List ℕ) → ℕ → ℕ → List ℕ → List (List ℕ) → List (List ℕ) → Result (List ℕ) FoldError
+abbrev pub fold_exact : (List ℕ → List ℕ) → ℕ → ℕ → List ℕ → List (List ℕ) → List (List ℕ) →
+    Result (List ℕ) FoldError
 fold_exact hash n f places texts cover =
     let needed = need n f places (top n f) 0 in
     if nat_lt (length cover) needed then Err CoverShort
-    else (if nat_lt needed (length cover) then Err CoverLong else Ok (folded hash n f places texts (top n f) 0 cover))
+    else (if nat_lt needed (length cover) then Err CoverLong else Ok
+    (folded hash n f places texts (top n f) 0 cover))
 
 -- a fault, where there is one
 abbrev pub after_fault : Option ℕ → Result (List ℕ) FoldError → Result (List ℕ) FoldError
@@ -87,5 +106,7 @@ after_fault None r = r
 after_fault (Some i) r = Err (Place i)
 
 -- the fold: a faulty place first, then the cover's length, then the digest of the top level's place
-abbrev pub fold_of : (List ℕ → List ℕ) → ℕ → ℕ → List ℕ → List (List ℕ) → List (List ℕ) → Result (List ℕ) FoldError
-fold_of hash n f places texts cover = after_fault (first_fault n places) (fold_exact hash n f places texts cover)
+abbrev pub fold_of : (List ℕ → List ℕ) → ℕ → ℕ → List ℕ → List (List ℕ) → List (List ℕ) →
+    Result (List ℕ) FoldError
+fold_of hash n f places texts cover = after_fault (first_fault n places)
+    (fold_exact hash n f places texts cover)

@@ -21,13 +21,15 @@ pub record CanWalk (n f : ℕ) (places : List ℕ) (k p w item : ℕ) : Type 0 w
   pub items : SplitsAt places (p * w) item
 
 -- the same, with what is given
-pub record CanFold (n f : ℕ) (places : List ℕ) (given : List (List ℕ)) (k p w item start : ℕ) : Type 0 where
+pub record CanFold (n f : ℕ) (places : List ℕ) (given : List (List ℕ))
+    (k p w item start : ℕ) : Type 0 where
   pub walk : CanWalk n f places k p w item
   pub texts : length given ≡ length places
   pub taken : start ≤ p * w
 
 -- what was folded at place p of level k, and where the walk stands behind it
-pub record IsFolded (hash : List ℕ → List ℕ) (n f : ℕ) (places : List ℕ) (texts cover : List (List ℕ)) (k p w start : ℕ) (d : List ℕ) (item end : ℕ) : Type 0 where
+pub record IsFolded (hash : List ℕ → List ℕ) (n f : ℕ) (places : List ℕ)
+    (texts cover : List (List ℕ)) (k p w start : ℕ) (d : List ℕ) (item end : ℕ) : Type 0 where
   pub digest : d ≡ folded hash n f places texts k p (drop start cover)
   pub taken : end ≡ start + need n f places k p
   pub items : SplitsAt places ((p + 1) * w) item

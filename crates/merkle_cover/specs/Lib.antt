@@ -1,5 +1,6 @@
 pub mod Clashes
 pub mod Covers
+pub mod Cuts
 pub mod Folding
 pub mod Refusals
 pub mod Shape

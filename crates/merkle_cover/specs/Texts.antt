@@ -14,7 +14,8 @@ pub record HasRoom (texts : List (List ℕ)) (text : List ℕ) : Type 0 where
 -- the texts of a buffer from a place on, each up to the next of the ends
 abbrev pub texts_of : List ℕ → ℕ → List ℕ → List (List ℕ)
 texts_of octets start [] = []
-texts_of octets start (end ∷ ends) = take (end - start) (drop start octets) ∷ texts_of octets end ends
+texts_of octets start (end ∷ ends) = take (end - start)
+    (drop start octets) ∷ texts_of octets end ends
 
 -- the ends rise from a place to the last one
 abbrev pub EndsAt : ℕ → List ℕ → ℕ → Type 0

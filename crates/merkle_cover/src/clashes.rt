@@ -1,3 +1,4 @@
+//! Two texts with one digest, where a fold goes astray.
 ghost use Rattle.std.specs.Prelude.{◌≡◌, ◌≢◌, ℕ, ◌+◌, ◌*◌, ◌^◌, ◌<◌, ◌≤◌, ◌↔◌, ◌&&◌, Bool, List, [], ◌∷◌, ◌++◌, length, drop, slice_index, slice_index_or, IfOk, IfErr, IfSome, IsNone, Ok};
 ghost use Rattle.std.specs.Bool.{OnTrue, OnFalse};
 ghost use Rattle.merkle_cover.specs.Clashes.{CanCompare, CanRead, IsClash, SameBelow, AreHashed, hashed_text, folded_text};
@@ -6,7 +7,8 @@ ghost use Rattle.merkle_cover.specs.Trees.{digest, tree_of};
 ghost use Rattle.merkle_cover.specs.Folding.{CanFold, IsFolded};
 
 use crate::covers::digest_of;
-use crate::folds::{Folded, Given, digest_at, fold_place, is_next_below, leaf_digest, top_of};
+use crate::cuts::CutTexts;
+use crate::folds::{Brought, Folded, digest_at, fold_place, is_next_below, leaf_digest, top_of};
 use crate::texts::Texts;
 use crate::trees::Tree;
 use octet_text::{Digest32, Digests, Hasher, NoMemory, Octets, put_octets, put_u8};
@@ -14,7 +16,7 @@ use std::alloc::Global;
 
 // Where a tree and a fold hash different texts to one digest.
 #[derive(Clone, Copy)]
-struct Spot {
+struct ClashPlace {
     level: u32,
     place: u64,
     span: u64,
@@ -49,7 +51,7 @@ fn both(left: bool, right: bool) -> bool
 }
 
 // Whether each text is the leaf at its place.
-fn are_chosen(leaves: &Texts, places: &[u32], texts: &Texts) -> bool
+fn are_chosen(leaves: &Texts, places: &[u32], texts: &CutTexts<'_>) -> bool
     requires places { IsRising (length leaves.now) places.now }
     requires texts { length texts.now ≡ length places.now }
     ensures { OnTrue result (texts.now ≡ chosen_texts leaves.now places.now) }
@@ -69,14 +71,15 @@ fn are_own<H: Hasher>(
     tree: &Tree<H>,
     leaves: &Texts,
     places: &[u32],
-    texts: &Texts,
+    texts: &CutTexts<'_>,
     cover: &[Digest32],
 ) -> Result<bool, NoMemory>
     requires built { tree.now ≡ tree_of H.hash leaves.now tree.now.fan }
     requires places { IsRising (length leaves.now) places.now }
     requires texts { length texts.now ≡ length places.now }
     ensures { IfOk result (λ own. OnTrue own
-        ((texts.now ≡ chosen_texts leaves.now places.now) × (cover.now ≡ cover_of H.hash leaves.now tree.now.fan places.now))) }
+        ((texts.now ≡ chosen_texts leaves.now places.now) ×
+        (cover.now ≡ cover_of H.hash leaves.now tree.now.fan places.now))) }
 {
     if !are_chosen(leaves, places, texts) {
         return Ok(false);
@@ -87,7 +90,7 @@ fn are_own<H: Hasher>(
 
 // Folds what is given at a place and compares it with the tree, or finds where the two clash.
 fn compare_place<H: Hasher>(
-    given: &Given<'_>,
+    given: &Brought<'_>,
     levels: &[Digests],
     leaves: &Texts,
     level: u32,
@@ -95,18 +98,26 @@ fn compare_place<H: Hasher>(
     span: u64,
     item: usize,
     taken: usize,
-) -> Result<Folded, Spot>
+) -> Result<Folded, ClashPlace>
     requires count { given.now.leaves ≡ length leaves.now }
-    requires compare { CanCompare H.hash leaves.now given.now.fan given.now.places.now given.now.texts.now given.now.cover.now levels.now
-        (cover_of H.hash leaves.now given.now.fan given.now.places.now) level place span item taken }
-    ensures folded { IfOk result (λ r. IsFolded H.hash (length leaves.now) given.now.fan given.now.places.now given.now.texts.now given.now.cover.now level place span taken r.digest r.item r.taken) }
+    requires compare { CanCompare H.hash leaves.now given.now.fan given.now.places.now
+        given.now.texts.now given.now.cover.now levels.now
+        (cover_of H.hash leaves.now given.now.fan given.now.places.now) level place span item
+        taken }
+    ensures folded { IfOk result (λ r.
+        IsFolded H.hash (length leaves.now) given.now.fan given.now.places.now given.now.texts.now
+        given.now.cover.now level place span taken r.digest r.item r.taken) }
     ensures same { IfOk result (λ r. r.digest ≡ digest H.hash leaves.now given.now.fan level place
-        → SameBelow H.hash leaves.now given.now.fan given.now.places.now given.now.texts.now given.now.cover.now level place taken item r.item) }
+        → SameBelow H.hash leaves.now given.now.fan given.now.places.now given.now.texts.now
+        given.now.cover.now level place taken item r.item) }
     ensures size { IfOk result (λ r. length r.digest ≡ 32) }
-    ensures clash { IfErr result (λ s. IsClash H.hash leaves.now given.now.fan given.now.places.now given.now.texts.now given.now.cover.now levels.now
-        (cover_of H.hash leaves.now given.now.fan given.now.places.now) s.level s.place s.span s.item s.taken) }
+    ensures clash { IfErr result (λ s.
+        IsClash H.hash leaves.now given.now.fan given.now.places.now given.now.texts.now
+        given.now.cover.now levels.now
+        (cover_of H.hash leaves.now given.now.fan given.now.places.now) s.level s.place s.span
+        s.item s.taken) }
 {
-    let spot = Spot {
+    let spot = ClashPlace {
         level,
         place,
         span,
@@ -199,16 +210,20 @@ fn tree_text<H: Hasher>(
 // The text that is hashed at a place with a chosen leaf, by what is given.
 fn given_text<H: Hasher>(
     alloc: Global,
-    given: &Given<'_>,
+    given: &Brought<'_>,
     level: u32,
     place: u64,
     span: u64,
     item: usize,
     taken: usize,
 ) -> Result<Vec<u8>, NoMemory>
-    requires fold { CanFold given.now.leaves given.now.fan given.now.places.now given.now.texts.now level place span item taken }
-    requires next { (item < length given.now.places.now) × (slice_index given.now.places.now item < (place + 1) * span) }
-    ensures { IfOk result (λ text. text.items ≡ folded_text H.hash given.now.leaves given.now.fan given.now.places.now given.now.texts.now level place (drop taken given.now.cover.now)) }
+    requires fold { CanFold given.now.leaves given.now.fan given.now.places.now given.now.texts.now
+        level place span item taken }
+    requires next { (item < length given.now.places.now) ×
+        (slice_index given.now.places.now item < (place + 1) * span) }
+    ensures { IfOk result (λ text.
+        text.items ≡ folded_text H.hash given.now.leaves given.now.fan given.now.places.now
+        given.now.texts.now level place (drop taken given.now.cover.now)) }
 {
     let mut text = Vec::new(alloc);
     if level == 0 {
@@ -249,25 +264,28 @@ pub fn clash<H: Hasher>(
     tree: &Tree<H>,
     leaves: &Texts,
     places: &[u32],
-    texts: &Texts,
+    texts: &CutTexts<'_>,
     cover: &[Digest32],
 ) -> Result<Option<TwoTexts>, NoMemory>
     requires built { tree.now ≡ tree_of H.hash leaves.now tree.now.fan }
     requires places { 1 ≤ length places.now }
     requires texts { length texts.now ≡ length places.now }
-    requires folds { fold_of H.hash (length leaves.now) tree.now.fan places.now texts.now cover.now ≡ Ok tree.now.root }
+    requires folds { fold_of H.hash
+        (length leaves.now) tree.now.fan places.now texts.now cover.now ≡ Ok tree.now.root }
     ensures own { IfOk result (λ r. IsNone r
-        ↔ ((texts.now ≡ chosen_texts leaves.now places.now) × (cover.now ≡ cover_of H.hash leaves.now tree.now.fan places.now))) }
+        ↔ ((texts.now ≡ chosen_texts leaves.now places.now) ×
+        (cover.now ≡ cover_of H.hash leaves.now tree.now.fan places.now))) }
     ensures differ { IfOk result (λ r. IfSome r (λ two. two.left ≢ two.right)) }
     ensures one_digest { IfOk result (λ r. IfSome r (λ two. H.hash two.left ≡ H.hash two.right)) }
     ensures sides { IfOk result (λ r. IfSome r (λ two.
-        AreHashed H.hash leaves.now tree.now.fan places.now texts.now cover.now two.left two.right)) }
+        AreHashed H.hash leaves.now tree.now.fan places.now texts.now cover.now two.left
+        two.right)) }
 {
     if are_own::<H>(alloc, tree, leaves, places, texts, cover)? {
         return Ok(None);
     }
     let levels = tree.levels();
-    let given = Given {
+    let given = Brought {
         leaves: u64::from(leaves.count()),
         fan: u64::from(tree.fan()),
         places,

@@ -1,3 +1,4 @@
+//! The cover of some leaves: the digests that their fold lacks.
 ghost use Rattle.std.specs.Prelude.{◌≡◌, ℕ, ◌+◌, ◌*◌, ◌^◌, ◌<◌, ◌≤◌, List, [], ◌∷◌, ◌++◌, length, slice_index, slice_index_or, IfOk, OnOk};
 ghost use Rattle.merkle_cover.specs.Covers.{cover_below};
 ghost use Rattle.merkle_cover.specs.Folding.{CanWalk, SplitsAt, HasLevels, digest_in};
@@ -7,7 +8,7 @@ use octet_text::{Digest32, Digests, NoMemory};
 
 // A tree's levels, and chosen leaves.
 #[derive(Drop)]
-pub(crate) struct Walk<'a> {
+pub(crate) struct CoverWalk<'a> {
     pub(crate) levels: &'a [Digests],
     pub(crate) leaves: u64,
     pub(crate) fan: u64,
@@ -26,7 +27,7 @@ pub(crate) fn digest_of(levels: &[Digests], level: usize, place: usize) -> Diges
 
 // Appends the cover below a place, and answers the index of the next chosen leaf.
 pub(crate) fn cover_place(
-    walk: &Walk<'_>,
+    walk: &CoverWalk<'_>,
     level: u32,
     place: u64,
     span: u64,
@@ -37,7 +38,8 @@ pub(crate) fn cover_place(
     requires levels { HasLevels walk.now.leaves walk.now.fan walk.now.levels.now level }
     ensures next { IfOk result (λ next. SplitsAt walk.now.places.now ((place + 1) * span) next) }
     ensures out { OnOk result (out.new.items ≡ out.old.items
-        ++ cover_below (digest_in walk.now.levels.now) walk.now.leaves walk.now.fan walk.now.places.now level place) }
+        ++ cover_below (digest_in walk.now.levels.now) walk.now.leaves walk.now.fan
+        walk.now.places.now level place) }
 {
     if !is_next_below(walk.places, item, (place + 1) * span) {
         let digest = digest_of(walk.levels, level as usize, place as usize);

@@ -1,10 +1,11 @@
+//! Folds: the digest that some leaves and the cover of the others give.
 ghost use Rattle.std.specs.Prelude.{◌≡◌, ℕ, ◌+◌, ◌*◌, ◌^◌, ◌<◌, ◌≤◌, ◌↔◌, List, [], ◌∷◌, length, IsTrue, slice_index, slice_index_or, replicate, MatchResult, Option, Ok, Err};
 ghost use Rattle.std.specs.Bool.{OnTrue, OnFalse};
 ghost use Rattle.merkle_cover.specs.Covers.{IsRising, first_fault, fold_of};
 ghost use Rattle.merkle_cover.specs.Folding.{CanFold, IsFolded, SplitsAt};
 ghost use Rattle.merkle_cover.specs.Shape.{top};
 
-use crate::texts::Texts;
+use crate::cuts::CutTexts;
 use octet_text::{Digest32, Hasher};
 use thiserror::Error;
 
@@ -22,8 +23,8 @@ pub enum FoldError {
     CoverLong,
 }
 
-// The digest of a leaf's text.
-pub(crate) fn leaf_digest<H: Hasher>(text: &[u8]) -> Digest32
+/// The digest of a leaf's text: that of 00 and the text.
+pub fn leaf_digest<H: Hasher>(text: &[u8]) -> Digest32
     ensures { result ≡ H.hash (0 ∷ text.now) }
 {
     let mut hasher = H::start();
@@ -32,8 +33,8 @@ pub(crate) fn leaf_digest<H: Hasher>(text: &[u8]) -> Digest32
     hasher.end()
 }
 
-// The first index whose place is not below the leaf count or does not exceed the one before.
-fn fault_of(leaves: u32, places: &[u32]) -> Option<u32>
+/// The first index whose place is not below the leaf count or does not exceed the one before.
+pub fn fault_of(leaves: u32, places: &[u32]) -> Option<u32>
     ensures { result ≡ first_fault leaves places.now }
 {
     let mut least = 0;
@@ -55,8 +56,8 @@ pub fn are_rising(leaves: u32, places: &[u32]) -> bool
     fault_of(leaves, places).is_none()
 }
 
-// The top level, and how many leaves its place has room for.
-pub(crate) fn top_of(leaves: u64, fan: u64) -> (u32, u64)
+/// The top level of a tree of so many leaves, and how many leaves its place has room for.
+pub fn top_of(leaves: u64, fan: u64) -> (u32, u64)
     requires fan { 2 ≤ fan }
     requires fan_max { fan ≤ 32 }
     requires leaves { 1 ≤ leaves }
@@ -76,11 +77,11 @@ pub(crate) fn top_of(leaves: u64, fan: u64) -> (u32, u64)
 
 // What is folded: texts for places among the leaves, and a cover.
 #[derive(Drop)]
-pub(crate) struct Given<'a> {
+pub(crate) struct Brought<'a> {
     pub(crate) leaves: u64,
     pub(crate) fan: u64,
     pub(crate) places: &'a [u32],
-    pub(crate) texts: &'a Texts,
+    pub(crate) texts: &'a CutTexts<'a>,
     pub(crate) cover: &'a [Digest32],
 }
 
@@ -92,9 +93,10 @@ pub(crate) struct Folded {
     pub(crate) taken: usize,
 }
 
-// Some place from an index on is below this one.
-pub(crate) fn is_next_below(places: &[u32], item: usize, end: u64) -> bool
-    ensures next { OnTrue result ((item < length places.now) × (slice_index places.now item < end)) }
+/// Tells whether there is a place at an index, and it is below this one.
+pub fn is_next_below(places: &[u32], item: usize, end: u64) -> bool
+    ensures next { OnTrue result ((item < length places.now) ×
+        (slice_index places.now item < end)) }
     ensures past { OnFalse result (item < length places.now → end ≤ slice_index places.now item) }
 {
     item < places.len() && u64::from(places[item]) < end
@@ -114,15 +116,18 @@ pub(crate) fn digest_at(digests: &[Digest32], index: usize) -> Digest32
 
 // Folds what is given at a place.
 pub(crate) fn fold_place<H: Hasher>(
-    given: &Given<'_>,
+    given: &Brought<'_>,
     level: u32,
     place: u64,
     span: u64,
     item: usize,
     taken: usize,
 ) -> Folded
-    requires { CanFold given.now.leaves given.now.fan given.now.places.now given.now.texts.now level place span item taken }
-    ensures { IsFolded H.hash given.now.leaves given.now.fan given.now.places.now given.now.texts.now given.now.cover.now level place span taken result.digest result.item result.taken }
+    requires { CanFold given.now.leaves given.now.fan given.now.places.now given.now.texts.now level
+        place span item taken }
+    ensures { IsFolded H.hash given.now.leaves given.now.fan given.now.places.now
+        given.now.texts.now given.now.cover.now level place span taken result.digest result.item
+        result.taken }
 {
     if !is_next_below(given.places, item, (place + 1) * span) {
         return Folded {
@@ -163,7 +168,7 @@ pub fn fold<H: Hasher>(
     leaves: u32,
     fan: u8,
     places: &[u32],
-    texts: &Texts,
+    texts: &CutTexts<'_>,
     cover: &[Digest32],
 ) -> Result<Digest32, FoldError>
     requires leaves { 1 ≤ leaves }
@@ -176,7 +181,7 @@ pub fn fold<H: Hasher>(
     if let Some(index) = fault_of(leaves, places) {
         return Err(FoldError::Place(index));
     }
-    let given = Given {
+    let given = Brought {
         leaves: u64::from(leaves),
         fan: u64::from(fan),
         places,

@@ -3,16 +3,16 @@
 #![tactic(auto)]
 
 pub use clashes::{TwoTexts, clash};
-pub use folds::{FoldError, are_rising, fold};
+pub use cuts::{Cut, CutTexts, are_in};
+pub use folds::{FoldError, are_rising, fault_of, fold, is_next_below, leaf_digest, top_of};
 pub use laws::cover_laws;
 pub use texts::Texts;
 pub use trees::{Tree, TreeError};
 
 mod clashes;
 mod covers;
+mod cuts;
 mod folds;
 mod laws;
-#[cfg(test)]
-mod tests;
 mod texts;
 mod trees;

@@ -1,3 +1,4 @@
+//! Texts in one buffer.
 ghost use Rattle.std.specs.Prelude.{◌≡◌, ℕ, ◌+◌, ◌-◌, ◌<◌, ◌≤◌, ◌^◌, List, [], ◌∷◌, ◌++◌, length, take, drop, slice_index, slice_index_or, OnOk, OnErr, IsTrue, ◌↔◌};
 ghost use Rattle.merkle_cover.specs.Texts.{total_length, HasRoom};
 
@@ -88,7 +89,7 @@ impl Texts {
 }
 
 // The octets from one place up to another.
-fn between(octets: &[u8], start: usize, end: usize) -> &[u8]
+pub(crate) fn between(octets: &[u8], start: usize, end: usize) -> &[u8]
     requires order { start ≤ end }
     requires within { end ≤ length octets.now }
     ensures { result.now ≡ take (end - start) (drop start octets.now) }

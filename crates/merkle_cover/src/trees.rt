@@ -1,3 +1,4 @@
+//! Trees of digests over texts.
 ghost use Rattle.std.specs.Prelude.{◌≡◌, ◌≢◌, ℕ, ◌+◌, ◌-◌, ◌*◌, ◌^◌, ◌<◌, ◌≤◌, List, [], ◌∷◌, length, map, min, take, drop, slice_index, slice_index_or, IfOk, IfErr, OnOk, Option, Some, None, Ok};
 ghost use Rattle.std.specs.Int.{div_ceil};
 ghost use Rattle.std.specs.List.{range_with_len, flat_map};
@@ -5,7 +6,7 @@ ghost use Rattle.merkle_cover.specs.Trees.{tree_of, level_over, leaf_count, root
 ghost use Rattle.merkle_cover.specs.Covers.{cover_of, chosen_texts, fold_of, IsRising};
 ghost use Rattle.merkle_cover.specs.Refusals.{first_refusal};
 
-use crate::covers::{Walk, cover_place};
+use crate::covers::{CoverWalk, cover_place};
 use crate::folds::{leaf_digest, top_of};
 use crate::texts::Texts;
 use octet_text::{Digest32, Digests, Hasher, NoMemory, digest_of_pieces};
@@ -65,7 +66,8 @@ fn leaf_level<H: Hasher>(alloc: Global, leaves: &Texts) -> Result<Digests, NoMem
 // The digests of a group of a level, of which the last may be smaller.
 fn group(below: &[Digest32], place: usize, fan: usize) -> &[Digest32]
     requires { place * fan < length below.now }
-    ensures { result.now ≡ take (min fan (length below.now - place * fan)) (drop (place * fan) below.now) }
+    ensures { result.now ≡ take (min fan (length below.now - place * fan))
+        (drop (place * fan) below.now) }
 {
     let rest = &below[place * fan..];
     &rest[..fan.min(rest.len())]
@@ -149,7 +151,8 @@ impl<H: Hasher> Tree<H> {
         ensures ok { IfOk result (λ tree. tree ≡ tree_of H.hash leaves.now fan) }
         ensures fan { IfOk result (λ tree. tree.fan ≡ fan) }
         ensures good { OnOk result (first_refusal (length leaves.now) fan ≡ None) }
-        ensures refused { IfErr result (λ e. e ≢ TreeError.Memory → first_refusal (length leaves.now) fan ≡ Some e) }
+        ensures refused { IfErr result
+            (λ e. e ≢ TreeError.Memory → first_refusal (length leaves.now) fan ≡ Some e) }
     {
         if fan < 2 || fan > 32 {
             return Err(TreeError::Fan);
@@ -181,14 +184,16 @@ impl<H: Hasher> Tree<H> {
         requires { IsRising (leaf_count self.now) places.now }
         ensures cover { (texts : List (List ℕ)) → self.now ≡ tree_of H.hash texts self.now.fan
             → IfOk result (λ v. v.items ≡ cover_of H.hash texts self.now.fan places.now) }
-        ensures folds { (texts : List (List ℕ)) → self.now ≡ tree_of H.hash texts self.now.fan → 0 < length places.now
-            → IfOk result (λ v. fold_of H.hash (length texts) self.now.fan places.now (chosen_texts texts places.now) v.items ≡ Ok (root H.hash texts self.now.fan)) }
+        ensures folds { (texts : List (List ℕ)) → self.now ≡ tree_of H.hash texts self.now.fan →
+            0 < length places.now
+            → IfOk result (λ v. fold_of H.hash (length texts) self.now.fan places.now
+            (chosen_texts texts places.now) v.items ≡ Ok (root H.hash texts self.now.fan)) }
     {
         let mut out = Vec::new(alloc);
         if places.is_empty() {
             return Ok(out);
         }
-        let walk = Walk {
+        let walk = CoverWalk {
             levels: &self.levels,
             leaves: u64::from(self.leaves()),
             fan: u64::from(self.fan),

@@ -15,9 +15,9 @@ use Rattle.route_audit.specs.declared.finding.Finding.TheVariants.{Right, Collis
 use Rattle.route_audit.proofs.FindingLemmas.{OneMade, installable}
 use Rattle.near_model.specs.declared.query.NearQuery.{NearQuery}
 use Rattle.near_model.specs.declared.reply.NearReply.{NearReply}
+use Rattle.near_model.specs.NearReplies.{IsGoodNear}
 use Rattle.near_client.specs.declared.errors.NearError.{NearError}
 use Rattle.near_client.specs.declared.within.Within.{Within}
-use Rattle.near_client.specs.NearRooms.{IsRead}
 use Rattle.near_client.specs.NearVerdicts.{IsNearVerdict, NearAccepts}
 use Rattle.near_audit.specs.NearComparing.{Compares, FindsIn, IsReplyTo, IsRefused, IsNotInstalled, part_of}
 use Rattle.near_audit.specs.NearFindings.{Audited, IsAccepted, IsInstalled, IsAuditable, NearFinds, Comes, BeforeLook}
@@ -95,42 +95,42 @@ other_finds hash look desk_key public reply q p a k key reply_is installs signed
       other = λ e. other (ap (λ (x : NearReply). x.header) (sym reply_is.is) ∙ e);
     })
 
-met_of : (hash : List ℕ → List ℕ) (public reply : List ℕ) (q : NearQuery) (k : Kept) (x : Within) (accepts : NearAccepts hash public reply q 0 x) → IsKept k → HasSpellings k → IsRead accepts.reply → accepts.reply.header ≡ header_in hash k
+met_of : (hash : List ℕ → List ℕ) (public reply : List ℕ) (q : NearQuery) (k : Kept) (x : Within) (accepts : NearAccepts hash public reply q 0 x) → IsKept k → HasSpellings k → IsGoodNear accepts.reply → accepts.reply.header ≡ header_in hash k
     → Met hash k q x accepts.reply
-met_of hash public reply q k x accepts kept spelled read header = record {
+met_of hash public reply q k x accepts kept spelled good header = record {
   kept = kept;
   spelled = spelled;
-  good = read.good;
+  good = good;
   header = header;
   complete = accepts.complete;
   nodes = accepts.nodes;
 }
 
 compared_at : (hash : List ℕ → List ℕ) (look : Look) (public reply : List ℕ) (q : NearQuery) (k : Kept) (x : Within) (accepts : NearAccepts hash public reply q 0 x) (finding : Finding)
-    → IsKept k → HasSpellings k → IsRead accepts.reply → look.Signed (header_text accepts.reply.header) → accepts.reply.header ≡ header_in hash k
+    → IsKept k → HasSpellings k → IsGoodNear accepts.reply → look.Signed (header_text accepts.reply.header) → accepts.reply.header ≡ header_in hash k
     → ((kind : Kind) → KeepsTrue kind) → HasDistances
     → Compares hash (part_of k accepts.reply) finding
     → NearFinds hash sha256 look (at public public reply q (publication_in hash k)) (Ok finding)
-compared_at hash look public reply q k x accepts Right kept spelled read signed header true_of distances compared = (
+compared_at hash look public reply q k x accepts Right kept spelled good signed header true_of distances compared = (
   record { installed = installed_at hash public reply q k x accepts kept; signed = signed; same = header },
-  right_of hash k q x accepts.reply (met_of hash public reply q k x accepts kept spelled read header) true_of distances compared,
+  right_of hash k q x accepts.reply (met_of hash public reply q k x accepts kept spelled good header) true_of distances compared,
 )
-compared_at hash look public reply q k x accepts (Collision two) kept spelled read signed header true_of distances compared = (
+compared_at hash look public reply q k x accepts (Collision two) kept spelled good signed header true_of distances compared = (
   record { installed = installed_at hash public reply q k x accepts kept; signed = signed; same = header },
   collides_of hash k kept accepts.reply two compared.0 compared.1,
 )
-compared_at hash look public reply q k x accepts (Forged head signature) kept spelled read signed header true_of distances compared = absurd compared
+compared_at hash look public reply q k x accepts (Forged head signature) kept spelled good signed header true_of distances compared = absurd compared
 
 pub compared_finds : (hash : List ℕ → List ℕ) (look : Look) (desk_key public reply : List ℕ) (q : NearQuery) (p : Publication) (a : NearReply) (k : Kept) (finding : Finding) → public ≡ desk_key
-    → IsReplyTo hash public reply q a → IsRead a → Installs hash sha256 p (Ok k) → HasSpellings k → look.Signed (header_text a.header) → a.header ≡ header_in hash k
+    → IsReplyTo hash public reply q a → IsGoodNear a → Installs hash sha256 p (Ok k) → HasSpellings k → look.Signed (header_text a.header) → a.header ≡ header_in hash k
     → ((kind : Kind) → KeepsTrue kind) → HasDistances
     → Compares hash (part_of k a) finding
     → NearFinds hash sha256 look (at desk_key public reply q p) (Ok finding)
-compared_finds hash look desk_key public reply q p a k finding key reply_is read installs spelled signed header true_of distances compared =
+compared_finds hash look desk_key public reply q p a k finding key reply_is good installs spelled signed header true_of distances compared =
     let back = sym reply_is.is in
     moved hash look desk_key public reply q p (publication_in hash k) (Ok finding) key installs.1
     (compared_at hash look public reply q k reply_is.accepted reply_is.accepts finding installs.2 spelled
-    (subst IsRead back read)
+    (subst IsGoodNear back good)
     (subst (λ (x : NearReply). look.Signed (header_text x.header)) back signed)
     (subst (λ (x : NearReply). x.header ≡ header_in hash k) back header)
     true_of distances
@@ -194,20 +194,20 @@ finds_more hash sha look more u (Err Memory) signed unsigned fails finds = tt
 -- ---- what was found over the held book
 
 pub found_finds : (hash : List ℕ → List ℕ) (look : Look) (desk_key public reply : List ℕ) (q : NearQuery) (p : Publication) (a : NearReply) (k : Kept) (r : Result Finding NearAuditError) → public ≡ desk_key
-    → IsReplyTo hash public reply q a → IsRead a → Installs hash sha256 p (Ok k) → HasSpellings k → ((kind : Kind) → KeepsTrue kind) → HasDistances
+    → IsReplyTo hash public reply q a → IsGoodNear a → Installs hash sha256 p (Ok k) → HasSpellings k → ((kind : Kind) → KeepsTrue kind) → HasDistances
     → FindsIn hash look k a r → NearFinds hash sha256 look (at desk_key public reply q p) r
-found_finds hash look desk_key public reply q p a k (Err (Desk e)) key reply_is read installs spelled true_of distances found = failed_finds hash look desk_key public reply q p a k e key reply_is installs found
-found_finds hash look desk_key public reply q p a k (Err OtherPublication) key reply_is read installs spelled true_of distances found = other_finds hash look desk_key public reply q p a k key reply_is installs found.0 found.1
-found_finds hash look desk_key public reply q p a k (Err Memory) key reply_is read installs spelled true_of distances found = tt
-found_finds hash look desk_key public reply q p a k (Err OtherKey) key reply_is read installs spelled true_of distances found = absurd found
-found_finds hash look desk_key public reply q p a k (Err (Refused e)) key reply_is read installs spelled true_of distances found = absurd found
-found_finds hash look desk_key public reply q p a k (Err (Install e)) key reply_is read installs spelled true_of distances found = absurd found
-found_finds hash look desk_key public reply q p a k (Ok (Forged header signature)) key reply_is read installs spelled true_of distances found =
+found_finds hash look desk_key public reply q p a k (Err (Desk e)) key reply_is good installs spelled true_of distances found = failed_finds hash look desk_key public reply q p a k e key reply_is installs found
+found_finds hash look desk_key public reply q p a k (Err OtherPublication) key reply_is good installs spelled true_of distances found = other_finds hash look desk_key public reply q p a k key reply_is installs found.0 found.1
+found_finds hash look desk_key public reply q p a k (Err Memory) key reply_is good installs spelled true_of distances found = tt
+found_finds hash look desk_key public reply q p a k (Err OtherKey) key reply_is good installs spelled true_of distances found = absurd found
+found_finds hash look desk_key public reply q p a k (Err (Refused e)) key reply_is good installs spelled true_of distances found = absurd found
+found_finds hash look desk_key public reply q p a k (Err (Install e)) key reply_is good installs spelled true_of distances found = absurd found
+found_finds hash look desk_key public reply q p a k (Ok (Forged header signature)) key reply_is good installs spelled true_of distances found =
     forged_finds hash look desk_key public reply q p a k header signature key reply_is installs found.0 found.1 found.2
-found_finds hash look desk_key public reply q p a k (Ok Right) key reply_is read installs spelled true_of distances found =
-    compared_finds hash look desk_key public reply q p a k Right key reply_is read installs spelled found.0 found.1 true_of distances found.2
-found_finds hash look desk_key public reply q p a k (Ok (Collision two)) key reply_is read installs spelled true_of distances found =
-    compared_finds hash look desk_key public reply q p a k (Collision two) key reply_is read installs spelled found.0 found.1 true_of distances found.2
+found_finds hash look desk_key public reply q p a k (Ok Right) key reply_is good installs spelled true_of distances found =
+    compared_finds hash look desk_key public reply q p a k Right key reply_is good installs spelled found.0 found.1 true_of distances found.2
+found_finds hash look desk_key public reply q p a k (Ok (Collision two)) key reply_is good installs spelled true_of distances found =
+    compared_finds hash look desk_key public reply q p a k (Collision two) key reply_is good installs spelled found.0 found.1 true_of distances found.2
 
 -- no reply_is behind the look is one before it
 pub found_late : (hash : List ℕ → List ℕ) (look : Look) (k : Kept) (a : NearReply) (r : Result Finding NearAuditError) (P : Type 0) → FindsIn hash look k a r → BeforeLook r P

@@ -9,7 +9,7 @@ use Rattle.road_map.specs.declared.parts.Parts.{Parts}
 use Rattle.road_map.specs.Laws.{DistanceLaws}
 use Rattle.road_map.specs.Maps.{IsMap}
 use Rattle.road_map.proofs.Among.{Contains-none}
-use Rattle.road_leaf.specs.declared.leaf.Kind as leaf_kinds
+use Rattle.road_leaf.specs.declared.leaf.LeafKind as leaf_kinds
 use Rattle.road_leaf.specs.declared.leaf.NodeLeaf.{NodeLeaf}
 use Rattle.road_leaf.specs.Leaves.{node_leaf, node_leaf_text}
 use Rattle.book_model.specs.Books.{Kind, leaf, leaves_of, leaf_order, IsBookOf}
@@ -81,7 +81,7 @@ stand_in : (hash : List ℕ → List ℕ) (k : Kept) (q : NearQuery) (x : Within
 stand_in hash k q x a met own =
     let kind = met.spelled.kind in
     let Fit = (node_leaf (kind_of_leaves kind k.numbers)).Fits in
-    let items : All Fit a.nodes = subst (λ (l : leaf_kinds.Kind). All (node_leaf l).Fits a.nodes) (kind_of_items hash k a.header kind met.header met.spelled.method) met.good.leaves in
+    let items : All Fit a.nodes = subst (λ (l : leaf_kinds.LeafKind). All (node_leaf l).Fits a.nodes) (kind_of_items hash k a.header kind met.header met.spelled.method) met.good.leaves in
     let node_leaves : leaves_or_none (texts_in k 1) ≡ node_texts k.nodes = leaves_are (node_texts k.nodes) in
     record {
       nodes = λ n h.

@@ -30,30 +30,37 @@ Compares hash part (Collision two) = AreCollision hash two × Clashes hash part 
 Compares hash part (Forged header signature) = ⊥
 
 -- what is found of a reply over a held book: the first of these that holds
-abbrev pub FindsIn : (List ℕ → List ℕ) → Look → Kept → NearReply → Result Finding NearAuditError → Type 0
+abbrev pub FindsIn : (List ℕ → List ℕ) → Look → Kept → NearReply → Result Finding NearAuditError →
+    Type 0
 FindsIn hash look k a (Err (Desk e)) = look.Fails e
-FindsIn hash look k a (Ok (Forged header signature)) = (header ≡ header_text a.header) × (signature ≡ a.signature) × look.Unsigned header
-FindsIn hash look k a (Err OtherPublication) = look.Signed (header_text a.header) × (a.header ≢ header_in hash k)
-FindsIn hash look k a (Ok finding) = look.Signed (header_text a.header) × (a.header ≡ header_in hash k) × Compares hash (part_of k a) finding
+FindsIn hash look k a (Ok (Forged header signature)) = (header ≡ header_text a.header) ×
+    (signature ≡ a.signature) × look.Unsigned header
+FindsIn hash look k a (Err OtherPublication) = look.Signed (header_text a.header) ×
+    (a.header ≢ header_in hash k)
+FindsIn hash look k a (Ok finding) = look.Signed (header_text a.header) ×
+    (a.header ≡ header_in hash k) × Compares hash (part_of k a) finding
 FindsIn hash look k a (Err Memory) = Unit {0}
 FindsIn hash look k a (Err e) = ⊥
 
 -- ---- the steps before
 
 -- the accepted reply
-pub record IsReplyTo (hash : List ℕ → List ℕ) (key octets : List ℕ) (q : NearQuery) (a : NearReply) : Type 0 where
+pub record IsReplyTo (hash : List ℕ → List ℕ) (key octets : List ℕ) (q : NearQuery)
+    (a : NearReply) : Type 0 where
   pub accepted : Within
   pub accepts : NearAccepts hash key octets q 0 accepted
   pub is : accepts.reply ≡ a
 
 -- why there is none
 abbrev pub IsRefused : (List ℕ → List ℕ) → List ℕ → List ℕ → NearQuery → NearAuditError → Type 0
-IsRefused hash key octets q (Refused e) = IsNearVerdict hash key octets q 0 (Err e) × (e ≢ checks.Memory)
+IsRefused hash key octets q (Refused e) = IsNearVerdict hash key octets q 0 (Err e) ×
+    (e ≢ checks.Memory)
 IsRefused hash key octets q Memory = Unit {0}
 IsRefused hash key octets q _ = ⊥
 
 -- why a publication is not installed
-abbrev pub IsNotInstalled : (List ℕ → List ℕ) → (List ℕ → List ℕ) → Publication → NearAuditError → Type 0
+abbrev pub IsNotInstalled : (List ℕ → List ℕ) → (List ℕ → List ℕ) → Publication → NearAuditError →
+    Type 0
 IsNotInstalled hash sha p (Install e) = Installs hash sha p (Err e) × (e ≢ installs.Memory)
 IsNotInstalled hash sha p Memory = Unit {0}
 IsNotInstalled hash sha p _ = ⊥

@@ -1,5 +1,6 @@
 -- What a reply shows over a publication's own node tree.
--- Source: Merkle, CRYPTO 1987 (what folds to a tree's root and is not the tree's own shows two texts with one
+-- Source: Merkle, CRYPTO 1987 (what folds to a tree's root and is not the tree's own shows two
+-- texts with one
 -- digest), and Papadias, Zhang, Mamoulis and Tao, VLDB 2003 (range search in a road network).
 use Rattle.std.specs.Prelude.{◌≡◌, ◌≢◌, ℕ, Some, List, Contains, Ok}
 use Rattle.book_model.specs.Books.{Kind, Book, leaf, leaves_of, leaf_order}
@@ -32,15 +33,19 @@ pub record IsOwn (hash sha : List ℕ → List ℕ) (p : Publication) (a : NearR
   pub is_book : IsBook sha p.parts p.settings kind book
   pub nodes : IsTreesOwn hash (near_part sha p book a)
 
--- so its items are leaves of the book, and the accepted nodes are exactly those within the radius of the
+-- so its items are leaves of the book, and the accepted nodes are exactly those within the radius
+-- of the
 -- publication's map, each with its distance
-pub record IsRight (hash sha : List ℕ → List ℕ) (p : Publication) (q : NearQuery) (x : Within) (a : NearReply) : Type 0 where
+pub record IsRight (hash sha : List ℕ → List ℕ) (p : Publication) (q : NearQuery) (x : Within)
+    (a : NearReply) : Type 0 where
   pub own : IsOwn hash sha p a
   pub authentic : (n : NodeLeaf) → Contains a.nodes n → leaf own.book n.id ≡ Some n
   pub within : AreWithin p.parts q x.nodes
 
--- two different texts with one digest, where a reply brings what is not of the node tree of the publication's book
-pub record Collides (hash sha : List ℕ → List ℕ) (p : Publication) (a : NearReply) (two : TwoTexts) : Type 0 where
+-- two different texts with one digest, where a reply brings what is not of the node tree of the
+-- publication's book
+pub record Collides (hash sha : List ℕ → List ℕ) (p : Publication) (a : NearReply)
+    (two : TwoTexts) : Type 0 where
   pub collision : AreCollision hash two
   pub not_own : ¬ IsOwn hash sha p a
   pub kind : Kind
@@ -48,7 +53,8 @@ pub record Collides (hash sha : List ℕ → List ℕ) (p : Publication) (a : Ne
   pub is_book : IsBook sha p.parts p.settings kind book
   pub clash : Clashes hash (near_part sha p book a) two
 
--- the header of a reply and the signature that it brings, which is verified on the header under the key
+-- the header of a reply and the signature that it brings, which is verified on the header under the
+-- key
 pub record BringsHeader (key : List ℕ) (a : NearReply) (header signature : List ℕ) : Type 0 where
   pub header_is : header ≡ header_text a.header
   pub signature_is : signature ≡ a.signature

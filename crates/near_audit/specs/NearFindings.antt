@@ -17,7 +17,8 @@ use Rattle.near_audit.specs.NearEvidence.{IsRight, Collides, BringsHeader}
 use Rattle.near_audit.specs.declared.errors.NearAuditError.{NearAuditError}
 use Rattle.near_audit.specs.declared.errors.NearAuditError.TheVariants.{OtherKey, Refused, Install, Desk, OtherPublication, Memory}
 
--- what is audited: octets as a reply to a query, under a public key and against a publication, at a desk with
+-- what is audited: octets as a reply to a query, under a public key and against a publication, at a
+-- desk with
 -- this public key
 pub record Audited : Type 0 where
   pub desk_key : List ℕ
@@ -40,7 +41,8 @@ pub record IsInstalled (hash sha : List ℕ → List ℕ) (u : Audited) : Type 0
   pub header : HasHeader hash sha u.publication.parts u.publication.settings u.publication.header
 
 -- the accepted reply
-abbrev pub reply_of : {hash sha : List ℕ → List ℕ} {u : Audited} → IsInstalled hash sha u → NearReply
+abbrev pub reply_of : {hash sha : List ℕ → List ℕ} {u : Audited} → IsInstalled hash sha u →
+    NearReply
 reply_of i = i.reply.accepts.reply
 
 -- and its header was signed, and is the publication's
@@ -52,7 +54,8 @@ pub record IsPublished (hash sha : List ℕ → List ℕ) (look : Look) (u : Aud
 -- ---- the findings
 
 -- a header that is not signed, with a signature that is verified on it
-pub record IsForged (hash sha : List ℕ → List ℕ) (look : Look) (u : Audited) (header signature : List ℕ) : Type 0 where
+pub record IsForged (hash sha : List ℕ → List ℕ) (look : Look) (u : Audited)
+    (header signature : List ℕ) : Type 0 where
   pub installed : IsInstalled hash sha u
   pub brings : BringsHeader u.desk_key (reply_of installed) header signature
   pub unsigned : look.Unsigned header
@@ -63,22 +66,29 @@ pub record IsOther (hash sha : List ℕ → List ℕ) (look : Look) (u : Audited
   pub signed : look.Signed (header_text (reply_of installed).header)
   pub other : (reply_of installed).header ≢ u.publication.header
 
--- What an audit answers: the first of these that holds. Each asks that the earlier steps were passed. Want of
+-- What an audit answers: the first of these that holds. Each asks that the earlier steps were
+-- passed. Want of
 -- memory may come at any time.
-abbrev pub NearFinds : (List ℕ → List ℕ) → (List ℕ → List ℕ) → Look → Audited → Result Finding NearAuditError → Type 0
+abbrev pub NearFinds : (List ℕ → List ℕ) → (List ℕ → List ℕ) → Look → Audited →
+    Result Finding NearAuditError → Type 0
 NearFinds hash sha look u (Err OtherKey) = u.public ≢ u.desk_key
-NearFinds hash sha look u (Err (Refused e)) = (u.public ≡ u.desk_key) × IsNearVerdict hash u.desk_key u.reply u.query 0 (Err e) × (e ≢ checks.Memory)
-NearFinds hash sha look u (Err (Install e)) = IsAccepted hash u × Installs hash sha u.publication (Err e) × (e ≢ installs.Memory)
+NearFinds hash sha look u (Err (Refused e)) = (u.public ≡ u.desk_key) ×
+    IsNearVerdict hash u.desk_key u.reply u.query 0 (Err e) × (e ≢ checks.Memory)
+NearFinds hash sha look u (Err (Install e)) = IsAccepted hash u ×
+    Installs hash sha u.publication (Err e) × (e ≢ installs.Memory)
 NearFinds hash sha look u (Err (Desk e)) = IsInstalled hash sha u × look.Fails e
 NearFinds hash sha look u (Ok (Forged header signature)) = IsForged hash sha look u header signature
 NearFinds hash sha look u (Err OtherPublication) = IsOther hash sha look u
-NearFinds hash sha look u (Ok (Collision two)) = (p : IsPublished hash sha look u) × Collides hash sha u.publication (reply_of p.installed) two
-NearFinds hash sha look u (Ok Right) = (p : IsPublished hash sha look u) × IsRight hash sha u.publication u.query p.installed.reply.accepted (reply_of p.installed)
+NearFinds hash sha look u (Ok (Collision two)) = (p : IsPublished hash sha look u) ×
+    Collides hash sha u.publication (reply_of p.installed) two
+NearFinds hash sha look u (Ok Right) = (p : IsPublished hash sha look u) ×
+    IsRight hash sha u.publication u.query p.installed.reply.accepted (reply_of p.installed)
 NearFinds hash sha look u (Err Memory) = Unit {0}
 
 -- ---- one always comes
 
--- octets that the client accepts under the desk's key, with any least version, and the publication whose header
+-- octets that the client accepts under the desk's key, with any least version, and the publication
+-- whose header
 -- they carry
 pub record IsAuditable (hash sha : List ℕ → List ℕ) (u : Audited) : Type 0 where
   pub key : u.public ≡ u.desk_key

@@ -6,7 +6,7 @@ ghost use Rattle.lms_tree.specs.Signatures.{public_key};
 ghost use Rattle.key_desk.specs.Desk.{Fits};
 ghost use Rattle.route_audit.specs.Left.{IsLeft};
 ghost use Rattle.route_audit.specs.Looks.{look_at};
-ghost use Rattle.near_client.specs.NearRooms.{IsRead};
+ghost use Rattle.near_model.specs.NearReplies.{near_reply, IsGoodNear};
 ghost use Rattle.near_client.specs.NearVerdicts.{items_covered};
 ghost use Rattle.near_audit.specs.NearComparing.{FindsIn};
 ghost use Rattle.near_audit.specs.NearFindings.{BeforeLook, Comes, NearFinds, IsAuditable};
@@ -30,14 +30,18 @@ use std::alloc::Global;
 fn find_in<H: Hasher, D: Disk>(
     alloc: Global,
     held: &Held<H>,
+    octets: &[u8],
     reply: NearReply,
     desk: &mut Desk,
     disk: &mut D,
 ) -> Result<Finding, NearAuditError>
     requires fits { Fits D.Disk desk.old disk.old }
-    requires read { IsRead reply }
+    requires good { IsGoodNear reply }
+    requires spelled { octets.now ≡ near_reply.spell reply }
+    requires short { length octets.now < 2 ^ 32 }
     requires covered { items_covered H.hash reply ≡ Ok tt }
-    ensures finds { FindsIn H.hash (look_at D.Disk desk.old disk.old disk.new) held.now reply result }
+    ensures finds { FindsIn H.hash
+        (look_at D.Disk desk.old disk.old disk.new) held.now reply result }
     ensures left { IsLeft D.Disk desk.old disk.old desk.new disk.new }
 {
     match is_signed(desk, disk, &reply.header) {
@@ -48,7 +52,7 @@ fn find_in<H: Hasher, D: Disk>(
     if !is_same_header(&reply.header, &held.header()) {
         return Err(NearAuditError::OtherPublication);
     }
-    match compare::<H>(alloc, held, &reply) {
+    match compare::<H>(alloc, held, octets, &reply) {
         Ok(finding) => Ok(finding),
         Err(NoMemory) => Err(NearAuditError::Memory),
     }
@@ -58,16 +62,16 @@ fn find_in<H: Hasher, D: Disk>(
 fn find<H: Hasher, D: Disk>(
     alloc: Global,
     public: &[u8],
-    reply: &[u8],
+    octets: &[u8],
     query: NearQuery,
     publication: Publication,
     desk: &mut Desk,
     disk: &mut D,
 ) -> Result<Finding, NearAuditError>
     requires fits { Fits D.Disk desk.old disk.old }
-    requires short { length reply.now < 2 ^ 32 }
+    requires short { length octets.now < 2 ^ 32 }
     ensures finds { NearFinds H.hash sha256 (look_at D.Disk desk.old disk.old disk.new)
-        (record { desk_key = public_key desk.old.key; public = public.now; reply = reply.now; query = query; publication = publication }) result }
+        (record { desk_key = public_key desk.old.key; public = public.now; reply = octets.now; query = query; publication = publication }) result }
     ensures untouched { BeforeLook result ((desk.new ≡ desk.old) × (disk.new ≡ disk.old)) }
     ensures left { IsLeft D.Disk desk.old disk.old desk.new disk.new }
 {
@@ -76,9 +80,9 @@ fn find<H: Hasher, D: Disk>(
     if !is_key_of(desk, public) {
         return Err(NearAuditError::OtherKey);
     }
-    let reply = accepted_reply::<H>(alloc, public, reply, query)?;
+    let reply = accepted_reply::<H>(alloc, public, octets, query)?;
     let held = install::<H>(alloc, publication)?;
-    find_in::<H, D>(alloc, &held, reply, desk, disk)
+    find_in::<H, D>(alloc, &held, octets, reply, desk, disk)
 }
 
 /// What a reply that a client accepted is evidence of, by the owner's desk and a publication. The first of

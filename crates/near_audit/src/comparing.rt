@@ -1,11 +1,12 @@
 // A reply against a publication's book.
-ghost use Rattle.std.specs.Prelude.{◌≡◌, IfOk, Ok};
+ghost use Rattle.std.specs.Prelude.{◌≡◌, ◌<◌, ◌^◌, length, IfOk, Ok};
 ghost use Rattle.route_server.specs.Keeping.{header_in};
-ghost use Rattle.near_client.specs.NearRooms.{IsRead};
+ghost use Rattle.near_model.specs.NearReplies.{near_reply, IsGoodNear};
 ghost use Rattle.near_client.specs.NearVerdicts.{items_covered};
 ghost use Rattle.near_audit.specs.NearComparing.{part_of, Compares};
 
-use leaf_texts::node_texts;
+use merkle_cover::CutTexts;
+use near_client::reply_cuts;
 use near_model::NearReply;
 use octet_text::{Hasher, NoMemory};
 use route_audit::{Finding, clash_under};
@@ -16,14 +17,18 @@ use std::alloc::Global;
 pub(crate) fn compare<H: Hasher>(
     alloc: Global,
     held: &Held<H>,
+    octets: &[u8],
     reply: &NearReply,
 ) -> Result<Finding, NoMemory>
-    requires read { IsRead reply.now }
+    requires good { IsGoodNear reply.now }
+    requires spelled { octets.now ≡ near_reply.spell reply.now }
+    requires short { length octets.now < 2 ^ 32 }
     requires same { reply.now.header ≡ header_in H.hash held.now }
     requires covered { items_covered H.hash reply.now ≡ Ok tt }
     ensures { IfOk result (Compares H.hash (part_of held.now reply.now)) }
 {
-    let texts = node_texts(alloc, reply.nodes.as_slice())?;
+    let cuts = reply_cuts(alloc, octets, reply)?;
+    let texts = CutTexts::new(octets, cuts.as_slice());
     let clash = clash_under::<H>(
         alloc,
         held,

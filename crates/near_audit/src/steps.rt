@@ -5,7 +5,7 @@ ghost use Rattle.proof_octets.specs.Headers.{header_text};
 ghost use Rattle.route_audit.specs.declared.finding.Finding.TheVariants.{Forged};
 ghost use Rattle.route_server.specs.Installing.{Installs};
 ghost use Rattle.route_server.specs.Keeping.{HasSpellings};
-ghost use Rattle.near_client.specs.NearRooms.{IsRead};
+ghost use Rattle.near_model.specs.NearReplies.{near_reply, IsGoodNear};
 ghost use Rattle.near_client.specs.NearVerdicts.{IsNearVerdict};
 ghost use Rattle.near_client.specs.declared.within.Within.{Within};
 ghost use Rattle.near_audit.specs.NearComparing.{IsReplyTo, IsNotInstalled, IsRefused};
@@ -27,7 +27,8 @@ fn test_reply<H: Hasher>(
     query: NearQuery,
 ) -> Result<(), NearAuditError>
     requires { length reply.now < 2 ^ 32 }
-    ensures accepted { IfOk result (λ _. (x : Within) × IsNearVerdict H.hash public.now reply.now query 0 (Ok x)) }
+    ensures accepted { IfOk result
+        (λ _. (x : Within) × IsNearVerdict H.hash public.now reply.now query 0 (Ok x)) }
     ensures refused { IfErr result (IsRefused H.hash public.now reply.now query) }
 {
     match check_near::<H>(alloc, public, reply, query, 0) {
@@ -46,7 +47,8 @@ pub(crate) fn accepted_reply<H: Hasher>(
 ) -> Result<NearReply, NearAuditError>
     requires { length reply.now < 2 ^ 32 }
     ensures accepted { IfOk result (IsReplyTo H.hash public.now reply.now query) }
-    ensures read { IfOk result IsRead }
+    ensures good { IfOk result IsGoodNear }
+    ensures spelled { IfOk result (λ a. reply.now ≡ near_reply.spell a) }
     ensures refused { IfErr result (IsRefused H.hash public.now reply.now query) }
 {
     near_verdict_laws();

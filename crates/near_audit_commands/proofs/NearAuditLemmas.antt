@@ -10,10 +10,11 @@ use Rattle.sha2.specs.Sha256.{sha256}
 use Rattle.road_io.specs.declared.disk.Disk.{Ghosts}
 use Rattle.road_io.specs.Disk.{Stays}
 use Rattle.road_io.specs.Moments.{Image, AtEachMoment}
-use Rattle.road_io.specs.Contents.{Shelf}
+use Rattle.road_io.specs.Contents.{Folder}
 use Rattle.near_model.specs.declared.query.NearQuery.{NearQuery}
 use Rattle.lms_tree.specs.Signatures.{KeyOf, public_key, verified}
-use Rattle.key_desk.specs.Layout.{SlotId, IsSigned}
+use Rattle.desk_areas.specs.Layout.{SlotId, IsSigned}
+use Rattle.key_desk.specs.Desk.{IsSound}
 use Rattle.key_desk.specs.declared.desk.Desk.{Desk}
 use Rattle.key_desk.specs.declared.desk.DeskError.{DeskError}
 use Rattle.key_desk.specs.declared.desk.DeskError.TheVariants.{KeysUsedUp, DiskFault, Closed}
@@ -33,10 +34,11 @@ use Rattle.command_files.specs.HexFiles.{public_key_at}
 use Rattle.command_files.specs.Endings.{Ending, EndsReading, NoEnd, Promises, TellsNone, MayEnd, WhyNot, Writes}
 use Rattle.command_files.specs.declared.fault.Fault.{Fault}
 use Rattle.command_files.specs.declared.fault.Fault.TheVariants.{OtherPublication}
-use Rattle.command_files.specs.declared.ended.Verdict.{Verdict}
-use Rattle.command_files.specs.declared.ended.Verdict.TheVariants.{Done, Refused, Evidence}
+use Rattle.command_files.specs.declared.ended.Conclusion.{Conclusion}
+use Rattle.command_files.specs.declared.ended.Conclusion.TheVariants.{Done, Refused, Evidence}
 use Rattle.command_files.proofs.Written.{CallsFor, reads, refused, written, why_map}
-use Rattle.command_desks.specs.Opening.{IsUsable, HasBlock, EndsOpening}
+use Rattle.desk_areas.specs.Faults.{IsUsable}
+use Rattle.command_desks.specs.Opening.{HasBlocks, EndsOpening}
 use Rattle.command_desks.proofs.Openings.{shut}
 use Rattle.command_books.specs.Installing.{EndsInstalling}
 use Rattle.audit_commands.specs.Auditing.{EndsOwnersKey, EndsSigned, EndsSameHeader}
@@ -54,15 +56,15 @@ abbrev pub Behind : Option (List ℕ) → List ℕ → List ℕ → NearQuery �
 Behind content key octets q p = EndsNearClient key octets q (λ x a. EndsInstalling p (EndsSigned content key a.header a.signature (EndsSameHeader p a.header (EndsNearComparing p q x a))))
 
 module _ {D : Type 0} (g : Ghosts D) (old mid new : D) (desk : Desk) (key octets : List ℕ) (q : NearQuery) (p : Publication)
-    (seen : (c : List ℕ) → g.content mid ≡ Some c → Image g mid c) (same : g.content mid ≡ g.content old) (block : HasBlock (g.content old) desk.key) (named : length desk.key.i ≡ 16) where
+    (seen : (c : List ℕ) → g.content mid ≡ Some c → Image g mid c) (same : g.content mid ≡ g.content old) (blocks : HasBlocks (g.content old) desk) (sound : IsSound desk) where
   -- behind the owner's key
-  behind : (e : key ≡ public_key desk.key) (o : Result Verdict Fault) (t : List ℕ) → Behind (g.content old) (public_key desk.key) octets q p o t
+  behind : (e : key ≡ public_key desk.key) (o : Result Conclusion Fault) (t : List ℕ) → Behind (g.content old) (public_key desk.key) octets q p o t
       → EndsOwnersKey (g.content old) key (Behind (g.content old) key octets q p) o t
-  behind e o t h = inr (own (g.content old) desk key block named e, subst (λ k. Behind (g.content old) k octets q p o t) (sym e) h)
+  behind e o t h = inr (own (g.content old) desk key blocks sound e, subst (λ k. Behind (g.content old) k octets q p o t) (sym e) h)
 
-  by_answer : (r : Result Finding NearAuditError) (o : Result Verdict Fault) (t : List ℕ) → NearFinds sha256 sha256 (look_at g desk mid new) (audited desk.key key octets q p) r → TellsNear r o t
+  by_answer : (r : Result Finding NearAuditError) (o : Result Conclusion Fault) (t : List ℕ) → NearFinds sha256 sha256 (look_at g desk mid new) (audited desk.key key octets q p) r → TellsNear r o t
       → EndsOwnersKey (g.content old) key (Behind (g.content old) key octets q p) o t
-  by_answer (Err audit.OtherKey) o t f tells = inl (tells.0, not_own (g.content old) desk key block named f, tells.1)
+  by_answer (Err audit.OtherKey) o t f tells = inl (tells.0, not_own (g.content old) desk key blocks sound f, tells.1)
   by_answer (Err (audit.Refused e)) o t f tells = behind f.0 o t (inl (e, f.2, f.1, tells.0, tells.1))
   by_answer (Err (audit.Install (install.Build (build.Map e)))) o t f tells =
       behind f.0.key o t (inr (f.0.accepted, f.0.accepts, record { made = Err (build.Map e); makes = f.1.0; follows = tells }))
@@ -95,7 +97,7 @@ module _ {D : Type 0} (g : Ghosts D) (old mid new : D) (desk : Desk) (key octets
       behind i.reply.key o t (inr (i.reply.accepted, i.reply.accepts, record { made = Ok p.header; makes = i.header; follows = inl (refl, inr (signed g old mid seen same _ f.0.signed.1, inr (f.0.same, inl (tells.0, f.1, tells.1)))) }))
 
   -- behind the opened desk
-  pub ends_of : ForSome (g.content old) IsUsable → (r : Result Finding NearAuditError) (o : Result Verdict Fault) (t : List ℕ) → NearFinds sha256 sha256 (look_at g desk mid new) (audited desk.key key octets q p) r → TellsNear r o t
+  pub ends_of : ForSome (g.content old) IsUsable → (r : Result Finding NearAuditError) (o : Result Conclusion Fault) (t : List ℕ) → NearFinds sha256 sha256 (look_at g desk mid new) (audited desk.key key octets q p) r → TellsNear r o t
       → EndsAuditReach (g.content old) key p octets q o t
   ends_of usable r o t f tells = inr (inr (usable, by_answer r o t f tells))
 
@@ -115,7 +117,7 @@ module _ {D : Type 0} (g : Ghosts D) (old mid new : D) (desk : Desk) (key octets
       by Closed h = absurd (cc)
 
   -- what a line rests on
-  pub rests_on : AtEachMoment g mid new Stays → (r : Result Finding NearAuditError) (o : Result Verdict Fault) (t : List ℕ) → NearFinds sha256 sha256 (look_at g desk mid new) (audited desk.key key octets q p) r → TellsNear r o t
+  pub rests_on : AtEachMoment g mid new Stays → (r : Result Finding NearAuditError) (o : Result Conclusion Fault) (t : List ℕ) → NearFinds sha256 sha256 (look_at g desk mid new) (audited desk.key key octets q p) r → TellsNear r o t
       → RestsOn g new (IsNearBrought octets) key o t
   rests_on m r (Ok Refused) t f tells = tt
   rests_on m (Err audit.OtherPublication) (Err OtherPublication) t f tells =
@@ -184,22 +186,22 @@ not_opened DiskFailed content key p octets q =
 -- ---- the command
 
 -- what three files make of an end
-module _ (files : Option Shelf) (content : Option (List ℕ)) (key_name publication_name reply_name key octets : List ℕ) (p : Publication) (q : NearQuery)
-    (key_read : IfSome files (λ shelf. public_key_at shelf key_name ≡ Ok key)) (publication_read : IfSome files (λ shelf. publication_at shelf publication_name ≡ Ok p)) (reply_read : IfSome files (λ shelf. octets_at shelf reply_name ≡ Ok octets)) where
-  by_shelf : (shelf : Shelf) → public_key_at shelf key_name ≡ Ok key → publication_at shelf publication_name ≡ Ok p → octets_at shelf reply_name ≡ Ok octets
-      → (o : Result Verdict Fault) (t : List ℕ) → EndsAuditReach content key p octets q o t → ends_audit_reach content key_name publication_name reply_name q shelf o t
-  by_shelf shelf is_key is_publication is_reply o t h =
-      reads (public_key_at shelf key_name) key (λ k. EndsReading (publication_at shelf publication_name) (λ b. EndsReading (octets_at shelf reply_name) (λ xs. EndsAuditReach content k b xs q))) o t is_key
-      (reads (publication_at shelf publication_name) p (λ b. EndsReading (octets_at shelf reply_name) (λ xs. EndsAuditReach content key b xs q)) o t is_publication
-      (reads (octets_at shelf reply_name) octets (λ xs. EndsAuditReach content key p xs q) o t is_reply h))
+module _ (files : Option Folder) (content : Option (List ℕ)) (key_name publication_name reply_name key octets : List ℕ) (p : Publication) (q : NearQuery)
+    (key_read : IfSome files (λ folder. public_key_at folder key_name ≡ Ok key)) (publication_read : IfSome files (λ folder. publication_at folder publication_name ≡ Ok p)) (reply_read : IfSome files (λ folder. octets_at folder reply_name ≡ Ok octets)) where
+  by_shelf : (folder : Folder) → public_key_at folder key_name ≡ Ok key → publication_at folder publication_name ≡ Ok p → octets_at folder reply_name ≡ Ok octets
+      → (o : Result Conclusion Fault) (t : List ℕ) → EndsAuditReach content key p octets q o t → ends_audit_reach content key_name publication_name reply_name q folder o t
+  by_shelf folder is_key is_publication is_reply o t h =
+      reads (public_key_at folder key_name) key (λ k. EndsReading (publication_at folder publication_name) (λ b. EndsReading (octets_at folder reply_name) (λ xs. EndsAuditReach content k b xs q))) o t is_key
+      (reads (publication_at folder publication_name) p (λ b. EndsReading (octets_at folder reply_name) (λ xs. EndsAuditReach content key b xs q)) o t is_publication
+      (reads (octets_at folder reply_name) octets (λ xs. EndsAuditReach content key p xs q) o t is_reply h))
 
-  calls : (o : Result Verdict Fault) (t : List ℕ) → EndsAuditReach content key p octets q o t → CallsFor (ends_audit_reach content key_name publication_name reply_name q) files o t
+  calls : (o : Result Conclusion Fault) (t : List ℕ) → EndsAuditReach content key p octets q o t → CallsFor (ends_audit_reach content key_name publication_name reply_name q) files o t
   calls o t h = by files key_read publication_read reply_read
     where
-      by : (files : Option Shelf) → IfSome files (λ shelf. public_key_at shelf key_name ≡ Ok key) → IfSome files (λ shelf. publication_at shelf publication_name ≡ Ok p) → IfSome files (λ shelf. octets_at shelf reply_name ≡ Ok octets)
-          → IfSome files (λ shelf. ends_audit_reach content key_name publication_name reply_name q shelf o t)
+      by : (files : Option Folder) → IfSome files (λ folder. public_key_at folder key_name ≡ Ok key) → IfSome files (λ folder. publication_at folder publication_name ≡ Ok p) → IfSome files (λ folder. octets_at folder reply_name ≡ Ok octets)
+          → IfSome files (λ folder. ends_audit_reach content key_name publication_name reply_name q folder o t)
       by None a b c = tt
-      by (Some shelf) a b c = by_shelf shelf a b c o t h
+      by (Some folder) a b c = by_shelf folder a b c o t h
 
   module _ (DiskFailed : Type 0) (l l' k k' : ℕ) (old : Option (List ℕ)) where
     -- an audit that wrote nothing
@@ -207,6 +209,6 @@ module _ (files : Option Shelf) (content : Option (List ℕ)) (key_name publicat
     audit_refused f h = refused (ends_audit_reach content key_name publication_name reply_name q) TellsNone DiskFailed files l l' k k' old (EndsAuditReach content key p octets q) calls f h
 
     -- a line that was told
-    pub audit_told : (new : Option (List ℕ)) (end o : Result Verdict Fault) (text : List ℕ) → MayEnd TellsNone end → EndsAuditReach content key p octets q end text → Writes end text old new k k' o
+    pub audit_told : (new : Option (List ℕ)) (end o : Result Conclusion Fault) (text : List ℕ) → MayEnd TellsNone end → EndsAuditReach content key p octets q end text → Writes end text old new k k' o
         → Promises (ends_audit_reach content key_name publication_name reply_name q) TellsNone DiskFailed files l l' old new k k' o
     audit_told new end o text may h w = written (ends_audit_reach content key_name publication_name reply_name q) TellsNone DiskFailed files l l' k k' old (EndsAuditReach content key p octets q) calls new end o text may h w

@@ -12,7 +12,7 @@ use Rattle.proof_octets.specs.declared.publication.Publication.{Publication}
 use Rattle.near_client.specs.declared.within.Within.{Within}
 use Rattle.near_client.specs.declared.errors.NearError.{NearError}
 use Rattle.near_client.specs.NearVerdicts.{IsNearVerdict, NearAccepts}
-use Rattle.road_io.specs.Contents.{Shelf}
+use Rattle.road_io.specs.Contents.{Folder}
 use Rattle.command_files.specs.Reading.{octets_at, publication_at}
 use Rattle.command_files.specs.HexFiles.{public_key_at}
 use Rattle.command_files.specs.Endings.{Ending, EndsReading}
@@ -26,7 +26,7 @@ use Rattle.audit_commands.specs.Auditing.{EndsOwnersKey, EndsSigned, EndsSameHea
 use Rattle.audit_commands.proofs.OneAudit.{one_owner, one_signed, one_same}
 use Rattle.near_audit_commands.specs.NearAuditing.{EndsNearClient, EndsNearComparing, EndsAuditReach, ends_audit_reach}
 use Rattle.command_files.specs.declared.fault.Fault.{Fault}
-use Rattle.command_files.specs.declared.ended.Verdict.{Verdict}
+use Rattle.command_files.specs.declared.ended.Conclusion.{Conclusion}
 
 -- what is accepted has that verdict
 abbrev pub NearAcceptanceIsVerdict : Type 0
@@ -52,7 +52,7 @@ module _ (one : OneNearVerdict) (verdict : NearAcceptanceIsVerdict) (key octets 
   pub not_refused : (x : Within) (e : NearError) → NearAccepts sha256 key octets q least x → IsNearVerdict sha256 key octets q least (Err e) → ⊥
   not_refused x e a v = differ x e (one sha256 key octets q least (Ok x) (Err e) (verdict sha256 key octets q least x a) v)
 
-module _ (o e : Result Verdict Fault) (s t : List ℕ) where
+module _ (o e : Result Conclusion Fault) (s t : List ℕ) where
   pub one_client : OneNearVerdict → NearAcceptanceIsVerdict → (key octets : List ℕ) (q : NearQuery) (Next : Within → NearReply → Ending) → ((x : Within) (a : NearReply) → Next x a o s → Next x a e t → o ≡ e)
       → EndsNearClient key octets q Next o s → EndsNearClient key octets q Next e t → o ≡ e
   one_client one verdict key octets q Next next (inl a) (inl b) = a.3 ∙ sym b.3
@@ -69,21 +69,21 @@ module _ (o e : Result Verdict Fault) (s t : List ℕ) where
   one_comparing p q x a (inr h) (inr k) = h.0 ∙ sym k.0
 
 -- over what a disk holds, an audit has one end
-one_audit_reach : OneMaking → OneNearVerdict → NearAcceptanceIsVerdict → (content key : List ℕ) (b : Publication) (octets : List ℕ) (q : NearQuery) (o e : Result Verdict Fault) (s t : List ℕ)
+one_audit_reach : OneMaking → OneNearVerdict → NearAcceptanceIsVerdict → (content key : List ℕ) (b : Publication) (octets : List ℕ) (q : NearQuery) (o e : Result Conclusion Fault) (s t : List ℕ)
     → EndsAuditReach (Some content) key b octets q o s → EndsAuditReach (Some content) key b octets q e t → o ≡ e
 one_audit_reach makings one verdict content key b octets q o e s t =
     one_opening content Owner o e s t (one_owner o e s t content key Client (one_client o e s t one verdict key octets q Install install))
   where
-    Compare : Within → NearReply → Result Verdict Fault → List ℕ → Type 0
+    Compare : Within → NearReply → Result Conclusion Fault → List ℕ → Type 0
     Compare x a = EndsNearComparing b q x a
 
-    Install : Within → NearReply → Result Verdict Fault → List ℕ → Type 0
+    Install : Within → NearReply → Result Conclusion Fault → List ℕ → Type 0
     Install x a = EndsInstalling b (EndsSigned (Some content) key a.header a.signature (EndsSameHeader b a.header (EndsNearComparing b q x a)))
 
-    Client : Result Verdict Fault → List ℕ → Type 0
+    Client : Result Conclusion Fault → List ℕ → Type 0
     Client = EndsNearClient key octets q Install
 
-    Owner : Result Verdict Fault → List ℕ → Type 0
+    Owner : Result Conclusion Fault → List ℕ → Type 0
     Owner = EndsOwnersKey (Some content) key Client
 
     install : (x : Within) (a : NearReply) → Install x a o s → Install x a e t → o ≡ e
@@ -92,8 +92,8 @@ one_audit_reach makings one verdict content key b octets q o e s t =
         (one_signed o e s t content key a.header a.signature (EndsSameHeader b a.header (EndsNearComparing b q x a)) (one_same o e s t b a.header (EndsNearComparing b q x a) (one_comparing o e s t b q x a)))
 
 -- and so over its files
-pub only_audit_reach : OneMaking → OneNearVerdict → NearAcceptanceIsVerdict → (content key publication reply : List ℕ) (q : NearQuery) (shelf : Shelf) → HasOneEnd (ends_audit_reach (Some content) key publication reply q shelf)
-only_audit_reach makings one verdict content key publication reply q shelf =
-    one_reading (public_key_at shelf key) (λ k. EndsReading (publication_at shelf publication) (λ p. EndsReading (octets_at shelf reply) (λ octets. EndsAuditReach (Some content) k p octets q)))
-    (λ k. one_reading (publication_at shelf publication) (λ p. EndsReading (octets_at shelf reply) (λ octets. EndsAuditReach (Some content) k p octets q))
-    (λ p. one_reading (octets_at shelf reply) (λ octets. EndsAuditReach (Some content) k p octets q) (λ octets. one_audit_reach makings one verdict content k p octets q)))
+pub only_audit_reach : OneMaking → OneNearVerdict → NearAcceptanceIsVerdict → (content key publication reply : List ℕ) (q : NearQuery) (folder : Folder) → HasOneEnd (ends_audit_reach (Some content) key publication reply q folder)
+only_audit_reach makings one verdict content key publication reply q folder =
+    one_reading (public_key_at folder key) (λ k. EndsReading (publication_at folder publication) (λ p. EndsReading (octets_at folder reply) (λ octets. EndsAuditReach (Some content) k p octets q)))
+    (λ k. one_reading (publication_at folder publication) (λ p. EndsReading (octets_at folder reply) (λ octets. EndsAuditReach (Some content) k p octets q))
+    (λ p. one_reading (octets_at folder reply) (λ octets. EndsAuditReach (Some content) k p octets q) (λ octets. one_audit_reach makings one verdict content k p octets q)))

@@ -12,7 +12,7 @@ ghost use Rattle.near_audit_commands.specs.NearHeadline.{IsNearBrought, AuditsAc
 use audit_commands::line_of;
 use command_books::not_built;
 use command_desks::open_desk;
-use command_files::{Fault, Told, Verdict, load_file, load_hex, load_publication, write_told};
+use command_files::{Conclusion, Fault, Told, load_file, load_hex, load_publication, write_told};
 use near_audit::{Finding, NearAuditError, audit_near};
 use near_client::{NearError, near_verdict_laws};
 use near_line::line_of_refused_near;
@@ -33,11 +33,12 @@ pub fn audit_reach<L: Library, K: Sink, D: Disk>(
     publication: &str,
     reply: &str,
     query: NearQuery,
-) -> Result<Verdict, Fault>
+) -> Result<Conclusion, Fault>
     ensures promised { Promises (ends_audit_reach (D.content disk.old) key.now publication.now reply.now query) TellsNone (Rose (D.faults disk.old) (D.faults disk.new))
         (L.files library.old) (L.faults library.old) (L.faults library.new)
         (K.taken sink.old) (K.taken sink.new) (K.faults sink.old) (K.faults sink.new) result }
-    ensures finds { WritesFindings D.Disk disk.new IsNearBrought key.now reply.now (L.files library.old) (K.taken sink.old) (K.taken sink.new) result }
+    ensures finds { WritesFindings D.Disk disk.new IsNearBrought key.now reply.now
+        (L.files library.old) (K.taken sink.old) (K.taken sink.new) result }
     ensures headline { AuditsAcceptedReach D.Disk (D.content disk.old) disk.new key.now publication.now reply.now query
         (L.files library.old) (K.taken sink.old) (K.taken sink.new) result }
     ensures stays { AtEachMoment D.Disk disk.old disk.new Stays }
@@ -57,11 +58,12 @@ fn write_findings<L: Library, K: Sink, D: Disk>(
     publication: &str,
     reply: &str,
     query: NearQuery,
-) -> Result<Verdict, Fault>
+) -> Result<Conclusion, Fault>
     ensures promised { Promises (ends_audit_reach (D.content disk.old) key.now publication.now reply.now query) TellsNone (Rose (D.faults disk.old) (D.faults disk.new))
         (L.files library.old) (L.faults library.old) (L.faults library.new)
         (K.taken sink.old) (K.taken sink.new) (K.faults sink.old) (K.faults sink.new) result }
-    ensures finds { WritesFindings D.Disk disk.new IsNearBrought key.now reply.now (L.files library.old) (K.taken sink.old) (K.taken sink.new) result }
+    ensures finds { WritesFindings D.Disk disk.new IsNearBrought key.now reply.now
+        (L.files library.old) (K.taken sink.old) (K.taken sink.new) result }
     ensures stays { AtEachMoment D.Disk disk.old disk.new Stays }
 {
     let key: [u8; 56] = load_hex(alloc, library, key)?;
@@ -81,11 +83,17 @@ fn find<D: Disk>(
     query: NearQuery,
 ) -> Result<Told, Fault>
     requires { length reply.now < 2 ^ 32 }
-    ensures told { IfOk result (λ told. EndsAuditReach (D.content disk.old) key.now publication reply.now query told.end told.text.items) }
+    ensures told { IfOk result (λ told.
+        EndsAuditReach (D.content disk.old) key.now publication reply.now query told.end
+        told.text.items) }
     ensures verdict { IfOk result (λ told. MayEnd TellsNone told.end) }
-    ensures rests { IfOk result (λ told. RestsOn D.Disk disk.new (IsNearBrought reply.now) key.now told.end told.text.items) }
-    ensures others { IfErr result (λ fault. RestsOn D.Disk disk.new (IsNearBrought reply.now) key.now (Err fault) []) }
-    ensures refused { IfErr result (WhyNot (Rose (D.faults disk.old) (D.faults disk.new)) (EndsAuditReach (D.content disk.old) key.now publication reply.now query)) }
+    ensures rests { IfOk result (λ told.
+        RestsOn D.Disk disk.new (IsNearBrought reply.now) key.now told.end told.text.items) }
+    ensures others { IfErr result (λ fault.
+        RestsOn D.Disk disk.new (IsNearBrought reply.now) key.now (Err fault) []) }
+    ensures refused { IfErr result
+        (WhyNot (Rose (D.faults disk.old) (D.faults disk.new))
+        (EndsAuditReach (D.content disk.old) key.now publication reply.now query)) }
     ensures stays { AtEachMoment D.Disk disk.old disk.new Stays }
 {
     let mut desk = open_desk(alloc, disk)?;
@@ -121,11 +129,12 @@ fn tell(alloc: Global, answer: Result<Finding, NearAuditError>) -> Result<Told, 
 
 /// The line of a refused reply.
 fn refusal(alloc: Global, why: NearError) -> Result<Told, NoMemory>
-    ensures told { IfOk result (λ told. TellsNear (Err (NearAuditError.Refused why)) told.end told.text.items) }
+    ensures told { IfOk result (λ told.
+        TellsNear (Err (NearAuditError.Refused why)) told.end told.text.items) }
     ensures verdict { IfOk result (λ told. MayEnd TellsNone told.end) }
 {
     Ok(Told {
         text: line_of_refused_near(alloc, why)?,
-        end: Ok(Verdict::Refused),
+        end: Ok(Conclusion::Refused),
     })
 }

@@ -1,4 +1,4 @@
-pub mod ItemRoom
+pub mod NearCuts
 pub mod LongWalks
 pub mod MarkSteps
 pub mod Walks

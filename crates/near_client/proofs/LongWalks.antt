@@ -1,6 +1,6 @@
 -- Walks over items of whatever length: since no item stands twice on a least one, and each arc is
 -- short, no least length comes near the greatest number of 64 bits.
-use Rattle.std.proofs.Common.{◌≡◌, ℕ, ◌+◌, ◌*◌, ◌^◌, ◌<◌, ◌≤◌, ◌⊎◌, inl, inr, Bool, true, false, Option, None, Some, IfSome, List, [], ◌∷◌, ◌++◌, length, map, nat_eq, refl, arith, ap, sym, ◌∙◌, subst, add_assoc, add-zero, zero-add}
+use Rattle.std.proofs.Common.{◌≡◌, ℕ, ◌+◌, ◌*◌, ◌^◌, ◌<◌, ◌≤◌, inl, inr, true, Option, None, Some, IfSome, List, [], ◌∷◌, ◌++◌, length, map, nat_eq, refl, arith, ap, sym, ◌∙◌, subst}
 use Rattle.std.specs.List.{Contains, IsDistinct}
 use Rattle.std.specs.Option.{option_map}
 use Rattle.std.specs.Cmp.{nat_eq_equiv}
@@ -14,7 +14,7 @@ use Rattle.road_map.specs.Routes.{last_stop, walk_length, stops}
 use Rattle.road_map.proofs.Among.{Contains-none, Contains-here, Contains-there, Contains-cases, Contains-map}
 use Rattle.road_search.specs.Labelling.{IsWay}
 use Rattle.road_search.specs.Passing.{Ways, Leaves, Passes, PassesBy, Reaches, IsLeastPassing}
-use Rattle.road_search.proofs.WholeLaws.{least_higher}
+use Rattle.road_search.proofs.WholeMapLaws.{least_higher}
 use Rattle.road_leaf.specs.declared.leaf.NodeLeaf.{NodeLeaf}
 use Rattle.proof_judge.specs.ItemWalks.{item_at, any_ways}
 use Rattle.proof_judge.specs.SharedTests.{AreShort}

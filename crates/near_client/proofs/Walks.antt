@@ -1,7 +1,6 @@
 -- What a search over the items says of the walks over them.
-use Rattle.std.proofs.Common.{◌≡◌, ℕ, ◌+◌, ◌^◌, ◌<◌, ◌≤◌, inl, inr, Option, None, Some, IfSome, List, length, refl, arith, ap, sym, ◌∙◌, subst}
+use Rattle.std.proofs.Common.{◌≡◌, ℕ, ◌+◌, ◌^◌, ◌<◌, inl, inr, Option, None, Some, IfSome, List, length, refl, arith, ap, sym, subst}
 use Rattle.std.specs.Option.{option_map}
-use Rattle.road_map.specs.Least.{IsLeast}
 use Rattle.road_map.proofs.LeastLaws.{IsLeast-unique}
 use Rattle.road_search.specs.declared.label.Label.{Label}
 use Rattle.road_search.specs.Labelling.{Found, IsWay, label_at, length_at, route_at, way_to}

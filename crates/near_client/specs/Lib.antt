@@ -1,3 +1,2 @@
-pub mod NearRooms
 pub mod NearVerdicts
 pub mod Reached

@@ -1,12 +1,15 @@
--- What a client says of octets as the reply to a query for what lies within a radius: the first test
+-- What a client says of octets as the reply to a query for what lies within a radius: the first
+-- test
 -- that they don't pass, or the nodes that it accepts. What it accepts is said by the walks over the
 -- items that the reply brings.
--- Source: Papadias, Zhang, Mamoulis and Tao, VLDB 2003 (range search in a road network), and Yiu, Lin and
--- Mouratidis, ICDE 2010 (signed roots, tuples and covers). The order of the tests is this program's profile.
+-- Source: Papadias, Zhang, Mamoulis and Tao, VLDB 2003 (range search in a road network), and Yiu,
+-- Lin and
+-- Mouratidis, ICDE 2010 (signed roots, tuples and covers). The order of the tests is this program's
+-- profile.
 use Rattle.std.specs.Prelude.{◌≡◌, ℕ, ◌+◌, ◌≤◌, List, map, None, Some, Result, Ok, Err}
 use Rattle.octet_text.specs.Format.{whole}
 use Rattle.road_map.specs.Least.{IsLeast}
-use Rattle.road_search.specs.Passing.{Ways, IsLeastPassing}
+use Rattle.road_search.specs.Passing.{IsLeastPassing}
 use Rattle.road_leaf.specs.declared.leaf.NodeLeaf.{NodeLeaf}
 use Rattle.road_leaf.specs.Leaves.{node_leaf_text}
 use Rattle.lms_tree.specs.Signatures.{verified}
@@ -33,10 +36,12 @@ spelled (Err at) = Err (errors.Malformed at)
 
 -- the items and the cover fold to the root of the node tree, which is tree 1
 abbrev pub items_covered : (List ℕ → List ℕ) → NearReply → Result (Unit {0}) CheckError
-items_covered hash a = covered hash 1 a.header.nodes a.header.fan a.places (map node_leaf_text a.nodes) a.cover a.header.node_root
+items_covered hash a = covered hash 1 a.header.nodes a.header.fan a.places
+    (map node_leaf_text a.nodes) a.cover a.header.node_root
 
 -- the tests that stand for routes too: the version, the signature of the header, and the cover
-unfoldable pub header_and_cover : (List ℕ → List ℕ) → List ℕ → ℕ → NearReply → Result (Unit {0}) CheckError
+unfoldable pub header_and_cover : (List ℕ → List ℕ) → List ℕ → ℕ → NearReply →
+    Result (Unit {0}) CheckError
 header_and_cover hash key least a = do
   _ ← fresh least a.header
   _ ← signed (verified key (header_text a.header) a.signature)
@@ -53,7 +58,8 @@ abbrev pub after_tests : NearReply → Result (Unit {0}) CheckError → Result N
 after_tests a (Ok _) = Ok a
 after_tests a (Err e) = Err (near_error e)
 
-abbrev pub tested : (List ℕ → List ℕ) → List ℕ → ℕ → Result NearReply NearError → Result NearReply NearError
+abbrev pub tested : (List ℕ → List ℕ) → List ℕ → ℕ → Result NearReply NearError →
+    Result NearReply NearError
 tested hash key least (Ok a) = after_tests a (header_and_cover hash key least a)
 tested hash key least (Err e) = Err e
 
@@ -69,7 +75,8 @@ limit_of q = q.radius + 1
 
 -- walks that are no longer than the radius end at the id, the least of them of this length
 abbrev pub IsReached : List NodeLeaf → NearQuery → Mark → Type 0
-IsReached nodes q m = IsLeastPassing (any_ways (item_at nodes)) q.from (limit_of q) m.id (Some m.distance)
+IsReached nodes q m = IsLeastPassing (any_ways (item_at nodes)) q.from (limit_of q) m.id
+    (Some m.distance)
 
 -- a walk that is no longer than the radius ends at an id without an item
 abbrev pub LacksItem : List NodeLeaf → NearQuery → ℕ → Type 0
@@ -88,19 +95,26 @@ Walked nodes q v = IsLeast (StandsTwice nodes) None × Listed nodes q v
 -- ---- the verdict
 
 abbrev pub as_within : NearReply → Result (List Mark) NearError → Result Within NearError
-as_within a (Ok marks) = Ok (record { nodes = marks; version = a.header.version; header = a.header })
+as_within a (Ok marks) = Ok (record {
+  nodes = marks;
+  version = a.header.version;
+  header = a.header;
+})
 as_within a (Err e) = Err e
 
 abbrev pub WalkedAfter : Result NearReply NearError → NearQuery → Result Within NearError → Type 0
 WalkedAfter (Err e) q v = v ≡ Err e
-WalkedAfter (Ok a) q v = (r : Result (List Mark) NearError) × Walked a.nodes q r × (v ≡ as_within a r)
+WalkedAfter (Ok a) q v = (r : Result (List Mark) NearError) × Walked a.nodes q r ×
+    (v ≡ as_within a r)
 
 -- the verdict on octets, for a query and a least version, under a public key
-unfoldable pub IsNearVerdict : (List ℕ → List ℕ) → List ℕ → List ℕ → NearQuery → ℕ → Result Within NearError → Type 0
+unfoldable pub IsNearVerdict : (List ℕ → List ℕ) → List ℕ → List ℕ → NearQuery → ℕ →
+    Result Within NearError → Type 0
 IsNearVerdict hash key octets q least v = WalkedAfter (near_passed hash key octets least) q v
 
 -- the octets spell a reply that passes each test, and this is what it says
-pub record NearAccepts (hash : List ℕ → List ℕ) (key octets : List ℕ) (q : NearQuery) (least : ℕ) (x : Within) : Type 0 where
+pub record NearAccepts (hash : List ℕ → List ℕ) (key octets : List ℕ) (q : NearQuery) (least : ℕ)
+    (x : Within) : Type 0 where
   pub reply : NearReply
   pub spelled : whole near_reply octets ≡ Ok reply
   pub fresh : least ≤ reply.header.version

@@ -1,7 +1,7 @@
 //! The check of a reply.
 ghost use Rattle.std.specs.Prelude.{◌≡◌, ◌<◌, ◌^◌, length, Ok};
+ghost use Rattle.near_model.specs.NearReplies.{IsGoodNear};
 ghost use Rattle.near_client.specs.declared.within.Within.{Within};
-ghost use Rattle.near_client.specs.NearRooms.{IsRead};
 ghost use Rattle.near_client.specs.NearVerdicts.{UnlessMemory, IsNearVerdict, NearAccepts, WalkedAfter};
 
 use crate::passing::pass;
@@ -13,7 +13,7 @@ use std::alloc::Global;
 
 // The verdict on a reply that passes all tests before its items are walked.
 fn accept(alloc: Global, reply: NearReply, query: NearQuery) -> Result<Within, NearError>
-    requires { IsRead reply }
+    requires { IsGoodNear reply }
     ensures { UnlessMemory (WalkedAfter (Ok reply) query) result }
 {
     match walk(alloc, reply.nodes.as_slice(), query) {

@@ -7,8 +7,11 @@ ghost use Rattle.near_client.specs.NearVerdicts.{IsNearVerdict, NearAccepts};
 
 /// Octets have at most one verdict, and what is accepted passes each test.
 pub fn near_verdict_laws()
-    ensures one { (hash : List ℕ → List ℕ) (key octets : List ℕ) (q : NearQuery) (least : ℕ) (v w : Result Within NearError)
-        → IsNearVerdict hash key octets q least v → IsNearVerdict hash key octets q least w → v ≡ w }
-    ensures accepts { (hash : List ℕ → List ℕ) (key octets : List ℕ) (q : NearQuery) (least : ℕ) (x : Within)
+    ensures one { (hash : List ℕ → List ℕ) (key octets : List ℕ) (q : NearQuery) (least : ℕ)
+        (v w : Result Within NearError)
+        → IsNearVerdict hash key octets q least v → IsNearVerdict hash key octets q least w →
+        v ≡ w }
+    ensures accepts { (hash : List ℕ → List ℕ) (key octets : List ℕ) (q : NearQuery) (least : ℕ)
+        (x : Within)
         → NearAccepts hash key octets q least x ↔ IsNearVerdict hash key octets q least (Ok x) }
 {}

@@ -3,11 +3,13 @@
 #![tactic(auto)]
 
 pub use checking::check_near;
+pub use cutting::reply_cuts;
 pub use errors::NearError;
 pub use laws::near_verdict_laws;
 pub use within::Within;
 
 mod checking;
+mod cutting;
 mod errors;
 mod laws;
 mod passing;

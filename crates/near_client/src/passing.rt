@@ -2,12 +2,11 @@
 ghost use Rattle.std.specs.Prelude.{◌≡◌, ◌<◌, ◌^◌, length, IfOk};
 ghost use Rattle.octet_text.specs.Format.{whole};
 ghost use Rattle.route_client.specs.Verdicts.{Meets as MeetsTest};
-ghost use Rattle.near_model.specs.NearReplies.{near_reply};
+ghost use Rattle.near_model.specs.NearReplies.{near_reply, IsGoodNear};
 ghost use Rattle.near_client.specs.NearVerdicts.{Meets, near_error, items_covered, header_and_cover, after_tests, spelled, near_passed};
-ghost use Rattle.near_client.specs.NearRooms.{IsRead};
 
-use crate::NearError;
-use leaf_texts::node_texts;
+use crate::{NearError, reply_cuts};
+use merkle_cover::CutTexts;
 use near_model::NearReply;
 use octet_text::{Hasher, ReadError};
 use route_client::{CheckError, test_cover, test_signature, test_version};
@@ -17,7 +16,8 @@ use std::alloc::Global;
 fn read_reply(alloc: Global, octets: &[u8]) -> Result<NearReply, NearError>
     requires { length octets.now < 2 ^ 32 }
     ensures is { Meets result (spelled (whole near_reply octets.now)) }
-    ensures read { IfOk result IsRead }
+    ensures good { IfOk result IsGoodNear }
+    ensures spelled { IfOk result (λ a. octets.now ≡ near_reply.spell a) }
 {
     match NearReply::read(alloc, octets) {
         Ok(reply) => Ok(reply),
@@ -26,12 +26,15 @@ fn read_reply(alloc: Global, octets: &[u8]) -> Result<NearReply, NearError>
     }
 }
 
-// Whether the items fold to the node root.
-fn test_items<H: Hasher>(alloc: Global, reply: &NearReply) -> Result<(), CheckError>
-    requires { IsRead reply.now }
+// Whether the items, as they stand in the octets, fold to the node root.
+fn test_items<H: Hasher>(alloc: Global, octets: &[u8], reply: &NearReply) -> Result<(), CheckError>
+    requires good { IsGoodNear reply.now }
+    requires spelled { octets.now ≡ near_reply.spell reply.now }
+    requires short { length octets.now < 2 ^ 32 }
     ensures { MeetsTest result (items_covered H.hash reply.now) }
 {
-    let texts = node_texts(alloc, reply.nodes.as_slice())?;
+    let cuts = reply_cuts(alloc, octets, reply)?;
+    let texts = CutTexts::new(octets, cuts.as_slice());
     let header = &reply.header;
     test_cover::<H>(
         1,
@@ -49,15 +52,18 @@ fn test_items<H: Hasher>(alloc: Global, reply: &NearReply) -> Result<(), CheckEr
 fn test_reply<H: Hasher>(
     alloc: Global,
     public: &[u8],
+    octets: &[u8],
     reply: &NearReply,
     least: u64,
 ) -> Result<(), CheckError>
-    requires { IsRead reply.now }
+    requires good { IsGoodNear reply.now }
+    requires spelled { octets.now ≡ near_reply.spell reply.now }
+    requires short { length octets.now < 2 ^ 32 }
     ensures { MeetsTest result (header_and_cover H.hash public.now least reply.now) }
 {
     test_version(&reply.header, least)?;
     test_signature(public, &reply.header, reply.signature.as_slice())?;
-    test_items::<H>(alloc, reply)
+    test_items::<H>(alloc, octets, reply)
 }
 
 // A failed test as a refusal of a reply. No other errors come from these tests.
@@ -76,14 +82,17 @@ fn near_error(error: CheckError) -> NearError
 fn test<H: Hasher>(
     alloc: Global,
     public: &[u8],
+    octets: &[u8],
     reply: NearReply,
     least: u64,
 ) -> Result<NearReply, NearError>
-    requires { IsRead reply }
+    requires good { IsGoodNear reply }
+    requires spelled { octets.now ≡ near_reply.spell reply }
+    requires short { length octets.now < 2 ^ 32 }
     ensures is { Meets result (after_tests reply (header_and_cover H.hash public.now least reply)) }
-    ensures read { IfOk result IsRead }
+    ensures good { IfOk result IsGoodNear }
 {
-    match test_reply::<H>(alloc, public, &reply, least) {
+    match test_reply::<H>(alloc, public, octets, &reply, least) {
         Ok(()) => Ok(reply),
         Err(error) => Err(near_error(error)),
     }
@@ -98,10 +107,10 @@ pub(crate) fn pass<H: Hasher>(
 ) -> Result<NearReply, NearError>
     requires { length octets.now < 2 ^ 32 }
     ensures is { Meets result (near_passed H.hash public.now octets.now least) }
-    ensures read { IfOk result IsRead }
+    ensures good { IfOk result IsGoodNear }
 {
     match read_reply(alloc, octets) {
-        Ok(reply) => test::<H>(alloc, public, reply, least),
+        Ok(reply) => test::<H>(alloc, public, octets, reply, least),
         Err(error) => Err(error),
     }
 }

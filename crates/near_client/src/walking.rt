@@ -62,8 +62,11 @@ fn marks_within(alloc: Global, labels: &Labels, most: u64) -> Result<Marks, NoMe
 fn reach(alloc: Global, by_id: &NodesById<'_>, query: NearQuery) -> Result<Labels, NoMemory>
     requires short { AreShort by_id.now }
     requires few { length by_id.now < 2 ^ 32 }
-    ensures least { IfOk result (λ found. AreLeast (any_ways (item_at by_id.now)) query.from (query.radius + 1) found) }
-    ensures missing { IfOk result (λ found. IsLeast (Lacks (any_ways (item_at by_id.now)) query.from (query.radius + 1)) found.missing) }
+    ensures least { IfOk result (λ found.
+        AreLeast (any_ways (item_at by_id.now)) query.from (query.radius + 1) found) }
+    ensures missing { IfOk result (λ found.
+        IsLeast (Lacks (any_ways (item_at by_id.now)) query.from (query.radius + 1))
+        found.missing) }
 {
     let limit = limit_above(query.radius);
     let labels = search(alloc, &Anywhere { by_id }, query.from, limit)?;

@@ -3,7 +3,7 @@ use Rattle.std.proofs.Common.{◌≡◌, List, ℕ, refl}
 use Rattle.std.specs.declared.result.Result.{Result}
 use Rattle.std.specs.declared.result.Result.TheVariants.{Ok, Err}
 use Rattle.sha2.specs.Sha256.{sha256}
-use Rattle.road_io.specs.Contents.{Shelf}
+use Rattle.road_io.specs.Contents.{Folder}
 use Rattle.near_model.specs.declared.query.NearQuery.{NearQuery}
 use Rattle.near_client.specs.declared.within.Within.{Within}
 use Rattle.near_client.specs.declared.errors.NearError.{NearError}
@@ -13,8 +13,8 @@ use Rattle.command_files.specs.HexFiles.{public_key_at}
 use Rattle.command_files.specs.Endings.{EndsReading}
 use Rattle.command_files.specs.Exact.{HasOneEnd}
 use Rattle.command_files.specs.declared.fault.Fault.{Fault}
-use Rattle.command_files.specs.declared.ended.Verdict.{Verdict}
-use Rattle.command_files.specs.declared.ended.Verdict.TheVariants.{Done, Refused}
+use Rattle.command_files.specs.declared.ended.Conclusion.{Conclusion}
+use Rattle.command_files.specs.declared.ended.Conclusion.TheVariants.{Done, Refused}
 use Rattle.command_files.proofs.OneEnd.{one_reading}
 use Rattle.near_client_commands.specs.NearChecking.{EndsCheckReach, ends_check_reach}
 
@@ -27,7 +27,7 @@ differ : (x : Within) (e : NearError) → Ok x ≡ Err e → ⊥
 differ x e is = cc
 
 -- over a key and octets, `check-reach` has one end
-one_check_reach : OneNearVerdict → (key octets : List ℕ) (q : NearQuery) (least : ℕ) (o e : Result Verdict Fault) (s t : List ℕ) → EndsCheckReach key octets q least o s → EndsCheckReach key octets q least e t → o ≡ e
+one_check_reach : OneNearVerdict → (key octets : List ℕ) (q : NearQuery) (least : ℕ) (o e : Result Conclusion Fault) (s t : List ℕ) → EndsCheckReach key octets q least o s → EndsCheckReach key octets q least e t → o ≡ e
 one_check_reach one key octets q least (Ok Done) (Ok Done) s t h k = refl
 one_check_reach one key octets q least (Ok Done) (Ok Refused) s t h k = absurd (differ h.0 k.0 (one sha256 key octets q least (Ok h.0) (Err k.0) h.1 k.2))
 one_check_reach one key octets q least (Ok Done) e s t h k = absurd k
@@ -37,7 +37,7 @@ one_check_reach one key octets q least (Ok Refused) e s t h k = absurd k
 one_check_reach one key octets q least o e s t h k = absurd h
 
 -- and so over its files
-pub only_check_reach : OneNearVerdict → (key reply : List ℕ) (q : NearQuery) (least : ℕ) (shelf : Shelf) → HasOneEnd (ends_check_reach key reply q least shelf)
-only_check_reach one key reply q least shelf =
-    one_reading (public_key_at shelf key) (λ k. EndsReading (octets_at shelf reply) (λ octets. EndsCheckReach k octets q least))
-    (λ k. one_reading (octets_at shelf reply) (λ octets. EndsCheckReach k octets q least) (λ octets. one_check_reach one k octets q least))
+pub only_check_reach : OneNearVerdict → (key reply : List ℕ) (q : NearQuery) (least : ℕ) (folder : Folder) → HasOneEnd (ends_check_reach key reply q least folder)
+only_check_reach one key reply q least folder =
+    one_reading (public_key_at folder key) (λ k. EndsReading (octets_at folder reply) (λ octets. EndsCheckReach k octets q least))
+    (λ k. one_reading (octets_at folder reply) (λ octets. EndsCheckReach k octets q least) (λ octets. one_check_reach one k octets q least))

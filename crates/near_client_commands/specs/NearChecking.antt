@@ -2,7 +2,7 @@
 use Rattle.std.specs.Prelude.{◌≡◌, ◌≢◌, ℕ, List}
 use Rattle.std.specs.declared.result.Result.TheVariants.{Ok, Err}
 use Rattle.sha2.specs.Sha256.{sha256}
-use Rattle.road_io.specs.Contents.{Shelf}
+use Rattle.road_io.specs.Contents.{Folder}
 use Rattle.near_model.specs.declared.query.NearQuery.{NearQuery}
 use Rattle.near_client.specs.declared.errors.NearError.{NearError}
 use Rattle.near_client.specs.declared.errors.NearError.TheVariants as errors
@@ -12,15 +12,18 @@ use Rattle.near_line.specs.WithinLine.{within_line, refused_near_line}
 use Rattle.command_files.specs.Reading.{octets_at}
 use Rattle.command_files.specs.HexFiles.{public_key_at}
 use Rattle.command_files.specs.Endings.{Ending, EndsReading}
-use Rattle.command_files.specs.declared.ended.Verdict.TheVariants.{Done, Refused}
+use Rattle.command_files.specs.declared.ended.Conclusion.TheVariants.{Done, Refused}
 
 -- `check-reach` over a public key and the octets of a reply: the line of the client's verdict
 abbrev pub EndsCheckReach : List ℕ → List ℕ → NearQuery → ℕ → Ending
-EndsCheckReach key octets q least (Ok Done) text = (x : Within) × IsNearVerdict sha256 key octets q least (Ok x) × (text ≡ within_line x.nodes)
-EndsCheckReach key octets q least (Ok Refused) text = (e : NearError) × (e ≢ errors.Memory) × IsNearVerdict sha256 key octets q least (Err e) × (text ≡ refused_near_line e)
+EndsCheckReach key octets q least (Ok Done) text = (x : Within) ×
+    IsNearVerdict sha256 key octets q least (Ok x) × (text ≡ within_line x.nodes)
+EndsCheckReach key octets q least (Ok Refused) text = (e : NearError) × (e ≢ errors.Memory) ×
+    IsNearVerdict sha256 key octets q least (Err e) × (text ≡ refused_near_line e)
 EndsCheckReach key octets q least outcome text = ⊥
 
 -- the same over the files of these names
-abbrev pub ends_check_reach : List ℕ → List ℕ → NearQuery → ℕ → Shelf → Ending
-ends_check_reach key reply q least shelf =
-    EndsReading (public_key_at shelf key) (λ k. EndsReading (octets_at shelf reply) (λ octets. EndsCheckReach k octets q least))
+abbrev pub ends_check_reach : List ℕ → List ℕ → NearQuery → ℕ → Folder → Ending
+ends_check_reach key reply q least folder =
+    EndsReading (public_key_at folder key)
+    (λ k. EndsReading (octets_at folder reply) (λ octets. EndsCheckReach k octets q least))

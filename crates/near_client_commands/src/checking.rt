@@ -4,7 +4,7 @@ ghost use Rattle.std.specs.Prelude.{IfOk, length, ◌<◌, ◌^◌};
 ghost use Rattle.command_files.specs.Endings.{Promises, TellsNone, NoDisk};
 ghost use Rattle.near_client_commands.specs.NearChecking.{EndsCheckReach, ends_check_reach};
 
-use command_files::{Fault, Told, Verdict, load_file, load_hex, write_told};
+use command_files::{Conclusion, Fault, Told, load_file, load_hex, write_told};
 use near_client::{NearError, check_near};
 use near_line::{line_of_refused_near, line_of_within};
 use near_model::NearQuery;
@@ -21,7 +21,7 @@ pub fn check_reach<L: Library, K: Sink>(
     reply: &str,
     query: NearQuery,
     least: u64,
-) -> Result<Verdict, Fault>
+) -> Result<Conclusion, Fault>
     ensures { Promises (ends_check_reach key.now reply.now query least) TellsNone NoDisk
         (L.files library.old) (L.faults library.old) (L.faults library.new)
         (K.taken sink.old) (K.taken sink.new) (K.faults sink.old) (K.faults sink.new) result }
@@ -43,17 +43,18 @@ fn verdict_on(
     least: u64,
 ) -> Result<Told, NoMemory>
     requires { length reply.now < 2 ^ 32 }
-    ensures { IfOk result (λ told. EndsCheckReach key.now reply.now query least told.end told.text.items) }
+    ensures { IfOk result (λ told.
+        EndsCheckReach key.now reply.now query least told.end told.text.items) }
 {
     match check_near::<Sha>(alloc, key, reply, query, least) {
         Ok(within) => Ok(Told {
             text: line_of_within(alloc, within.nodes.as_slice())?,
-            end: Ok(Verdict::Done),
+            end: Ok(Conclusion::Done),
         }),
         Err(NearError::Memory) => Err(NoMemory),
         Err(refusal) => Ok(Told {
             text: line_of_refused_near(alloc, refusal)?,
-            end: Ok(Verdict::Refused),
+            end: Ok(Conclusion::Refused),
         }),
     }
 }

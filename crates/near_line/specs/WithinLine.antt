@@ -14,7 +14,8 @@ spaced_id m = spaced m.id
 
 -- how many nodes there are, a colon, each id after a space, and a line end
 abbrev pub within_line : List Mark → List ℕ
-within_line marks = codes "within " ++ decimal (length marks) ++ codes ":" ++ flat_map spaced_id marks ++ codes "\n"
+within_line marks = codes "within " ++ decimal
+    (length marks) ++ codes ":" ++ flat_map spaced_id marks ++ codes "\n"
 
 -- the test that a reply did not pass, with its numbers and names
 abbrev pub refused_near_words : NearError → List ℕ

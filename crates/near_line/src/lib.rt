@@ -5,6 +5,4 @@ pub use refused_line::line_of_refused_near;
 pub use within_line::line_of_within;
 
 mod refused_line;
-#[cfg(test)]
-mod tests;
 mod within_line;

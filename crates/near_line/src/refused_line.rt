@@ -28,7 +28,8 @@ fn refused(alloc: Global, why: NearError) -> Result<String, AllocError>
 }
 
 fn print_refusal(text: &mut String, why: NearError) -> Result<(), AllocError>
-    ensures { OnOk result (string_bytes text.new ≡ string_bytes text.old ++ refused_near_words why) }
+    ensures { OnOk result (string_bytes text.new ≡ string_bytes text.old ++ refused_near_words
+        why) }
 {
     match why {
         NearError::Malformed(at) => write!(text, "Malformed {at}"),
@@ -48,7 +49,8 @@ fn print_refusal(text: &mut String, why: NearError) -> Result<(), AllocError>
 }
 
 fn print_named(text: &mut String, test: &str, name: &str) -> Result<(), AllocError>
-    ensures { OnOk result (string_bytes text.new ≡ string_bytes text.old ++ (test.now ++ name.now)) }
+    ensures { OnOk result (string_bytes text.new ≡ string_bytes text.old ++
+        (test.now ++ name.now)) }
 {
     write!(text, "{test}{name}")
 }

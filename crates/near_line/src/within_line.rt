@@ -30,7 +30,8 @@ fn within(alloc: Global, nodes: &[Mark]) -> Result<String, AllocError>
 }
 
 fn print_nodes(text: &mut String, nodes: &[Mark]) -> Result<(), AllocError>
-    ensures { OnOk result (string_bytes text.new ≡ string_bytes text.old ++ flat_map spaced_id nodes.now) }
+    ensures { OnOk result (string_bytes text.new ≡ string_bytes text.old ++ flat_map spaced_id
+        nodes.now) }
 {
     for node in nodes {
         let id = node.id;

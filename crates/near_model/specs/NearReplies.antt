@@ -17,7 +17,13 @@ abbrev pub NearParts : Type 0
 NearParts = Header × (List ℕ × ((List ℕ × List NodeLeaf) × List (List ℕ)))
 
 abbrev pub near_of : NearParts → NearReply
-near_of p = record { header = p.0; signature = p.1.0; places = p.1.1.0.0; nodes = p.1.1.0.1; cover = p.1.1.1 }
+near_of p = record {
+  header = p.0;
+  signature = p.1.0;
+  places = p.1.1.0.0;
+  nodes = p.1.1.0.1;
+  cover = p.1.1.1;
+}
 
 abbrev pub near_parts : NearReply → NearParts
 near_parts a = (a.header, (a.signature, ((a.places, a.nodes), a.cover)))

@@ -7,7 +7,8 @@ use Rattle.near_model.specs.declared.reply.NearReply.{NearReply}
 use Rattle.near_model.specs.NearReplies.{near_name}
 
 unfoldable pub near_text : NearReply → List ℕ
-near_text a = near_name ++ (header.spell a.header ++ (signature.spell a.signature ++ (items_text a.places a.nodes ++ digests.spell a.cover)))
+near_text a = near_name ++ (header.spell a.header ++
+    (signature.spell a.signature ++ (items_text a.places a.nodes ++ digests.spell a.cover)))
 
 pub record CanWriteNear (a : NearReply) : Type 0 where
   pub signature : length a.signature < 2 ^ 16

@@ -1,5 +1,6 @@
 -- Which nodes lie within a radius, each with its distance.
--- Source: Papadias, Zhang, Mamoulis and Tao, VLDB 2003: range search in a road network, by network distance.
+-- Source: Papadias, Zhang, Mamoulis and Tao, VLDB 2003: range search in a road network, by network
+-- distance.
 use Rattle.std.specs.Prelude.{◌≡◌, ℕ, ◌≤◌, ◌↔◌, Some, List, Contains, map}
 use Rattle.std.specs.List.Sorted.{IsStrictlySortedBy}
 use Rattle.std.specs.Ordering.{nat_cmp}

@@ -1,5 +1,6 @@
 -- What a client says of honest replies.
--- Source: Yiu, Lin and Mouratidis, ICDE 2010: a client accepts what an honest provider sends over what the owner signed.
+-- Source: Yiu, Lin and Mouratidis, ICDE 2010: a client accepts what an honest provider sends over
+-- what the owner signed.
 use Rattle.std.specs.Prelude.{ℕ, ◌≤◌, List}
 use Rattle.road_map.specs.declared.parts.Parts.{Parts}
 use Rattle.proof_octets.specs.declared.publication.Publication.{Publication}
@@ -11,13 +12,15 @@ use Rattle.near_client.specs.NearVerdicts.{NearAccepts}
 use Rattle.near_server.specs.NearHonesty.{IsNearHonest}
 
 -- octets that a client accepts, with exactly the nodes within the radius, each with its distance
-pub record AreAccepted (hash : List ℕ → List ℕ) (key octets : List ℕ) (q : NearQuery) (least : ℕ) (parts : Parts) : Type 0 where
+pub record AreAccepted (hash : List ℕ → List ℕ) (key octets : List ℕ) (q : NearQuery) (least : ℕ)
+    (parts : Parts) : Type 0 where
   pub accepted : Within
   pub accepts : NearAccepts hash key octets q least accepted
   pub within : AreWithin parts q accepted.nodes
 
 -- the honest reply to a query from a known node is accepted
 abbrev pub NearRepliesAreAccepted : Type 0
-NearRepliesAreAccepted = (hash sha : List ℕ → List ℕ) (key octets : List ℕ) (p : Publication) (q : NearQuery) (least : ℕ)
+NearRepliesAreAccepted = (hash sha : List ℕ → List ℕ) (key octets : List ℕ) (p : Publication)
+    (q : NearQuery) (least : ℕ)
     → IsSigned hash sha key p → least ≤ p.header.version → IsNearHonest hash sha p q octets
     → AreAccepted hash key octets q least p.parts

@@ -11,5 +11,3 @@ pub use near_model::{Mark, Marks, NearQuery, NearReply};
 pub use near_server::{NearRefusal, answer_near};
 
 mod laws;
-#[cfg(test)]
-mod tests;

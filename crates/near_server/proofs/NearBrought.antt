@@ -9,7 +9,7 @@ use Rattle.std.proofs.lemmas.Map.Keys.{IsDistinct-IsPermutation}
 use Rattle.sha2.specs.Sha256.{sha256}
 use Rattle.road_map.specs.declared.parts.Parts.{Parts}
 use Rattle.road_map.specs.Walks.{Knows}
-use Rattle.road_leaf.specs.declared.leaf.Kind as leaf_kinds
+use Rattle.road_leaf.specs.declared.leaf.LeafKind as leaf_kinds
 use Rattle.road_leaf.specs.declared.leaf.NodeLeaf.{NodeLeaf}
 use Rattle.road_leaf.specs.Leaves.{node_leaf, node_leaf_text}
 use Rattle.book_model.specs.declared.settings.Numbers.{Numbers}
@@ -89,7 +89,7 @@ good hash k ids b header signature size br known header_is good_header short =
       header = subst IsGoodHeader (sym header_is) good_header;
       signature = short;
       nodes = placing (length k.order) (length b.nodes) b.places (omega (arith, few)) br.rising br.small one_each;
-      leaves = subst (λ (l : leaf_kinds.Kind). All (node_leaf l).Fits b.nodes) (sym (ap leaf_kind header_is ∙ kind_is hash k kept)) br.fit;
+      leaves = subst (λ (l : leaf_kinds.LeafKind). All (node_leaf l).Fits b.nodes) (sym (ap leaf_kind header_is ∙ kind_is hash k kept)) br.fit;
       cover = subst IsCover (sym br.cover) (cover_good hash k.settings.fan (node_texts k.nodes) b.places size range.fan range.fan_max (omega (arith, texts, few)) (subst (λ n. IsRising n b.places) (sym texts) br.rising));
     }
 

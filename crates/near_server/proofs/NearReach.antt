@@ -13,7 +13,7 @@ use Rattle.road_search.specs.Nearness.{is_within}
 use Rattle.road_search.specs.OverMap.{map_ways}
 use Rattle.road_search.specs.Passing.{Reaches, IsLeastPassing}
 use Rattle.road_search.proofs.OverMapLaws.{joins_reaches, joined_known}
-use Rattle.road_search.proofs.WholeLaws.{whole_same, least_higher}
+use Rattle.road_search.proofs.WholeMapLaws.{whole_same, least_higher}
 use Rattle.near_model.specs.declared.query.NearQuery.{NearQuery}
 use Rattle.near_model.specs.Radius.{IsWithin}
 use Rattle.route_server.proofs.Answering.{all_from_contains}

@@ -1,6 +1,6 @@
 -- The honest reply to a query for what lies within a radius.
--- Source: Papadias, Zhang, Mamoulis and Tao, VLDB 2003 (range search in a road network), and Yiu, Lin and
--- Mouratidis, ICDE 2010 (what an honest provider sends: tuples and the integrity proof).
+-- Source: Papadias, Zhang, Mamoulis and Tao, VLDB 2003 (range search in a road network), and Yiu,
+-- Lin and Mouratidis, ICDE 2010 (what an honest provider sends: tuples and the integrity proof).
 use Rattle.std.specs.Prelude.{◌≡◌, ◌↔◌, ℕ, List, length, Contains, nat_eq}
 use Rattle.std.specs.List.{IsDistinct}
 use Rattle.sha2.specs.Sha256.{sha256}
@@ -21,7 +21,8 @@ use Rattle.near_server.specs.declared.errors.NearRefusal.TheVariants.{UnknownNod
 
 -- a reply with this publication's header and signature: exactly the leaves of the nodes within the
 -- radius, at their places, and the cover of these places
-pub record IsNearReply (hash : List ℕ → List ℕ) (order : List ℕ) (b : Book) (p : Publication) (q : NearQuery) (a : NearReply) : Type 0 where
+pub record IsNearReply (hash : List ℕ → List ℕ) (order : List ℕ) (b : Book) (p : Publication)
+    (q : NearQuery) (a : NearReply) : Type 0 where
   pub header : a.header ≡ p.header
   pub signature : a.signature ≡ p.signature
   pub rising : IsRising (length order) a.places
@@ -31,7 +32,8 @@ pub record IsNearReply (hash : List ℕ → List ℕ) (order : List ℕ) (b : Bo
   pub cover : a.cover ≡ cover_of hash (node_texts (leaves_of b order)) p.header.fan a.places
 
 -- octets that spell the honest reply to a query from a known node, over the book of a publication
-pub record IsNearHonest (hash sha : List ℕ → List ℕ) (p : Publication) (q : NearQuery) (octets : List ℕ) : Type 0 where
+pub record IsNearHonest (hash sha : List ℕ → List ℕ) (p : Publication) (q : NearQuery)
+    (octets : List ℕ) : Type 0 where
   pub known : Knows p.parts q.from
   pub kind : Kind
   pub book : Book

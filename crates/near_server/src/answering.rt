@@ -67,7 +67,8 @@ pub fn answer_near<H: Hasher>(
     query: NearQuery,
 ) -> Result<Vec<u8>, NearRefusal>
     requires { length held.now.signature ≤ 1452 }
-    ensures honest { IfOk result (λ octets. IsNearHonest H.hash sha256 (publication_in H.hash held.now) query octets.items) }
+    ensures honest { IfOk result (λ octets.
+        IsNearHonest H.hash sha256 (publication_in H.hash held.now) query octets.items) }
     ensures refused { IfErr result (WhyNot held.now.map.parts query) }
 {
     near_range_laws();

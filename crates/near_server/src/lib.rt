@@ -8,5 +8,3 @@ pub use errors::NearRefusal;
 mod answering;
 mod errors;
 mod reaching;
-#[cfg(test)]
-mod tests;

@@ -7,7 +7,7 @@ ghost use Rattle.near_model.specs.Radius.{IsWithin};
 use near_model::NearQuery;
 use octet_text::NoMemory;
 use road_map::{Map, map_laws};
-use road_search::{Whole, search};
+use road_search::{WholeMap, search};
 use std::alloc::Global;
 
 // One more than a radius, but for the greatest one, which no distance comes near.
@@ -24,12 +24,13 @@ pub(crate) fn ids_within(alloc: Global, map: &Map, query: NearQuery) -> Result<V
     requires { Knows map.now.parts query.from }
     ensures distinct { IfOk result (λ ids. IsDistinct nat_eq ids.items) }
     ensures known { IfOk result (λ ids. All (Knows map.now.parts) ids.items) }
-    ensures same { IfOk result (λ ids. (id : ℕ) → Contains ids.items id ↔ IsWithin map.now.parts query id) }
+    ensures same { IfOk result (λ ids. (id : ℕ) → Contains ids.items id ↔
+        IsWithin map.now.parts query id) }
 {
     map_laws();
     let _parts = map.parts();
     let limit = limit_above(query.radius);
-    let labels = search(alloc, &Whole { map }, query.from, limit)?;
+    let labels = search(alloc, &WholeMap { map }, query.from, limit)?;
     let ids = labels.near(alloc, query.radius)?;
     Ok(ids)
 }

@@ -3,28 +3,28 @@ use Rattle.std.proofs.Common.{◌≡◌, ℕ, List, IfSome, IfErr, subst}
 use Rattle.std.specs.declared.option.Option.{Option}
 use Rattle.std.specs.declared.result.Result.{Result}
 use Rattle.std.specs.declared.result.Result.TheVariants.{Ok, Err}
-use Rattle.road_io.specs.Contents.{Shelf}
+use Rattle.road_io.specs.Contents.{Folder}
 use Rattle.proof_octets.specs.declared.publication.Publication.{Publication}
 use Rattle.near_model.specs.declared.query.NearQuery.{NearQuery}
 use Rattle.command_files.specs.Reading.{publication_at}
 use Rattle.command_files.specs.Endings.{Promises, TellsNone, NoDisk, NoEnd, WhyNot, Writes}
 use Rattle.command_files.specs.declared.fault.Fault.{Fault}
-use Rattle.command_files.specs.declared.ended.Verdict.{Verdict}
-use Rattle.command_files.specs.declared.ended.Verdict.TheVariants.{Done}
+use Rattle.command_files.specs.declared.ended.Conclusion.{Conclusion}
+use Rattle.command_files.specs.declared.ended.Conclusion.TheVariants.{Done}
 use Rattle.command_files.proofs.Written.{CallsFor, over, reads, refused, written, why_map}
 use Rattle.command_books.specs.Installing.{EndsInstalling, IsInstallable}
 use Rattle.command_books.proofs.Installings.{installed, not_installed}
 use Rattle.near_server_commands.specs.NearReaching.{EndsNear, EndsReach, ends_reach}
 
-module _ (files : Option Shelf) (name : List ℕ) (p : Publication) (q : NearQuery) (l l' k k' : ℕ) (read : IfSome files (λ shelf. publication_at shelf name ≡ Ok p)) (old : Option (List ℕ)) where
+module _ (files : Option Folder) (name : List ℕ) (p : Publication) (q : NearQuery) (l l' k k' : ℕ) (read : IfSome files (λ folder. publication_at folder name ≡ Ok p)) (old : Option (List ℕ)) where
   -- what the file of a publication calls for
-  calls : (o : Result Verdict Fault) (text : List ℕ) → EndsReach q p o text → CallsFor (ends_reach name q) files o text
+  calls : (o : Result Conclusion Fault) (text : List ℕ) → EndsReach q p o text → CallsFor (ends_reach name q) files o text
   calls o text h =
-      over files (λ shelf. publication_at shelf name ≡ Ok p) (λ shelf. ends_reach name q shelf o text)
-      (λ shelf is. reads (publication_at shelf name) p (EndsReach q) o text is h) read
+      over files (λ folder. publication_at folder name ≡ Ok p) (λ folder. ends_reach name q folder o text)
+      (λ folder is. reads (publication_at folder name) p (EndsReach q) o text is h) read
 
   -- a reply that was written
-  pub reply_written : (new : Option (List ℕ)) (o : Result Verdict Fault) (text : List ℕ) → EndsReach q p (Ok Done) text → Writes (Ok Done) text old new k k' o → Promises (ends_reach name q) TellsNone NoDisk files l l' old new k k' o
+  pub reply_written : (new : Option (List ℕ)) (o : Result Conclusion Fault) (text : List ℕ) → EndsReach q p (Ok Done) text → Writes (Ok Done) text old new k k' o → Promises (ends_reach name q) TellsNone NoDisk files l l' old new k k' o
   reply_written new o text h w = written (ends_reach name q) TellsNone NoDisk files l l' k k' old (EndsReach q p) calls new (Ok Done) o text tt h w
 
   -- a publication that is not installed, or an unknown node

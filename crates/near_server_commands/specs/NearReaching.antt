@@ -2,7 +2,7 @@
 use Rattle.std.specs.Prelude.{◌≡◌, ℕ, List, []}
 use Rattle.std.specs.declared.result.Result.TheVariants.{Ok, Err}
 use Rattle.sha2.specs.Sha256.{sha256}
-use Rattle.road_io.specs.Contents.{Shelf}
+use Rattle.road_io.specs.Contents.{Folder}
 use Rattle.road_map.specs.Walks.{Knows}
 use Rattle.proof_octets.specs.declared.publication.Publication.{Publication}
 use Rattle.near_model.specs.declared.query.NearQuery.{NearQuery}
@@ -10,10 +10,11 @@ use Rattle.near_server.specs.NearHonesty.{IsNearHonest}
 use Rattle.command_files.specs.Reading.{publication_at}
 use Rattle.command_files.specs.Endings.{Ending, EndsReading}
 use Rattle.command_files.specs.declared.fault.Fault.TheVariants.{UnknownNode}
-use Rattle.command_files.specs.declared.ended.Verdict.TheVariants.{Done}
+use Rattle.command_files.specs.declared.ended.Conclusion.TheVariants.{Done}
 use Rattle.command_books.specs.Installing.{EndsInstalling}
 
--- over an installed publication: the honest reply, or nothing where no node has the id that was asked about
+-- over an installed publication: the honest reply, or nothing where no node has the id that was
+-- asked about
 abbrev pub EndsNear : NearQuery → Publication → Ending
 EndsNear q p (Ok Done) text = IsNearHonest sha256 sha256 p q text
 EndsNear q p (Err (UnknownNode id)) text = (id ≡ q.from) × (¬ Knows p.parts q.from) × (text ≡ [])
@@ -24,5 +25,5 @@ abbrev pub EndsReach : NearQuery → Publication → Ending
 EndsReach q p = EndsInstalling p (EndsNear q p)
 
 -- the same over the publication file of this name
-abbrev pub ends_reach : List ℕ → NearQuery → Shelf → Ending
-ends_reach publication q shelf = EndsReading (publication_at shelf publication) (EndsReach q)
+abbrev pub ends_reach : List ℕ → NearQuery → Folder → Ending
+ends_reach publication q folder = EndsReading (publication_at folder publication) (EndsReach q)

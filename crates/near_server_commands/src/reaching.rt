@@ -2,13 +2,13 @@
 
 ghost use Rattle.std.specs.Prelude.{◌≡◌, ◌≤◌, length, IfOk, IfErr, Ok};
 ghost use Rattle.command_files.specs.Endings.{Promises, TellsNone, NoDisk, WhyNot};
-ghost use Rattle.command_files.specs.declared.ended.Verdict.TheVariants.{Done};
+ghost use Rattle.command_files.specs.declared.ended.Conclusion.TheVariants.{Done};
 ghost use Rattle.sha2.specs.Sha256.{sha256};
 ghost use Rattle.route_server.specs.Keeping.{publication_in};
 ghost use Rattle.near_server_commands.specs.NearReaching.{EndsNear, EndsReach, ends_reach};
 
 use command_books::install;
-use command_files::{Fault, Verdict, load_publication, write_text};
+use command_files::{Conclusion, Fault, load_publication, write_text};
 use near_model::NearQuery;
 use near_server::{NearRefusal, answer_near};
 use octet_text::Sha;
@@ -24,7 +24,7 @@ pub fn reach<L: Library, K: Sink>(
     sink: &mut K,
     publication: &str,
     query: NearQuery,
-) -> Result<Verdict, Fault>
+) -> Result<Conclusion, Fault>
     ensures { Promises (ends_reach publication.now query) TellsNone NoDisk
         (L.files library.old) (L.faults library.old) (L.faults library.new)
         (K.taken sink.old) (K.taken sink.new) (K.faults sink.old) (K.faults sink.new) result }
@@ -50,8 +50,10 @@ fn reply_over(alloc: Global, publication: Publication, query: NearQuery) -> Resu
 /// The reply over a book that is held.
 fn reply_of(alloc: Global, held: &Held<Sha>, query: NearQuery) -> Result<Vec<u8>, Fault>
     requires { length held.now.signature ≤ 1452 }
-    ensures replied { IfOk result (λ text. EndsNear query (publication_in sha256 held.now) (Ok Done) text.items) }
-    ensures refused { IfErr result (WhyNot NoDisk (EndsNear query (publication_in sha256 held.now))) }
+    ensures replied { IfOk result (λ text.
+        EndsNear query (publication_in sha256 held.now) (Ok Done) text.items) }
+    ensures refused { IfErr result
+        (WhyNot NoDisk (EndsNear query (publication_in sha256 held.now))) }
 {
     match answer_near::<Sha>(alloc, held, query) {
         Ok(text) => Ok(text),

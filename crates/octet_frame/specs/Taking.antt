@@ -5,10 +5,15 @@ use Rattle.octet_frame.specs.Frames.{frame_of, IsPart, IsTooLong}
 use Rattle.octet_frame.specs.declared.reading.FrameError.{FrameError}
 use Rattle.octet_frame.specs.declared.reading.FrameError.TheVariants.{TooLong, Truncated, Source, Memory}
 
-abbrev pub TakesFrame : ℕ → Option (List ℕ) → Option (List ℕ) → List ℕ → Result Bool FrameError → Type 0
+abbrev pub TakesFrame : ℕ → Option (List ℕ) → Option (List ℕ) → List ℕ → Result Bool FrameError →
+    Type 0
 TakesFrame most left rest body (Ok false) = Consumes left rest [] × IsAtEnd rest
 TakesFrame most left rest body (Ok true) = (length body ≤ most) × Consumes left rest (frame_of body)
-TakesFrame most left rest body (Err TooLong) = (octets : List ℕ) × IsTooLong most octets × Consumes left rest octets
-TakesFrame most left rest body (Err Truncated) = (octets : List ℕ) × (0 < length octets) × IsPart most octets × Consumes left rest octets × IsAtEnd rest
-TakesFrame most left rest body (Err Source) = (octets : List ℕ) × IsPart most octets × Consumes left rest octets
-TakesFrame most left rest body (Err Memory) = (octets : List ℕ) × (length octets ≤ 4 + most) × Consumes left rest octets
+TakesFrame most left rest body (Err TooLong) = (octets : List ℕ) × IsTooLong most octets ×
+    Consumes left rest octets
+TakesFrame most left rest body (Err Truncated) = (octets : List ℕ) × (0 < length octets) ×
+    IsPart most octets × Consumes left rest octets × IsAtEnd rest
+TakesFrame most left rest body (Err Source) = (octets : List ℕ) × IsPart most octets ×
+    Consumes left rest octets
+TakesFrame most left rest body (Err Memory) = (octets : List ℕ) × (length octets ≤ 4 + most) ×
+    Consumes left rest octets

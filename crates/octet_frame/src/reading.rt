@@ -36,7 +36,8 @@ pub fn next_frame<S: Source>(
 ) -> Result<bool, FrameError>
     ensures takes { TakesFrame most (S.left source.old) (S.left source.new) body.new.items result }
     ensures later { S.faults source.old ≤ S.faults source.new }
-    ensures source { result ≡ Err FrameError.Source → Rose (S.faults source.old) (S.faults source.new) }
+    ensures source { result ≡ Err FrameError.Source →
+        Rose (S.faults source.old) (S.faults source.new) }
 {
     let size = match read_head(source) {
         Ok(Some(size)) => size,
@@ -67,7 +68,8 @@ enum BodyError {
 fn read_body<S: Source>(source: &mut S, size: usize, body: &mut Vec<u8>) -> Result<(), BodyError>
     ensures takes { TakesBody size (S.left source.old) (S.left source.new) body.new.items result }
     ensures later { S.faults source.old ≤ S.faults source.new }
-    ensures source { result ≡ Err BodyError.Source → Rose (S.faults source.old) (S.faults source.new) }
+    ensures source { result ≡ Err BodyError.Source →
+        Rose (S.faults source.old) (S.faults source.new) }
 {
     if body.resize(size, 0).is_err() {
         return Err(BodyError::Memory);
@@ -90,7 +92,8 @@ enum HeadError {
 fn read_head<S: Source>(source: &mut S) -> Result<Option<u32>, HeadError>
     ensures takes { TakesHead (S.left source.old) (S.left source.new) result }
     ensures later { S.faults source.old ≤ S.faults source.new }
-    ensures source { result ≡ Err HeadError.Source → Rose (S.faults source.old) (S.faults source.new) }
+    ensures source { result ≡ Err HeadError.Source →
+        Rose (S.faults source.old) (S.faults source.new) }
 {
     let mut head = [0u8; 4];
     match read_whole(source, &mut head) {

@@ -1,3 +1,4 @@
 pub mod OwnerLemmas
 pub mod PublishLemmas
 pub mod OneOwner
+pub mod SuccessionLemmas

@@ -1,4 +1,6 @@
 pub mod OwnerKey
+pub mod NextKey
+pub mod ChainLine
 pub mod OwnerDesk
 pub mod Publishing
 pub mod Signing

@@ -1,20 +1,23 @@
 -- What `desk` writes.
-use Rattle.std.specs.Prelude.{◌≡◌, ℕ, List}
+use Rattle.std.specs.Prelude.{◌≡◌, ℕ, ◌-◌, List}
 use Rattle.std.specs.declared.option.Option.{Option}
 use Rattle.std.specs.declared.result.Result.TheVariants.{Ok}
 use Rattle.std.specs.Option.{ForSome}
 use Rattle.lms_tree.specs.Signatures.{KeyOf, public_key}
-use Rattle.key_desk.specs.Layout.{slots_of, kind_at, keys_left}
+use Rattle.desk_areas.specs.Layout.{base_of, slots_of, keys_left}
 use Rattle.road_line.specs.DeskLine.{desk_line}
 use Rattle.command_desks.specs.Opening.{EndsOpening, IsKeyOn}
 use Rattle.command_files.specs.Endings.{Ending}
-use Rattle.command_files.specs.declared.ended.Verdict.TheVariants.{Done}
+use Rattle.command_files.specs.declared.ended.Conclusion.TheVariants.{Done}
 
--- the public key of the key that stands on the disk, how many of its one-time keys are left, and how many it has
+-- the public key of the key that stands in the last open area, how many of its one-time keys are
+-- left, and how many
+-- it has, without the last one, which is kept for the next key
 pub record IsDeskLine (image text : List ℕ) : Type 0 where
   pub key : KeyOf
   pub on_disk : IsKeyOn image key
-  pub line : text ≡ desk_line (public_key key) (keys_left image) (slots_of (kind_at image 0))
+  pub line : text ≡ desk_line (public_key key) (keys_left image (base_of image on_disk.area))
+      (slots_of key.kind - 1)
 
 -- the line is written of what the disk holds
 abbrev pub TellsDesk : Option (List ℕ) → Ending

@@ -8,38 +8,43 @@ use Rattle.hex.specs.Hex.{encode_lower}
 use Rattle.road_io.specs.declared.disk.Disk.{Ghosts}
 use Rattle.road_io.specs.Disk.{Stays}
 use Rattle.road_io.specs.Moments.{EachImage, AtEachMoment}
-use Rattle.road_io.specs.Contents.{Shelf}
+use Rattle.road_io.specs.Contents.{Folder}
 use Rattle.lms_tree.specs.Signatures.{public_key}
-use Rattle.key_desk.specs.Keys.{key_from}
+use Rattle.desk_areas.specs.Keys.{key_from}
 use Rattle.key_desk.specs.Desk.{IsBlank}
-use Rattle.key_desk.specs.Layout.{IsOpen}
+use Rattle.desk_areas.specs.Layout.{IsOpen}
 use Rattle.command_files.specs.HexFiles.{secret_at}
 use Rattle.command_files.specs.Endings.{Ending, EndsReading}
 use Rattle.command_files.specs.declared.fault.Fault.{Fault}
 use Rattle.command_files.specs.declared.fault.Fault.TheVariants.{Held}
-use Rattle.command_files.specs.declared.ended.Verdict.{Verdict}
-use Rattle.command_files.specs.declared.ended.Verdict.TheVariants.{Done}
+use Rattle.command_files.specs.declared.ended.Conclusion.{Conclusion}
+use Rattle.command_files.specs.declared.ended.Conclusion.TheVariants.{Done}
 
 -- the public key of a secret and a type, in lower case hex, and a line end
 abbrev pub key_line : ℕ → List ℕ → List ℕ
 key_line kind secret = encode_lower (public_key (key_from kind secret)) ++ codes "\n"
 
--- `key` with a secret: the line of the public key where the disk holds no key, and a refusal where it does
+-- `key` with a secret: the line of the public key where the disk holds no key, and a refusal where
+-- it does
 abbrev pub EndsKey : Option (List ℕ) → ℕ → List ℕ → Ending
-EndsKey content kind secret (Ok Done) text = ForSome content (λ c. IsOpen c → ⊥) × (text ≡ key_line kind secret)
+EndsKey content kind secret (Ok Done) text = ForSome content (λ c. IsOpen c → ⊥) ×
+    (text ≡ key_line kind secret)
 EndsKey content kind secret (Err Held) text = ForSome content IsOpen × (text ≡ [])
 EndsKey content kind secret outcome text = ⊥
 
 -- the same over the hex file of a secret
-abbrev pub ends_key : Option (List ℕ) → List ℕ → ℕ → Shelf → Ending
-ends_key content secret kind shelf = EndsReading (secret_at shelf secret) (EndsKey content kind)
+abbrev pub ends_key : Option (List ℕ) → List ℕ → ℕ → Folder → Ending
+ends_key content secret kind folder = EndsReading (secret_at folder secret) (EndsKey content kind)
 
--- in every image the gate is open, the block is that of the secret and the type, and no slot is spent
+-- in every image the gate is open, the block is that of the secret and the type, and no slot is
+-- spent
 abbrev pub MakesKey : {D : Type 0} → Ghosts D → D → ℕ → Result (List ℕ) Fault → Type 0
-MakesKey g disk kind secret = IfOk secret (λ secret. EachImage g disk (IsBlank (key_from kind secret)))
+MakesKey g disk kind secret = IfOk secret
+    (λ secret. EachImage g disk (IsBlank (key_from kind secret)))
 
 -- a key is made where the disk holds none, and nothing is changed where it holds one
-pub record KeepsKey {D : Type 0} (g : Ghosts D) (old new : D) (files : Option Shelf) (secret : List ℕ) (kind : ℕ) (outcome : Result Verdict Fault) : Type 0 where
-  pub made : OnOk outcome (IfSome files (λ shelf. MakesKey g new kind (secret_at shelf secret)))
+pub record KeepsKey {D : Type 0} (g : Ghosts D) (old new : D) (files : Option Folder)
+    (secret : List ℕ) (kind : ℕ) (outcome : Result Conclusion Fault) : Type 0 where
+  pub made : OnOk outcome (IfSome files (λ folder. MakesKey g new kind (secret_at folder secret)))
   pub held : ForSome (g.content old) IsOpen → AtEachMoment g old new Stays
   pub kept : ForSome (g.content old) (λ c. IsOpen c → outcome ≢ Ok Done)

@@ -1,5 +1,5 @@
 -- What `publish` does to the owner's disk.
-use Rattle.std.specs.Prelude.{◌≡◌, ◌⊎◌, ℕ, List, IfSome}
+use Rattle.std.specs.Prelude.{◌≡◌, ◌⊎◌, ℕ, ◌<◌, List, length, IfSome}
 use Rattle.std.specs.declared.option.Option.{Option}
 use Rattle.std.specs.declared.result.Result.{Result}
 use Rattle.std.specs.declared.result.Result.TheVariants.{Ok, Err}
@@ -11,71 +11,137 @@ use Rattle.book_model.specs.declared.settings.Settings.{Settings}
 use Rattle.road_io.specs.declared.disk.Disk.{Ghosts}
 use Rattle.road_io.specs.Disk.{Stays}
 use Rattle.road_io.specs.Moments.{EachImage, AtEachMoment}
-use Rattle.road_io.specs.Contents.{Shelf, AppendsFront}
-use Rattle.key_desk.specs.Layout.{gate_at, place_of, IsSigned}
+use Rattle.road_io.specs.Contents.{Folder, AppendsFront}
+use Rattle.mirror_out.specs.Mirrors.{Mirrors}
+use Rattle.publication_out.specs.Sent.{pieces_in, MirrorsFront}
+use Rattle.desk_areas.specs.Layout.{IsCurrent, gate_of, IsSigned}
 use Rattle.proof_octets.specs.declared.header.Header.{Header}
 use Rattle.proof_octets.specs.declared.publication.Publication.{Publication}
 use Rattle.proof_octets.specs.Headers.{header_text}
 use Rattle.proof_octets.specs.Publications.{publication_text}
 use Rattle.route_server.specs.Headers.{HasHeader}
-use Rattle.route_owner.specs.Published.{slot_of, SignsHeader}
+use Rattle.route_owner.specs.Published.{slot_in, SignsHeader}
 use Rattle.command_files.specs.Reading.{parts_at}
-use Rattle.command_desks.specs.Opening.{IsUsable}
+use Rattle.desk_areas.specs.Faults.{IsUsable}
 use Rattle.owner_commands.specs.Publishing.{IsPublicationOf}
 use Rattle.command_files.specs.declared.fault.Fault.{Fault}
-use Rattle.command_files.specs.declared.fault.Fault.TheVariants.{Sink}
-use Rattle.command_files.specs.declared.ended.Verdict.{Verdict}
+use Rattle.command_files.specs.declared.fault.Fault.TheVariants.{Sink, Disk, MirrorLost}
+use Rattle.command_files.specs.declared.ended.Conclusion.{Conclusion}
 
 -- ---- one signing
 
--- A publication's header stands in every image, in the slot that its signature names, and that slot was not spent
--- in what the disk read.
+-- A publication's header stands in every image, in the slot of the last open area that its
+-- signature names, and
+-- that slot was not spent in what the disk read.
 pub record StandsOnDisk {D : Type 0} (g : Ghosts D) (old new : D) (p : Publication) : Type 0 where
-  pub was_free : ForSome (g.content old) (λ c. gate_at c (place_of (slot_of p)) ≡ 0)
-  pub stands : EachImage g new (λ i. IsSigned i (slot_of p) (header_text p.header))
+  pub area : ℕ
+  pub current : EachImage g new (λ i. IsCurrent i area)
+  pub was_free : ForSome (g.content old) (λ c. gate_of c (slot_in area p) ≡ 0)
+  pub stands : EachImage g new (λ i. IsSigned i (slot_in area p) (header_text p.header))
 
--- the text of a publication whose header stands on the disk
-pub record IsSealedText {D : Type 0} (g : Ghosts D) (old new : D) (parts : Parts) (s : Settings) (text : List ℕ) : Type 0 where
-  pub publication : Publication
+-- the publication of parts and settings, whose header stands on the disk
+pub record IsSealedOnDisk {D : Type 0} (g : Ghosts D) (old new : D) (parts : Parts) (s : Settings)
+    (p : Publication) : Type 0 where
   pub header : Header
   pub of_book : HasHeader sha256 sha256 parts s header
   pub usable : ForSome (g.content old) IsUsable
-  pub is : IsPublicationOf (g.content old) parts s header publication
-  pub on_disk : StandsOnDisk g old new publication
-  pub spelled : text ≡ publication_text publication
+  pub is : IsPublicationOf (g.content old) parts s header p
+  pub on_disk : StandsOnDisk g old new p
 
 -- no image changes, or one slot alone, by the header of parts and settings
 abbrev pub SignsAtMostHeader : {D : Type 0} → Ghosts D → D → D → Parts → Settings → Type 0
-SignsAtMostHeader g old new parts s = AtEachMoment g old new Stays ⊎ SignsHeader g old new sha256 parts s
+SignsAtMostHeader g old new parts s = AtEachMoment g old new Stays ⊎
+    SignsHeader g old new sha256 parts s
 
 -- ---- a run
 
--- what was written is all of a text where the work was done, and a front of it where the sink failed; this is
--- said of no other end
-abbrev pub Wrote : Result Verdict Fault → Option (List ℕ) → Option (List ℕ) → List ℕ → Type 0
+-- what was written is all of a text where the work was done, though a mirror may be lost, and a
+-- front of it where
+-- the sink failed; this is said of no other end
+abbrev pub Wrote : Result Conclusion Fault → Option (List ℕ) → Option (List ℕ) → List ℕ → Type 0
 Wrote (Ok verdict) old new text = Appends old new text
+Wrote (Err MirrorLost) old new text = Appends old new text
 Wrote outcome old new text = AppendsFront old new text
 
 -- this holds of an end at which something may have been written
-abbrev pub OnWriting : Result Verdict Fault → Type 0 → Type 0
+abbrev pub OnWriting : Result Conclusion Fault → Type 0 → Type 0
 OnWriting (Ok verdict) P = P
 OnWriting (Err Sink) P = P
+OnWriting (Err MirrorLost) P = P
 OnWriting (Err fault) P = Unit {0}
 
 -- what was written is of a publication whose header stands on the disk
-pub record WroteSealed {D : Type 0} (g : Ghosts D) (old new : D) (taken_before taken_now : Option (List ℕ)) (outcome : Result Verdict Fault) : Type 0 where
+pub record WroteSealed {D : Type 0} (g : Ghosts D) (old new : D)
+    (taken_before taken_now : Option (List ℕ)) (outcome : Result Conclusion Fault) : Type 0 where
   pub publication : Publication
   pub on_disk : StandsOnDisk g old new publication
   pub written : Wrote outcome taken_before taken_now (publication_text publication)
 
-abbrev pub SealsWhatItWrites : {D : Type 0} → Ghosts D → D → D → Option (List ℕ) → Option (List ℕ) → Result Verdict Fault → Type 0
-SealsWhatItWrites g old new taken_before taken_now outcome = OnWriting outcome (WroteSealed g old new taken_before taken_now outcome)
+abbrev pub SealsWhatItWrites : {D : Type 0} → Ghosts D → D → D → Option (List ℕ) → Option (List ℕ) →
+    Result Conclusion Fault → Type 0
+SealsWhatItWrites g old new taken_before taken_now outcome = OnWriting outcome
+    (WroteSealed g old new taken_before taken_now outcome)
+
+-- ---- mirrors
+
+-- this holds of every other end
+abbrev pub OnNoWriting : Result Conclusion Fault → Type 0 → Type 0
+OnNoWriting (Ok verdict) P = Unit {0}
+OnNoWriting (Err Sink) P = Unit {0}
+OnNoWriting (Err MirrorLost) P = Unit {0}
+OnNoWriting (Err fault) P = P
+
+-- M is a mirror, of which octets, label, puts and room tell what it holds, its label, and what it
+-- promises
+module _ {M : Type 0} (octets : M → Option (List ℕ)) (label puts room : M → ℕ) where
+  -- The mirrors that stay took all of a text, each of the others had promised less: all stay where
+  -- the work was done,
+  -- and not all where one is said to be lost. Where the sink failed, those that stay took a front
+  -- of it.
+  abbrev pub Mirrored : Result Conclusion Fault → List ℕ → List M → List M → Type 0
+  Mirrored (Ok verdict) text old kept = Mirrors octets label puts room
+      (pieces_in text) text old kept × (length kept ≡ length old)
+  Mirrored (Err MirrorLost) text old kept = Mirrors octets label puts room
+      (pieces_in text) text old kept × (length kept < length old)
+  Mirrored outcome text old kept = MirrorsFront octets label puts room text old kept
+
+  -- what the sink and the mirrors took is of one publication, whose header stands on the disk
+  pub record SpreadSealed {D : Type 0} (g : Ghosts D) (before now : D)
+      (taken_before taken_now : Option (List ℕ)) (old kept : List M)
+      (outcome : Result Conclusion Fault) : Type 0 where
+    pub publication : Publication
+    pub on_disk : StandsOnDisk g before now publication
+    pub written : Wrote outcome taken_before taken_now (publication_text publication)
+    pub mirrored : Mirrored outcome (publication_text publication) old kept
+
+  -- so it is where something may have been written, and else the mirrors stay as they are
+  pub record SealsWhatItMirrors {D : Type 0} (g : Ghosts D) (before now : D)
+      (taken_before taken_now : Option (List ℕ)) (old kept : List M)
+      (outcome : Result Conclusion Fault) : Type 0 where
+    pub sealed : OnWriting outcome
+        (SpreadSealed g before now taken_before taken_now old kept outcome)
+    pub still : OnNoWriting outcome (kept ≡ old)
 
 -- no image changes, or one slot alone, by the header of the file's parts and the settings
-pub record SignsFile {D : Type 0} (g : Ghosts D) (old new : D) (files : Option Shelf) (roads : List ℕ) (s : Settings) : Type 0 where
+pub record SignsFile {D : Type 0} (g : Ghosts D) (old new : D) (files : Option Folder)
+    (roads : List ℕ) (s : Settings) : Type 0 where
   pub parts : Parts
-  pub of_file : IfSome files (λ shelf. parts_at shelf roads ≡ Ok parts)
+  pub of_file : IfSome files (λ folder. parts_at folder roads ≡ Ok parts)
   pub one : SignsHeader g old new sha256 parts s
 
-abbrev pub SignsAtMostOne : {D : Type 0} → Ghosts D → D → D → Option Shelf → List ℕ → Settings → Type 0
-SignsAtMostOne g old new files roads s = AtEachMoment g old new Stays ⊎ SignsFile g old new files roads s
+abbrev pub SignsAtMostOne : {D : Type 0} → Ghosts D → D → D → Option Folder → List ℕ → Settings →
+    Type 0
+SignsAtMostOne g old new files roads s = AtEachMoment g old new Stays ⊎
+    SignsFile g old new files roads s
+
+-- ---- a refusal
+
+-- A publication that was refused before the signing began leaves the disk: no image changes at any
+-- moment. That is where the road file is missing or has a fault, the desk does not open, the settings
+-- have no book, all one-time keys were used, or memory is short. Nothing is said here of a sink or a
+-- disk that failed or a mirror that was lost.
+abbrev pub StaysRefused : {D : Type 0} → Ghosts D → D → D → Fault → Type 0
+StaysRefused g old new Sink = Unit {0}
+StaysRefused g old new Disk = Unit {0}
+StaysRefused g old new MirrorLost = Unit {0}
+StaysRefused g old new fault = AtEachMoment g old new Stays

@@ -6,17 +6,22 @@ ghost use Rattle.road_io.specs.Causes.{Rose};
 ghost use Rattle.road_io.specs.Disk.{Stays};
 ghost use Rattle.road_io.specs.Moments.{AtEachMoment};
 ghost use Rattle.command_files.specs.Endings.{PromisesWithoutFiles, WhyNot, NoEnd};
-ghost use Rattle.command_desks.specs.Opening.{EndsOpening, IsUsable};
+ghost use Rattle.desk_areas.specs.Faults.{IsUsable};
+ghost use Rattle.command_desks.specs.Opening.{EndsOpening};
 ghost use Rattle.owner_commands.specs.OwnerDesk.{IsDeskLine, EndsDesk};
 
 use command_desks::open_desk;
-use command_files::{Fault, Verdict, write_text};
+use command_files::{Conclusion, Fault, write_text};
 use road_io::{Disk, Sink};
 use road_line::line_of_desk;
 use std::alloc::Global;
 
 /// Writes the owner's public key, and how many of its one-time keys are left.
-pub fn desk<K: Sink, D: Disk>(alloc: Global, sink: &mut K, disk: &mut D) -> Result<Verdict, Fault>
+pub fn desk<K: Sink, D: Disk>(
+    alloc: Global,
+    sink: &mut K,
+    disk: &mut D,
+) -> Result<Conclusion, Fault>
     ensures promised { PromisesWithoutFiles (EndsDesk (D.content disk.old)) (Rose (D.faults disk.old) (D.faults disk.new))
         (K.taken sink.old) (K.taken sink.new) (K.faults sink.old) (K.faults sink.new) result }
     ensures stays { AtEachMoment D.Disk disk.old disk.new Stays }
@@ -28,8 +33,11 @@ pub fn desk<K: Sink, D: Disk>(alloc: Global, sink: &mut K, disk: &mut D) -> Resu
 /// The line of the desk over the key on the disk.
 fn line_on<D: Disk>(alloc: Global, disk: &mut D) -> Result<Vec<u8>, Fault>
     ensures usable { IfOk result (λ line. ForSome (D.content disk.old) IsUsable) }
-    ensures line { IfOk result (λ line. ForSome (D.content disk.old) (λ c. IsDeskLine c line.items)) }
-    ensures refused { IfErr result (WhyNot (Rose (D.faults disk.old) (D.faults disk.new)) (EndsOpening (D.content disk.old) NoEnd)) }
+    ensures line { IfOk result (λ line.
+        ForSome (D.content disk.old) (λ c. IsDeskLine c line.items)) }
+    ensures refused { IfErr result
+        (WhyNot (Rose (D.faults disk.old) (D.faults disk.new))
+        (EndsOpening (D.content disk.old) NoEnd)) }
     ensures stays { AtEachMoment D.Disk disk.old disk.new Stays }
 {
     let desk = open_desk(alloc, disk)?;

@@ -7,15 +7,15 @@ ghost use Rattle.road_io.specs.Causes.{Rose};
 ghost use Rattle.road_io.specs.Disk.{Stays};
 ghost use Rattle.road_io.specs.Moments.{AtEachMoment, EachImage};
 ghost use Rattle.key_desk.specs.Desk.{IsBlank};
-ghost use Rattle.key_desk.specs.Keys.{key_from};
-ghost use Rattle.key_desk.specs.Layout.{IsOpen};
+ghost use Rattle.desk_areas.specs.Keys.{key_from};
+ghost use Rattle.desk_areas.specs.Layout.{IsOpen};
 ghost use Rattle.key_desk.specs.Stands.{KeepsStanding};
 ghost use Rattle.road_command.specs.View.{type_of};
 ghost use Rattle.command_files.specs.HexFiles.{secret_at};
 ghost use Rattle.command_files.specs.Endings.{Promises, TellsNone, WhyNot};
 ghost use Rattle.owner_commands.specs.OwnerKey.{EndsKey, MakesKey, ends_key};
 
-use command_files::{Fault, Verdict, load_hex, write_text};
+use command_files::{Conclusion, Fault, load_hex, write_text};
 use key_desk::{Desk, StartError};
 use road_command::KeyKind;
 use road_io::{Disk, Library, Sink};
@@ -29,13 +29,15 @@ pub fn key<L: Library, K: Sink, D: Disk>(
     disk: &mut D,
     secret: &str,
     kind: KeyKind,
-) -> Result<Verdict, Fault>
+) -> Result<Conclusion, Fault>
     ensures promised { Promises (ends_key (D.content disk.old) secret.now (type_of kind)) TellsNone (Rose (D.faults disk.old) (D.faults disk.new))
         (L.files library.old) (L.faults library.old) (L.faults library.new)
         (K.taken sink.old) (K.taken sink.new) (K.faults sink.old) (K.faults sink.new) result }
-    ensures made { OnOk result (IfSome (L.files library.old) (λ shelf. MakesKey D.Disk disk.new (type_of kind) (secret_at shelf secret.now))) }
-    ensures held { ForSome (D.content disk.old) IsOpen → AtEachMoment D.Disk disk.old disk.new Stays }
-    ensures kept { ForSome (D.content disk.old) (λ c. IsOpen c → result ≢ Ok Verdict.Done) }
+    ensures made { OnOk result (IfSome (L.files library.old)
+        (λ folder. MakesKey D.Disk disk.new (type_of kind) (secret_at folder secret.now))) }
+    ensures held { ForSome (D.content disk.old) IsOpen →
+        AtEachMoment D.Disk disk.old disk.new Stays }
+    ensures kept { ForSome (D.content disk.old) (λ c. IsOpen c → result ≢ Ok Conclusion.Done) }
     ensures stands { KeepsStanding D.Disk disk.old disk.new }
 {
     let secret: [u8; 48] = load_hex(alloc, library, secret)?;
@@ -50,10 +52,15 @@ fn make_key<D: Disk>(
     secret: &[u8; 48],
     kind: KeyKind,
 ) -> Result<[u8; 113], Fault>
-    ensures line { IfOk result (λ line. EndsKey (D.content disk.old) (type_of kind) secret.now (Ok Verdict.Done) line) }
-    ensures made { OnOk result (EachImage D.Disk disk.new (IsBlank (key_from (type_of kind) secret.now))) }
-    ensures refused { IfErr result (WhyNot (Rose (D.faults disk.old) (D.faults disk.new)) (EndsKey (D.content disk.old) (type_of kind) secret.now)) }
-    ensures held { ForSome (D.content disk.old) IsOpen → AtEachMoment D.Disk disk.old disk.new Stays }
+    ensures line { IfOk result (λ line.
+        EndsKey (D.content disk.old) (type_of kind) secret.now (Ok Conclusion.Done) line) }
+    ensures made { OnOk result (EachImage D.Disk disk.new
+        (IsBlank (key_from (type_of kind) secret.now))) }
+    ensures refused { IfErr result
+        (WhyNot (Rose (D.faults disk.old) (D.faults disk.new))
+        (EndsKey (D.content disk.old) (type_of kind) secret.now)) }
+    ensures held { ForSome (D.content disk.old) IsOpen →
+        AtEachMoment D.Disk disk.old disk.new Stays }
     ensures stands { KeepsStanding D.Disk disk.old disk.new }
 {
     match Desk::create(alloc, disk, kind.number(), secret) {
@@ -66,7 +73,7 @@ fn make_key<D: Disk>(
 }
 
 /// The line of a public key: lower case hex, and a line end.
-fn line_of_key(public: &[u8; 56]) -> [u8; 113]
+pub(crate) fn line_of_key(public: &[u8; 56]) -> [u8; 113]
     ensures { result ≡ encode_lower public.now ++ codes "\n" }
 {
     let mut line = [b'\n'; 113];

@@ -3,57 +3,78 @@
 ghost use Rattle.std.specs.Prelude.{IfOk, IfErr};
 ghost use Rattle.road_io.specs.Causes.{Rose};
 ghost use Rattle.key_desk.specs.Stands.{KeepsStanding};
-ghost use Rattle.command_files.specs.Endings.{Promises, TellsNone, WhyNot};
-ghost use Rattle.owner_commands.specs.Publishing.{EndsPublish, ends_publish};
-ghost use Rattle.owner_commands.specs.Signing.{SignsAtMostOne, SignsAtMostHeader, IsSealedText, SealsWhatItWrites};
+ghost use Rattle.command_files.specs.Endings.{Promises, WhyNot};
+ghost use Rattle.owner_commands.specs.Publishing.{EndsPublish, TellsLost, ends_publish};
+ghost use Rattle.owner_commands.specs.Signing.{SignsAtMostOne, SignsAtMostHeader, StaysRefused, IsSealedOnDisk, SealsWhatItMirrors, SealsWhatItWrites};
 
 use book_model::Settings;
 use command_books::not_built;
 use command_desks::open_desk;
-use command_files::{Fault, Verdict, load_parts, write_text};
+use command_files::{Conclusion, Fault, load_parts};
 use key_desk::DeskError;
+use mirror_out::{Mirror, Spreader};
 use octet_text::Sha;
+use proof_octets::Publication;
+use publication_out::send;
 use road_io::{Disk, Library, Sink};
 use road_map::Parts;
-use route_owner::{PublishError, publish_text};
+use route_owner::PublishError;
 use std::alloc::Global;
 
-/// Signs the header of a file's map under settings, and writes the publication.
-pub fn publish<L: Library, K: Sink, D: Disk>(
+/// Signs the header of a file's map under settings, and hands the publication on in pieces of 4,096 octets as
+/// they are made, each to the sink and then to the mirrors. What drops a mirror is made before anything is
+/// signed.
+pub fn publish<L: Library, K: Sink, D: Disk, M: Mirror>(
     alloc: Global,
     library: &mut L,
     sink: &mut K,
     disk: &mut D,
+    mirrors: &mut Vec<M>,
     roads: &str,
     settings: &Settings,
-) -> Result<Verdict, Fault>
-    ensures promised { Promises (ends_publish (D.content disk.old) roads.now settings.now) TellsNone (Rose (D.faults disk.old) (D.faults disk.new))
+) -> Result<Conclusion, Fault>
+    ensures promised { Promises (ends_publish (D.content disk.old) roads.now settings.now) TellsLost (Rose (D.faults disk.old) (D.faults disk.new))
         (L.files library.old) (L.faults library.old) (L.faults library.new)
         (K.taken sink.old) (K.taken sink.new) (K.faults sink.old) (K.faults sink.new) result }
-    ensures sealed { SealsWhatItWrites D.Disk disk.old disk.new (K.taken sink.old) (K.taken sink.new) result }
-    ensures signs { SignsAtMostOne D.Disk disk.old disk.new (L.files library.old) roads.now settings.now }
+    ensures sealed { SealsWhatItWrites D.Disk disk.old disk.new (K.taken sink.old)
+        (K.taken sink.new) result }
+    ensures mirrored { SealsWhatItMirrors M.octets M.named M.puts M.room D.Disk disk.old disk.new
+        (K.taken sink.old) (K.taken sink.new) mirrors.old.items mirrors.new.items result }
+    ensures signs { SignsAtMostOne D.Disk disk.old disk.new
+        (L.files library.old) roads.now settings.now }
+    ensures untouched { IfErr result (StaysRefused D.Disk disk.old disk.new) }
     ensures stands { KeepsStanding D.Disk disk.old disk.new }
 {
     let parts = load_parts(alloc, library, roads)?;
-    let text = signed_text(alloc, disk, parts, settings)?;
-    write_text(sink, &text)
+    let Ok(mut spreader) = Spreader::new(alloc, mirrors) else {
+        return Err(Fault::Memory);
+    };
+    let publication = signed(alloc, disk, parts, settings)?;
+    match send(&publication, sink, &mut spreader, mirrors) {
+        Err(_) => Err(Fault::Sink),
+        Ok(()) if spreader.lost().is_empty() => Ok(Conclusion::Done),
+        Ok(()) => Err(Fault::MirrorLost),
+    }
 }
 
-/// The octets of the publication of parts and settings, signed by the key on the disk.
-fn signed_text<D: Disk>(
+/// The publication of parts and settings, signed by the key on the disk.
+fn signed<D: Disk>(
     alloc: Global,
     disk: &mut D,
     parts: Parts,
     settings: &Settings,
-) -> Result<Vec<u8>, Fault>
-    ensures sealed { IfOk result (λ text. IsSealedText D.Disk disk.old disk.new parts settings.now text.items) }
-    ensures refused { IfErr result (WhyNot (Rose (D.faults disk.old) (D.faults disk.new)) (EndsPublish (D.content disk.old) settings.now parts)) }
+) -> Result<Publication, Fault>
+    ensures sealed { IfOk result (IsSealedOnDisk D.Disk disk.old disk.new parts settings.now) }
+    ensures refused { IfErr result
+        (WhyNot (Rose (D.faults disk.old) (D.faults disk.new))
+        (EndsPublish (D.content disk.old) settings.now parts)) }
     ensures signs { SignsAtMostHeader D.Disk disk.old disk.new parts settings.now }
+    ensures untouched { IfErr result (StaysRefused D.Disk disk.old disk.new) }
     ensures stands { KeepsStanding D.Disk disk.old disk.new }
 {
     let mut desk = open_desk(alloc, disk)?;
-    match publish_text::<Sha, D>(alloc, &mut desk, disk, parts, settings) {
-        Ok(text) => Ok(text),
+    match route_owner::publish::<Sha, D>(alloc, &mut desk, disk, parts, settings) {
+        Ok(publication) => Ok(publication),
         Err(PublishError::Build(fault)) => Err(not_built(fault)),
         Err(PublishError::Desk(DeskError::KeysUsedUp)) => Err(Fault::KeysUsedUp),
         Err(PublishError::Desk(DeskError::DiskFault)) => Err(Fault::Disk),

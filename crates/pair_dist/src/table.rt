@@ -45,7 +45,8 @@ fn add_row(
 ) -> Result<(), AllocError>
     requires places { ArePlaces survey.now.map.order chosen.now places.now }
     requires measures { Measures survey.now a }
-    ensures { OnOk result (leaves.new.items ≡ leaves.old.items ++ map (pair_leaf (distance survey.now.map.parts) a) (drop first chosen.now)) }
+    ensures { OnOk result (leaves.new.items ≡ leaves.old.items ++ map
+        (pair_leaf (distance survey.now.map.parts) a) (drop first chosen.now)) }
 {
     for place in first..chosen.len() {
         let distance = said_length(survey, places[place]);

@@ -106,7 +106,8 @@ fn place_between(book: &FullBook, query: Query) -> u32
     requires from { Knows book.now.map.parts query.from }
     requires to { Knows book.now.map.parts query.to }
     requires apart { query.from ≢ query.to }
-    ensures { (l : PairLeaf) × (slice_get book.now.pairs result ≡ Some l) × (l.a ≡ min query.from query.to) × (l.b ≡ max query.from query.to) }
+    ensures { (l : PairLeaf) × (slice_get book.now.pairs result ≡ Some l) ×
+        (l.a ≡ min query.from query.to) × (l.b ≡ max query.from query.to) }
 {
     let _parts = book.map.parts();
     let (first, second) = (query.from.min(query.to), query.from.max(query.to));
@@ -118,7 +119,8 @@ fn place_between(book: &FullBook, query: Query) -> u32
 fn pair_of_ends(alloc: Global, book: &FullBook, query: Query) -> Result<Places, NoMemory>
     requires from { Knows book.now.map.parts query.from }
     requires to { Knows book.now.map.parts query.to }
-    ensures { IfOk result (λ places. (d : ℕ) → Lists (IsWantedAt ByFull (plain_book book.now.map.parts book.now.pairs) query d) places) }
+    ensures { IfOk result (λ places. (d : ℕ) →
+        Lists (IsWantedAt ByFull (plain_book book.now.map.parts book.now.pairs) query d) places) }
 {
     let _parts = book.map.parts();
     let mut places = Vec::new(alloc);

@@ -9,6 +9,4 @@ pub use full::FullBook;
 mod dij;
 mod full;
 mod rising;
-#[cfg(test)]
-mod tests;
 mod within;

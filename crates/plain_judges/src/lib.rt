@@ -9,5 +9,3 @@ pub use items::Anywhere;
 mod dij;
 mod full;
 mod items;
-#[cfg(test)]
-mod tests;

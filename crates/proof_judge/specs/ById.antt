@@ -8,7 +8,8 @@ use Rattle.proof_judge.specs.ItemWalks.{item_at}
 -- the place, among all nodes, of the first of some of them with an id
 abbrev pub PlaceSays : List NodeLeaf → List NodeLeaf → ℕ → Option ℕ → Type 0
 PlaceSays nodes some id None = item_at some id ≡ None
-PlaceSays nodes some id (Some p) = (n : NodeLeaf) × (slice_get nodes p ≡ Some n) × (item_at some id ≡ Some n)
+PlaceSays nodes some id (Some p) = (n : NodeLeaf) × (slice_get nodes p ≡ Some n) ×
+    (item_at some id ≡ Some n)
 
 -- each id of these nodes has its place
 abbrev pub ArePlaces : List NodeLeaf → List NodeLeaf → (ℕ → Option ℕ) → Type 0

@@ -1,5 +1,6 @@
 -- How items are judged: the first failing test of a method, or the length of the route.
--- Source: Yiu, Lin and Mouratidis, ICDE 2010: what a client verifies under DIJ, FULL, LDM and HYP. The order of
+-- Source: Yiu, Lin and Mouratidis, ICDE 2010: what a client verifies under DIJ, FULL, LDM and HYP.
+-- The order of
 -- the tests and their answers are this program's profile.
 use Rattle.std.specs.Prelude.{◌≡◌, ℕ, ◌+◌, ◌-◌, ◌^◌, ◌==◌, ◌≤◌, ◌<◌, ◌⊎◌, min, max, nat_lt, ◌&&◌, if◌then◌else◌, IsTrue, Option, None, Some, is_some, Result, Ok, Err, List, [], ◌∷◌, find}
 use Rattle.std.specs.Option.{option_map}
@@ -39,12 +40,15 @@ by_item index r q (Some n) rest = by_arc index (arc_to n.arcs q) rest
 
 -- the length of a route from r on, which has this index on it, or the first fault
 abbrev pub walked_from : List NodeLeaf → ℕ → ℕ → ℕ → List ℕ → Verdict
-walked_from nodes t index r [] = if is_some (item_at nodes r) then (if r == t then Ok 0 else Err (BadRoute (index + 1))) else Err (MissingTuple r)
-walked_from nodes t index r (q ∷ route) = by_item index r q (item_at nodes r) (walked_from nodes t (index + 1) q route)
+walked_from nodes t index r [] = if is_some (item_at nodes r) then
+    (if r == t then Ok 0 else Err (BadRoute (index + 1))) else Err (MissingTuple r)
+walked_from nodes t index r (q ∷ route) = by_item index r q (item_at nodes r)
+    (walked_from nodes t (index + 1) q route)
 
 abbrev pub walked : List NodeLeaf → Query → List ℕ → Verdict
 walked nodes q [] = Err (BadRoute 0)
-walked nodes q (r ∷ route) = if r == q.from then walked_from nodes q.to 0 r route else Err (BadRoute 0)
+walked nodes q (r ∷ route) = if r == q.from then walked_from nodes q.to 0 r route else Err
+    (BadRoute 0)
 
 -- the length is good
 abbrev pub Good : ℕ → Verdict → Type 0
@@ -76,7 +80,9 @@ full_pair s t d None = Err (MissingPair (min s t) (max s t))
 full_pair s t d (Some p) = if p.distance == d then Ok d else Err (Disagrees p.distance)
 
 abbrev pub full_judged : List PairLeaf → Query → ℕ → Verdict
-full_judged pairs q d = if q.from == q.to then (if nat_lt 0 d then Err (Shorter 0) else Ok d) else full_pair q.from q.to d (pair_at pairs q.from q.to)
+full_judged pairs q d = if q.from == q.to then
+    (if nat_lt 0 d then Err (Shorter 0) else Ok d) else full_pair q.from q.to d
+    (pair_at pairs q.from q.to)
 
 abbrev pub by_said : ℕ → ℕ → Option ℕ → Option Refusal
 by_said most d None = None
@@ -88,7 +94,8 @@ by_pair most b c d (Some p) = by_said most d (distance_in p)
 
 -- why two borders, whose inner lengths sum to d, show a shorter route or lack a pair item
 abbrev pub pair_fault : List PairLeaf → ℕ → ℕ → ℕ → ℕ → Option Refusal
-pair_fault pairs most b c d = if b == c then Some (Shorter d) else by_pair most b c d (pair_at pairs b c)
+pair_fault pairs most b c d = if b == c then Some (Shorter d) else by_pair most b c d
+    (pair_at pairs b c)
 
 -- a border with its least inner length from an end
 pub record IsBorderAt (nodes : List NodeLeaf) (from most b p : ℕ) : Type 0 where
@@ -111,20 +118,25 @@ NotBefore b c b' c' = (b < b') ⊎ ((b ≡ b') × (c ≤ c'))
 -- the border pairs, by rising pairs
 abbrev pub PairTests : Items → Query → ℕ → Verdict → Type 0
 PairTests g q most (Ok d) = (d ≡ most) × ((b c : ℕ) (e : Refusal) → ¬ PairFails g q most b c e)
-PairTests g q most (Err e) = (b : ℕ) × (c : ℕ) × PairFails g q most b c e × ((b' c' : ℕ) (e' : Refusal) → PairFails g q most b' c' e' → NotBefore b c b' c')
+PairTests g q most (Err e) = (b : ℕ) × (c : ℕ) × PairFails g q most b c e ×
+    ((b' c' : ℕ) (e' : Refusal) → PairFails g q most b' c' e' → NotBefore b c b' c')
 
 -- the tests of DIJ
 abbrev pub DijTests : List NodeLeaf → Query → ℕ → Verdict → Type 0
-DijTests nodes q d = Tests (Lacks (any_ways (item_at nodes)) q.from d) MissingTuple (Tests (Reaches (any_ways (item_at nodes)) q.from d q.to) Shorter (Good d))
+DijTests nodes q d = Tests (Lacks (any_ways (item_at nodes)) q.from d) MissingTuple
+    (Tests (Reaches (any_ways (item_at nodes)) q.from d q.to) Shorter (Good d))
 
 -- the tests of LDM
 abbrev pub LdmTests : ℕ → List NodeLeaf → Query → ℕ → Verdict → Type 0
-LdmTests step nodes q d = Tests (EndsLacking (live_ways step (item_at nodes) q.to d) q.from) MissingTuple (Tests (Reaches (live_ways step (item_at nodes) q.to d) q.from d q.to) Shorter (Good d))
+LdmTests step nodes q d = Tests (EndsLacking (live_ways step (item_at nodes) q.to d) q.from)
+    MissingTuple (Tests (Reaches (live_ways step (item_at nodes) q.to d) q.from d q.to) Shorter
+    (Good d))
 
 -- the tests of HYP
 abbrev pub HypTests : Items → Query → ℕ → Verdict → Type 0
 HypTests g q d =
-    Tests (λ id. Lacks (inner_ways (item_at g.nodes)) q.from d id ⊎ Lacks (inner_ways (item_at g.nodes)) q.to d id) MissingTuple
+    Tests (λ id. Lacks (inner_ways (item_at g.nodes)) q.from d id ⊎
+    Lacks (inner_ways (item_at g.nodes)) q.to d id) MissingTuple
     (Tests (Reaches (inner_ways (item_at g.nodes)) q.from d q.to) Shorter (PairTests g q d))
 
 -- what each method tests behind the route, whose length is d
@@ -136,8 +148,10 @@ OwnTests Hyp n g q d v = HypTests g q d v
 
 -- the verdict: the first failing test, or the route's length
 abbrev pub Judged : Kind → Numbers → Items → Query → Verdict → Type 0
-Judged k n g q v = Tests (StandsTwice g.nodes) RepeatedNode (OnRoute (walked g.nodes q g.route) (OwnTests k n g q)) v
+Judged k n g q v = Tests (StandsTwice g.nodes) RepeatedNode
+    (OnRoute (walked g.nodes q g.route) (OwnTests k n g q)) v
 
 -- items have at most one verdict
 abbrev pub HasOneVerdict : Kind → Type 0
-HasOneVerdict k = (n : Numbers) (g : Items) (q : Query) (v w : Verdict) → Judged k n g q v → Judged k n g q w → v ≡ w
+HasOneVerdict k = (n : Numbers) (g : Items) (q : Query) (v w : Verdict) → Judged k n g q v →
+    Judged k n g q w → v ≡ w

@@ -13,8 +13,10 @@ use Rattle.proof_judge.specs.Judgement.{Verdict, longer, by_item, Judged}
 
 -- what a hop says of each route that begins with it
 abbrev pub HopSays : List NodeLeaf → ℕ → ℕ → ℕ → Verdict → Type 0
-HopSays nodes index r q (Ok l) = (l < 2 ^ 32) × ((rest : Verdict) → by_item index r q (item_at nodes r) rest ≡ longer l rest)
-HopSays nodes index r q (Err e) = (rest : Verdict) → by_item index r q (item_at nodes r) rest ≡ Err e
+HopSays nodes index r q (Ok l) = (l < 2 ^ 32) ×
+    ((rest : Verdict) → by_item index r q (item_at nodes r) rest ≡ longer l rest)
+HopSays nodes index r q (Err e) = (rest : Verdict) →
+    by_item index r q (item_at nodes r) rest ≡ Err e
 
 -- what a verdict meets, unless memory is short
 abbrev pub UnlessMemory : (Verdict → Type 0) → Verdict → Type 0

@@ -20,5 +20,3 @@ mod pairs;
 mod pairs_by_id;
 mod refusal;
 mod route;
-#[cfg(test)]
-mod tests;

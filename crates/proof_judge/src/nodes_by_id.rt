@@ -49,7 +49,9 @@ fn note_repeated(repeated: Option<u32>, id: u32, new: bool) -> Option<u32>
 /// Notes the place of an id, unless it has one, and answers whether it was new.
 fn add_place(places: &mut HashMap<u32, usize>, id: u32, place: usize) -> Result<bool, AllocError>
     ensures new { IfOk result (λ new. new ≡ is_none (get nat_eq places.old id)) }
-    ensures places { OnOk result ((q : ℕ) → get nat_eq places.new q ≡ option_or (get nat_eq places.old q) (if id == q then Some place else None)) }
+    ensures places { OnOk result ((q : ℕ) →
+        get nat_eq places.new q ≡ option_or (get nat_eq places.old q)
+        (if id == q then Some place else None)) }
 {
     if places.contains_key(&id) {
         return Ok(false);
@@ -63,7 +65,10 @@ impl<'a> NodesById<'a> {
     pub fn new(alloc: Global, nodes: &'a [NodeLeaf]) -> Result<NodesById<'a>, Refusal>
         ensures nodes { IfOk result (λ by_id. by_id ≡ nodes.now) }
         ensures distinct { OnOk result (IsLeast (StandsTwice nodes.now) None) }
-        ensures fault { IfErr result (λ e. (e ≡ Refusal.Memory) ⊎ ((id : ℕ) × (e ≡ Refusal.RepeatedNode id) × IsLeast (StandsTwice nodes.now) (Some id))) }
+        ensures fault { IfErr result
+            (λ e. (e ≡ Refusal.Memory) ⊎
+            ((id : ℕ) × (e ≡ Refusal.RepeatedNode id) ×
+            IsLeast (StandsTwice nodes.now) (Some id))) }
     {
         let mut places = HashMap::new(alloc);
         let mut repeated = None;

@@ -31,7 +31,9 @@ impl<'a> Model for PairsById<'a> {
 
 /// Notes an item, unless there is one of the same two ids.
 fn note(first: &mut HashMap<(u32, u32), PairLeaf>, pair: PairLeaf) -> Result<(), AllocError>
-    ensures { OnOk result ((a b : ℕ) → leaf_in first.new a b ≡ option_or (leaf_in first.old a b) (if (pair.a == a) && (pair.b == b) then Some pair else None)) }
+    ensures { OnOk result ((a b : ℕ) →
+        leaf_in first.new a b ≡ option_or (leaf_in first.old a b)
+        (if (pair.a == a) && (pair.b == b) then Some pair else None)) }
 {
     let ids = (pair.a, pair.b);
     if !first.contains_key(&ids) {

@@ -106,7 +106,8 @@ pub fn walk(by_id: &NodesById<'_>, query: Query, route: &[u32]) -> Result<u64, R
 pub fn begin(alloc: Global, items: &Items, query: Query) -> Result<(NodesById<'_>, u64), Refusal>
     requires { length items.now.route ≤ 65536 }
     ensures nodes { IfOk result (λ begun. begun.0 ≡ items.now.nodes) }
-    ensures length { IfOk result (λ begun. walked items.now.nodes query items.now.route ≡ Ok begun.1) }
+    ensures length { IfOk result (λ begun.
+        walked items.now.nodes query items.now.route ≡ Ok begun.1) }
     ensures most { IfOk result (λ begun. begun.1 < 2 ^ 48) }
     ensures distinct { OnOk result (IsLeast (StandsTwice items.now.nodes) None) }
     ensures refused { IfErr result (RefusesBefore items.now query) }

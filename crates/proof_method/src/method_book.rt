@@ -41,10 +41,14 @@ pub trait MethodBook: Drop + Sized {
         requires order { IsOrderOf map.parts order.now }
         ensures method { IfOk result (λ book. planned settings.now.method ≡ Some (kind book)) }
         ensures map { IfOk result (λ book. charted book ≡ map) }
-        ensures book { IfOk result (λ book. IsBookOf (kind book) map.parts settings.now order.now (shown book)) }
+        ensures book { IfOk result
+            (λ book. IsBookOf (kind book) map.parts settings.now order.now (shown book)) }
         ensures vectors { IfOk result (λ book. HasVectors (kind book) (shown book)) }
-        ensures allowed { OnOk result (own_fault (planned settings.now.method) map.parts settings.now ≡ None) }
-        ensures refused { IfErr result (λ e. (e ≡ plan_error.Memory) ⊎ (own_fault (planned settings.now.method) map.parts settings.now ≡ Some e)) };
+        ensures allowed { OnOk result
+            (own_fault (planned settings.now.method) map.parts settings.now ≡ None) }
+        ensures refused { IfErr result
+            (λ e. (e ≡ plan_error.Memory) ⊎
+            (own_fault (planned settings.now.method) map.parts settings.now ≡ Some e)) };
 
     /// The map.
     fn map(&self) -> &Map
@@ -71,6 +75,7 @@ pub trait MethodBook: Drop + Sized {
     /// What shows a shortest route between two nodes. `UnknownNode` exactly where an end is not
     /// known, and `NoRoute` exactly where both are and no walk joins them.
     fn gather(&self, alloc: Global, query: Query) -> Result<Found, GatherError>
-        ensures found { IfOk result (λ found. (d : ℕ) × IsFound (kind self.now) (shown self.now) query d found) }
+        ensures found { IfOk result
+            (λ found. (d : ℕ) × IsFound (kind self.now) (shown self.now) query d found) }
         ensures refused { IfErr result (WhyNone (shown self.now).parts query) };
 }

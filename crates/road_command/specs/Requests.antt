@@ -12,6 +12,8 @@ pub data Request : Type 0 where
   Root : List ℕ → ℕ → Request
   Dimacs : List ℕ → List ℕ → Request
   Key : List ℕ → ℕ → Request
+  Succeed : List ℕ → ℕ → Request
+  Links : Request
   Desk : Request
   Publish : List ℕ → Settings → Request
   Prove : List ℕ → Query → Request
@@ -33,7 +35,8 @@ fan_of word = do
 
 -- the number of a key's type
 abbrev pub kind_of : List ℕ → Option ℕ
-kind_of word = if bytes_eq word (codes "h5") then Some 5 else if bytes_eq word (codes "h10") then Some 6 else None
+kind_of word = if bytes_eq word (codes "h5") then Some 5 else if bytes_eq word
+    (codes "h10") then Some 6 else None
 
 -- the code of a method
 abbrev pub method_of : List ℕ → Option ℕ
@@ -97,7 +100,16 @@ settings_of method version order seed fan p = do
   order ← order_of order
   seed ← wide_natural_of seed
   fan ← fan_of fan
-  Some (record { method = method; version = version; order = order; seed = seed; fan = fan; p1 = p.0; p2 = p.1; p3 = p.2 })
+  Some (record {
+    method = method;
+    version = version;
+    order = order;
+    seed = seed;
+    fan = fan;
+    p1 = p.0;
+    p2 = p.1;
+    p3 = p.2;
+  })
 
 -- a survey of a grid's width and its seed, a method, and how many queries are asked
 abbrev pub survey_of : List ℕ → List ℕ → List ℕ → List ℕ → Option Request
@@ -137,12 +149,25 @@ key_words (secret ∷ kind ∷ []) = do
   Some (Key secret kind)
 key_words _ = None
 
+-- the same, of the key that follows
+abbrev pub succeed_words : List (List ℕ) → Option Request
+succeed_words (secret ∷ kind ∷ []) = do
+  kind ← kind_of kind
+  Some (Succeed secret kind)
+succeed_words _ = None
+
+-- nothing more
+abbrev pub links_words : List (List ℕ) → Option Request
+links_words [] = Some Links
+links_words _ = None
+
 -- nothing more
 abbrev pub desk_words : List (List ℕ) → Option Request
 desk_words [] = Some Desk
 desk_words _ = None
 
--- a road file's name, the method, the version, the leaf order, its seed, the fan-out, and the method's
+-- a road file's name, the method, the version, the leaf order, its seed, the fan-out, and the
+-- method's
 -- three parameters
 abbrev pub publish_words : List (List ℕ) → Option Request
 publish_words (roads ∷ method ∷ version ∷ order ∷ seed ∷ fan ∷ p1 ∷ p2 ∷ p3 ∷ []) = do
@@ -163,7 +188,8 @@ abbrev pub serve_words : List (List ℕ) → Option Request
 serve_words (publication ∷ []) = Some (Serve publication)
 serve_words _ = None
 
--- the names of files of a public key and of a reply, the ids of both ends, and the least version that is taken
+-- the names of files of a public key and of a reply, the ids of both ends, and the least version
+-- that is taken
 abbrev pub check_words : List (List ℕ) → Option Request
 check_words (key ∷ reply ∷ from ∷ to ∷ least ∷ []) = do
   query ← query_of from to
@@ -190,7 +216,8 @@ reach_words (publication ∷ from ∷ radius ∷ []) = do
   Some (Reach publication query)
 reach_words _ = None
 
--- the names of files of a public key and of a reply, the id of a node, a radius, and the least version that is taken
+-- the names of files of a public key and of a reply, the id of a node, a radius, and the least
+-- version that is taken
 abbrev pub check_reach_words : List (List ℕ) → Option Request
 check_reach_words (key ∷ reply ∷ from ∷ radius ∷ least ∷ []) = do
   query ← near_query_of from radius
@@ -213,6 +240,8 @@ request_of (verb ∷ words) =
     else if bytes_eq verb (codes "root") then root_words words
     else if bytes_eq verb (codes "dimacs") then dimacs_words words
     else if bytes_eq verb (codes "key") then key_words words
+    else if bytes_eq verb (codes "succeed") then succeed_words words
+    else if bytes_eq verb (codes "links") then links_words words
     else if bytes_eq verb (codes "desk") then desk_words words
     else if bytes_eq verb (codes "publish") then publish_words words
     else if bytes_eq verb (codes "prove") then prove_words words

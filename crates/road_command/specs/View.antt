@@ -21,13 +21,17 @@ shown (command.Route roads from to) = request.Route roads.now from to
 shown (command.Root roads fan) = request.Root roads.now fan
 shown (command.Dimacs graph places) = request.Dimacs graph.now places.now
 shown (command.Key secret kind) = request.Key secret.now (type_of kind)
+shown (command.Succeed secret kind) = request.Succeed secret.now (type_of kind)
+shown command.Links = request.Links
 shown command.Desk = request.Desk
 shown (command.Publish roads settings) = request.Publish roads.now settings
 shown (command.Prove publication query) = request.Prove publication.now query
 shown (command.Serve publication) = request.Serve publication.now
 shown (command.Check key reply query least) = request.Check key.now reply.now query least
-shown (command.Audit key publication reply query) = request.Audit key.now publication.now reply.now query
+shown (command.Audit key publication reply query) = request.Audit key.now publication.now reply.now
+    query
 shown (command.Survey asked) = survey_shown asked
 shown (command.Reach publication query) = request.Reach publication.now query
 shown (command.CheckReach key reply query least) = request.CheckReach key.now reply.now query least
-shown (command.AuditReach key publication reply query) = request.AuditReach key.now publication.now reply.now query
+shown (command.AuditReach key publication reply query) = request.AuditReach key.now publication.now
+    reply.now query

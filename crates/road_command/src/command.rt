@@ -2,7 +2,7 @@
 
 ghost use Rattle.std.specs.Prelude.{◌≡◌, ◌<◌, length, drop};
 ghost use Rattle.std.specs.Option.{option_map};
-ghost use Rattle.road_command.specs.Requests.{request_of, route_words, root_words, dimacs_words, key_words, desk_words, publish_words, prove_words, serve_words, check_words, audit_words, survey_words, reach_words, check_reach_words, audit_reach_words};
+ghost use Rattle.road_command.specs.Requests.{request_of, route_words, root_words, dimacs_words, key_words, succeed_words, links_words, desk_words, publish_words, prove_words, serve_words, check_words, audit_words, survey_words, reach_words, check_reach_words, audit_reach_words};
 ghost use Rattle.road_command.specs.View.{shown};
 
 use crate::asked::Survey;
@@ -37,7 +37,14 @@ pub enum Command<'a> {
         secret: &'a str,
         kind: KeyKind,
     },
-    /// Write the owner's public key, and how many of its one-time keys are left.
+    /// Make the key that follows the owner's key from a secret file, and write its public key.
+    Succeed {
+        secret: &'a str,
+        kind: KeyKind,
+    },
+    /// Write the chain file that leads from the owner's first key to the current one.
+    Links,
+    /// Write the owner's current public key, and how many of its one-time keys are left.
     Desk,
     /// Sign a file's map with its hints, and write the publication.
     Publish {
@@ -102,6 +109,8 @@ pub fn command_of(words: &Words) -> Option<Command<'_>>
         "root" => root_of(words),
         "dimacs" => dimacs_of(words),
         "key" => key_of(words),
+        "succeed" => succeed_of(words),
+        "links" => links_of(words),
         "desk" => desk_of(words),
         "publish" => publish_of(words),
         "prove" => prove_of(words),
@@ -171,6 +180,30 @@ fn key_of(words: &Words) -> Option<Command<'_>>
         secret: words.word(1),
         kind,
     })
+}
+
+fn succeed_of(words: &Words) -> Option<Command<'_>>
+    requires { 0 < length words.now }
+    ensures { option_map shown result ≡ succeed_words (drop 1 words.now) }
+{
+    if words.count() != 3 {
+        return None;
+    }
+    let kind = kind(words.word(2))?;
+    Some(Command::Succeed {
+        secret: words.word(1),
+        kind,
+    })
+}
+
+fn links_of(words: &Words) -> Option<Command<'_>>
+    requires { 0 < length words.now }
+    ensures { option_map shown result ≡ links_words (drop 1 words.now) }
+{
+    if words.count() != 1 {
+        return None;
+    }
+    Some(Command::Links)
 }
 
 fn desk_of(words: &Words) -> Option<Command<'_>>

@@ -1,4 +1,4 @@
-// Standard input: an adapter over the real thing, which tells nothing of what it has left.
+//! Standard input: an adapter over the real thing, which tells nothing of what it has left.
 ghost use Rattle.std.specs.Prelude.{◌≤◌, length, IfOk};
 ghost use Rattle.std.specs.declared.option.Option.TheVariants.{None};
 

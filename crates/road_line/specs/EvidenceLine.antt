@@ -8,8 +8,10 @@ right_line = codes "right\n"
 
 -- two texts with one digest, each whole, in lower case hex
 abbrev pub collision_line : List ℕ → List ℕ → List ℕ
-collision_line left right = codes "collision " ++ encode_lower left ++ codes " " ++ encode_lower right ++ codes "\n"
+collision_line left right = codes "collision " ++ encode_lower left ++ codes " " ++ encode_lower
+    right ++ codes "\n"
 
 -- a header and its signature, in lower case hex
 abbrev pub forged_line : List ℕ → List ℕ → List ℕ
-forged_line header signature = codes "forged " ++ encode_lower header ++ codes " " ++ encode_lower signature ++ codes "\n"
+forged_line header signature = codes "forged " ++ encode_lower header ++ codes " " ++ encode_lower
+    signature ++ codes "\n"

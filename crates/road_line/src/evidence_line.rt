@@ -39,7 +39,9 @@ pub fn line_of_forged(alloc: Global, header: &[u8], signature: &[u8]) -> Result<
 
 /// A name and two texts in hex, as a line.
 fn in_hex(alloc: Global, name: &str, first: &[u8], second: &[u8]) -> Result<String, AllocError>
-    ensures { IfOk result (λ text. string_bytes text ≡ name.now ++ codes " " ++ encode_lower first.now ++ codes " " ++ encode_lower second.now ++ codes "\n") }
+    ensures { IfOk result (λ text.
+        string_bytes text ≡ name.now ++ codes " " ++ encode_lower first.now ++ codes " " ++
+        encode_lower second.now ++ codes "\n") }
 {
     let left = hex::encode(alloc, first)?;
     let right = hex::encode(alloc, second)?;

@@ -9,6 +9,4 @@ pub use verdict_line::{line_of_accepted, line_of_refused, name_of_cover, name_of
 mod desk_line;
 mod evidence_line;
 mod route_line;
-#[cfg(test)]
-mod tests;
 mod verdict_line;

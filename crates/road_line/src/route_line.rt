@@ -20,7 +20,8 @@ pub fn line_of_route(alloc: Global, length: u64, route: &[u32]) -> Result<Vec<u8
 
 /// Prints the line of a route.
 pub fn print_route(text: &mut String, length: u64, route: &[u32]) -> Result<(), AllocError>
-    ensures { OnOk result (string_bytes text.new ≡ string_bytes text.old ++ route_line length route.now) }
+    ensures { OnOk result (string_bytes text.new ≡ string_bytes text.old ++ route_line length
+        route.now) }
 {
     write!(text, "{length}:")?;
     print_ids(text, route)?;
@@ -29,7 +30,8 @@ pub fn print_route(text: &mut String, length: u64, route: &[u32]) -> Result<(), 
 }
 
 fn print_ids(text: &mut String, ids: &[u32]) -> Result<(), AllocError>
-    ensures { OnOk result (string_bytes text.new ≡ string_bytes text.old ++ flat_map spaced ids.now) }
+    ensures { OnOk result (string_bytes text.new ≡ string_bytes text.old ++ flat_map spaced
+        ids.now) }
 {
     for id in ids {
         write!(text, " {id}")?;

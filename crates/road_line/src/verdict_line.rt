@@ -83,13 +83,15 @@ fn print_judged(text: &mut String, why: Refusal) -> Result<(), AllocError>
 }
 
 fn print_missing_pair(text: &mut String, a: u32, b: u32) -> Result<(), AllocError>
-    ensures { OnOk result (string_bytes text.new ≡ string_bytes text.old ++ (codes "MissingPair " ++ decimal a ++ codes " " ++ decimal b)) }
+    ensures { OnOk result (string_bytes text.new ≡ string_bytes text.old ++
+        (codes "MissingPair " ++ decimal a ++ codes " " ++ decimal b)) }
 {
     write!(text, "MissingPair {a} {b}")
 }
 
 fn print_bad_signature(text: &mut String, name: &str) -> Result<(), AllocError>
-    ensures { OnOk result (string_bytes text.new ≡ string_bytes text.old ++ (codes "BadSignature " ++ name.now)) }
+    ensures { OnOk result (string_bytes text.new ≡ string_bytes text.old ++
+        (codes "BadSignature " ++ name.now)) }
 {
     write!(text, "BadSignature {name}")
 }

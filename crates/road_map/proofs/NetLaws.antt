@@ -5,7 +5,7 @@ use Rattle.std.proofs.lemmas.List.{length-append, length-map}
 use Rattle.road_map.specs.declared.arc.Arc.{Arc}
 use Rattle.road_map.specs.declared.parts.Node.{Node}
 use Rattle.road_map.specs.declared.parts.Parts.{Parts}
-use Rattle.road_map.specs.declared.rows.Row.{Row}
+use Rattle.road_map.specs.declared.rows.NodeArcs.{NodeArcs}
 use Rattle.road_map.specs.ArcsOut.{arcs_out}
 use Rattle.road_map.specs.Maps.{IsMap, IsById}
 use Rattle.road_map.specs.Nets.{IsPlace, Placed, IsNet}
@@ -17,7 +17,7 @@ use Rattle.road_map.proofs.ChartLaws.{roads_known}
 use Rattle.road_map.proofs.IdLaws.{known_at}
 use Rattle.road_map.proofs.WalkLaws.{hop_end-known}
 
-abbrev node_of : Row → Node
+abbrev node_of : NodeArcs → Node
 node_of row = row.node
 
 -- one item stands at a place
@@ -31,21 +31,21 @@ arc_known parts m u a c =
     subst (Knows parts) o.leads (hop_end-known parts (roads_known parts m.joined) o.hop.road o.hop.back o.among)
 
 -- a known id has a row, and the place of a row is that of its node
-pub row_there : (parts : Parts) (rows : List Row) → IsChart parts rows → (id : ℕ) → Knows parts id → HasRow rows id
+pub row_there : (parts : Parts) (rows : List NodeArcs) → IsChart parts rows → (id : ℕ) → Knows parts id → HasRow rows id
 row_there parts rows chart id known =
     let at : (p : ℕ) × IsPlace (map node_of rows) id p = known_at parts.nodes (map node_of rows) id chart.by_id known in
-    let row : (row : Row) × (slice_get rows at.0 ≡ Some row) × (row.node ≡ at.1.0) = map_place node_of rows at.0 at.1.0 at.1.1 in
+    let row : (row : NodeArcs) × (slice_get rows at.0 ≡ Some row) × (row.node ≡ at.1.0) = map_place node_of rows at.0 at.1.0 at.1.1 in
     (at.0, (row.0, row.1, ap (λ (n : Node). n.id) row.2 ∙ at.1.2))
 
-pub row_found : (rows : List Row) (id : ℕ) → HasRow rows id → (o : Option ℕ) → IfNone o ((place : ℕ) → IsAt rows id place → ⊥) → IsSome o
+pub row_found : (rows : List NodeArcs) (id : ℕ) → HasRow rows id → (o : Option ℕ) → IfNone o ((place : ℕ) → IsAt rows id place → ⊥) → IsSome o
 row_found rows id there (Some p) none = refl
 row_found rows id there None none = absurd (none there.0 there.1)
 
-pub place_of_row : (rows : List Row) (id p : ℕ) → IsAt rows id p → IsPlace (map node_of rows) id p
+pub place_of_row : (rows : List NodeArcs) (id p : ℕ) → IsAt rows id p → IsPlace (map node_of rows) id p
 place_of_row rows id p h = (h.0.node, place_map node_of rows p h.0 h.1, h.2)
 
 -- the arcs of a map's rows lead to rows
-pub chart_leads : (parts : Parts) (rows : List Row) → IsChart parts rows → LeadToRows rows
+pub chart_leads : (parts : Parts) (rows : List NodeArcs) → IsChart parts rows → LeadToRows rows
 chart_leads parts rows chart p row a at c = row_there parts rows chart a.to (arc_known parts chart.is_map row.node.id a (subst (λ xs. Contains xs a) (chart.arcs p row at) c))
 
 -- one arc more
@@ -79,20 +79,20 @@ last_or_before (y ∷ xs) x (suc p) r h = elim (last_or_before xs x p r h) [ inl
 pub long_more : (net new : List (List Arc)) (i : ℕ) (out : List Arc) → new ≡ net ++ out ∷ [] → length net ≡ i → length new ≡ i + 1
 long_more net new i out is long = let l : length new ≡ length net + 1 = ap length is ∙ length-append net (out ∷ []) in omega (arith, l, long)
 
-pub net_more : (rows : List Row) (net new : List (List Arc)) (i : ℕ) (out : List Arc) → new ≡ net ++ out ∷ [] → length net ≡ i
-    → ((p : ℕ) (row : Row) (r : List Arc) → slice_get rows p ≡ Some row → slice_get net p ≡ Some r → Placed (map node_of rows) row.arcs r)
-    → ((row : Row) → slice_get rows i ≡ Some row → Placed (map node_of rows) row.arcs out)
-    → (p : ℕ) (row : Row) (r : List Arc) → slice_get rows p ≡ Some row → slice_get new p ≡ Some r → Placed (map node_of rows) row.arcs r
+pub net_more : (rows : List NodeArcs) (net new : List (List Arc)) (i : ℕ) (out : List Arc) → new ≡ net ++ out ∷ [] → length net ≡ i
+    → ((p : ℕ) (row : NodeArcs) (r : List Arc) → slice_get rows p ≡ Some row → slice_get net p ≡ Some r → Placed (map node_of rows) row.arcs r)
+    → ((row : NodeArcs) → slice_get rows i ≡ Some row → Placed (map node_of rows) row.arcs out)
+    → (p : ℕ) (row : NodeArcs) (r : List Arc) → slice_get rows p ≡ Some row → slice_get new p ≡ Some r → Placed (map node_of rows) row.arcs r
 net_more rows net new i out is long before here p row r at stands = elim (last_or_before net out p r (subst (λ xs. slice_get xs p ≡ Some r) is stands)) [
   | inl old ↦ before p row r at old
   | inr last ↦ subst (Placed (map node_of rows) row.arcs) last.1 (here row (subst (λ k. slice_get rows k ≡ Some row) (last.0 ∙ long) at))
 ]
 
 -- the net of a map's rows is that of the map
-pub built_net : (parts : Parts) (rows : List Row) (net : List (List Arc)) → IsChart parts rows → IsNetOf rows net → IsNet parts (map node_of rows) net
+pub built_net : (parts : Parts) (rows : List NodeArcs) (net : List (List Arc)) → IsChart parts rows → IsNetOf rows net → IsNet parts (map node_of rows) net
 built_net parts rows net chart of = record {
   long = of.long ∙ sym (length-map rows node_of);
   each = λ p n out at stands.
-      let row : (row : Row) × (slice_get rows p ≡ Some row) × (row.node ≡ n) = map_place node_of rows p n at in
+      let row : (row : NodeArcs) × (slice_get rows p ≡ Some row) × (row.node ≡ n) = map_place node_of rows p n at in
       subst (λ xs. Placed (map node_of rows) xs out) (chart.arcs p row.0 row.1 ∙ ap (λ (m : Node). arcs_out parts.roads m.id) row.2) (of.each p row.0 out row.1 stands);
 }

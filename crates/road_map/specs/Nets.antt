@@ -12,10 +12,12 @@ IsPlace order id p = (n : Node) × (slice_get order p ≡ Some n) × (n.id ≡ i
 -- the same arcs, each to the position of the node where it leads
 abbrev pub Placed : List Node → List Arc → List Arc → Type 0
 Placed order [] [] = Unit {0}
-Placed order (a ∷ arcs) (b ∷ bs) = (b.length ≡ a.length) × IsPlace order a.to b.to × Placed order arcs bs
+Placed order (a ∷ arcs) (b ∷ bs) = (b.length ≡ a.length) × IsPlace order a.to b.to ×
+    Placed order arcs bs
 Placed order _ _ = ⊥
 
 -- the arcs of each node, at its position
 pub record IsNet (parts : Parts) (order : List Node) (rows : List (List Arc)) : Type 0 where
   pub long : length rows ≡ length order
-  pub each : (p : ℕ) (n : Node) (row : List Arc) → slice_get order p ≡ Some n → slice_get rows p ≡ Some row → Placed order (arcs_out parts.roads n.id) row
+  pub each : (p : ℕ) (n : Node) (row : List Arc) → slice_get order p ≡ Some n →
+      slice_get rows p ≡ Some row → Placed order (arcs_out parts.roads n.id) row

@@ -7,7 +7,7 @@ ghost use Rattle.road_map.specs.Nets.{Placed};
 ghost use Rattle.road_map.specs.Rows.{HasRow, RowsRise, LeadToRows, IsNetOf};
 
 use crate::arc::{Arc, Arcs};
-use crate::rows::{Row, place_of};
+use crate::rows::{NodeArcs, place_of};
 use octet_text::NoMemory;
 use std::alloc::{AllocError, Global};
 use std::marker::Model;
@@ -40,7 +40,7 @@ impl Net {
 }
 
 /// The net of rows.
-pub(crate) fn net_of(alloc: Global, rows: &[Row]) -> Result<Net, NoMemory>
+pub(crate) fn net_of(alloc: Global, rows: &[NodeArcs]) -> Result<Net, NoMemory>
     requires few { length rows.now ≤ 65536 }
     requires rise { RowsRise rows.now }
     requires lead { LeadToRows rows.now }
@@ -55,7 +55,7 @@ pub(crate) fn net_of(alloc: Global, rows: &[Row]) -> Result<Net, NoMemory>
 }
 
 /// Arcs to positions.
-fn placed(alloc: Global, rows: &[Row], arcs: &[Arc]) -> Result<Arcs, AllocError>
+fn placed(alloc: Global, rows: &[NodeArcs], arcs: &[Arc]) -> Result<Arcs, AllocError>
     requires few { length rows.now ≤ 65536 }
     requires rise { RowsRise rows.now }
     requires known { (a : Arc) → Contains arcs.now a → HasRow rows.now a.to }

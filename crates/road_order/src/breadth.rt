@@ -151,7 +151,8 @@ fn label_neighbours(
     requires before { Follows labels.old (position ∷ []) label }
     ensures spread { OnOk result (IsSpread map.now labels.new) }
     ensures grows { OnOk result (Grows label labels.old labels.new next.old.items next.new.items) }
-    ensures closed { OnOk result ((l : Label) → HasLabel labels.old position l → IsClosedAt map.now labels.new position l) }
+    ensures closed { OnOk result ((l : Label) → HasLabel labels.old position l →
+        IsClosedAt map.now labels.new position l) }
 {
     for index in 0..degree(map, position) {
         let neighbour = neighbour_at(map, position, index);
@@ -168,7 +169,8 @@ fn give(
     label: Label,
 ) -> Result<(), AllocError>
     requires { position < length labels.old }
-    ensures { OnOk result (Gives label position labels.old labels.new next.old.items next.new.items) }
+    ensures { OnOk result (Gives label position labels.old labels.new next.old.items
+        next.new.items) }
 {
     if labels[position as usize].is_none() {
         next.push(position)?;

@@ -55,7 +55,8 @@ fn new_tour(alloc: Global, map: &Map) -> Result<Tour, AllocError>
 fn visit_all(alloc: Global, map: &Map, tour: &mut Tour, start: u32) -> Result<(), AllocError>
     requires start { start < length map.now.order }
     requires tour { IsTour map.now tour.old.seen.items tour.old.found.items }
-    ensures found { OnOk result (tour.new.found.items ≡ dive (neighbours map.now.parts.roads) (length map.now.order) tour.old.found.items (id_at map.now start)) }
+    ensures found { OnOk result (tour.new.found.items ≡ dive (neighbours map.now.parts.roads)
+        (length map.now.order) tour.old.found.items (id_at map.now start)) }
     ensures tour { OnOk result (IsTour map.now tour.new.seen.items tour.new.found.items) }
 {
     let _parts = map.parts();
@@ -89,7 +90,8 @@ fn enter(map: &Map, tour: &mut Tour, position: u32) -> Result<(), AllocError>
     requires position { position < length map.now.order }
     requires tour { IsTour map.now tour.old.seen.items tour.old.found.items }
     requires unseen { slice_get tour.old.seen.items position ≡ Some false }
-    ensures found { OnOk result (tour.new.found.items ≡ tour.old.found.items ++ id_at map.now position ∷ []) }
+    ensures found { OnOk result (tour.new.found.items ≡ tour.old.found.items ++ id_at map.now
+        position ∷ []) }
     ensures tour { OnOk result (IsTour map.now tour.new.seen.items tour.new.found.items) }
 {
     let _parts = map.parts();
@@ -103,12 +105,19 @@ fn enter(map: &Map, tour: &mut Tour, position: u32) -> Result<(), AllocError>
 fn next_unseen(map: &Map, tour: &Tour, branch: Branch) -> Option<(usize, u32)>
     requires position { branch.position < length map.now.order }
     requires tour { IsTour map.now tour.now.seen.items tour.now.found.items }
-    ensures none { IfNone result ((deep : ℕ) → fold (dive (neighbours map.now.parts.roads) deep) tour.now.found.items (left_of map.now branch) ≡ tour.now.found.items) }
+    ensures none { IfNone result ((deep : ℕ) →
+        fold (dive (neighbours map.now.parts.roads) deep) tour.now.found.items
+        (left_of map.now branch) ≡ tour.now.found.items) }
     ensures index { IfSome result (λ next. next.0 < length (out_of map.now branch.position)) }
     ensures position { IfSome result (λ next. next.1 < length map.now.order) }
-    ensures id { IfSome result (λ next. id_at map.now next.1 ≡ slice_index (out_of map.now branch.position) next.0) }
+    ensures id { IfSome result (λ next.
+        id_at map.now next.1 ≡ slice_index (out_of map.now branch.position) next.0) }
     ensures unseen { IfSome result (λ next. slice_get tour.now.seen.items next.1 ≡ Some false) }
-    ensures skips { IfSome result (λ next. (deep : ℕ) → fold (dive (neighbours map.now.parts.roads) deep) tour.now.found.items (left_of map.now branch) ≡ fold (dive (neighbours map.now.parts.roads) deep) tour.now.found.items (drop next.0 (out_of map.now branch.position))) }
+    ensures skips { IfSome result (λ next. (deep : ℕ) →
+        fold (dive (neighbours map.now.parts.roads) deep) tour.now.found.items
+        (left_of map.now branch) ≡ fold
+        (dive (neighbours map.now.parts.roads) deep) tour.now.found.items
+        (drop next.0 (out_of map.now branch.position))) }
 {
     for index in branch.next..degree(map, branch.position) {
         let position = neighbour_at(map, branch.position, index);

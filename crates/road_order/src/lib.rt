@@ -18,5 +18,3 @@ mod label;
 mod laws;
 mod neighbour;
 mod shuffled;
-#[cfg(test)]
-mod tests;

@@ -1,11 +1,11 @@
 -- `check` and `check-reach` accept honest replies.
-use Rattle.std.proofs.Common.{◌≡◌, ℕ, List, [], subst, IfSome}
+use Rattle.std.proofs.Common.{◌≡◌, ℕ, List, [], refl, subst, IfSome}
 use Rattle.std.specs.declared.option.Option.{Option}
 use Rattle.std.specs.declared.option.Option.TheVariants.{None, Some}
 use Rattle.std.specs.declared.result.Result.{Result}
 use Rattle.std.specs.declared.result.Result.TheVariants.{Ok, Err}
 use Rattle.sha2.specs.Sha256.{sha256}
-use Rattle.road_io.specs.Contents.{Shelf}
+use Rattle.road_io.specs.Contents.{Folder}
 use Rattle.road_map.specs.Routes.{IsShortest}
 use Rattle.book_model.specs.declared.items.Query.{Query}
 use Rattle.proof_octets.specs.declared.publication.Publication.{Publication}
@@ -13,18 +13,18 @@ use Rattle.route_client.specs.declared.accepted.Accepted.{Accepted}
 use Rattle.route_client.specs.declared.errors.CheckError.{CheckError}
 use Rattle.route_client.specs.Verdicts.{IsVerdict}
 use Rattle.route_laws.specs.Honest.{AnswersAreAccepted, AreAccepted}
-use Rattle.road_command.specs.Requests.{Request, Route, Root, Dimacs, Key, Desk, Publish, Prove, Serve, Check, Audit, Survey, Reach, CheckReach, AuditReach}
+use Rattle.road_command.specs.Requests.{Request, Route, Root, Dimacs, Key, Succeed, Links, Desk, Publish, Prove, Serve, Check, Audit, Survey, Reach, CheckReach, AuditReach}
 use Rattle.command_files.specs.HexFiles.{public_key_at}
 use Rattle.command_files.specs.Reading.{octets_at}
 use Rattle.command_files.specs.Endings.{EndsReading, Answered}
 use Rattle.command_files.proofs.Written.{read_as}
 use Rattle.client_commands.specs.Checking.{EndsCheck, ends_check}
-use Rattle.road_proof.specs.Commands.{Ends}
+use Rattle.road_proof.specs.Commands.{Ends, TellsClient}
 use Rattle.road_proof.specs.Accepting.{IsAcceptedLine, IsWithinLine, WritesAccepted, IsHonestFile, IsHonestReach, AcceptsHonest}
 use Rattle.command_files.specs.declared.fault.Fault.{Fault}
-use Rattle.command_files.specs.declared.fault.Fault.TheVariants.{TruncatedFrame, FrameTooLong, Library, Source, Sink, Disk, Memory, UnknownNode, NoRoute, TooManyFrames}
-use Rattle.command_files.specs.declared.ended.Verdict.{Verdict}
-use Rattle.command_files.specs.declared.ended.Verdict.TheVariants.{Done, Refused, Evidence}
+use Rattle.command_files.specs.declared.fault.Fault.TheVariants.{TruncatedFrame, FrameTooLong, Library, Source, Sink, Disk, Memory, UnknownNode, NoRoute, TooManyFrames, MirrorLost}
+use Rattle.command_files.specs.declared.ended.Conclusion.{Conclusion}
+use Rattle.command_files.specs.declared.ended.Conclusion.TheVariants.{Done, Refused, Evidence}
 use Rattle.client_commands.proofs.OneCheck.{OneVerdict}
 use Rattle.audit_commands.proofs.OneAudit.{AcceptanceIsVerdict}
 use Rattle.near_model.specs.declared.query.NearQuery.{NearQuery}
@@ -50,7 +50,7 @@ pub record AcceptedLaws : Type 0 where
   pub answers : AnswersAreAccepted
   pub near_replies : NearRepliesAreAccepted
 
-module _ (one : OneVerdict) (verdict : AcceptanceIsVerdict) (laws : AnswersAreAccepted) (shelf : Shelf) (key reply : List ℕ) (q : Query) (least : ℕ) (p : Publication) (file : IsHonestFile shelf key reply q least p) where
+module _ (one : OneVerdict) (verdict : AcceptanceIsVerdict) (laws : AnswersAreAccepted) (folder : Folder) (key reply : List ℕ) (q : Query) (least : ℕ) (p : Publication) (file : IsHonestFile folder key reply q least p) where
   accepted : AreAccepted sha256 file.key file.octets q least p.parts
   accepted = laws sha256 sha256 file.key file.octets p q least file.signed file.fresh file.joined file.honest
 
@@ -58,38 +58,39 @@ module _ (one : OneVerdict) (verdict : AcceptanceIsVerdict) (laws : AnswersAreAc
   says = verdict sha256 file.key file.octets q least accepted.accepted accepted.accepts
 
   -- the end over what the files spell
-  ends : (o : Result Verdict Fault) (text : List ℕ) → ends_check key reply q least shelf o text → EndsCheck file.key file.octets q least o text
+  ends : (o : Result Conclusion Fault) (text : List ℕ) → ends_check key reply q least folder o text → EndsCheck file.key file.octets q least o text
   ends o text h =
-      let by_key = read_as (public_key_at shelf key) file.key (λ k. EndsReading (octets_at shelf reply) (λ octets. EndsCheck k octets q least)) o text file.key_read h in
-      read_as (octets_at shelf reply) file.octets (λ octets. EndsCheck file.key octets q least) o text file.reply_read by_key
+      let by_key = read_as (public_key_at folder key) file.key (λ k. EndsReading (octets_at folder reply) (λ octets. EndsCheck k octets q least)) o text file.key_read h in
+      read_as (octets_at folder reply) file.octets (λ octets. EndsCheck file.key octets q least) o text file.reply_read by_key
 
   differ : (x : Accepted) (e : CheckError) → Ok x ≡ Err e → ⊥
   differ x e is = cc
 
-  writes : (old new : Option (List ℕ)) (o : Result Verdict Fault) → Answered (ends_check key reply q least shelf) old new o → WritesAccepted (IsAcceptedLine p.parts q) old new o
-  writes old new (Ok Done) a =
+  writes : (old new : Option (List ℕ)) (o : Result Conclusion Fault) → Answered (ends_check key reply q least folder) old new o → (o ≡ Err MirrorLost → ⊥) → WritesAccepted (IsAcceptedLine p.parts q) old new o
+  writes old new (Ok Done) a lost =
       let e = ends (Ok Done) a.0 a.1 in
       let same : Ok accepted.accepted ≡ Ok e.0 = one sha256 file.key file.octets q least (Ok accepted.accepted) (Ok e.0) says e.1 in
       let is : accepted.accepted ≡ e.0 = cc in
       let short : IsShortest p.parts q.from q.to e.0.route e.0.length = subst (λ (x : Accepted). IsShortest p.parts q.from q.to x.route x.length) is accepted.shortest in
       (a.0, record { route = e.0.route; length = e.0.length; shortest = short; line = e.2 }, a.2)
-  writes old new (Ok Refused) a =
+  writes old new (Ok Refused) a lost =
       let e = ends (Ok Refused) a.0 a.1 in
       absurd (differ accepted.accepted e.0 (one sha256 file.key file.octets q least (Ok accepted.accepted) (Err e.0) says e.2))
-  writes old new (Ok Evidence) a = absurd (ends (Ok Evidence) a.0 a.1)
-  writes old new (Err Memory) a = tt
-  writes old new (Err Library) a = tt
-  writes old new (Err Sink) a = tt
-  writes old new (Err Disk) a = tt
-  writes old new (Err (UnknownNode id)) a = absurd (ends (Err (UnknownNode id)) a.0 a.1)
-  writes old new (Err NoRoute) a = absurd (ends (Err NoRoute) a.0 a.1)
-  writes old new (Err TruncatedFrame) a = absurd (ends (Err TruncatedFrame) a.0 a.1)
-  writes old new (Err FrameTooLong) a = absurd (ends (Err FrameTooLong) a.0 a.1)
-  writes old new (Err TooManyFrames) a = absurd (ends (Err TooManyFrames) a.0 a.1)
-  writes old new (Err Source) a = absurd (ends (Err Source) a.0 a.1)
-  writes old new (Err fault) a = absurd (ends (Err fault) [] a)
+  writes old new (Ok Evidence) a lost = absurd (ends (Ok Evidence) a.0 a.1)
+  writes old new (Err MirrorLost) a lost = absurd (lost refl)
+  writes old new (Err Memory) a lost = tt
+  writes old new (Err Library) a lost = tt
+  writes old new (Err Sink) a lost = tt
+  writes old new (Err Disk) a lost = tt
+  writes old new (Err (UnknownNode id)) a lost = absurd (ends (Err (UnknownNode id)) a.0 a.1)
+  writes old new (Err NoRoute) a lost = absurd (ends (Err NoRoute) a.0 a.1)
+  writes old new (Err TruncatedFrame) a lost = absurd (ends (Err TruncatedFrame) a.0 a.1)
+  writes old new (Err FrameTooLong) a lost = absurd (ends (Err FrameTooLong) a.0 a.1)
+  writes old new (Err TooManyFrames) a lost = absurd (ends (Err TooManyFrames) a.0 a.1)
+  writes old new (Err Source) a lost = absurd (ends (Err Source) a.0 a.1)
+  writes old new (Err fault) a lost = absurd (ends (Err fault) [] a)
 
-module _ (one : OneNearVerdict) (verdict : NearAcceptanceIsVerdict) (laws : NearRepliesAreAccepted) (shelf : Shelf) (key reply : List ℕ) (q : NearQuery) (least : ℕ) (p : Publication) (file : IsHonestReach shelf key reply q least p) where
+module _ (one : OneNearVerdict) (verdict : NearAcceptanceIsVerdict) (laws : NearRepliesAreAccepted) (folder : Folder) (key reply : List ℕ) (q : NearQuery) (least : ℕ) (p : Publication) (file : IsHonestReach folder key reply q least p) where
   near_accepted : near.AreAccepted sha256 file.key file.octets q least p.parts
   near_accepted = laws sha256 sha256 file.key file.octets p q least file.signed file.fresh file.honest
 
@@ -97,52 +98,55 @@ module _ (one : OneNearVerdict) (verdict : NearAcceptanceIsVerdict) (laws : Near
   near_says = verdict sha256 file.key file.octets q least near_accepted.accepted near_accepted.accepts
 
   -- the end over what the files spell
-  near_ends : (o : Result Verdict Fault) (text : List ℕ) → ends_check_reach key reply q least shelf o text → EndsCheckReach file.key file.octets q least o text
+  near_ends : (o : Result Conclusion Fault) (text : List ℕ) → ends_check_reach key reply q least folder o text → EndsCheckReach file.key file.octets q least o text
   near_ends o text h =
-      let by_key = read_as (public_key_at shelf key) file.key (λ k. EndsReading (octets_at shelf reply) (λ octets. EndsCheckReach k octets q least)) o text file.key_read h in
-      read_as (octets_at shelf reply) file.octets (λ octets. EndsCheckReach file.key octets q least) o text file.reply_read by_key
+      let by_key = read_as (public_key_at folder key) file.key (λ k. EndsReading (octets_at folder reply) (λ octets. EndsCheckReach k octets q least)) o text file.key_read h in
+      read_as (octets_at folder reply) file.octets (λ octets. EndsCheckReach file.key octets q least) o text file.reply_read by_key
 
   near_differ : (x : Within) (e : NearError) → Ok x ≡ Err e → ⊥
   near_differ x e is = cc
 
-  near_writes : (old new : Option (List ℕ)) (o : Result Verdict Fault) → Answered (ends_check_reach key reply q least shelf) old new o → WritesAccepted (IsWithinLine p.parts q) old new o
-  near_writes old new (Ok Done) a =
+  near_writes : (old new : Option (List ℕ)) (o : Result Conclusion Fault) → Answered (ends_check_reach key reply q least folder) old new o → (o ≡ Err MirrorLost → ⊥) → WritesAccepted (IsWithinLine p.parts q) old new o
+  near_writes old new (Ok Done) a lost =
       let e = near_ends (Ok Done) a.0 a.1 in
       let same : Ok near_accepted.accepted ≡ Ok e.0 = one sha256 file.key file.octets q least (Ok near_accepted.accepted) (Ok e.0) near_says e.1 in
       let is : near_accepted.accepted ≡ e.0 = cc in
       (a.0, record { nodes = e.0.nodes; within = subst (λ (x : Within). AreWithin p.parts q x.nodes) is near_accepted.within; line = e.2 }, a.2)
-  near_writes old new (Ok Refused) a =
+  near_writes old new (Ok Refused) a lost =
       let e = near_ends (Ok Refused) a.0 a.1 in
       absurd (near_differ near_accepted.accepted e.0 (one sha256 file.key file.octets q least (Ok near_accepted.accepted) (Err e.0) near_says e.2))
-  near_writes old new (Ok Evidence) a = absurd (near_ends (Ok Evidence) a.0 a.1)
-  near_writes old new (Err Memory) a = tt
-  near_writes old new (Err Library) a = tt
-  near_writes old new (Err Sink) a = tt
-  near_writes old new (Err Disk) a = tt
-  near_writes old new (Err (UnknownNode id)) a = absurd (near_ends (Err (UnknownNode id)) a.0 a.1)
-  near_writes old new (Err NoRoute) a = absurd (near_ends (Err NoRoute) a.0 a.1)
-  near_writes old new (Err TruncatedFrame) a = absurd (near_ends (Err TruncatedFrame) a.0 a.1)
-  near_writes old new (Err FrameTooLong) a = absurd (near_ends (Err FrameTooLong) a.0 a.1)
-  near_writes old new (Err TooManyFrames) a = absurd (near_ends (Err TooManyFrames) a.0 a.1)
-  near_writes old new (Err Source) a = absurd (near_ends (Err Source) a.0 a.1)
-  near_writes old new (Err fault) a = absurd (near_ends (Err fault) [] a)
+  near_writes old new (Ok Evidence) a lost = absurd (near_ends (Ok Evidence) a.0 a.1)
+  near_writes old new (Err MirrorLost) a lost = absurd (lost refl)
+  near_writes old new (Err Memory) a lost = tt
+  near_writes old new (Err Library) a lost = tt
+  near_writes old new (Err Sink) a lost = tt
+  near_writes old new (Err Disk) a lost = tt
+  near_writes old new (Err (UnknownNode id)) a lost = absurd (near_ends (Err (UnknownNode id)) a.0 a.1)
+  near_writes old new (Err NoRoute) a lost = absurd (near_ends (Err NoRoute) a.0 a.1)
+  near_writes old new (Err TruncatedFrame) a lost = absurd (near_ends (Err TruncatedFrame) a.0 a.1)
+  near_writes old new (Err FrameTooLong) a lost = absurd (near_ends (Err FrameTooLong) a.0 a.1)
+  near_writes old new (Err TooManyFrames) a lost = absurd (near_ends (Err TooManyFrames) a.0 a.1)
+  near_writes old new (Err Source) a lost = absurd (near_ends (Err Source) a.0 a.1)
+  near_writes old new (Err fault) a lost = absurd (near_ends (Err fault) [] a)
 
 -- the same for a request and the library of a run
-pub accepts_honest : Verdicts → AcceptedLaws → (request : Request) (files : Option Shelf) (content : Option (List ℕ)) (old new : Option (List ℕ)) (o : Result Verdict Fault)
-    → IfSome files (λ shelf. Answered (Ends content request shelf) old new o) → AcceptsHonest request files old new o
-accepts_honest verdicts laws (Check key reply q least) (Some shelf) content old new o a = λ p file. writes verdicts.one verdicts.accepted laws.answers shelf key reply q least p file old new o a
-accepts_honest verdicts laws (Check key reply q least) None content old new o a = tt
-accepts_honest verdicts laws (Route roads from to) files content old new o a = tt
-accepts_honest verdicts laws (Root roads fan) files content old new o a = tt
-accepts_honest verdicts laws (Dimacs graph places) files content old new o a = tt
-accepts_honest verdicts laws (Key secret kind) files content old new o a = tt
-accepts_honest verdicts laws Desk files content old new o a = tt
-accepts_honest verdicts laws (Publish roads settings) files content old new o a = tt
-accepts_honest verdicts laws (Prove publication q) files content old new o a = tt
-accepts_honest verdicts laws (Serve publication) files content old new o a = tt
-accepts_honest verdicts laws (Audit key publication reply q) files content old new o a = tt
-accepts_honest verdicts laws (Survey width seed method queries) files content old new o a = tt
-accepts_honest verdicts laws (Reach publication q) files content old new o a = tt
-accepts_honest verdicts laws (CheckReach key reply q least) (Some shelf) content old new o a = λ p file. near_writes verdicts.near_one verdicts.near_accepted laws.near_replies shelf key reply q least p file old new o a
-accepts_honest verdicts laws (CheckReach key reply q least) None content old new o a = tt
-accepts_honest verdicts laws (AuditReach key publication reply q) files content old new o a = tt
+pub accepts_honest : Verdicts → AcceptedLaws → (request : Request) (files : Option Folder) (content : Option (List ℕ)) (old new : Option (List ℕ)) (o : Result Conclusion Fault)
+    → IfSome files (λ folder. Answered (Ends content request folder) old new o) → (o ≡ Err MirrorLost → TellsClient request MirrorLost) → AcceptsHonest request files old new o
+accepts_honest verdicts laws (Check key reply q least) (Some folder) content old new o a lost = λ p file. writes verdicts.one verdicts.accepted laws.answers folder key reply q least p file old new o a lost
+accepts_honest verdicts laws (Check key reply q least) None content old new o a lost = tt
+accepts_honest verdicts laws (Route roads from to) files content old new o a lost = tt
+accepts_honest verdicts laws (Root roads fan) files content old new o a lost = tt
+accepts_honest verdicts laws (Dimacs graph places) files content old new o a lost = tt
+accepts_honest verdicts laws (Key secret kind) files content old new o a lost = tt
+accepts_honest verdicts laws (Succeed secret kind) files content old new o a lost = tt
+accepts_honest verdicts laws Links files content old new o a lost = tt
+accepts_honest verdicts laws Desk files content old new o a lost = tt
+accepts_honest verdicts laws (Publish roads settings) files content old new o a lost = tt
+accepts_honest verdicts laws (Prove publication q) files content old new o a lost = tt
+accepts_honest verdicts laws (Serve publication) files content old new o a lost = tt
+accepts_honest verdicts laws (Audit key publication reply q) files content old new o a lost = tt
+accepts_honest verdicts laws (Survey width seed method queries) files content old new o a lost = tt
+accepts_honest verdicts laws (Reach publication q) files content old new o a lost = tt
+accepts_honest verdicts laws (CheckReach key reply q least) (Some folder) content old new o a lost = λ p file. near_writes verdicts.near_one verdicts.near_accepted laws.near_replies folder key reply q least p file old new o a lost
+accepts_honest verdicts laws (CheckReach key reply q least) None content old new o a lost = tt
+accepts_honest verdicts laws (AuditReach key publication reply q) files content old new o a lost = tt

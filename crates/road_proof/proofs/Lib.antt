@@ -1,2 +1,3 @@
 pub mod HonestLemmas
+pub mod TakenLemmas
 pub mod RunLemmas

@@ -3,22 +3,23 @@ use Rattle.std.proofs.Common.{◌≡◌, ℕ, List, refl, subst, IfSome}
 use Rattle.std.specs.declared.option.Option.{Option}
 use Rattle.std.specs.declared.option.Option.TheVariants.{None, Some}
 use Rattle.std.specs.declared.result.Result.{Result}
-use Rattle.std.specs.declared.result.Result.TheVariants.{Err}
+use Rattle.std.specs.declared.result.Result.TheVariants.{Ok, Err}
 use Rattle.road_io.specs.declared.disk.Disk.{Ghosts}
 use Rattle.road_io.specs.Causes.{Rose}
-use Rattle.road_io.specs.Contents.{Shelf}
+use Rattle.road_io.specs.Contents.{Folder}
 use Rattle.road_io.specs.Disk.{Stays}
 use Rattle.road_io.specs.Moments.{AtEachMoment}
 use Rattle.road_map.specs.Laws.{ArcLaws}
 use Rattle.road_map.specs.declared.parts.Parts.{Parts}
 use Rattle.key_desk.specs.Stands.{KeepsStanding}
 use Rattle.key_desk.proofs.Standing.{standing_same}
-use Rattle.road_command.specs.Requests.{Request, Route, Root, Dimacs, Key, Desk, Publish, Prove, Serve, Check, Audit, Survey, Reach, CheckReach, AuditReach}
-use Rattle.command_files.specs.Endings.{NoDisk, Promises}
+use Rattle.road_command.specs.Requests.{Request, Route, Root, Dimacs, Key, Succeed, Links, Desk, Publish, Prove, Serve, Check, Audit, Survey, Reach, CheckReach, AuditReach}
+use Rattle.command_files.specs.Endings.{Answered, Ending, NoDisk, Promises}
 use Rattle.command_files.specs.Exact.{NoneFailed, IsExact, HasOneEnd}
 use Rattle.command_files.specs.declared.fault.Fault.{Fault}
-use Rattle.command_files.specs.declared.fault.Fault.TheVariants.{Words, Source}
-use Rattle.command_files.specs.declared.ended.Verdict.{Verdict}
+use Rattle.command_files.specs.declared.fault.Fault.TheVariants.{Words, Source, Library, Sink, Disk, MirrorLost}
+use Rattle.command_files.specs.declared.ended.Conclusion.{Conclusion}
+use Rattle.command_files.specs.declared.ended.Conclusion.TheVariants.{Done}
 use Rattle.command_files.proofs.OneEnd.{exact_end}
 use Rattle.command_files.proofs.OneMap.{Faults}
 use Rattle.command_files.proofs.Written.{beside_disk, keeps_same}
@@ -30,17 +31,19 @@ use Rattle.server_commands.proofs.OneProve.{only_prove}
 use Rattle.server_commands.proofs.OneServe.{exact_serve}
 use Rattle.server_commands.specs.Serving.{ServesFrames}
 use Rattle.owner_commands.proofs.OneOwner.{only_key, only_desk, only_publish}
+use Rattle.owner_commands.proofs.SuccessionLemmas.{only_succession, only_links}
 use Rattle.audit_commands.proofs.OneAudit.{only_audit}
 use Rattle.survey_commands.proofs.SurveyLemmas.{only_survey}
 use Rattle.near_client_commands.proofs.OneNearCheck.{only_check_reach}
 use Rattle.near_server_commands.proofs.OneNearReach.{only_reach}
 use Rattle.near_audit_commands.proofs.OneNearAudit.{only_audit_reach}
-use Rattle.road_proof.specs.Accepting.{AcceptsHonest}
-use Rattle.road_proof.specs.Commands.{Ends, IsTold, TellsClient, OnDisk, RunPromises}
+use Rattle.road_proof.specs.Accepting.{AcceptsHonest, RepliesAreTaken}
+use Rattle.road_proof.specs.Commands.{Ends, IsTold, TellsClient, OnDisk, OnMirrors, RunPromises, but_for_mirrors}
 use Rattle.road_proof.specs.Sources.{IfServe, UnlessServe, RunTakes, IsExactServing}
 use Rattle.road_proof.proofs.HonestLemmas.{Verdicts, AcceptedLaws, accepts_honest}
+use Rattle.road_proof.proofs.TakenLemmas.{RefusedLaws, replies_taken}
 
-module _ {D : Type 0} (g : Ghosts D) (old new : D) (asked : Option Request) (files : Option Shelf) (l l' : ℕ) (taken_before taken_now : Option (List ℕ)) (k k' : ℕ) (o : Result Verdict Fault) where
+module _ {D : Type 0} (g : Ghosts D) (old new : D) (asked : Option Request) (files : Option Folder) (l l' : ℕ) (taken_before taken_now : Option (List ℕ)) (k k' : ℕ) (o : Result Conclusion Fault) where
   -- what is promised of a request is promised of the words that ask for it
   pub run_promises : (request : Request) → Some request ≡ asked → Promises (Ends (g.content old) request) (TellsClient request) (Rose (g.faults old) (g.faults new)) files l l' taken_before taken_now k k' o
       → OnDisk g old new request files taken_before taken_now o → KeepsStanding g old new → RunPromises g old new asked files l l' taken_before taken_now k k' o
@@ -57,7 +60,7 @@ module _ {D : Type 0} (g : Ghosts D) (old new : D) (asked : Option Request) (fil
       → OnDisk g old new request files taken_before taken_now o → AtEachMoment g old new Stays → RunPromises g old new asked files l l' taken_before taken_now k k' o
   run_stays request is promised on_disk stays = run_promises request is promised on_disk (standing_same g old new stays)
 
-module _ {D : Type 0} (g : Ghosts D) (disk : D) (asked : Option Request) (files : Option Shelf) (l l' : ℕ) (taken_before taken_now : Option (List ℕ)) (k k' : ℕ) (o : Result Verdict Fault) where
+module _ {D : Type 0} (g : Ghosts D) (disk : D) (asked : Option Request) (files : Option Folder) (l l' : ℕ) (taken_before taken_now : Option (List ℕ)) (k k' : ℕ) (o : Result Conclusion Fault) where
   -- the same for a command without a disk
   pub run_without_disk : (request : Request) → Some request ≡ asked → (AtEachMoment g disk disk Stays → OnDisk g disk disk request files taken_before taken_now o)
       → Promises (Ends (g.content disk) request) (TellsClient request) NoDisk files l l' taken_before taken_now k k' o → RunPromises g disk disk asked files l l' taken_before taken_now k k' o
@@ -67,7 +70,7 @@ module _ {D : Type 0} (g : Ghosts D) (disk : D) (asked : Option Request) (files 
       (on_disk (no_moment g disk)) (no_step g disk)
 
 -- words that ask for nothing
-pub run_nothing : {D : Type 0} (g : Ghosts D) (disk : D) (asked : Option Request) (files : Option Shelf) (l : ℕ) (taken : Option (List ℕ)) (k : ℕ) → None ≡ asked → RunPromises g disk disk asked files l l taken taken k k (Err Words)
+pub run_nothing : {D : Type 0} (g : Ghosts D) (disk : D) (asked : Option Request) (files : Option Folder) (l : ℕ) (taken : Option (List ℕ)) (k : ℕ) → None ≡ asked → RunPromises g disk disk asked files l l taken taken k k (Err Words)
 run_nothing g disk asked files l taken k is = subst (λ (a : Option Request). RunPromises g disk disk a files l l taken taken k k (Err Words)) is (record {
   words = (λ e. refl, λ e. refl);
   nothing = record { silent = keeps_same taken; disk = no_moment g disk };
@@ -79,42 +82,51 @@ run_nothing g disk asked files l taken k is = subst (λ (a : Option Request). Ru
 -- ---- one end
 
 -- the files, and the disk where it must be told, let a command end in one way
-one_end : Faults → ((parts : Parts) (u : ℕ) → ArcLaws parts u) → OneMaking → Verdicts → (content : Option (List ℕ)) (request : Request) → IsTold request content → (shelf : Shelf) → HasOneEnd (Ends content request shelf)
-one_end faults arcs makings verdicts content (Route roads from to) told shelf o p s t = only_route faults arcs roads from to shelf o p s t
-one_end faults arcs makings verdicts content (Root roads fan) told shelf o p s t = only_root faults roads fan shelf o p s t
-one_end faults arcs makings verdicts content (Dimacs graph places) told shelf o p s t = only_dimacs graph places shelf o p s t
-one_end faults arcs makings verdicts (Some content) (Key file kind) told shelf o p s t = only_key content file kind shelf o p s t
-one_end faults arcs makings verdicts None (Key file kind) told shelf o p s t = absurd (told refl)
-one_end faults arcs makings verdicts (Some content) Desk told shelf o p s t = only_desk content o p s t
-one_end faults arcs makings verdicts None Desk told shelf o p s t = absurd (told refl)
-one_end faults arcs makings verdicts (Some content) (Publish roads settings) told shelf o p s t = only_publish makings content roads settings shelf o p s t
-one_end faults arcs makings verdicts None (Publish roads settings) told shelf o p s t = absurd (told refl)
-one_end faults arcs makings verdicts content (Prove file q) told shelf o p s t = only_prove makings file q shelf o p s t
-one_end faults arcs makings verdicts content (Serve publication) told shelf o p s t = absurd told
-one_end faults arcs makings verdicts content (Check key reply q least) told shelf o p s t = only_check verdicts.one key reply q least shelf o p s t
-one_end faults arcs makings verdicts (Some content) (Audit key publication reply q) told shelf o p s t = only_audit makings verdicts.one verdicts.accepted content key publication reply q shelf o p s t
-one_end faults arcs makings verdicts None (Audit key publication reply q) told shelf o p s t = absurd (told refl)
-one_end faults arcs makings verdicts content (Survey width seed method queries) told shelf o p s t = only_survey width seed method queries o p s t
-one_end faults arcs makings verdicts content (Reach file q) told shelf o p s t = only_reach makings file q shelf o p s t
-one_end faults arcs makings verdicts content (CheckReach key reply q least) told shelf o p s t = only_check_reach verdicts.near_one key reply q least shelf o p s t
-one_end faults arcs makings verdicts (Some content) (AuditReach key publication reply q) told shelf o p s t = only_audit_reach makings verdicts.near_one verdicts.near_accepted content key publication reply q shelf o p s t
-one_end faults arcs makings verdicts None (AuditReach key publication reply q) told shelf o p s t = absurd (told refl)
+one_end : Faults → ((parts : Parts) (u : ℕ) → ArcLaws parts u) → OneMaking → Verdicts → (content : Option (List ℕ)) (request : Request) → IsTold request content → (folder : Folder) → HasOneEnd (Ends content request folder)
+one_end faults arcs makings verdicts content (Route roads from to) told folder o p s t = only_route faults arcs roads from to folder o p s t
+one_end faults arcs makings verdicts content (Root roads fan) told folder o p s t = only_root faults roads fan folder o p s t
+one_end faults arcs makings verdicts content (Dimacs graph places) told folder o p s t = only_dimacs graph places folder o p s t
+one_end faults arcs makings verdicts (Some content) (Key file kind) told folder o p s t = only_key content file kind folder o p s t
+one_end faults arcs makings verdicts None (Key file kind) told folder o p s t = absurd (told refl)
+one_end faults arcs makings verdicts (Some content) (Succeed file kind) told folder o p s t = only_succession content file kind folder o p s t
+one_end faults arcs makings verdicts None (Succeed file kind) told folder o p s t = absurd (told refl)
+one_end faults arcs makings verdicts (Some content) Links told folder o p s t = only_links content o p s t
+one_end faults arcs makings verdicts None Links told folder o p s t = absurd (told refl)
+one_end faults arcs makings verdicts (Some content) Desk told folder o p s t = only_desk content o p s t
+one_end faults arcs makings verdicts None Desk told folder o p s t = absurd (told refl)
+one_end faults arcs makings verdicts (Some content) (Publish roads settings) told folder o p s t = only_publish makings content roads settings folder o p s t
+one_end faults arcs makings verdicts None (Publish roads settings) told folder o p s t = absurd (told refl)
+one_end faults arcs makings verdicts content (Prove file q) told folder o p s t = only_prove makings file q folder o p s t
+one_end faults arcs makings verdicts content (Serve publication) told folder o p s t = absurd told
+one_end faults arcs makings verdicts content (Check key reply q least) told folder o p s t = only_check verdicts.one key reply q least folder o p s t
+one_end faults arcs makings verdicts (Some content) (Audit key publication reply q) told folder o p s t = only_audit makings verdicts.one verdicts.accepted content key publication reply q folder o p s t
+one_end faults arcs makings verdicts None (Audit key publication reply q) told folder o p s t = absurd (told refl)
+one_end faults arcs makings verdicts content (Survey width seed method queries) told folder o p s t = only_survey width seed method queries o p s t
+one_end faults arcs makings verdicts content (Reach file q) told folder o p s t = only_reach makings file q folder o p s t
+one_end faults arcs makings verdicts content (CheckReach key reply q least) told folder o p s t = only_check_reach verdicts.near_one key reply q least folder o p s t
+one_end faults arcs makings verdicts (Some content) (AuditReach key publication reply q) told folder o p s t = only_audit_reach makings verdicts.near_one verdicts.near_accepted content key publication reply q folder o p s t
+one_end faults arcs makings verdicts None (AuditReach key publication reply q) told folder o p s t = absurd (told refl)
 
-module _ {D : Type 0} (g : Ghosts D) (old new : D) (asked : Option Request) (files : Option Shelf) (l l' : ℕ) (taken_before taken_now : Option (List ℕ)) (k k' : ℕ) (o : Result Verdict Fault) where
+-- an answer is exact but for the mirrors, where no other object outside failed
+exact_but : (E : Ending) → HasOneEnd E → (before now : Option (List ℕ)) (o : Result Conclusion Fault) → Answered E before now o → (o ≡ Err Library → ⊥) → (o ≡ Err Sink → ⊥) → (o ≡ Err Disk → ⊥) → IsExact E (but_for_mirrors o)
+exact_but E one before now (Err MirrorLost) a library sink disk = exact_end E one before now (Ok Done) a (λ e. cc) (λ e. cc) (λ e. cc) (λ e. cc)
+exact_but E one before now o a library sink disk = exact_end E one before now o a library sink disk (λ e. cc)
+
+module _ {D : Type 0} (g : Ghosts D) (old new : D) (asked : Option Request) (files : Option Folder) (l l' : ℕ) (taken_before taken_now : Option (List ℕ)) (k k' : ℕ) (o : Result Conclusion Fault) where
   -- what a run promises is exact where no object outside failed
   pub exact_run : Faults → ((parts : Parts) (u : ℕ) → ArcLaws parts u) → OneMaking → Verdicts → RunPromises g old new asked files l l' taken_before taken_now k k' o
-      → NoneFailed l l' k k' (g.faults old) (g.faults new) → IfSome asked (λ request. IfSome files (λ shelf. IsTold request (g.content old) → IsExact (Ends (g.content old) request shelf) o))
+      → NoneFailed l l' k k' (g.faults old) (g.faults new) → IfSome asked (λ request. IfSome files (λ folder. IsTold request (g.content old) → IsExact (Ends (g.content old) request folder) (but_for_mirrors o)))
   exact_run faults arcs makings verdicts r n = by asked r.command
     where
-      of : (request : Request) (files : Option Shelf) → Promises (Ends (g.content old) request) (TellsClient request) (Rose (g.faults old) (g.faults new)) files l l' taken_before taken_now k k' o
-          → IfSome files (λ shelf. IsTold request (g.content old) → IsExact (Ends (g.content old) request shelf) o)
+      of : (request : Request) (files : Option Folder) → Promises (Ends (g.content old) request) (TellsClient request) (Rose (g.faults old) (g.faults new)) files l l' taken_before taken_now k k' o
+          → IfSome files (λ folder. IsTold request (g.content old) → IsExact (Ends (g.content old) request folder) (but_for_mirrors o))
       of request None p = tt
-      of request (Some shelf) p = λ told.
-          exact_end (Ends (g.content old) request shelf) (one_end faults arcs makings verdicts (g.content old) request told shelf) taken_before taken_now o p.answered
+      of request (Some folder) p = λ told.
+          exact_but (Ends (g.content old) request folder) (one_end faults arcs makings verdicts (g.content old) request told folder) taken_before taken_now o p.answered
           (λ e. n.library_stays (p.library e)) (λ e. n.sink_stays (p.sink e)) (λ e. n.disk_stays (p.disk e))
 
       by : (asked : Option Request) → IfSome asked (λ request. Promises (Ends (g.content old) request) (TellsClient request) (Rose (g.faults old) (g.faults new)) files l l' taken_before taken_now k k' o)
-          → IfSome asked (λ request. IfSome files (λ shelf. IsTold request (g.content old) → IsExact (Ends (g.content old) request shelf) o))
+          → IfSome asked (λ request. IfSome files (λ folder. IsTold request (g.content old) → IsExact (Ends (g.content old) request folder) (but_for_mirrors o)))
       by None p = tt
       by (Some request) p = of request files p
 
@@ -126,24 +138,34 @@ module _ {D : Type 0} (g : Ghosts D) (old new : D) (asked : Option Request) (fil
       by : (asked : Option Request) → IfSome asked (λ request. Promises (Ends (g.content old) request) (TellsClient request) (Rose (g.faults old) (g.faults new)) files l l' taken_before taken_now k k' o)
           → IfSome asked (λ request. AcceptsHonest request files taken_before taken_now o)
       by None p = tt
-      by (Some request) p = accepts_honest verdicts laws request files (g.content old) taken_before taken_now o p.answered
+      by (Some request) p = accepts_honest verdicts laws request files (g.content old) taken_before taken_now o p.answered p.mirror
+
+  -- and what it writes as a reply is accepted, or is no answer
+  pub taken_run : AcceptedLaws → RefusedLaws → RunPromises g old new asked files l l' taken_before taken_now k k' o
+      → IfSome asked (λ request. RepliesAreTaken request files taken_before taken_now o)
+  taken_run laws refused r = by asked r.command
+    where
+      by : (asked : Option Request) → IfSome asked (λ request. Promises (Ends (g.content old) request) (TellsClient request) (Rose (g.faults old) (g.faults new)) files l l' taken_before taken_now k k' o)
+          → IfSome asked (λ request. RepliesAreTaken request files taken_before taken_now o)
+      by None p = tt
+      by (Some request) p = replies_taken laws refused request files (g.content old) taken_before taken_now o p.answered
 
 -- ---- the source
 
 -- what is taken for a request is taken for the words that ask for it
-pub run_takes : (asked : Option Request) (files : Option Shelf) (left rest : Option (List ℕ)) (s s' : ℕ) (taken_before taken_now : Option (List ℕ)) (o : Result Verdict Fault) (request : Request) → Some request ≡ asked
+pub run_takes : (asked : Option Request) (files : Option Folder) (left rest : Option (List ℕ)) (s s' : ℕ) (taken_before taken_now : Option (List ℕ)) (o : Result Conclusion Fault) (request : Request) → Some request ≡ asked
     → IfServe (Some request) (λ file. ServesFrames file files left rest s s' taken_before taken_now o) → UnlessServe (Some request) (rest ≡ left) → (o ≡ Err Source → Rose s s')
     → RunTakes asked files left rest s s' taken_before taken_now o
 run_takes asked files left rest s s' taken_before taken_now o request is serves kept source =
     subst (λ (a : Option Request). RunTakes a files left rest s s' taken_before taken_now o) is (record { serves = serves; kept = kept; source = source })
 
 -- words that ask for nothing take nothing
-pub run_takes_nothing : (asked : Option Request) (files : Option Shelf) (left : Option (List ℕ)) (s : ℕ) (taken_before taken_now : Option (List ℕ)) → None ≡ asked → RunTakes asked files left left s s taken_before taken_now (Err Words)
+pub run_takes_nothing : (asked : Option Request) (files : Option Folder) (left : Option (List ℕ)) (s : ℕ) (taken_before taken_now : Option (List ℕ)) → None ≡ asked → RunTakes asked files left left s s taken_before taken_now (Err Words)
 run_takes_nothing asked files left s taken_before taken_now is =
     subst (λ (a : Option Request). RunTakes a files left left s s taken_before taken_now (Err Words)) is (record { serves = tt; kept = refl; source = λ e. absurd (cc) })
 
 -- what was served is exact where no object outside failed
-pub exact_serving : {D : Type 0} (g : Ghosts D) (old new : D) → OneMaking → (asked : Option Request) (files : Option Shelf) (left rest : Option (List ℕ)) (l l' s s' : ℕ) (taken_before taken_now : Option (List ℕ)) (k k' : ℕ) (o : Result Verdict Fault)
+pub exact_serving : {D : Type 0} (g : Ghosts D) (old new : D) → OneMaking → (asked : Option Request) (files : Option Folder) (left rest : Option (List ℕ)) (l l' s s' : ℕ) (taken_before taken_now : Option (List ℕ)) (k k' : ℕ) (o : Result Conclusion Fault)
     → RunPromises g old new asked files l l' taken_before taken_now k k' o → RunTakes asked files left rest s s' taken_before taken_now o
     → ¬ Rose s s' → NoneFailed l l' k k' (g.faults old) (g.faults new) → IfServe asked (λ file. IsExactServing file files left o)
 exact_serving g old new makings asked files left rest l l' s s' taken_before taken_now k k' o r t none n = by asked r.command t.serves
@@ -155,6 +177,8 @@ exact_serving g old new makings asked files left rest l l' s s' taken_before tak
     by (Some (Root roads fan)) p a = tt
     by (Some (Dimacs graph places)) p a = tt
     by (Some (Key secret kind)) p a = tt
+    by (Some (Succeed secret kind)) p a = tt
+    by (Some Links) p a = tt
     by (Some Desk) p a = tt
     by (Some (Publish roads settings)) p a = tt
     by (Some (Prove publication q)) p a = tt
@@ -165,3 +189,8 @@ exact_serving g old new makings asked files left rest l l' s s' taken_before tak
     by (Some (CheckReach key reply q least)) p a = tt
     by (Some (AuditReach key publication reply q)) p a = tt
     by None p a = tt
+
+-- what a command does to the mirrors is done under the words that ask for it
+module _ {M : Type 0} (octets : M → Option (List ℕ)) (label puts room : M → ℕ) {D : Type 0} (g : Ghosts D) (before now : D) (asked : Option Request) (taken_before taken_now : Option (List ℕ)) (old kept : List M) (o : Result Conclusion Fault) where
+  pub on_mirrors : (request : Option Request) → request ≡ asked → OnMirrors octets label puts room g before now request taken_before taken_now old kept o → OnMirrors octets label puts room g before now asked taken_before taken_now old kept o
+  on_mirrors request is h = subst (λ (a : Option Request). OnMirrors octets label puts room g before now a taken_before taken_now old kept o) is h

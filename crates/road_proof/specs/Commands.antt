@@ -1,21 +1,22 @@
 -- How the files let each command end, and what a run promises.
-use Rattle.std.specs.Prelude.{◌≡◌, ◌≢◌, ◌↔◌, ℕ, List, IfSome, IfNone}
+use Rattle.std.specs.Prelude.{◌≡◌, ◌≢◌, ◌↔◌, ℕ, List, IfSome, IfNone, IfErr}
 use Rattle.std.specs.declared.option.Option.{Option}
-use Rattle.std.specs.declared.option.Option.TheVariants.{None}
+use Rattle.std.specs.declared.option.Option.TheVariants.{None, Some}
 use Rattle.std.specs.declared.result.Result.{Result}
-use Rattle.std.specs.declared.result.Result.TheVariants.{Err}
+use Rattle.std.specs.declared.result.Result.TheVariants.{Ok, Err}
 use Rattle.std.specs.Io.KnownBytes.{Keeps}
 use Rattle.road_io.specs.declared.disk.Disk.{Ghosts}
 use Rattle.road_io.specs.Causes.{Rose}
-use Rattle.road_io.specs.Contents.{Shelf}
+use Rattle.road_io.specs.Contents.{Folder}
 use Rattle.road_io.specs.Disk.{Stays}
 use Rattle.road_io.specs.Moments.{AtEachMoment}
 use Rattle.key_desk.specs.Stands.{KeepsStanding}
-use Rattle.road_command.specs.Requests.{Request, Route, Root, Dimacs, Key, Desk, Publish, Prove, Serve, Check, Audit, Survey, Reach, CheckReach, AuditReach}
+use Rattle.road_command.specs.Requests.{Request, Route, Root, Dimacs, Key, Succeed, Links, Desk, Publish, Prove, Serve, Check, Audit, Survey, Reach, CheckReach, AuditReach}
 use Rattle.command_files.specs.Endings.{Ending, Promises, TellsNone}
 use Rattle.command_files.specs.declared.fault.Fault.{Fault}
-use Rattle.command_files.specs.declared.fault.Fault.TheVariants.{Words}
-use Rattle.command_files.specs.declared.ended.Verdict.{Verdict}
+use Rattle.command_files.specs.declared.fault.Fault.TheVariants.{Words, MirrorLost}
+use Rattle.command_files.specs.declared.ended.Conclusion.{Conclusion}
+use Rattle.command_files.specs.declared.ended.Conclusion.TheVariants.{Done}
 use Rattle.client_commands.specs.Checking.{ends_check}
 use Rattle.map_commands.specs.RouteLine.{ends_route}
 use Rattle.map_commands.specs.RootLine.{ends_root}
@@ -23,9 +24,11 @@ use Rattle.map_commands.specs.DimacsFiles.{ends_dimacs}
 use Rattle.server_commands.specs.Proving.{TellsEnds, ends_prove}
 use Rattle.server_commands.specs.Serving.{TellsFrames, ends_serve}
 use Rattle.owner_commands.specs.OwnerKey.{KeepsKey, ends_key}
+use Rattle.owner_commands.specs.NextKey.{AddsKey, ends_succession}
+use Rattle.owner_commands.specs.ChainLine.{EndsLinks}
 use Rattle.owner_commands.specs.OwnerDesk.{EndsDesk}
-use Rattle.owner_commands.specs.Publishing.{ends_publish}
-use Rattle.owner_commands.specs.Signing.{SealsWhatItWrites, SignsAtMostOne}
+use Rattle.owner_commands.specs.Publishing.{TellsLost, ends_publish}
+use Rattle.owner_commands.specs.Signing.{SealsWhatItWrites, SealsWhatItMirrors, SignsAtMostOne, StaysRefused}
 use Rattle.audit_commands.specs.Auditing.{ends_audit}
 use Rattle.audit_commands.specs.Headline.{IsBrought, WritesFindings, AuditsAccepted}
 use Rattle.survey_commands.specs.Surveying.{EndsSurvey}
@@ -34,66 +37,104 @@ use Rattle.near_client_commands.specs.NearChecking.{ends_check_reach}
 use Rattle.near_audit_commands.specs.NearAuditing.{ends_audit_reach}
 use Rattle.near_audit_commands.specs.NearHeadline.{IsNearBrought, AuditsAcceptedReach}
 
--- With which outcome the files, and what the disk holds, let a command end, and which text it then writes. Under `serve`
+-- With which outcome the files, and what the disk holds, let a command end, and which text it then
+-- writes. Under `serve`
 -- the end also rests on the source's input, of which `ServesFrames` speaks.
-abbrev pub Ends : Option (List ℕ) → Request → Shelf → Ending
-Ends content (Route roads from to) shelf = ends_route roads from to shelf
-Ends content (Root roads fan) shelf = ends_root roads fan shelf
-Ends content (Dimacs graph places) shelf = ends_dimacs graph places shelf
-Ends content (Key secret kind) shelf = ends_key content secret kind shelf
-Ends content Desk shelf = EndsDesk content
-Ends content (Publish roads settings) shelf = ends_publish content roads settings shelf
-Ends content (Prove publication q) shelf = ends_prove publication q shelf
-Ends content (Serve publication) shelf = ends_serve publication shelf
-Ends content (Check key reply q least) shelf = ends_check key reply q least shelf
-Ends content (Audit key publication reply q) shelf = ends_audit content key publication reply q shelf
-Ends content (Survey width seed method queries) shelf = EndsSurvey width seed method queries
-Ends content (Reach publication q) shelf = ends_reach publication q shelf
-Ends content (CheckReach key reply q least) shelf = ends_check_reach key reply q least shelf
-Ends content (AuditReach key publication reply q) shelf = ends_audit_reach content key publication reply q shelf
+abbrev pub Ends : Option (List ℕ) → Request → Folder → Ending
+Ends content (Route roads from to) folder = ends_route roads from to folder
+Ends content (Root roads fan) folder = ends_root roads fan folder
+Ends content (Dimacs graph places) folder = ends_dimacs graph places folder
+Ends content (Key secret kind) folder = ends_key content secret kind folder
+Ends content (Succeed secret kind) folder = ends_succession content secret kind folder
+Ends content Links folder = EndsLinks content
+Ends content Desk folder = EndsDesk content
+Ends content (Publish roads settings) folder = ends_publish content roads settings folder
+Ends content (Prove publication q) folder = ends_prove publication q folder
+Ends content (Serve publication) folder = ends_serve publication folder
+Ends content (Check key reply q least) folder = ends_check key reply q least folder
+Ends content (Audit key publication reply q) folder = ends_audit content key publication reply q
+    folder
+Ends content (Survey width seed method queries) folder = EndsSurvey width seed method queries
+Ends content (Reach publication q) folder = ends_reach publication q folder
+Ends content (CheckReach key reply q least) folder = ends_check_reach key reply q least folder
+Ends content (AuditReach key publication reply q) folder = ends_audit_reach content key publication
+    reply q folder
 
 -- of which faults a command tells its client by a text
 abbrev pub TellsClient : Request → Fault → Type 0
 TellsClient (Prove publication q) = TellsEnds
 TellsClient (Serve publication) = TellsFrames
+TellsClient (Publish roads settings) = TellsLost
 TellsClient request = TellsNone
 
 -- what a command does to the owner's disk, and what it then says of it
-abbrev pub OnDisk : {D : Type 0} → Ghosts D → D → D → Request → Option Shelf → Option (List ℕ) → Option (List ℕ) → Result Verdict Fault → Type 0
-OnDisk g old new (Key secret kind) files taken_before taken_now outcome = KeepsKey g old new files secret kind outcome
+abbrev pub OnDisk : {D : Type 0} → Ghosts D → D → D → Request → Option Folder → Option (List ℕ) →
+    Option (List ℕ) → Result Conclusion Fault → Type 0
+OnDisk g old new (Key secret kind) files taken_before taken_now outcome = KeepsKey g old new files
+    secret kind outcome
+OnDisk g old new (Succeed secret kind) files taken_before taken_now outcome = AddsKey g old new
+    files secret kind outcome
 OnDisk g old new (Publish roads settings) files taken_before taken_now outcome =
-    SealsWhatItWrites g old new taken_before taken_now outcome × SignsAtMostOne g old new files roads settings
+    SealsWhatItWrites g old new taken_before taken_now outcome ×
+    SignsAtMostOne g old new files roads settings × IfErr outcome (StaysRefused g old new)
 OnDisk g old new (Audit key publication reply q) files taken_before taken_now outcome =
-    AtEachMoment g old new Stays × WritesFindings g new IsBrought key reply files taken_before taken_now outcome
-    × AuditsAccepted g (g.content old) new key publication reply q files taken_before taken_now outcome
+    AtEachMoment g old new Stays ×
+    WritesFindings g new IsBrought key reply files taken_before taken_now outcome
+    × AuditsAccepted g (g.content old) new key publication reply q files taken_before taken_now
+    outcome
 OnDisk g old new (AuditReach key publication reply q) files taken_before taken_now outcome =
-    AtEachMoment g old new Stays × WritesFindings g new IsNearBrought key reply files taken_before taken_now outcome
-    × AuditsAcceptedReach g (g.content old) new key publication reply q files taken_before taken_now outcome
+    AtEachMoment g old new Stays ×
+    WritesFindings g new IsNearBrought key reply files taken_before taken_now outcome
+    × AuditsAcceptedReach g (g.content old) new key publication reply q files taken_before taken_now
+    outcome
 OnDisk g old new request files taken_before taken_now outcome = AtEachMoment g old new Stays
 
+-- M is a mirror, of which octets, label, puts and room tell what it holds, its label, and what it
+-- promises
+module _ {M : Type 0} (octets : M → Option (List ℕ)) (label puts room : M → ℕ) where
+  -- what a command does to the mirrors, which all but `publish` leave as they are
+  abbrev pub OnMirrors : {D : Type 0} → Ghosts D → D → D → Option Request → Option (List ℕ) →
+      Option (List ℕ) → List M → List M → Result Conclusion Fault → Type 0
+  OnMirrors g before now (Some (Publish roads settings)) taken_before taken_now old kept outcome =
+      SealsWhatItMirrors octets label puts room g before now taken_before taken_now old kept outcome
+  OnMirrors g before now asked taken_before taken_now old kept outcome = kept ≡ old
+
 -- words that ask for nothing leave everything as it is
-pub record LeavesAll {D : Type 0} (g : Ghosts D) (old new : D) (taken_before taken_now : Option (List ℕ)) : Type 0 where
+pub record LeavesAll {D : Type 0} (g : Ghosts D) (old new : D)
+    (taken_before taken_now : Option (List ℕ)) : Type 0 where
   pub silent : Keeps taken_before taken_now
   pub disk : AtEachMoment g old new Stays
 
 -- what a run promises, by what its words ask for
 pub record RunPromises {D : Type 0} (g : Ghosts D) (old new : D) (asked : Option Request)
-    (files : Option Shelf) (library_before library_now : ℕ)
-    (taken_before taken_now : Option (List ℕ)) (sink_before sink_now : ℕ) (outcome : Result Verdict Fault) : Type 0 where
+    (files : Option Folder) (library_before library_now : ℕ)
+    (taken_before taken_now : Option (List ℕ)) (sink_before sink_now : ℕ)
+    (outcome : Result Conclusion Fault) : Type 0 where
   pub words : (outcome ≡ Err Words) ↔ (asked ≡ None)
   pub nothing : IfNone asked (LeavesAll g old new taken_before taken_now)
-  pub command : IfSome asked (λ request. Promises (Ends (g.content old) request) (TellsClient request) (Rose (g.faults old) (g.faults new))
+  pub command : IfSome asked (λ request.
+      Promises (Ends (g.content old) request) (TellsClient request)
+      (Rose (g.faults old) (g.faults new))
       files library_before library_now taken_before taken_now sink_before sink_now outcome)
-  pub on_disk : IfSome asked (λ request. OnDisk g old new request files taken_before taken_now outcome)
+  pub on_disk : IfSome asked (λ request.
+      OnDisk g old new request files taken_before taken_now outcome)
   pub stands : KeepsStanding g old new
 
--- What must be told of the disk, so that an end is exact: its content, for a command that uses the disk. The end of `serve`
+-- What must be told of the disk, so that an end is exact: its content, for a command that uses the
+-- disk. The end of `serve`
 -- is not exact by the files and the disk.
 abbrev pub IsTold : Request → Option (List ℕ) → Type 0
 IsTold (Key file kind) content = content ≢ None
+IsTold (Succeed file kind) content = content ≢ None
+IsTold Links content = content ≢ None
 IsTold Desk content = content ≢ None
 IsTold (Publish roads settings) content = content ≢ None
 IsTold (Audit key publication reply q) content = content ≢ None
 IsTold (AuditReach key publication reply q) content = content ≢ None
 IsTold (Serve publication) content = ⊥
 IsTold request content = Unit {0}
+
+-- How the work ended, whatever became of the mirrors: it was done also where one was lost.
+abbrev pub but_for_mirrors : Result Conclusion Fault → Result Conclusion Fault
+but_for_mirrors (Err MirrorLost) = Ok Done
+but_for_mirrors outcome = outcome

@@ -5,13 +5,13 @@ use Rattle.std.specs.declared.option.Option.TheVariants.{Some}
 use Rattle.std.specs.declared.result.Result.{Result}
 use Rattle.std.specs.declared.result.Result.TheVariants.{Err}
 use Rattle.road_io.specs.Causes.{Rose}
-use Rattle.road_io.specs.Contents.{Shelf}
+use Rattle.road_io.specs.Contents.{Folder}
 use Rattle.road_command.specs.Requests.{Request, Serve}
 use Rattle.route_serving.specs.Inputs.{split}
 use Rattle.command_files.specs.Exact.{IsExact}
 use Rattle.command_files.specs.declared.fault.Fault.{Fault}
 use Rattle.command_files.specs.declared.fault.Fault.TheVariants.{Source}
-use Rattle.command_files.specs.declared.ended.Verdict.{Verdict}
+use Rattle.command_files.specs.declared.ended.Conclusion.{Conclusion}
 use Rattle.server_commands.specs.Serving.{ServesFrames, ends_serving, most_octets, most_frames}
 
 -- this holds of the publication's file, if words ask for serving
@@ -25,14 +25,19 @@ UnlessServe (Some (Serve file)) P = Unit {0}
 UnlessServe asked P = P
 
 -- what a run takes from its source, by what its words ask for: `serve` alone takes anything
-pub record RunTakes (asked : Option Request) (files : Option Shelf)
+pub record RunTakes (asked : Option Request) (files : Option Folder)
     (left_before left_now : Option (List ℕ)) (source_before source_now : ℕ)
-    (taken_before taken_now : Option (List ℕ)) (outcome : Result Verdict Fault) : Type 0 where
-  pub serves : IfServe asked (λ file. ServesFrames file files left_before left_now source_before source_now taken_before taken_now outcome)
+    (taken_before taken_now : Option (List ℕ)) (outcome : Result Conclusion Fault) : Type 0 where
+  pub serves : IfServe asked (λ file.
+      ServesFrames file files left_before left_now source_before source_now taken_before taken_now
+      outcome)
   pub kept : UnlessServe asked (left_now ≡ left_before)
   pub source : outcome ≡ Err Source → Rose source_before source_now
 
--- the end of `serve` is the one that its file and what is left in its source call for, where both are told
-abbrev pub IsExactServing : List ℕ → Option Shelf → Option (List ℕ) → Result Verdict Fault → Type 0
+-- the end of `serve` is the one that its file and what is left in its source call for, where both
+-- are told
+abbrev pub IsExactServing : List ℕ → Option Folder → Option (List ℕ) → Result Conclusion Fault →
+    Type 0
 IsExactServing file files left outcome =
-    IfSome files (λ shelf. IfSome left (λ text. IsExact (ends_serving file (split most_octets most_frames text) shelf) outcome))
+    IfSome files (λ folder. IfSome left
+    (λ text. IsExact (ends_serving file (split most_octets most_frames text) folder) outcome))

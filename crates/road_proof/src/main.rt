@@ -1,13 +1,15 @@
 //! Gogbetiku: shortest routes over road maps that prove themselves.
 //!
-//! `run` does all that the program does, over any library, source, sink and disk. `main` hands it the real ones.
+//! `run` does all that the program does, over any library, source, sink, disk and mirrors. `main` hands it the real ones.
 #![tactic(auto)]
 
 mod again;
+mod mirror_files;
 mod program;
 mod tell;
 
 use again::look_again;
+use mirror_files::{is_lost, labels_of, mirrors_here};
 pub use program::run;
 use road_command::{MOST_WORDS, Words};
 use road_io::{FileDisk, FileLibrary, StdSink, StdSource};
@@ -50,6 +52,14 @@ fn main(rt: HostRuntime) -> ExitCode {
     let mut source = StdSource::new(&rt);
     let mut sink = StdSink::new(rt);
     let mut disk = FileDisk::new(rt, "owner.desk");
+    let Ok(mut mirrors) = mirrors_here(rt, alloc) else {
+        let _ = eprintln!(rt; "road_proof: memory: There is not enough of it.");
+        return ExitCode::from(9);
+    };
+    let Ok(labels) = labels_of(alloc, &mirrors) else {
+        let _ = eprintln!(rt; "road_proof: memory: There is not enough of it.");
+        return ExitCode::from(9);
+    };
     let ended = run(
         alloc,
         &words,
@@ -57,7 +67,11 @@ fn main(rt: HostRuntime) -> ExitCode {
         &mut source,
         &mut sink,
         &mut disk,
+        &mut mirrors,
     );
+    for label in labels.iter().filter(|label| is_lost(&mirrors, **label)) {
+        let _ = eprintln!(rt; "lost mirror {label}");
+    }
     let name = library.last_name().unwrap_or("file");
     let again = look_again(alloc, &mut FileLibrary::new(rt), &words, ended, name);
     let facts = Facts {
@@ -78,5 +92,7 @@ fn main(rt: HostRuntime) -> ExitCode {
 
 #[cfg(test)]
 mod parties_tests;
+#[cfg(test)]
+mod status_tests;
 #[cfg(test)]
 mod tell_tests;

@@ -3,8 +3,9 @@
 use crate::run;
 use book_model::PlanError;
 use command_files::{Ended, Fault};
+use mem_io::{MemDisk, MemLibrary, MemSink, MemSource};
+use mirror_out::{MemMirror, Mirror};
 use road_command::{MOST_WORDS, Words};
-use road_io::{MemDisk, MemLibrary, MemSink, MemSource};
 use std::alloc::Global;
 use std::process::Abort;
 use std::test::Fail;
@@ -40,15 +41,17 @@ pub fn words_of(rt: &impl Abort, alloc: Global, line: &str) -> Result<Words, Fai
     Ok(words)
 }
 
-/// The files that the commands read, the owner's disk, and the octets of the input.
+/// The files that the commands read, the owner's disk, the octets of the input, and the mirrors.
 #[derive(Drop)]
-struct World {
-    library: MemLibrary,
-    disk: MemDisk,
+pub struct World {
+    pub library: MemLibrary,
+    pub disk: MemDisk,
     input: Vec<u8>,
+    mirrors: Vec<MemMirror>,
 }
 
-fn new_world(alloc: Global) -> Result<World, Fail> {
+/// A world with a road file, a secret and an empty disk.
+pub fn new_world(alloc: Global) -> Result<World, Fail> {
     let mut library = MemLibrary::new(alloc, Vec::new(alloc));
     library.put("map.roads", FIVE_NODES.as_bytes())?;
     library.put("secret", ZEROS.as_bytes())?;
@@ -57,11 +60,12 @@ fn new_world(alloc: Global) -> Result<World, Fail> {
         library,
         disk,
         input: Vec::new(alloc),
+        mirrors: Vec::new(alloc),
     })
 }
 
 /// Runs a command line, compares how it ends, and answers what it has written.
-fn written(
+pub fn written(
     rt: &impl Abort,
     alloc: Global,
     world: &mut World,
@@ -71,7 +75,7 @@ fn written(
 ) -> Result<Vec<u8>, Fail> {
     let words = words_of(rt, alloc, line)?;
     let mut source = MemSource::new(world.input.to_vec(alloc)?, 7, Vec::new(alloc));
-    let mut sink = MemSink::new(alloc, 4096, 4096, Vec::new(alloc))?;
+    let mut sink = MemSink::new(alloc, 16_384, 4096, Vec::new(alloc))?;
     let ended = run(
         alloc,
         &words,
@@ -79,6 +83,7 @@ fn written(
         &mut source,
         &mut sink,
         &mut world.disk,
+        &mut world.mirrors,
     );
     assert_eq!(rt; ended, Ended { status, fault }, "at {line}");
     Ok(sink.taken().to_vec(alloc)?)
@@ -88,7 +93,67 @@ fn written(
 const OTHER_KEY: &str =
     "0000000500000004000000000000000000000000000000000000000000000000000000000000000000000000000000000000000000000000";
 
-const PUBLISH: &str = "publish map.roads dij 3 id 0 2 0 0 0";
+/// Publishes the road file in version 3 under DIJ.
+pub const PUBLISH: &str = "publish map.roads dij 3 id 0 2 0 0 0";
+
+#[test]
+fn a_mirror_that_fails_is_lost_and_the_output_is_whole(rt: HostRuntime) -> Result<(), Fail> {
+    let alloc = rt.alloc();
+    let mut world = new_world(alloc)?;
+    written(&rt, alloc, &mut world, "key secret h5", 0, None)?;
+    let mirror = MemMirror::new(alloc, 1, 4096, vec![in alloc; 0]?)?;
+    world.mirrors.push(mirror)?;
+    let lost = Some(Fault::MirrorLost);
+    let publication = written(&rt, alloc, &mut world, PUBLISH, 15, lost)?;
+    assert_eq!(rt; publication.len(), 1550);
+    assert_eq!(rt; world.mirrors.len(), 0);
+    Ok(())
+}
+
+/// The lines of the nodes of a grid of width 20, row by row.
+fn put_grid_nodes(text: &mut String) -> Result<(), Fail> {
+    for id in 0..400u32 {
+        writeln!(text, "node {id} {} {}", id % 20, id / 20)?;
+    }
+    Ok(())
+}
+
+/// The lines of the roads between its neighbours, 760 of them.
+fn put_grid_roads(text: &mut String) -> Result<(), Fail> {
+    for id in 0..400u32 {
+        if id % 20 < 19 {
+            writeln!(text, "road {id} {} 1", id + 1)?;
+        }
+        if id < 380 {
+            writeln!(text, "road {id} {} 1", id + 20)?;
+        }
+    }
+    Ok(())
+}
+
+#[test]
+fn a_mirror_that_fails_at_its_third_put_is_lost(rt: HostRuntime) -> Result<(), Fail> {
+    let alloc = rt.alloc();
+    let mut world = new_world(alloc)?;
+    let mut roads = String::new(alloc);
+    writeln!(roads, "roads 1")?;
+    put_grid_nodes(&mut roads)?;
+    put_grid_roads(&mut roads)?;
+    world.library.put("grid.roads", roads.as_bytes())?;
+    written(&rt, alloc, &mut world, "key secret h5", 0, None)?;
+    let first = MemMirror::new(alloc, 1, 15_362, Vec::new(alloc))?;
+    world.mirrors.push(first)?;
+    let second = MemMirror::new(alloc, 2, 15_362, vec![in alloc; 2]?)?;
+    world.mirrors.push(second)?;
+    let line = "publish grid.roads dij 1 id 0 2 0 0 0";
+    let lost = Some(Fault::MirrorLost);
+    let publication = written(&rt, alloc, &mut world, line, 15, lost)?;
+    assert_eq!(rt; publication.len(), 15_362);
+    assert_eq!(rt; world.mirrors.len(), 1);
+    assert_eq!(rt; world.mirrors[0].label(), 1);
+    assert_eq!(rt; world.mirrors[0].held(), Some(publication.as_slice()));
+    Ok(())
+}
 
 #[test]
 fn a_route_is_published_proved_checked_and_audited(rt: HostRuntime) -> Result<(), Fail> {
@@ -109,7 +174,7 @@ fn a_route_is_published_proved_checked_and_audited(rt: HostRuntime) -> Result<()
     let later = written(&rt, alloc, &mut world, later, 0, None)?;
     world.library.put("later", &later)?;
     let desk = written(&rt, alloc, &mut world, "desk", 0, None)?;
-    let counted = format!(in alloc; "{PUBLIC} 30 32\n")?;
+    let counted = format!(in alloc; "{PUBLIC} 29 31\n")?;
     assert_eq!(rt; desk.as_slice(), counted.as_bytes());
     world.library.put("other", OTHER_KEY.as_bytes())?;
     let unknown = Some(Fault::UnknownNode(9));

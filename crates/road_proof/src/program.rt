@@ -5,20 +5,21 @@ ghost use Rattle.road_io.specs.Causes.{Rose};
 ghost use Rattle.road_command.specs.Requests.{request_of};
 ghost use Rattle.command_files.specs.Outcomes.{outcome_of, status_of};
 ghost use Rattle.command_files.specs.Exact.{NoneFailed, IsExact};
-ghost use Rattle.road_proof.specs.Commands.{Ends, IsTold, RunPromises};
+ghost use Rattle.road_proof.specs.Commands.{Ends, IsTold, OnMirrors, RunPromises, but_for_mirrors};
 ghost use Rattle.road_proof.specs.Sources.{IfServe, IsExactServing, RunTakes};
-ghost use Rattle.road_proof.specs.Accepting.{AcceptsHonest};
+ghost use Rattle.road_proof.specs.Accepting.{AcceptsHonest, RepliesAreTaken};
 
 use audit_commands::audit;
 use client_commands::check;
-use command_files::{Ended, Fault, Verdict};
+use command_files::{Conclusion, Ended, Fault};
 use map_commands::{dimacs, root, route};
+use mirror_out::Mirror;
 use near_audit_commands::audit_reach;
 use near_client::near_verdict_laws;
 use near_client_commands::check_reach;
 use near_proof::near_laws;
 use near_server_commands::reach;
-use owner_commands::{desk, key, publish};
+use owner_commands::{desk, key, links, publish, succeed};
 use road_command::{Command, Words, command_of};
 use road_io::{Disk, Library, Sink, Source};
 use road_map::map_laws;
@@ -30,13 +31,14 @@ use std::alloc::Global;
 use survey_commands::survey;
 
 /// Does all that the program does, and answers how it ended.
-pub fn run<L: Library, S: Source, K: Sink, D: Disk>(
+pub fn run<L: Library, S: Source, K: Sink, D: Disk, M: Mirror>(
     alloc: Global,
     words: &Words,
     library: &mut L,
     source: &mut S,
     sink: &mut K,
     disk: &mut D,
+    mirrors: &mut Vec<M>,
 ) -> Ended
     ensures status { result.status ≡ status_of (outcome_of result) }
     ensures promised { RunPromises D.Disk disk.old disk.new (request_of words.now)
@@ -45,15 +47,22 @@ pub fn run<L: Library, S: Source, K: Sink, D: Disk>(
     ensures takes { RunTakes (request_of words.now) (L.files library.old)
         (S.left source.old) (S.left source.new) (S.faults source.old) (S.faults source.new)
         (K.taken sink.old) (K.taken sink.new) (outcome_of result) }
-    ensures exact { NoneFailed (L.faults library.old) (L.faults library.new) (K.faults sink.old) (K.faults sink.new) (D.faults disk.old) (D.faults disk.new) →
-        IfSome (request_of words.now) (λ request. IfSome (L.files library.old) (λ shelf. IsTold request (D.content disk.old) →
-        IsExact (Ends (D.content disk.old) request shelf) (outcome_of result))) }
+    ensures mirrors { OnMirrors M.octets M.named M.puts M.room D.Disk disk.old disk.new (request_of words.now)
+        (K.taken sink.old) (K.taken sink.new) mirrors.old.items mirrors.new.items (outcome_of result) }
+    ensures exact { NoneFailed (L.faults library.old) (L.faults library.new) (K.faults sink.old) (K.faults sink.new)
+        (D.faults disk.old) (D.faults disk.new) →
+        IfSome (request_of words.now)
+        (λ request. IfSome (L.files library.old) (λ folder. IsTold request (D.content disk.old) →
+        IsExact (Ends (D.content disk.old) request folder) (but_for_mirrors (outcome_of result)))) }
     ensures serve_exact { ¬ Rose (S.faults source.old) (S.faults source.new) →
-        NoneFailed (L.faults library.old) (L.faults library.new) (K.faults sink.old) (K.faults sink.new) (D.faults disk.old) (D.faults disk.new) →
+        NoneFailed (L.faults library.old) (L.faults library.new) (K.faults sink.old)
+        (K.faults sink.new) (D.faults disk.old) (D.faults disk.new) →
         IfServe (request_of words.now) (λ file.
         IsExactServing file (L.files library.old) (S.left source.old) (outcome_of result)) }
     ensures honest { IfSome (request_of words.now) (λ request.
         AcceptsHonest request (L.files library.old) (K.taken sink.old) (K.taken sink.new) (outcome_of result)) }
+    ensures taken { IfSome (request_of words.now) (λ request.
+        RepliesAreTaken request (L.files library.old) (K.taken sink.old) (K.taken sink.new) (outcome_of result)) }
 {
     map_laws();
     server_laws();
@@ -61,24 +70,27 @@ pub fn run<L: Library, S: Source, K: Sink, D: Disk>(
     honest_laws();
     near_verdict_laws();
     near_laws();
-    Ended::of(work(alloc, words, library, source, sink, disk))
+    Ended::of(work(alloc, words, library, source, sink, disk, mirrors))
 }
 
 /// Does what the words ask for.
-fn work<L: Library, S: Source, K: Sink, D: Disk>(
+fn work<L: Library, S: Source, K: Sink, D: Disk, M: Mirror>(
     alloc: Global,
     words: &Words,
     library: &mut L,
     source: &mut S,
     sink: &mut K,
     disk: &mut D,
-) -> Result<Verdict, Fault>
+    mirrors: &mut Vec<M>,
+) -> Result<Conclusion, Fault>
     ensures promised { RunPromises D.Disk disk.old disk.new (request_of words.now)
         (L.files library.old) (L.faults library.old) (L.faults library.new)
         (K.taken sink.old) (K.taken sink.new) (K.faults sink.old) (K.faults sink.new) result }
     ensures takes { RunTakes (request_of words.now) (L.files library.old)
         (S.left source.old) (S.left source.new) (S.faults source.old) (S.faults source.new)
         (K.taken sink.old) (K.taken sink.new) result }
+    ensures mirrors { OnMirrors M.octets M.named M.puts M.room D.Disk disk.old disk.new (request_of words.now)
+        (K.taken sink.old) (K.taken sink.new) mirrors.old.items mirrors.new.items result }
 {
     match command_of(words) {
         None => Err(Fault::Words),
@@ -86,9 +98,13 @@ fn work<L: Library, S: Source, K: Sink, D: Disk>(
         Some(Command::Root { roads, fan }) => root(alloc, library, sink, roads, fan),
         Some(Command::Dimacs { graph, places }) => dimacs(alloc, library, sink, graph, places),
         Some(Command::Key { secret, kind }) => key(alloc, library, sink, disk, secret, kind),
+        Some(Command::Succeed { secret, kind }) => {
+            succeed(alloc, library, sink, disk, secret, kind)
+        }
+        Some(Command::Links) => links(alloc, sink, disk),
         Some(Command::Desk) => desk(alloc, sink, disk),
         Some(Command::Publish { roads, settings }) => {
-            publish(alloc, library, sink, disk, roads, &settings)
+            publish(alloc, library, sink, disk, mirrors, roads, &settings)
         }
         Some(Command::Prove { publication, query }) => {
             prove(alloc, library, sink, publication, query)

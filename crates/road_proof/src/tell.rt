@@ -110,7 +110,7 @@ impl<'a> Message<'a> {
         let keys = if left == 1 { "key is" } else { "keys are" };
         write!(
             f,
-            "road_proof: owner.desk: {left} one-time {keys} left. Make another key, in another folder, before they end."
+            "road_proof: owner.desk: {left} one-time {keys} left. Make the next key (`road_proof succeed`) before they end."
         )
     }
 
@@ -128,7 +128,7 @@ impl<'a> Message<'a> {
         reason(f, self.facts.sink_error)?;
         match self.command {
             Some(Command::Publish { .. }) => f.write_str(" One one-time key was used for it."),
-            Some(Command::Key { .. }) => {
+            Some(Command::Key { .. } | Command::Succeed { .. }) => {
                 f.write_str(" The key was made, and `road_proof desk` writes its public key.")
             }
             _ => Ok(()),
@@ -138,12 +138,18 @@ impl<'a> Message<'a> {
     /// What a fault is said of.
     fn what(&self, fault: Fault) -> &'a str {
         match fault {
-            Fault::Disk | Fault::KeysUsedUp | Fault::Held | Fault::NoKey | Fault::BadBlock => {
-                "owner.desk"
-            }
+            Fault::Disk
+            | Fault::KeysUsedUp
+            | Fault::Held
+            | Fault::NoKey
+            | Fault::BadBlock
+            | Fault::TooManyKeys
+            | Fault::NoSuccession
+            | Fault::SameSecret => { "owner.desk" }
             Fault::TruncatedFrame | Fault::FrameTooLong | Fault::TooManyFrames | Fault::Source =>
                 "standard input",
             Fault::OtherPublication => reply_of(self.command),
+            Fault::MirrorLost => "mirrors",
             Fault::Dimacs(fault) => challenge_of(self.command, fault),
             Fault::OtherKey => key_of(self.command),
             Fault::Plan(PlanError::Settings(number)) if settings_of(self.command).is_some() => {
@@ -172,8 +178,17 @@ impl<'a> Message<'a> {
                 "{} not to be used before the reply is audited with its own publication, which is another one of the owner's.",
                 brought(self.command)
             ),
-            Fault::Disk | Fault::KeysUsedUp | Fault::Held | Fault::NoKey | Fault::BadBlock =>
-                self.desk(f, fault),
+            Fault::MirrorLost => f.write_str(
+                "One that did not take the whole publication was lost. Standard output has all of it.",
+            ),
+            Fault::Disk
+            | Fault::KeysUsedUp
+            | Fault::Held
+            | Fault::NoKey
+            | Fault::BadBlock
+            | Fault::TooManyKeys
+            | Fault::NoSuccession
+            | Fault::SameSecret => self.desk(f, fault),
             Fault::TruncatedFrame | Fault::FrameTooLong | Fault::TooManyFrames | Fault::Source =>
                 self.input(f, fault),
             _ => self.file(f, fault),
@@ -282,14 +297,23 @@ impl<'a> Message<'a> {
     fn desk<W: fmt::Write>(&self, f: &mut Formatter<W>, fault: Fault) -> fmt::Result {
         match fault {
             Fault::KeysUsedUp => f.write_str(
-                "All of its one-time keys were used. Make another key, in another folder.",
+                "All of its one-time keys were used but the one that signs the next key. `road_proof succeed` makes that key.",
             ),
             Fault::Held => f.write_str("It holds a key already, which no other key may replace."),
             Fault::NoKey => f.write_str(
                 "It holds no key, or is not there. `road_proof key` makes one.",
             ),
             Fault::BadBlock => f.write_str(
-                "The key in it is of an unknown kind, or not all of its slots are there.",
+                "A key in it is of an unknown kind, or not all of its slots are there, or it is not the one that the key before it has signed.",
+            ),
+            Fault::TooManyKeys => f.write_str(
+                "It holds eight keys, the most that it may hold. Make another key, in another folder.",
+            ),
+            Fault::NoSuccession => f.write_str(
+                "The last one-time key of its key has signed a publication, so that it can't sign the next key. Make another key, in another folder.",
+            ),
+            Fault::SameSecret => f.write_str(
+                "It holds a key of this secret already. The next key is made from a secret of its own.",
             ),
             _ => match self.facts.desk_error {
                 Some(e) if e.kind() == ErrorKind::WouldBlock => {
@@ -396,7 +420,7 @@ fn settings_of(command: Option<Command<'_>>) -> Option<u8> {
 /// How many hex digits a command's file must have.
 fn digits_of(command: Option<Command<'_>>) -> usize {
     match command {
-        Some(Command::Key { .. }) => 96,
+        Some(Command::Key { .. } | Command::Succeed { .. }) => 96,
         _ => 112,
     }
 }

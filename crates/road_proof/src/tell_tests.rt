@@ -6,8 +6,9 @@ use crate::run;
 use crate::tell::{Facts, message_on};
 use book_model::PlanError;
 use command_files::{Ended, Fault};
+use mem_io::{MemDisk, MemLibrary, MemSink, MemSource};
+use mirror_out::MemMirror;
 use near_client::NearError;
-use road_io::{MemDisk, MemLibrary, MemSink, MemSource};
 use road_tell::Unusable;
 use route_client::CheckError;
 use std::alloc::Global;
@@ -27,6 +28,7 @@ fn says(rt: &impl Abort, alloc: Global, line: &str, name: &str, wanted: &str) ->
     let mut sink = MemSink::new(alloc, 1000, 1000, Vec::new(alloc))?;
     let mut disk = MemDisk::new(alloc, 4160, 10_000, Vec::new(alloc), None)?;
     let mut source = MemSource::new(Vec::new(alloc), 1, Vec::new(alloc));
+    let mut mirrors: Vec<MemMirror> = Vec::new(alloc);
     let ended = run(
         alloc,
         &words,
@@ -34,6 +36,7 @@ fn says(rt: &impl Abort, alloc: Global, line: &str, name: &str, wanted: &str) ->
         &mut source,
         &mut sink,
         &mut disk,
+        &mut mirrors,
     );
     let again = look_again(alloc, &mut library, &words, ended, name);
     let facts = Facts {
@@ -145,7 +148,7 @@ fn ends_over_real_files_are_told(rt: HostRuntime) -> Result<(), Fail> {
             None,
             ErrorKind::Other,
             None,
-            "road_proof: owner.desk: 1 one-time key is left. Make another key, in another folder, before they end.",
+            "road_proof: owner.desk: 1 one-time key is left. Make the next key (`road_proof succeed`) before they end.",
         ),
         (
             publish,

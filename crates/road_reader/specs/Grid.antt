@@ -1,5 +1,6 @@
 -- The generator of grids.
--- Source: this program's profile; the numbers are those of the generator that the C standard shows for `rand`.
+-- Source: this program's profile; the numbers are those of the generator that the C standard shows
+-- for `rand`.
 use Rattle.std.specs.Prelude.{ℕ, zero, suc, ◌+◌, ◌*◌, ◌/◌, ◌%◌, pos, nat_lt, List, [], ◌∷◌, ◌++◌, map, if◌then◌else◌}
 use Rattle.std.specs.List.{flat_map, range_with_len}
 use Rattle.road_map.specs.declared.parts.Node.{Node}
@@ -33,7 +34,8 @@ right_of width index = if nat_lt (index % width + 1) width then (index + 1, inde
 
 -- and to the node below
 abbrev pub below_of : ℕ → ℕ → List (ℕ × ℕ)
-below_of width index = if nat_lt (index / width + 1) width then (index + 1, index + 1 + width) ∷ [] else []
+below_of width index = if nat_lt (index / width + 1) width then
+    (index + 1, index + 1 + width) ∷ [] else []
 
 abbrev pub ends_of : ℕ → ℕ → List (ℕ × ℕ)
 ends_of width index = right_of width index ++ below_of width index
@@ -41,13 +43,16 @@ ends_of width index = right_of width index ++ below_of width index
 -- roads with lengths from 1 to 1000, drawn one after another
 abbrev pub with_lengths : ℕ → List (ℕ × ℕ) → List Road
 with_lengths state [] = []
-with_lengths state (ends ∷ rest) = record { a = ends.0; b = ends.1; length = 1 + drawn (next_state state) % 1000 } ∷ with_lengths (next_state state) rest
+with_lengths state (ends ∷ rest) =
+    record { a = ends.0; b = ends.1; length = 1 + drawn (next_state state) % 1000 } ∷ with_lengths
+    (next_state state) rest
 
 -- a square grid of this width
 unfoldable pub grid_of : ℕ → ℕ → Parts
 grid_of width seed = record {
   nodes = map (grid_node width) (range_with_len 0 (width * width));
-  roads = with_lengths (first_state seed) (flat_map (ends_of width) (range_with_len 0 (width * width)));
+  roads = with_lengths (first_state seed)
+      (flat_map (ends_of width) (range_with_len 0 (width * width)));
 }
 
 -- a walk joins any two nodes

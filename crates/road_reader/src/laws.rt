@@ -8,6 +8,8 @@ ghost use Rattle.road_reader.specs.Grid.{grid_of, IsConnected};
 /// a walk joins any two of its nodes.
 pub fn grid_laws()
     ensures map { (width seed : ℕ) → 2 ≤ width → width ≤ 256 → IsMap (grid_of width seed) }
-    ensures knows { (width seed : ℕ) → 2 ≤ width → width ≤ 256 → (id : ℕ) → 1 ≤ id → id ≤ width * width → Knows (grid_of width seed) id }
-    ensures connected { (width seed : ℕ) → 2 ≤ width → width ≤ 256 → IsConnected (grid_of width seed) }
+    ensures knows { (width seed : ℕ) → 2 ≤ width → width ≤ 256 → (id : ℕ) → 1 ≤ id →
+        id ≤ width * width → Knows (grid_of width seed) id }
+    ensures connected { (width seed : ℕ) → 2 ≤ width → width ≤ 256 →
+        IsConnected (grid_of width seed) }
 {}

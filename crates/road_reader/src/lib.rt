@@ -25,6 +25,3 @@ pub use numbers::{coordinate, natural, wide_natural};
 pub use printer::print_roads;
 pub use reader::{MOST_NODES, MOST_ROADS, printed_roads_are_read, read_roads};
 pub use words::{FourWords, four_words, skip_blanks, split_word};
-
-#[cfg(test)]
-mod tests;

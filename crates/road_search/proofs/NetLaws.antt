@@ -22,7 +22,7 @@ use Rattle.road_search.specs.OverMap.{map_ways}
 use Rattle.road_map.specs.Nets.{IsPlace, Placed, IsNet}
 use Rattle.road_search.specs.Nets.{net_ways}
 use Rattle.road_search.proofs.OverMapLaws.{leaves_out, out_leaves}
-use Rattle.road_search.proofs.WholeLaws.{known_at, whole_same}
+use Rattle.road_search.proofs.WholeMapLaws.{known_at, whole_same}
 
 -- ---- walks
 

@@ -2,24 +2,22 @@
 #![tactic(auto)]
 
 pub use ground::Ground;
+pub use label_setting::{search, search_in, search_to};
 pub use labels::Labels;
 pub use marks::{Hashed, Mark, Marks};
 pub use numbered::Numbered;
+pub use over_map::{WholeMap, distances_to};
 pub use path::{Path, knows, shortest};
-pub use setting::{search, search_in, search_to};
 pub use survey::Survey;
-pub use whole::{Whole, distances_to};
 
 mod front;
 mod ground;
 mod label;
+mod label_setting;
 mod labels;
 mod marks;
 mod net;
 mod numbered;
+mod over_map;
 mod path;
-mod setting;
 mod survey;
-#[cfg(test)]
-mod tests;
-mod whole;

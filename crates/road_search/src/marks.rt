@@ -25,7 +25,8 @@ pub trait Marks {
 
     /// Gives an id this mark.
     fn set(&mut self, id: u32, new: Mark) -> Result<(), AllocError>
-        ensures { OnOk result ((v : ℕ) → mark self.new v ≡ (if nat_eq id v then Some new else mark self.old v)) };
+        ensures { OnOk result ((v : ℕ) →
+            mark self.new v ≡ (if nat_eq id v then Some new else mark self.old v)) };
 }
 
 /// Marks of any ids.

@@ -20,7 +20,5 @@ mod plans;
 mod refusals;
 mod roads;
 mod slots;
-#[cfg(test)]
-mod tests;
 mod usage;
 mod words;

@@ -15,7 +15,7 @@ pub struct Usage {
 }
 
 /// The commands.
-pub const USAGES: [Usage; 14] = [
+pub const USAGES: [Usage; 16] = [
     Usage {
         words: "route ROADS S T",
         does: "writes the length and the nodes of a shortest route from S to T",
@@ -33,8 +33,16 @@ pub const USAGES: [Usage; 14] = [
         does: "makes the owner's key, h5 or h10, in owner.desk and writes its public key",
     },
     Usage {
+        words: "succeed SECRET KIND",
+        does: "makes the key that follows the owner's key, which signs it with its last one-time\n      key, and writes its public key",
+    },
+    Usage {
+        words: "links",
+        does: "writes the chain file that leads from the owner's first key to the current one",
+    },
+    Usage {
         words: "desk",
-        does: "writes the public key of owner.desk, how many one-time keys are left, and how many there are",
+        does: "writes the current public key of owner.desk, how many publications it can still\n      sign, and how many it can sign in all",
     },
     Usage {
         words: "publish ROADS METHOD VERSION ORDER SEED FAN P1 P2 P3",

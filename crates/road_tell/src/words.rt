@@ -91,7 +91,7 @@ fn rule(place: &str) -> &'static str {
         "FAN" => "a whole number from 2 to 32",
         "WIDTH" => "a whole number from 2 to 256",
         "QUERIES" => "a whole number from 1 to 1000",
-        "KIND" => "h5, with 32 one-time keys, or h10, with 1024",
+        "KIND" => "h5, for 31 publications, or h10, for 1023",
         "METHOD" => "dij, full, ldm or hyp",
         "ORDER" => "id, breadth, depth, hilbert, kd or shuffled",
         _ => "a whole number from 0 to 18446744073709551615",

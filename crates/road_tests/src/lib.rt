@@ -1,26 +1,9 @@
-//! Tests that cross crates: worked rows over one map, from the owner to the auditor. Each shows what no
-//! clause says.
+//! Tests of the server: books, replies on routes and on radii over one map. Each shows what no clause says.
 #![tactic(auto)]
 
 #[cfg(test)]
-mod audit;
-#[cfg(test)]
-mod client;
-#[cfg(test)]
-mod desk;
-#[cfg(test)]
-mod five_nodes;
-#[cfg(test)]
-mod map;
-#[cfg(test)]
 mod octets;
 #[cfg(test)]
-mod owner;
+mod reach;
 #[cfg(test)]
 mod server;
-#[cfg(test)]
-mod serving;
-#[cfg(test)]
-mod signed_answers;
-#[cfg(test)]
-mod survey;

@@ -1,6 +1,5 @@
 //! What no clause says: octets that an independent program computed with Python's hashlib, and calls
 //! that succeed with ample memory.
-use crate::five_nodes::{DIJ, NODES, ROADS, nodes_of, parts, roads_of};
 use crate::octets::assert_hex;
 use book_model::{Numbers, PlanError, Query, Settings};
 use octet_text::{Hasher, NoMemory, Octets, Sha, Toy};
@@ -10,6 +9,8 @@ use route_server::{BuildError, Held, InstallError};
 use std::alloc::{AllocError, Global};
 use std::process::Abort;
 use std::test::Fail;
+use test_maps::{NODES, ROADS, apart, parts_of};
+use test_settings::DIJ;
 
 const FULL: Settings = Settings { method: 2, ..DIJ };
 
@@ -29,15 +30,15 @@ const CELLS: Settings = Settings {
     ..DIJ
 };
 
-// The digest of octets.
-fn digest(octets: &[u8]) -> [u8; 32] {
+/// The digest of octets.
+pub fn digest(octets: &[u8]) -> [u8; 32] {
     let mut hasher = Sha::start();
     hasher.add(octets);
     hasher.end()
 }
 
 fn header_of<H: Hasher>(alloc: Global, settings: &Settings) -> Result<Header, Fail> {
-    let held = Held::<H>::build(alloc, parts(alloc)?, settings)?;
+    let held = Held::<H>::build(alloc, parts_of(alloc, &NODES, &ROADS)?, settings)?;
     Ok(held.header())
 }
 
@@ -50,7 +51,7 @@ fn error_of<T: Drop, E>(outcome: Result<T, E>) -> Option<E> {
 
 // Why settings have no book.
 fn refusal(alloc: Global, settings: &Settings) -> Result<Option<BuildError>, AllocError> {
-    let parts = parts(alloc)?;
+    let parts = parts_of(alloc, &NODES, &ROADS)?;
     Ok(error_of(Held::<Sha>::build(alloc, parts, settings)))
 }
 
@@ -69,10 +70,10 @@ fn publication(
     })
 }
 
-// The book of the five nodes, installed with its own header.
-fn installed(alloc: Global, settings: &Settings) -> Result<Held<Sha>, Fail> {
+/// The book of the five nodes, installed with its own header and a signature of zeros.
+pub fn installed(alloc: Global, settings: &Settings) -> Result<Held<Sha>, Fail> {
     let header = header_of::<Sha>(alloc, settings)?;
-    let publication = publication(alloc, header, settings, parts(alloc)?)?;
+    let publication = publication(alloc, header, settings, parts_of(alloc, &NODES, &ROADS)?)?;
     Ok(Held::install(alloc, publication)?)
 }
 
@@ -294,21 +295,9 @@ fn settings_are_tested_in_turn(rt: HostRuntime) -> Result<(), Fail> {
     Ok(())
 }
 
-// So many nodes at one place, and no road.
-fn nodes_alone(alloc: Global, count: u32) -> Result<Parts, AllocError> {
-    let mut rows = Vec::new(alloc);
-    for id in 1..=count {
-        rows.push((id, 0, 0))?;
-    }
-    Ok(Parts {
-        nodes: nodes_of(alloc, &rows)?,
-        roads: roads_of(alloc, &[])?,
-    })
-}
-
 #[test]
 fn too_many_nodes_for_all_pairs_are_refused(rt: HostRuntime) -> Result<(), Fail> {
-    let parts = nodes_alone(rt.alloc(), 1_025)?;
+    let parts = parts_of(rt.alloc(), &apart(rt.alloc(), 1_025)?, &[])?;
     let error = error_of(Held::<Sha>::build(rt.alloc(), parts, &FULL));
     assert_eq!(rt;
         error,
@@ -317,19 +306,11 @@ fn too_many_nodes_for_all_pairs_are_refused(rt: HostRuntime) -> Result<(), Fail>
     Ok(())
 }
 
-// The five nodes, and behind their roads one from 3 to itself.
-fn with_a_road_to_itself(alloc: Global) -> Result<Parts, AllocError> {
-    let [first, second, third, fourth] = ROADS;
-    let rows = [first, second, third, fourth, (3, 3, 1)];
-    Ok(Parts {
-        nodes: nodes_of(alloc, &NODES)?,
-        roads: roads_of(alloc, &rows)?,
-    })
-}
-
 #[test]
 fn a_map_fault_comes_before_a_setting(rt: HostRuntime) -> Result<(), Fail> {
-    let parts = with_a_road_to_itself(rt.alloc())?;
+    let [first, second, third, fourth] = ROADS;
+    let rows = [first, second, third, fourth, (3, 3, 1)];
+    let parts = parts_of(rt.alloc(), &NODES, &rows)?;
     let error = error_of(Held::<Sha>::build(rt.alloc(), parts, &wrong_settings(9, 6, 1)));
     assert_eq!(rt; error, Some(BuildError::Map(MapError::SelfRoad(4))));
     Ok(())
@@ -339,7 +320,12 @@ fn a_map_fault_comes_before_a_setting(rt: HostRuntime) -> Result<(), Fail> {
 fn another_header_is_not_installed(rt: HostRuntime) -> Result<(), Fail> {
     let mut header = header_of::<Sha>(rt.alloc(), &DIJ)?;
     header.version = 4;
-    let publication = publication(rt.alloc(), header, &DIJ, parts(rt.alloc())?)?;
+    let publication = publication(
+        rt.alloc(),
+        header,
+        &DIJ,
+        parts_of(rt.alloc(), &NODES, &ROADS)?,
+    )?;
     let error = error_of(Held::<Sha>::install(rt.alloc(), publication));
     assert_eq!(rt; error, Some(InstallError::HeaderWrong));
     Ok(())
@@ -382,10 +368,7 @@ fn the_leaf_of_the_first_node(rt: HostRuntime) -> Result<(), Fail> {
 fn line(alloc: Global) -> Result<Parts, AllocError> {
     let nodes = [(1, 0, 0), (2, 10, 0), (3, 20, 0), (4, 30, 0), (5, 40, 0)];
     let roads = [(1, 2, 10), (2, 3, 10), (3, 4, 10), (4, 5, 10)];
-    Ok(Parts {
-        nodes: nodes_of(alloc, &nodes)?,
-        roads: roads_of(alloc, &roads)?,
-    })
+    parts_of(alloc, &nodes, &roads)
 }
 
 const LANDMARKS: Settings = Settings {

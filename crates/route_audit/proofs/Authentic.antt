@@ -8,7 +8,7 @@ use Rattle.octet_text.specs.Format.{Format, whole}
 use Rattle.octet_text.specs.Exact.{IsExact}
 use Rattle.octet_text.proofs.Fields.{whole_again}
 use Rattle.road_map.proofs.Among.{Contains-none, Contains-cases, Contains-here, Contains-there}
-use Rattle.road_leaf.specs.declared.leaf.Kind.{Kind}
+use Rattle.road_leaf.specs.declared.leaf.LeafKind.{LeafKind}
 use Rattle.road_leaf.specs.declared.leaf.NodeLeaf.{NodeLeaf}
 use Rattle.road_leaf.specs.declared.pair.PairLeaf.{PairLeaf}
 use Rattle.road_leaf.specs.Leaves.{node_leaf, node_leaf_text, pair_leaf}
@@ -22,7 +22,7 @@ spells_one {A} f exact x y fits other e = same (sym (whole_again f exact x fits)
     same : ◌≡◌ {A = Result A ℕ} (Ok x) (Ok y) → x ≡ y
     same h = cc
 
-pub one_leaf : (kind : Kind) (l m : NodeLeaf) → (node_leaf kind).Fits l → (node_leaf kind).Fits m → node_leaf_text l ≡ node_leaf_text m → l ≡ m
+pub one_leaf : (kind : LeafKind) (l m : NodeLeaf) → (node_leaf kind).Fits l → (node_leaf kind).Fits m → node_leaf_text l ≡ node_leaf_text m → l ≡ m
 one_leaf kind l m fits other e = spells_one (node_leaf kind) (node_leaf_exact kind) l m fits other (leaf_same kind l fits ∙ e ∙ sym (leaf_same kind m other))
 
 pub one_pair : (l m : PairLeaf) → pair_leaf.Fits l → pair_leaf.Fits m → pair_leaf.spell l ≡ pair_leaf.spell m → l ≡ m

@@ -10,10 +10,10 @@ use Rattle.proof_method.specs.Laws.{IsSound, KeepsTrue}
 use Rattle.proof_octets.specs.declared.header.Header.{Header}
 use Rattle.proof_octets.specs.declared.publication.Publication.{Publication}
 use Rattle.proof_octets.specs.declared.reply.Answer as answers
+use Rattle.proof_octets.specs.Good.{IsGood}
 use Rattle.proof_octets.specs.Headers.{header_text}
 use Rattle.route_client.specs.declared.accepted.Accepted.{Accepted}
 use Rattle.route_client.specs.declared.errors.CheckError.{CheckError}
-use Rattle.route_client.specs.Rooms.{IsRead}
 use Rattle.route_client.specs.Verdicts.{IsVerdict, Accepts}
 use Rattle.route_server.specs.declared.errors.BuildError.{BuildError}
 use Rattle.route_server.specs.declared.errors.BuildError.TheVariants as build
@@ -102,12 +102,12 @@ other_finds hash look desk_key public reply q p a k key answer installs signed o
       other = λ e. other (ap (λ (x : answers.Answer). x.header) (sym answer.is) ∙ e);
     })
 
-met_of : (hash : List ℕ → List ℕ) (public reply : List ℕ) (q : Query) (k : Kept) (x : Accepted) (accepts : Accepts hash public reply q 0 x) → IsKept k → HasSpellings k → IsRead accepts.answer → accepts.answer.header ≡ header_in hash k
+met_of : (hash : List ℕ → List ℕ) (public reply : List ℕ) (q : Query) (k : Kept) (x : Accepted) (accepts : Accepts hash public reply q 0 x) → IsKept k → HasSpellings k → IsGood accepts.answer → accepts.answer.header ≡ header_in hash k
     → Met hash k q x accepts.answer
-met_of hash public reply q k x accepts kept spelled read header = record {
+met_of hash public reply q k x accepts kept spelled good header = record {
   kept = kept;
   spelled = spelled;
-  good = read.good;
+  good = good;
   header = header;
   kind = accepts.kind;
   method = accepts.method;
@@ -116,30 +116,30 @@ met_of hash public reply q k x accepts kept spelled read header = record {
 }
 
 compared_at : (hash : List ℕ → List ℕ) (look : Look) (public reply : List ℕ) (q : Query) (k : Kept) (x : Accepted) (accepts : Accepts hash public reply q 0 x) (finding : Finding)
-    → IsKept k → HasSpellings k → IsRead accepts.answer → look.Signed (header_text accepts.answer.header) → accepts.answer.header ≡ header_in hash k
+    → IsKept k → HasSpellings k → IsGood accepts.answer → look.Signed (header_text accepts.answer.header) → accepts.answer.header ≡ header_in hash k
     → ((kind : Kind) → KeepsTrue kind) → ((kind : Kind) → IsSound kind)
     → Compares hash (node_part_of k accepts.answer) (pair_part_of k accepts.answer) finding
     → Finds hash sha256 look (at public public reply q (publication_in hash k)) (Ok finding)
-compared_at hash look public reply q k x accepts Right kept spelled read signed header true_of sound compared = (
+compared_at hash look public reply q k x accepts Right kept spelled good signed header true_of sound compared = (
   record { installed = installed_at hash public reply q k x accepts kept; signed = signed; same = header },
-  right_of hash k q x accepts.answer (met_of hash public reply q k x accepts kept spelled read header) true_of sound compared.0 compared.1,
+  right_of hash k q x accepts.answer (met_of hash public reply q k x accepts kept spelled good header) true_of sound compared.0 compared.1,
 )
-compared_at hash look public reply q k x accepts (Collision two) kept spelled read signed header true_of sound compared = (
+compared_at hash look public reply q k x accepts (Collision two) kept spelled good signed header true_of sound compared = (
   record { installed = installed_at hash public reply q k x accepts kept; signed = signed; same = header },
   collides_of hash k kept accepts.answer two compared.0 compared.1,
 )
-compared_at hash look public reply q k x accepts (Forged head signature) kept spelled read signed header true_of sound compared = absurd compared
+compared_at hash look public reply q k x accepts (Forged head signature) kept spelled good signed header true_of sound compared = absurd compared
 
 pub compared_finds : (hash : List ℕ → List ℕ) (look : Look) (desk_key public reply : List ℕ) (q : Query) (p : Publication) (a : answers.Answer) (k : Kept) (finding : Finding) → public ≡ desk_key
-    → IsAnswerTo hash public reply q a → IsRead a → Installs hash sha256 p (Ok k) → HasSpellings k → look.Signed (header_text a.header) → a.header ≡ header_in hash k
+    → IsAnswerTo hash public reply q a → IsGood a → Installs hash sha256 p (Ok k) → HasSpellings k → look.Signed (header_text a.header) → a.header ≡ header_in hash k
     → ((kind : Kind) → KeepsTrue kind) → ((kind : Kind) → IsSound kind)
     → Compares hash (node_part_of k a) (pair_part_of k a) finding
     → Finds hash sha256 look (at desk_key public reply q p) (Ok finding)
-compared_finds hash look desk_key public reply q p a k finding key answer read installs spelled signed header true_of sound compared =
+compared_finds hash look desk_key public reply q p a k finding key answer good installs spelled signed header true_of sound compared =
     let back = sym answer.is in
     moved hash look desk_key public reply q p (publication_in hash k) (Ok finding) key installs.1
     (compared_at hash look public reply q k answer.accepted answer.accepts finding installs.2 spelled
-    (subst IsRead back read)
+    (subst IsGood back good)
     (subst (λ (x : answers.Answer). look.Signed (header_text x.header)) back signed)
     (subst (λ (x : answers.Answer). x.header ≡ header_in hash k) back header)
     true_of sound
@@ -217,20 +217,20 @@ finds_more hash sha look more u (Err Memory) signed unsigned fails finds = tt
 -- ---- what was found over the held book
 
 pub found_finds : (hash : List ℕ → List ℕ) (look : Look) (desk_key public reply : List ℕ) (q : Query) (p : Publication) (a : answers.Answer) (k : Kept) (r : Result Finding AuditError) → public ≡ desk_key
-    → IsAnswerTo hash public reply q a → IsRead a → Installs hash sha256 p (Ok k) → HasSpellings k → ((kind : Kind) → KeepsTrue kind) → ((kind : Kind) → IsSound kind)
+    → IsAnswerTo hash public reply q a → IsGood a → Installs hash sha256 p (Ok k) → HasSpellings k → ((kind : Kind) → KeepsTrue kind) → ((kind : Kind) → IsSound kind)
     → FindsIn hash look k a r → Finds hash sha256 look (at desk_key public reply q p) r
-found_finds hash look desk_key public reply q p a k (Err (Desk e)) key answer read installs spelled true_of sound found = failed_finds hash look desk_key public reply q p a k e key answer installs found
-found_finds hash look desk_key public reply q p a k (Err OtherPublication) key answer read installs spelled true_of sound found = other_finds hash look desk_key public reply q p a k key answer installs found.0 found.1
-found_finds hash look desk_key public reply q p a k (Err Memory) key answer read installs spelled true_of sound found = tt
-found_finds hash look desk_key public reply q p a k (Err OtherKey) key answer read installs spelled true_of sound found = absurd found
-found_finds hash look desk_key public reply q p a k (Err (Refused e)) key answer read installs spelled true_of sound found = absurd found
-found_finds hash look desk_key public reply q p a k (Err (Install e)) key answer read installs spelled true_of sound found = absurd found
-found_finds hash look desk_key public reply q p a k (Ok (Forged header signature)) key answer read installs spelled true_of sound found =
+found_finds hash look desk_key public reply q p a k (Err (Desk e)) key answer good installs spelled true_of sound found = failed_finds hash look desk_key public reply q p a k e key answer installs found
+found_finds hash look desk_key public reply q p a k (Err OtherPublication) key answer good installs spelled true_of sound found = other_finds hash look desk_key public reply q p a k key answer installs found.0 found.1
+found_finds hash look desk_key public reply q p a k (Err Memory) key answer good installs spelled true_of sound found = tt
+found_finds hash look desk_key public reply q p a k (Err OtherKey) key answer good installs spelled true_of sound found = absurd found
+found_finds hash look desk_key public reply q p a k (Err (Refused e)) key answer good installs spelled true_of sound found = absurd found
+found_finds hash look desk_key public reply q p a k (Err (Install e)) key answer good installs spelled true_of sound found = absurd found
+found_finds hash look desk_key public reply q p a k (Ok (Forged header signature)) key answer good installs spelled true_of sound found =
     forged_finds hash look desk_key public reply q p a k header signature key answer installs found.0 found.1 found.2
-found_finds hash look desk_key public reply q p a k (Ok Right) key answer read installs spelled true_of sound found =
-    compared_finds hash look desk_key public reply q p a k Right key answer read installs spelled found.0 found.1 true_of sound found.2
-found_finds hash look desk_key public reply q p a k (Ok (Collision two)) key answer read installs spelled true_of sound found =
-    compared_finds hash look desk_key public reply q p a k (Collision two) key answer read installs spelled found.0 found.1 true_of sound found.2
+found_finds hash look desk_key public reply q p a k (Ok Right) key answer good installs spelled true_of sound found =
+    compared_finds hash look desk_key public reply q p a k Right key answer good installs spelled found.0 found.1 true_of sound found.2
+found_finds hash look desk_key public reply q p a k (Ok (Collision two)) key answer good installs spelled true_of sound found =
+    compared_finds hash look desk_key public reply q p a k (Collision two) key answer good installs spelled found.0 found.1 true_of sound found.2
 
 -- no answer behind the look is one before it
 pub found_late : (hash : List ℕ → List ℕ) (look : Look) (k : Kept) (a : answers.Answer) (r : Result Finding AuditError) (P : Type 0) → FindsIn hash look k a r → BeforeLook r P

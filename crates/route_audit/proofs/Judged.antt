@@ -8,7 +8,7 @@ use Rattle.sha2.specs.Sha256.{sha256}
 use Rattle.road_map.specs.declared.parts.Parts.{Parts}
 use Rattle.road_map.specs.Maps.{IsMap}
 use Rattle.road_map.specs.Routes.{IsShortest}
-use Rattle.road_leaf.specs.declared.leaf.Kind as leaf_kinds
+use Rattle.road_leaf.specs.declared.leaf.LeafKind as leaf_kinds
 use Rattle.road_leaf.specs.declared.leaf.NodeLeaf.{NodeLeaf}
 use Rattle.road_leaf.specs.declared.pair.PairLeaf.{PairLeaf}
 use Rattle.road_leaf.specs.Leaves.{node_leaf, node_leaf_text, pair_leaf}
@@ -96,7 +96,7 @@ stand_in : (hash : List ℕ → List ℕ) (k : Kept) (q : Query) (x : Accepted) 
 stand_in hash k q x a met nodes pairs =
     let kind = met.spelled.kind in
     let Fit = (node_leaf (kind_of_leaves kind k.numbers)).Fits in
-    let items : All Fit a.items.nodes = subst (λ (l : leaf_kinds.Kind). All (node_leaf l).Fits a.items.nodes) (kind_of_items hash k a.header kind met.header met.spelled.method) met.good.leaves in
+    let items : All Fit a.items.nodes = subst (λ (l : leaf_kinds.LeafKind). All (node_leaf l).Fits a.items.nodes) (kind_of_items hash k a.header kind met.header met.spelled.method) met.good.leaves in
     let node_leaves : leaves_or_none (texts_in k 1) ≡ node_texts k.nodes = leaves_are (node_texts k.nodes) in
     let pair_leaves : leaves_or_none (texts_in k 2) ≡ pair_texts k.pairs = leaves_are (pair_texts k.pairs) in
     record {

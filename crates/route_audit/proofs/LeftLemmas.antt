@@ -14,7 +14,7 @@ same_time k n a b = omega (arith, a, b)
 
 pub left_alone : {D : Type 0} (g : Ghosts D) (desk : Desk) (disk : D) → Fits g desk disk → IsLeft g desk disk desk disk
 left_alone {D} g desk disk fits = record {
-  key = refl;
+  areas = record { earlier = refl; base = refl; key = refl };
   counts = refl;
   fits = fits;
   known = record { texted = λ s t k. k; spent = λ s t k. k };

@@ -1,5 +1,6 @@
 -- What an answer shows over a publication's own trees.
--- Source: Merkle, A Digital Signature Based on a Conventional Encryption Function, CRYPTO 1987: what folds to a
+-- Source: Merkle, A Digital Signature Based on a Conventional Encryption Function, CRYPTO 1987:
+-- what folds to a
 -- tree's root and is not the tree's own shows two texts with one digest.
 use Rattle.std.specs.Prelude.{◌≡◌, ◌≢◌, ◌⊎◌, ℕ, List, length, Ok}
 use Rattle.road_map.specs.Routes.{IsShortest}
@@ -18,7 +19,8 @@ use Rattle.route_server.specs.Headers.{node_texts, pair_texts, IsBook}
 
 -- ---- the parts of an answer
 
--- what is brought of a tree over these leaves: places, the texts of the leaves there, and the cover of the others
+-- what is brought of a tree over these leaves: places, the texts of the leaves there, and the cover
+-- of the others
 pub record Part : Type 0 where
   pub leaves : List (List ℕ)
   pub fan : ℕ
@@ -48,7 +50,8 @@ pair_part p book a = record {
 
 -- ---- right answers
 
--- each text is that of the leaf at its place, and the cover is the tree's; where there is no place, it is empty
+-- each text is that of the leaf at its place, and the cover is the tree's; where there is no place,
+-- it is empty
 pub record IsTreesOwn (hash : List ℕ → List ℕ) (part : Part) : Type 0 where
   pub rising : IsRising (length part.leaves) part.places
   pub texts : part.texts ≡ chosen_texts part.leaves part.places
@@ -62,31 +65,38 @@ pub record IsOwn (hash sha : List ℕ → List ℕ) (p : Publication) (a : answe
   pub nodes : IsTreesOwn hash (node_part sha p book a)
   pub pairs : IsTreesOwn hash (pair_part p book a)
 
--- so its items are leaves of the book, and the accepted route is a shortest one in the publication's map
-pub record IsRight (hash sha : List ℕ → List ℕ) (p : Publication) (q : Query) (x : Accepted) (a : answers.Answer) : Type 0 where
+-- so its items are leaves of the book, and the accepted route is a shortest one in the
+-- publication's map
+pub record IsRight (hash sha : List ℕ → List ℕ) (p : Publication) (q : Query) (x : Accepted)
+    (a : answers.Answer) : Type 0 where
   pub own : IsOwn hash sha p a
   pub authentic : IsAuthentic own.book a.items
   pub shortest : IsShortest p.parts q.from q.to x.route x.length
 
 -- ---- collisions
 
--- what is brought is not the tree's own, and at one place the tree hashes the left text, and the fold of what is
+-- what is brought is not the tree's own, and at one place the tree hashes the left text, and the
+-- fold of what is
 -- brought the right one
 pub record Clashes (hash : List ℕ → List ℕ) (part : Part) (two : TwoTexts) : Type 0 where
   pub not_own : ¬ IsTreesOwn hash part
-  pub hashed : AreHashed hash part.leaves part.fan part.places part.texts part.cover two.left two.right
+  pub hashed : AreHashed hash part.leaves part.fan part.places part.texts part.cover two.left
+      two.right
 
 -- a clash in the first tree, or in the second where what is brought of the first is its own
 abbrev pub ClashesFirst : (List ℕ → List ℕ) → Part → Part → TwoTexts → Type 0
-ClashesFirst hash one other two = Clashes hash one two ⊎ (IsTreesOwn hash one × Clashes hash other two)
+ClashesFirst hash one other two = Clashes hash one two ⊎
+    (IsTreesOwn hash one × Clashes hash other two)
 
 -- two different texts with one digest
 pub record AreCollision (hash : List ℕ → List ℕ) (two : TwoTexts) : Type 0 where
   pub differ : two.left ≢ two.right
   pub one_digest : hash two.left ≡ hash two.right
 
--- two such texts, where an answer brings what is not of the trees of the publication's book, the node tree first
-pub record Collides (hash sha : List ℕ → List ℕ) (p : Publication) (a : answers.Answer) (two : TwoTexts) : Type 0 where
+-- two such texts, where an answer brings what is not of the trees of the publication's book, the
+-- node tree first
+pub record Collides (hash sha : List ℕ → List ℕ) (p : Publication) (a : answers.Answer)
+    (two : TwoTexts) : Type 0 where
   pub collision : AreCollision hash two
   pub not_own : ¬ IsOwn hash sha p a
   pub kind : Kind
@@ -96,8 +106,10 @@ pub record Collides (hash sha : List ℕ → List ℕ) (p : Publication) (a : an
 
 -- ---- forged headers
 
--- the header of an answer and the signature that it brings, which is verified on the header under the key
-pub record BringsHeader (key : List ℕ) (a : answers.Answer) (header signature : List ℕ) : Type 0 where
+-- the header of an answer and the signature that it brings, which is verified on the header under
+-- the key
+pub record BringsHeader (key : List ℕ) (a : answers.Answer)
+    (header signature : List ℕ) : Type 0 where
   pub header_is : header ≡ header_text a.header
   pub signature_is : signature ≡ a.signature
   pub good : verified key header signature ≡ Ok tt

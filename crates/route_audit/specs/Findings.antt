@@ -17,7 +17,8 @@ use Rattle.route_audit.specs.declared.errors.AuditError.TheVariants.{OtherKey, R
 use Rattle.route_audit.specs.declared.finding.Finding.{Finding}
 use Rattle.route_audit.specs.declared.finding.Finding.TheVariants.{Right, Collision, Forged}
 
--- what is audited: octets as a reply to a query, under a public key and against a publication, at a desk with
+-- what is audited: octets as a reply to a query, under a public key and against a publication, at a
+-- desk with
 -- this public key
 pub record Audited : Type 0 where
   pub desk_key : List ℕ
@@ -40,7 +41,8 @@ pub record IsInstalled (hash sha : List ℕ → List ℕ) (u : Audited) : Type 0
   pub header : HasHeader hash sha u.publication.parts u.publication.settings u.publication.header
 
 -- the accepted answer
-abbrev pub answer_of : {hash sha : List ℕ → List ℕ} {u : Audited} → IsInstalled hash sha u → answers.Answer
+abbrev pub answer_of : {hash sha : List ℕ → List ℕ} {u : Audited} → IsInstalled hash sha u →
+    answers.Answer
 answer_of i = i.reply.accepts.answer
 
 -- and its header was signed, and is the publication's
@@ -52,7 +54,8 @@ pub record IsPublished (hash sha : List ℕ → List ℕ) (look : Look) (u : Aud
 -- ---- the findings
 
 -- a header that is not signed, with a signature that is verified on it
-pub record IsForged (hash sha : List ℕ → List ℕ) (look : Look) (u : Audited) (header signature : List ℕ) : Type 0 where
+pub record IsForged (hash sha : List ℕ → List ℕ) (look : Look) (u : Audited)
+    (header signature : List ℕ) : Type 0 where
   pub installed : IsInstalled hash sha u
   pub brings : BringsHeader u.desk_key (answer_of installed) header signature
   pub unsigned : look.Unsigned header
@@ -63,22 +66,29 @@ pub record IsOther (hash sha : List ℕ → List ℕ) (look : Look) (u : Audited
   pub signed : look.Signed (header_text (answer_of installed).header)
   pub other : (answer_of installed).header ≢ u.publication.header
 
--- What an audit answers: the first of these that holds. Each asks that the earlier steps were passed. Want of
+-- What an audit answers: the first of these that holds. Each asks that the earlier steps were
+-- passed. Want of
 -- memory may come at any time.
-abbrev pub Finds : (List ℕ → List ℕ) → (List ℕ → List ℕ) → Look → Audited → Result Finding AuditError → Type 0
+abbrev pub Finds : (List ℕ → List ℕ) → (List ℕ → List ℕ) → Look → Audited →
+    Result Finding AuditError → Type 0
 Finds hash sha look u (Err OtherKey) = u.public ≢ u.desk_key
-Finds hash sha look u (Err (Refused e)) = (u.public ≡ u.desk_key) × IsVerdict hash u.desk_key u.reply u.query 0 (Err e) × (e ≢ checks.Memory)
-Finds hash sha look u (Err (Install e)) = IsAccepted hash u × Installs hash sha u.publication (Err e) × (e ≢ installs.Memory)
+Finds hash sha look u (Err (Refused e)) = (u.public ≡ u.desk_key) ×
+    IsVerdict hash u.desk_key u.reply u.query 0 (Err e) × (e ≢ checks.Memory)
+Finds hash sha look u (Err (Install e)) = IsAccepted hash u ×
+    Installs hash sha u.publication (Err e) × (e ≢ installs.Memory)
 Finds hash sha look u (Err (Desk e)) = IsInstalled hash sha u × look.Fails e
 Finds hash sha look u (Ok (Forged header signature)) = IsForged hash sha look u header signature
 Finds hash sha look u (Err OtherPublication) = IsOther hash sha look u
-Finds hash sha look u (Ok (Collision two)) = (p : IsPublished hash sha look u) × Collides hash sha u.publication (answer_of p.installed) two
-Finds hash sha look u (Ok Right) = (p : IsPublished hash sha look u) × IsRight hash sha u.publication u.query p.installed.reply.accepted (answer_of p.installed)
+Finds hash sha look u (Ok (Collision two)) = (p : IsPublished hash sha look u) ×
+    Collides hash sha u.publication (answer_of p.installed) two
+Finds hash sha look u (Ok Right) = (p : IsPublished hash sha look u) ×
+    IsRight hash sha u.publication u.query p.installed.reply.accepted (answer_of p.installed)
 Finds hash sha look u (Err Memory) = Unit {0}
 
 -- ---- one always comes
 
--- octets that the client accepts under the desk's key, with any least version, and the publication whose header
+-- octets that the client accepts under the desk's key, with any least version, and the publication
+-- whose header
 -- they carry
 pub record IsAuditable (hash sha : List ℕ → List ℕ) (u : Audited) : Type 0 where
   pub key : u.public ≡ u.desk_key

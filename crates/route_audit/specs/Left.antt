@@ -4,13 +4,15 @@ use Rattle.road_io.specs.declared.disk.Disk.{Ghosts}
 use Rattle.road_io.specs.Disk.{Stays}
 use Rattle.road_io.specs.Moments.{AtEachMoment}
 use Rattle.key_desk.specs.declared.desk.Desk.{Desk}
-use Rattle.key_desk.specs.Desk.{Fits, KeepsAllKnown}
+use Rattle.key_desk.specs.Desk.{SameAreas, Fits, KeepsAllKnown}
 use Rattle.key_desk.specs.Stands.{KeepsStanding}
 
--- the desk keeps its key and its counts and fits its disk, no image of the disk changes, and what was known and
+-- the desk keeps its areas and its counts and fits its disk, no image of the disk changes, and what
+-- was known and
 -- what was signed stays so
-pub record IsLeft {D : Type 0} (g : Ghosts D) (old_desk : Desk) (old : D) (new_desk : Desk) (new : D) : Type 0 where
-  pub key : new_desk.key ≡ old_desk.key
+pub record IsLeft {D : Type 0} (g : Ghosts D) (old_desk : Desk) (old : D) (new_desk : Desk)
+    (new : D) : Type 0 where
+  pub areas : SameAreas old_desk new_desk
   pub counts : new_desk.counts ≡ old_desk.counts
   pub fits : Fits g new_desk new
   pub known : KeepsAllKnown g old_desk old new_desk new

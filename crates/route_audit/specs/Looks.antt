@@ -6,7 +6,7 @@ use Rattle.road_io.specs.Moments.{EachImage}
 use Rattle.key_desk.specs.declared.desk.Desk.{Desk}
 use Rattle.key_desk.specs.declared.desk.DeskError.{DeskError}
 use Rattle.key_desk.specs.declared.desk.DeskError.TheVariants.{KeysUsedUp, DiskFault, Closed}
-use Rattle.key_desk.specs.Layout.{SlotId, IsSigned}
+use Rattle.desk_areas.specs.Layout.{SlotId, IsSigned}
 
 -- what may be said of a text: that it is signed, or that it is not, or why it is not known
 pub record Look : Type 1 where
@@ -14,7 +14,8 @@ pub record Look : Type 1 where
   pub Unsigned : List ℕ → Type 0
   pub Fails : DeskError → Type 0
 
--- why a look at the slots fails: a desk that is open meets a fault of the disk, or the desk is closed
+-- why a look at the slots fails: a desk that is open meets a fault of the disk, or the desk is
+-- closed
 abbrev pub LookFails : {D : Type 0} → Ghosts D → Desk → D → D → DeskError → Type 0
 LookFails g desk old new KeysUsedUp = ⊥
 LookFails g desk old new DiskFault = (desk.is_open ≡ true) × Rose (g.faults old) (g.faults new)
@@ -23,8 +24,10 @@ LookFails g desk old new Closed = desk.is_open ≡ false
 -- the look of a desk at its disk: a text is signed in one slot of every image, or in no slot of any
 abbrev pub look_at : {D : Type 0} → Ghosts D → Desk → D → D → Look
 look_at g desk old new = record {
-  Signed = λ text. (desk.is_open ≡ true) × ((slot : SlotId) × EachImage g old (λ i. IsSigned i slot text));
-  Unsigned = λ text. (desk.is_open ≡ true) × EachImage g old (λ i. (slot : SlotId) → ¬ IsSigned i slot text);
+  Signed = λ text. (desk.is_open ≡ true) ×
+      ((slot : SlotId) × EachImage g old (λ i. IsSigned i slot text));
+  Unsigned = λ text. (desk.is_open ≡ true) ×
+      EachImage g old (λ i. (slot : SlotId) → ¬ IsSigned i slot text);
   Fails = LookFails g desk old new;
 }
 

@@ -4,8 +4,10 @@ ghost use Rattle.sha2.specs.Sha256.{sha256};
 ghost use Rattle.road_io.specs.Causes.{Rose};
 ghost use Rattle.lms_tree.specs.Signatures.{public_key};
 ghost use Rattle.key_desk.specs.Desk.{Fits};
+ghost use Rattle.proof_octets.specs.Good.{IsGood};
 ghost use Rattle.proof_octets.specs.Headers.{header_text};
-ghost use Rattle.route_client.specs.Rooms.{IsRead};
+ghost use Rattle.proof_octets.specs.Replies.{reply_text};
+ghost use Rattle.proof_octets.specs.declared.reply.Reply.TheVariants.{Answer as spelled_answer};
 ghost use Rattle.route_client.specs.Verdicts.{nodes_covered, pairs_covered};
 ghost use Rattle.route_audit.specs.Comparing.{FindsIn};
 ghost use Rattle.route_audit.specs.Findings.{BeforeLook, Comes, Finds, IsAuditable};
@@ -28,7 +30,8 @@ use std::alloc::Global;
 /// Whether a header is signed in a slot.
 pub fn is_signed<D: Disk>(desk: &mut Desk, disk: &mut D, header: &Header) -> Result<bool, DeskError>
     requires { Fits D.Disk desk.old disk.old }
-    ensures says { Says (look_at D.Disk desk.old disk.old disk.new) (header_text header.now) result }
+    ensures says { Says (look_at D.Disk desk.old disk.old disk.new)
+        (header_text header.now) result }
     ensures left { IsLeft D.Disk desk.old disk.old desk.new disk.new }
 {
     desk.signed(disk, &header.write())
@@ -38,15 +41,19 @@ pub fn is_signed<D: Disk>(desk: &mut Desk, disk: &mut D, header: &Header) -> Res
 fn find_in<H: Hasher, D: Disk>(
     alloc: Global,
     held: &Held<H>,
+    reply: &[u8],
     answer: Answer,
     desk: &mut Desk,
     disk: &mut D,
 ) -> Result<Finding, AuditError>
     requires fits { Fits D.Disk desk.old disk.old }
-    requires read { IsRead answer }
+    requires good { IsGood answer }
+    requires spelled { reply.now ≡ reply_text (spelled_answer answer) }
+    requires short { length reply.now < 2 ^ 32 }
     requires nodes { nodes_covered H.hash answer ≡ Ok tt }
     requires pairs { pairs_covered H.hash answer ≡ Ok tt }
-    ensures finds { FindsIn H.hash (look_at D.Disk desk.old disk.old disk.new) held.now answer result }
+    ensures finds { FindsIn H.hash
+        (look_at D.Disk desk.old disk.old disk.new) held.now answer result }
     ensures left { IsLeft D.Disk desk.old disk.old desk.new disk.new }
 {
     match is_signed(desk, disk, &answer.header) {
@@ -57,7 +64,7 @@ fn find_in<H: Hasher, D: Disk>(
     if !is_same_header(&answer.header, &held.header()) {
         return Err(AuditError::OtherPublication);
     }
-    match compare::<H>(alloc, held, &answer) {
+    match compare::<H>(alloc, held, reply, &answer) {
         Ok(finding) => Ok(finding),
         Err(NoMemory) => Err(AuditError::Memory),
     }
@@ -97,5 +104,5 @@ pub fn audit<H: Hasher, D: Disk>(
     }
     let answer = accepted_answer::<H>(alloc, public, reply, query)?;
     let held = install::<H>(alloc, publication)?;
-    find_in::<H, D>(alloc, &held, answer, desk, disk)
+    find_in::<H, D>(alloc, &held, reply, answer, desk, disk)
 }

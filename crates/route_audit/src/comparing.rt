@@ -1,16 +1,19 @@
 //! A reply against a publication's book.
-ghost use Rattle.std.specs.Prelude.{◌≡◌, ◌↔◌, length, IfOk, IfSome, IsNone, Ok};
-ghost use Rattle.route_client.specs.Rooms.{IsRead};
+ghost use Rattle.std.specs.Prelude.{◌≡◌, ◌↔◌, ◌<◌, ◌^◌, length, IfOk, IfSome, IsNone, Ok};
 ghost use Rattle.route_client.specs.Verdicts.{nodes_covered, pairs_covered};
+ghost use Rattle.proof_octets.specs.Good.{IsGood};
+ghost use Rattle.proof_octets.specs.Replies.{reply_text};
+ghost use Rattle.proof_octets.specs.declared.reply.Reply.TheVariants.{Answer as spelled_answer};
+ghost use Rattle.route_server.specs.Headers.{node_texts, pair_texts};
 ghost use Rattle.route_server.specs.Keeping.{header_in};
 ghost use Rattle.route_audit.specs.Comparing.{part_under, node_part_of, pair_part_of, FoldsUnder, Compares};
 ghost use Rattle.route_audit.specs.Evidence.{AreCollision, Clashes, IsTreesOwn};
 
 use crate::Finding;
-use leaf_texts::{node_texts, pair_texts};
-use merkle_cover::{Texts, TwoTexts, clash};
+use merkle_cover::{CutTexts, TwoTexts, clash};
 use octet_text::{Digest32, Hasher, NoMemory};
 use proof_octets::Answer;
+use route_client::leaf_cuts;
 use route_server::Held;
 use std::alloc::Global;
 
@@ -21,14 +24,17 @@ pub fn clash_under<H: Hasher>(
     held: &Held<H>,
     which: u8,
     places: &[u32],
-    texts: &Texts,
+    texts: &CutTexts<'_>,
     cover: &[Digest32],
 ) -> Result<Option<TwoTexts>, NoMemory>
     requires texts { length texts.now ≡ length places.now }
-    requires folds { FoldsUnder H.hash which (part_under held.now which places.now texts.now cover.now) }
-    ensures own { IfOk result (λ r. IsNone r ↔ IsTreesOwn H.hash (part_under held.now which places.now texts.now cover.now)) }
+    requires folds { FoldsUnder H.hash which
+        (part_under held.now which places.now texts.now cover.now) }
+    ensures own { IfOk result (λ r. IsNone r ↔
+        IsTreesOwn H.hash (part_under held.now which places.now texts.now cover.now)) }
     ensures collision { IfOk result (λ r. IfSome r (AreCollision H.hash)) }
-    ensures clash { IfOk result (λ r. IfSome r (Clashes H.hash (part_under held.now which places.now texts.now cover.now))) }
+    ensures clash { IfOk result (λ r.
+        IfSome r (Clashes H.hash (part_under held.now which places.now texts.now cover.now))) }
 {
     if places.is_empty() {
         return Ok(None);
@@ -46,22 +52,25 @@ pub fn clash_under<H: Hasher>(
 fn clash_of_nodes<H: Hasher>(
     alloc: Global,
     held: &Held<H>,
+    texts: &CutTexts<'_>,
     answer: &Answer,
 ) -> Result<Option<TwoTexts>, NoMemory>
-    requires read { IsRead answer.now }
+    requires good { IsGood answer.now }
+    requires texts { texts.now ≡ node_texts answer.now.items.nodes }
     requires same { answer.now.header ≡ header_in H.hash held.now }
     requires covered { nodes_covered H.hash answer.now ≡ Ok tt }
-    ensures own { IfOk result (λ r. IsNone r ↔ IsTreesOwn H.hash (node_part_of held.now answer.now)) }
+    ensures own { IfOk result (λ r. IsNone r ↔
+        IsTreesOwn H.hash (node_part_of held.now answer.now)) }
     ensures collision { IfOk result (λ r. IfSome r (AreCollision H.hash)) }
-    ensures clash { IfOk result (λ r. IfSome r (Clashes H.hash (node_part_of held.now answer.now))) }
+    ensures clash { IfOk result (λ r.
+        IfSome r (Clashes H.hash (node_part_of held.now answer.now))) }
 {
-    let texts = node_texts(alloc, answer.items.nodes.as_slice())?;
     clash_under::<H>(
         alloc,
         held,
         1,
         answer.node_places.as_slice(),
-        &texts,
+        texts,
         answer.node_cover.as_slice(),
     )
 }
@@ -70,22 +79,25 @@ fn clash_of_nodes<H: Hasher>(
 fn clash_of_pairs<H: Hasher>(
     alloc: Global,
     held: &Held<H>,
+    texts: &CutTexts<'_>,
     answer: &Answer,
 ) -> Result<Option<TwoTexts>, NoMemory>
-    requires read { IsRead answer.now }
+    requires good { IsGood answer.now }
+    requires texts { texts.now ≡ pair_texts answer.now.items.pairs }
     requires same { answer.now.header ≡ header_in H.hash held.now }
     requires covered { pairs_covered H.hash answer.now ≡ Ok tt }
-    ensures own { IfOk result (λ r. IsNone r ↔ IsTreesOwn H.hash (pair_part_of held.now answer.now)) }
+    ensures own { IfOk result (λ r. IsNone r ↔
+        IsTreesOwn H.hash (pair_part_of held.now answer.now)) }
     ensures collision { IfOk result (λ r. IfSome r (AreCollision H.hash)) }
-    ensures clash { IfOk result (λ r. IfSome r (Clashes H.hash (pair_part_of held.now answer.now))) }
+    ensures clash { IfOk result (λ r.
+        IfSome r (Clashes H.hash (pair_part_of held.now answer.now))) }
 {
-    let texts = pair_texts(alloc, answer.items.pairs.as_slice())?;
     clash_under::<H>(
         alloc,
         held,
         2,
         answer.pair_places.as_slice(),
-        &texts,
+        texts,
         answer.pair_cover.as_slice(),
     )
 }
@@ -94,18 +106,25 @@ fn clash_of_pairs<H: Hasher>(
 pub fn compare<H: Hasher>(
     alloc: Global,
     held: &Held<H>,
+    reply: &[u8],
     answer: &Answer,
 ) -> Result<Finding, NoMemory>
-    requires read { IsRead answer.now }
+    requires good { IsGood answer.now }
+    requires spelled { reply.now ≡ reply_text (spelled_answer answer.now) }
+    requires short { length reply.now < 2 ^ 32 }
     requires same { answer.now.header ≡ header_in H.hash held.now }
     requires nodes { nodes_covered H.hash answer.now ≡ Ok tt }
     requires pairs { pairs_covered H.hash answer.now ≡ Ok tt }
-    ensures { IfOk result (Compares H.hash (node_part_of held.now answer.now) (pair_part_of held.now answer.now)) }
+    ensures { IfOk result (Compares H.hash (node_part_of held.now answer.now)
+        (pair_part_of held.now answer.now)) }
 {
-    if let Some(two) = clash_of_nodes::<H>(alloc, held, answer)? {
+    let cuts = leaf_cuts(alloc, reply, answer)?;
+    let nodes = CutTexts::new(reply, cuts.nodes.as_slice());
+    if let Some(two) = clash_of_nodes::<H>(alloc, held, &nodes, answer)? {
         return Ok(Finding::Collision(two));
     }
-    if let Some(two) = clash_of_pairs::<H>(alloc, held, answer)? {
+    let pairs = CutTexts::new(reply, cuts.pairs.as_slice());
+    if let Some(two) = clash_of_pairs::<H>(alloc, held, &pairs, answer)? {
         return Ok(Finding::Collision(two));
     }
     Ok(Finding::Right)

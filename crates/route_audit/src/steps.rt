@@ -3,7 +3,9 @@ ghost use Rattle.std.specs.Prelude.{◌≡◌, ◌≢◌, ◌<◌, ◌^◌, leng
 ghost use Rattle.std.specs.Bool.{OnTrue, OnFalse};
 ghost use Rattle.sha2.specs.Sha256.{sha256};
 ghost use Rattle.lms_tree.specs.Signatures.{public_key};
-ghost use Rattle.route_client.specs.Rooms.{IsRead};
+ghost use Rattle.proof_octets.specs.Good.{IsGood};
+ghost use Rattle.proof_octets.specs.Replies.{reply_text};
+ghost use Rattle.proof_octets.specs.declared.reply.Reply.TheVariants.{Answer as spelled_answer};
 ghost use Rattle.route_server.specs.Installing.{Installs};
 ghost use Rattle.route_server.specs.Keeping.{HasSpellings};
 ghost use Rattle.route_audit.specs.Comparing.{IsAnswerTo, IsNotInstalled, IsRefused};
@@ -43,7 +45,8 @@ pub fn accepted_answer<H: Hasher>(
 ) -> Result<Answer, AuditError>
     requires { length reply.now < 2 ^ 32 }
     ensures accepted { IfOk result (IsAnswerTo H.hash public.now reply.now query) }
-    ensures read { IfOk result IsRead }
+    ensures good { IfOk result IsGood }
+    ensures spelled { IfOk result (λ a. reply.now ≡ reply_text (spelled_answer a)) }
     ensures refused { IfErr result (IsRefused H.hash public.now reply.now query) }
 {
     verdict_laws();

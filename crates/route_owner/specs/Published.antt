@@ -1,5 +1,6 @@
 -- What publishing promises.
--- Source: Yiu, Lin and Mouratidis, ICDE 2010: the data owner signs the roots of the trees and hands them out with the map.
+-- Source: Yiu, Lin and Mouratidis, ICDE 2010: the data owner signs the roots of the trees and hands
+-- them out with the map.
 use Rattle.std.specs.Prelude.{◌≡◌, ◌≢◌, ◌≤◌, ◌+◌, ◌<◌, ◌^◌, ℕ, true, List, ◌++◌, All, length, take, drop}
 use Rattle.std.specs.declared.result.Result.{Result}
 use Rattle.std.specs.declared.result.Result.TheVariants.{Ok, Err}
@@ -9,10 +10,9 @@ use Rattle.road_io.specs.declared.disk.Disk.{Ghosts}
 use Rattle.road_io.specs.Moments.{EachImage, AtEachMoment}
 use Rattle.book_model.specs.declared.settings.Settings.{Settings}
 use Rattle.lms_tree.specs.Signatures.{KeyOf, number_at}
-use Rattle.key_desk.specs.Desk.{IsSignature, count_of}
+use Rattle.key_desk.specs.Desk.{IsSignature, IsUsedUp as HasNoFree}
 use Rattle.key_desk.specs.declared.desk.Desk.{Desk as View}
-use Rattle.key_desk.specs.declared.desk.Count.TheVariants as counts
-use Rattle.key_desk.specs.Layout.{slots_of, gate_at, place_of, IsSigned, OutsideSlot, SignsAtMost}
+use Rattle.desk_areas.specs.Layout.{SlotId, slots_of, gate_of, IsCurrent, IsSigned, OutsideSlot, SignsAtMost}
 use Rattle.proof_octets.specs.declared.header.Header.{Header}
 use Rattle.proof_octets.specs.declared.publication.Publication.{Publication}
 use Rattle.proof_octets.specs.Headers.{header_text}
@@ -24,23 +24,33 @@ use Rattle.route_server.specs.declared.errors.BuildError.TheVariants as build_er
 use Rattle.route_owner.specs.declared.errors.PublishError.{PublishError}
 use Rattle.route_owner.specs.declared.errors.PublishError.TheVariants.{Build, Desk, Memory}
 
--- the slot whose one-time key has signed
+-- the number of the slot whose one-time key has signed
 abbrev pub slot_of : Publication → ℕ
 slot_of p = number_at p.signature 0
 
--- the publication of parts and settings: with the header of their book, signed by the key
-pub record IsPublication (hash : List ℕ → List ℕ) (key : KeyOf) (parts : Parts) (s : Settings) (p : Publication) : Type 0 where
+-- that slot in an area
+abbrev pub slot_in : ℕ → Publication → SlotId
+slot_in area p = record { area = area; number = slot_of p }
+
+-- the publication of parts and settings: with the header of their book, signed by a one-time key of
+-- the key that is
+-- not its last
+pub record IsPublication (hash : List ℕ → List ℕ) (key : KeyOf) (parts : Parts) (s : Settings)
+    (p : Publication) : Type 0 where
   pub of_parts : p.parts ≡ parts
   pub of_settings : p.settings ≡ s
   pub has_header : HasHeader hash sha256 parts s p.header
-  pub slot : slot_of p < slots_of key.kind
+  pub slot : slot_of p + 1 < slots_of key.kind
   pub signed : IsSignature key (slot_of p) (header_text p.header) p.signature
   pub fits : publication.Fits p
 
--- the header stands in its slot in every image, where no text was signed before
-pub record IsSealed {D : Type 0} (g : Ghosts D) (old new : D) (p : Publication) : Type 0 where
-  pub was_free : EachImage g old (λ i. gate_at i (place_of (slot_of p)) ≡ 0)
-  pub stands : EachImage g new (λ i. IsSigned i (slot_of p) (header_text p.header))
+-- the header stands in every image, in its slot of this area, the last open one, where no text was
+-- signed before
+pub record IsSealed {D : Type 0} (g : Ghosts D) (old new : D) (area : ℕ)
+    (p : Publication) : Type 0 where
+  pub current : EachImage g new (λ i. IsCurrent i area)
+  pub was_free : EachImage g old (λ i. gate_of i (slot_in area p) ≡ 0)
+  pub stands : EachImage g new (λ i. IsSigned i (slot_in area p) (header_text p.header))
 
 -- this holds where a signing was begun
 abbrev pub OnSigning : {X : Type 0} → Result X PublishError → Type 0 → Type 0
@@ -56,13 +66,16 @@ OnNoSigning (Err (Build e)) P = P
 OnNoSigning (Err (Desk e)) P = Unit {0}
 OnNoSigning (Err Memory) P = P
 
--- at each moment the images are those at entry, or have one pair more, of the header and a slot, and nothing
+-- at each moment the images are those at entry, or have one pair more, of the header and a slot,
+-- and nothing
 -- outside that slot changes
-pub record SignsHeader {D : Type 0} (g : Ghosts D) (old new : D) (hash : List ℕ → List ℕ) (parts : Parts) (s : Settings) : Type 0 where
-  pub slot : ℕ
+pub record SignsHeader {D : Type 0} (g : Ghosts D) (old new : D) (hash : List ℕ → List ℕ)
+    (parts : Parts) (s : Settings) : Type 0 where
+  pub slot : SlotId
   pub header : Header
   pub of_book : HasHeader hash sha256 parts s header
-  pub each : AtEachMoment g old new (λ d i. OutsideSlot slot d i × SignsAtMost slot (header_text header) d i)
+  pub each : AtEachMoment g old new
+      (λ d i. OutsideSlot slot d i × SignsAtMost slot (header_text header) d i)
 
 -- why there was no book
 abbrev pub IsNoBook : (List ℕ → List ℕ) → Parts → Settings → BuildError → Type 0
@@ -76,7 +89,8 @@ pub record HasSettingWidths (s : Settings) : Type 0 where
   pub p3 : s.p3 < 2 ^ 64
 
 -- parts, unchanged, and the header that they have under settings
-pub record IsSignable (hash : List ℕ → List ℕ) (parts : Parts) (s : Settings) (header : Header) (left : Parts) : Type 0 where
+pub record IsSignable (hash : List ℕ → List ℕ) (parts : Parts) (s : Settings) (header : Header)
+    (left : Parts) : Type 0 where
   pub same : left ≡ parts
   pub has : HasHeader hash sha256 parts s header
   pub good_header : IsGoodHeader header
@@ -86,30 +100,16 @@ pub record IsSignable (hash : List ℕ → List ℕ) (parts : Parts) (s : Settin
   pub nodes : All IsGoodNode parts.nodes
   pub roads : All IsGoodRoad parts.roads
 
--- the text of a publication of parts and settings, whose header stands in every image
-pub record IsPublishedText {D : Type 0} (g : Ghosts D) (old new : D) (hash : List ℕ → List ℕ) (key : KeyOf) (parts : Parts) (s : Settings) (text : List ℕ) : Type 0 where
-  pub publication : Publication
-  pub is : IsPublication hash key parts s publication
-  pub on_disk : IsSealed g old new publication
-  pub spelled : text ≡ publication_text publication
-
--- there is a header to sign, and the desk is open, but it counts no slot as free
-pub record IsUsedUp (hash : List ℕ → List ℕ) (parts : Parts) (s : Settings) (desk : View) : Type 0 where
+-- there is a header to sign, and the desk is open, but it counts no slot of its current area as
+-- free but the last
+pub record IsUsedUp (hash : List ℕ → List ℕ) (parts : Parts) (s : Settings)
+    (desk : View) : Type 0 where
   pub header : Header
   pub has : HasHeader hash sha256 parts s header
   pub opened : desk.is_open ≡ true
-  pub none_free : (slot : ℕ) → count_of desk slot ≢ counts.Free
+  pub none_free : HasNoFree desk
 
 -- the publication of these
 abbrev pub publication_with : Header → Parts → Settings → List ℕ → Publication
-publication_with header parts s signature = record { header = header; signature = signature; settings = s; parts = parts }
-
--- the text of the publication of parts and settings, in which any signature of so many octets may stand behind
--- 110 octets
-pub record IsUnsigned (hash : List ℕ → List ℕ) (parts : Parts) (s : Settings) (room : ℕ) (header : Header) (text : List ℕ) : Type 0 where
-  pub has : HasHeader hash sha256 parts s header
-  pub good_header : IsGoodHeader header
-  pub long : 110 + room ≤ length text
-  pub fits : (signature : List ℕ) → length signature ≡ room → publication.Fits (publication_with header parts s signature)
-  pub spells : (signature : List ℕ) → length signature ≡ room
-      → publication_text (publication_with header parts s signature) ≡ take 110 text ++ signature ++ drop (110 + room) text
+publication_with header parts s signature =
+    record { header = header; signature = signature; settings = s; parts = parts }

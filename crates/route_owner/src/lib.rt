@@ -2,7 +2,7 @@
 #![tactic(auto)]
 
 pub use errors::PublishError;
-pub use publishing::{Signable, make_signable, publish_text};
+pub use publishing::{make_signable, publish};
 
 mod errors;
 mod publishing;

@@ -12,7 +12,7 @@ use Rattle.road_map.proofs.Among.{Contains-none, Contains-cases}
 use Rattle.road_leaf.specs.declared.leaf.Extra.{Extra}
 use Rattle.road_leaf.specs.declared.leaf.Extra.TheVariants.{Plain, Own, Near, Cell}
 use Rattle.road_leaf.specs.declared.pair.PairLeaf.{PairLeaf}
-use Rattle.road_leaf.specs.declared.leaf.Kind.TheVariants.{Vector}
+use Rattle.road_leaf.specs.declared.leaf.LeafKind.TheVariants.{Vector}
 use Rattle.road_leaf.specs.Leaves.{extra}
 use Rattle.book_model.specs.declared.settings.Settings.{Settings}
 use Rattle.book_model.specs.Landmarks.{gap_of, is_within, codes_of, extra_of, kept_after, extras_of}

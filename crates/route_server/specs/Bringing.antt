@@ -10,7 +10,8 @@ use Rattle.route_server.specs.Honesty.{ids_at}
 use Rattle.route_server.specs.Keeping.{Kept, IsKept}
 
 -- exactly the leaves of these ids, by rising place, and the cover of all other places
-pub record AreBrought (hash : List ℕ → List ℕ) (k : Kept) (ids : List ℕ) (b : NodesBrought) : Type 0 where
+pub record AreBrought (hash : List ℕ → List ℕ) (k : Kept) (ids : List ℕ)
+    (b : NodesBrought) : Type 0 where
   pub kept : IsKept k
   pub rising : IsRising (length k.order) b.places
   pub small : All (λ p. p < 2 ^ 32) b.places

@@ -5,7 +5,8 @@ use Rattle.book_model.specs.declared.settings.Settings.{Settings}
 use Rattle.book_model.specs.Books.{kind_of}
 use Rattle.proof_method.specs.Planning.{book_fault, own_fault}
 
--- a method that is offered, and an order and a fan-out in their ranges: the method's own tests are all that is left
+-- a method that is offered, and an order and a fan-out in their ranges: the method's own tests are
+-- all that is left
 pub record IsCommon (s : Settings) : Type 0 where
   pub order : s.order ≤ 5
   pub fan : 2 ≤ s.fan

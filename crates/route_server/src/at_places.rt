@@ -32,8 +32,10 @@ pub fn leaves_at<B: MethodBook>(
     requires order { IsOrderOf (B.shown book.now).parts order.now }
     requires fits { FitsFormats (B.kind book.now) (B.shown book.now) }
     requires rising { IsRising (length order.now) places.now }
-    ensures leaves { IfOk result (λ leaves. leaves ≡ leaves_of (B.shown book.now) (ids_at order.now places.now)) }
-    ensures fit { IfOk result (λ leaves. All (node_leaf (kind_of_leaves (B.kind book.now) (B.shown book.now).numbers)).Fits leaves) }
+    ensures leaves { IfOk result (λ leaves.
+        leaves ≡ leaves_of (B.shown book.now) (ids_at order.now places.now)) }
+    ensures fit { IfOk result (λ leaves.
+        All (node_leaf (kind_of_leaves (B.kind book.now) (B.shown book.now).numbers)).Fits leaves) }
 {
     map_laws();
     let mut leaves = Vec::new(alloc);
@@ -69,7 +71,8 @@ pub fn cover_at<H: Hasher>(
     places: &[u32],
 ) -> Result<Digests, NoMemory>
     requires { IsRising (count_in (option_copied tree)) places.now }
-    ensures { IfOk result (λ digests. digests ≡ cover_in H.hash (option_copied tree.entry) places.now) }
+    ensures { IfOk result (λ digests.
+        digests ≡ cover_in H.hash (option_copied tree.entry) places.now) }
 {
     match tree {
         Some(tree) => tree.cover(alloc, places),

@@ -29,8 +29,11 @@ pub fn node_tree<H: Hasher, B: MethodBook>(
     requires fits { FitsFormats (B.kind book.now) (B.shown book.now) }
     requires fan { 2 ≤ fan }
     requires fan_max { fan ≤ 32 }
-    ensures tree { IfOk result (λ l. l ≡ record { fan = fan; texts = node_texts (leaves_of (B.shown book.now) order.now) }) }
-    ensures fit { OnOk result (All (node_leaf (kind_of_leaves (B.kind book.now) (B.shown book.now).numbers)).Fits (leaves_of (B.shown book.now) order.now)) }
+    ensures tree { IfOk result (λ l.
+        l ≡ record { fan = fan; texts = node_texts (leaves_of (B.shown book.now) order.now) }) }
+    ensures fit { OnOk result (All
+        (node_leaf (kind_of_leaves (B.kind book.now) (B.shown book.now).numbers)).Fits
+        (leaves_of (B.shown book.now) order.now)) }
 {
     let texts = node_texts(alloc, book, order)?;
     LeafTree::build(alloc, texts, fan)

@@ -6,9 +6,10 @@ use Rattle.book_model.specs.Books.{Kind, kind_of, leaf_order, plan_fault}
 use Rattle.proof_method.specs.Planning.{book_fault}
 use Rattle.proof_octets.specs.declared.publication.Publication.{Publication}
 use Rattle.route_server.specs.Headers.{HasHeader}
-use Rattle.route_service.specs.Refusals.{header_by, is_header_by, book_refusal, is_map, refusal_of}
+use Rattle.route_service.specs.Refusals.{header_by, is_header_by, book_refusal, refusal_of}
+use Rattle.road_map.specs.MapTests.{is_map}
 use Rattle.route_service.proofs.ExtraLemmas.{order_lists, book_in, is_book_in}
-use Rattle.route_service.proofs.MapTests.{map_from}
+use Rattle.road_map.proofs.MapTests.{map_from}
 use Rattle.route_service.proofs.RefusalLemmas.{header_is, headers_same}
 
 abbrev no_refusal : Option ℕ

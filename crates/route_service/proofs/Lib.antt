@@ -1,6 +1,5 @@
 pub mod Isolated
 pub mod PinLemmas
-pub mod MapTests
 pub mod RefusalLemmas
 pub mod StepLemmas
 pub mod InstallLemmas

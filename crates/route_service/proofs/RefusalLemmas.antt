@@ -32,8 +32,9 @@ use Rattle.route_server.specs.declared.errors.BuildError.TheVariants as build
 use Rattle.route_server.specs.declared.errors.InstallError.{InstallError}
 use Rattle.route_server.specs.declared.errors.InstallError.TheVariants as installs
 use Rattle.route_service.specs.Pinning.{Pins, not_pinned}
-use Rattle.route_service.specs.Refusals.{leaves_with, numbers_of, header_by, is_same_header, is_header_by, book_refusal, is_map, refusal_of}
-use Rattle.route_service.proofs.MapTests.{map_true, map_from}
+use Rattle.route_service.specs.Refusals.{leaves_with, numbers_of, header_by, is_same_header, is_header_by, book_refusal, refusal_of}
+use Rattle.road_map.specs.MapTests.{is_map}
+use Rattle.road_map.proofs.MapTests.{map_true, map_from}
 
 node_id : (nodes : List Node) (id : ℕ) (n : Node) → node_at nodes id ≡ Some n → n.id ≡ id
 node_id nodes id n e = let found = find_some (λ (m : Node). m.id == id) nodes n e in grind (arith, found.1)

@@ -1,14 +1,12 @@
--- Whether a publication can be installed, as functions: the octets spell one, its parts make a map, the map has a book
--- under its settings, and the book's header is the publication's.
-use Rattle.std.specs.Prelude.{ℕ, ◌^◌, ◌==◌, Bool, true, not, ◌&&◌, nat_lt, nat_le, nat_eq, if◌then◌else◌, Option, None, Some, Result, Ok, Err, List, [], ◌∷◌, length, count_by}
-use Rattle.std.specs.List.{list_all, list_any, cons_option}
+-- Whether a publication can be installed, as functions: the octets spell one, its parts make a map,
+-- the map has a book under its settings, and the book's header is the publication's.
+use Rattle.std.specs.Prelude.{ℕ, ◌==◌, Bool, true, ◌&&◌, if◌then◌else◌, Option, None, Some, Result, Ok, Err, List, [], ◌∷◌}
+use Rattle.std.specs.List.{cons_option}
 use Rattle.std.specs.Str.{bytes_eq}
 use Rattle.octet_text.specs.Format.{whole}
-use Rattle.road_map.specs.declared.parts.Node.{Node}
-use Rattle.road_map.specs.declared.parts.Road.{Road}
 use Rattle.road_map.specs.declared.parts.Parts.{Parts}
-use Rattle.road_map.specs.Walks.{ids, distance}
-use Rattle.road_map.specs.ArcsOut.{arcs_out}
+use Rattle.road_map.specs.Walks.{distance}
+use Rattle.road_map.specs.MapTests.{is_map}
 use Rattle.road_leaf.specs.declared.leaf.Extra.{Extra}
 use Rattle.road_leaf.specs.declared.leaf.NodeLeaf.{NodeLeaf}
 use Rattle.book_model.specs.declared.settings.Settings.{Settings}
@@ -32,59 +30,43 @@ as_spelled (Err at) = None
 unfoldable pub spelled_publication : List ℕ → Option Publication
 spelled_publication text = as_spelled (whole publication text)
 
--- ---- its parts make a map
-
--- there are nodes, and not too many nodes or roads
-abbrev pub is_sized : Parts → Bool
-is_sized parts = nat_lt 0 (length parts.nodes) && nat_le (length parts.nodes) 65536 && nat_le (length parts.roads) 262144
-
--- the node's id stands at no other
-abbrev pub stands_once : List Node → Node → Bool
-stands_once nodes n = not (nat_le 2 (count_by (λ m. m.id == n.id) nodes))
-
--- the road joins two different nodes, and its length is a number of 32 bits
-abbrev pub joins_two : List ℕ → Road → Bool
-joins_two ids r = list_any (nat_eq r.a) ids && list_any (nat_eq r.b) ids && not (r.a == r.b) && nat_lt r.length (2 ^ 32)
-
--- the node has at most 255 neighbours
-abbrev pub is_uncrowded : List Road → Node → Bool
-is_uncrowded roads n = not (nat_lt 255 (length (arcs_out roads n.id)))
-
--- the parts keep each rule of a map
-unfoldable pub is_map : Parts → Bool
-is_map parts =
-    is_sized parts && list_all (stands_once parts.nodes) parts.nodes && list_all (joins_two (ids parts.nodes)) parts.roads
-    && list_all (is_uncrowded parts.roads) parts.nodes
-
 -- ---- the book's header is the publication's
 
 -- the leaves of ids, with what a method adds to each
 abbrev pub leaves_with : Parts → List ℕ → List Extra → List NodeLeaf
 leaves_with parts [] extras = []
 leaves_with parts (id ∷ order) [] = []
-leaves_with parts (id ∷ order) (extra ∷ extras) = cons_option (leaf_of parts (λ _. extra) id) (leaves_with parts order extras)
+leaves_with parts (id ∷ order) (extra ∷ extras) = cons_option (leaf_of parts (λ _. extra) id)
+    (leaves_with parts order extras)
 
 -- the two numbers of a book
 abbrev pub numbers_of : Kind → Parts → Settings → Numbers
-numbers_of kind parts s = record { first = first_number kind parts s; second = second_number kind s }
+numbers_of kind parts s = record {
+  first = first_number kind parts s;
+  second = second_number kind s;
+}
 
 -- the header of the book of parts and settings under a method, where sha shuffles
 unfoldable pub header_by : (List ℕ → List ℕ) → (List ℕ → List ℕ) → Kind → Parts → Settings → Header
 header_by hash sha kind parts s =
-    header_of hash s (leaves_with parts (leaf_order sha parts s) (extras kind parts s (leaf_order sha parts s)))
+    header_of hash s (leaves_with parts (leaf_order sha parts s)
+    (extras kind parts s (leaf_order sha parts s)))
     (pairs_of (distance parts) (paired kind parts s)) (numbers_of kind parts s)
 
 abbrev pub is_same_header : Header → Header → Bool
 is_same_header a b =
     (a.method == b.method) && (a.order == b.order) && (a.fan == b.fan) && (a.version == b.version)
-    && (a.nodes == b.nodes) && bytes_eq a.node_root b.node_root && (a.pairs == b.pairs) && bytes_eq a.pair_root b.pair_root
+    && (a.nodes == b.nodes) && bytes_eq a.node_root b.node_root &&
+    (a.pairs == b.pairs) && bytes_eq a.pair_root b.pair_root
     && (a.numbers.first == b.numbers.first) && (a.numbers.second == b.numbers.second)
 
 abbrev pub is_header_by : (List ℕ → List ℕ) → (List ℕ → List ℕ) → Publication → Option Kind → Bool
 is_header_by hash sha p None = true
-is_header_by hash sha p (Some kind) = is_same_header (header_by hash sha kind p.parts p.settings) p.header
+is_header_by hash sha p (Some kind) = is_same_header
+    (header_by hash sha kind p.parts p.settings) p.header
 
--- ---- the first reason why it can't be installed: 2 its parts make no map, 3 the map has no book, 4 the header is another
+-- ---- the first reason why it can't be installed: 2 its parts make no map, 3 the map has no book,
+-- 4 the header is another
 
 abbrev pub book_refusal : Option PlanError → Bool → Option ℕ
 book_refusal (Some fault) same = Some 3
@@ -92,4 +74,5 @@ book_refusal None same = if same then None else Some 4
 
 unfoldable pub refusal_of : (List ℕ → List ℕ) → (List ℕ → List ℕ) → Publication → Option ℕ
 refusal_of hash sha p =
-    if is_map p.parts then book_refusal (book_fault p.parts p.settings) (is_header_by hash sha p (kind_of p.settings.method)) else Some 2
+    if is_map p.parts then book_refusal (book_fault p.parts p.settings)
+    (is_header_by hash sha p (kind_of p.settings.method)) else Some 2

@@ -49,8 +49,10 @@ pub fn serve<H: Hasher, S: Source, K: Sink>(
     ensures serves { Serves H.hash sha256 (state_of service.old) (state_of service.new) most limit
         (S.left source.old) (S.left source.new) (K.taken sink.old) (K.taken sink.new) result }
     ensures input { (input : Input) × IsInput most limit (S.left source.old) input
-        × ServesInput H.hash sha256 (state_of service.old) input (K.taken sink.old) (K.taken sink.new) result }
-    ensures source { result ≡ Err ServeError.Source → Rose (S.faults source.old) (S.faults source.new) }
+        × ServesInput H.hash sha256 (state_of service.old) input (K.taken sink.old)
+        (K.taken sink.new) result }
+    ensures source { result ≡ Err ServeError.Source →
+        Rose (S.faults source.old) (S.faults source.new) }
     ensures sink { result ≡ Err ServeError.Sink → Rose (K.faults sink.old) (K.faults sink.new) }
     ensures source_later { S.faults source.old ≤ S.faults source.new }
     ensures sink_later { K.faults sink.old ≤ K.faults sink.new }
@@ -70,7 +72,8 @@ fn turns<H: Hasher, S: Source, K: Sink>(
 ) -> Result<(), ServeError>
     ensures serves { Serves H.hash sha256 (state_of service.old) (state_of service.new) most limit
         (S.left source.old) (S.left source.new) (K.taken sink.old) (K.taken sink.new) result }
-    ensures source { result ≡ Err ServeError.Source → Rose (S.faults source.old) (S.faults source.new) }
+    ensures source { result ≡ Err ServeError.Source →
+        Rose (S.faults source.old) (S.faults source.new) }
     ensures sink { result ≡ Err ServeError.Sink → Rose (K.faults sink.old) (K.faults sink.new) }
     ensures source_later { S.faults source.old ≤ S.faults source.new }
     ensures sink_later { K.faults sink.old ≤ K.faults sink.new }

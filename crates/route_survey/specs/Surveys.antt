@@ -25,10 +25,12 @@ use Rattle.route_survey.specs.declared.errors.SurveyError.TheVariants.{Plan, Mem
 abbrev pub survey_key : KeyOf
 survey_key = record { kind = 5; i = replicate 16 0; seed = replicate 32 0 }
 
--- the line of a survey: how many queries, how many were accepted, their lengths' total, and a digest
+-- the line of a survey: how many queries, how many were accepted, their lengths' total, and a
+-- digest
 abbrev pub survey_line : ℕ → ℕ → ℕ → List ℕ → List ℕ
 survey_line queries accepted total digest =
-    codes "queries " ++ decimal queries ++ codes " accepted " ++ decimal accepted ++ codes " total " ++ decimal total ++ codes " digest " ++ encode_lower digest ++ codes "\n"
+    codes "queries " ++ decimal queries ++ codes " accepted " ++ decimal accepted ++ codes " total "
+    ++ decimal total ++ codes " digest " ++ encode_lower digest ++ codes "\n"
 
 -- the publication that a survey makes of parts and settings: with the header of their book, and the
 -- signature of that by slot 0 of the survey's key, which is good
@@ -40,7 +42,8 @@ pub record IsSurveyed (parts : Parts) (s : Settings) (p : Publication) : Type 0 
   pub good : verified (public_key survey_key) (header_text p.header) p.signature ≡ Ok tt
   pub fits : publication.Fits p
 
--- an honest reply to a query over a publication, which a client with the survey's public key accepts
+-- an honest reply to a query over a publication, which a client with the survey's public key
+-- accepts
 pub record IsAnswered (p : Publication) (q : Query) (reply : List ℕ) : Type 0 where
   pub honest : IsHonest sha256 sha256 p q reply
   pub accepted : AreAccepted sha256 (public_key survey_key) reply q 1 p.parts
@@ -55,14 +58,17 @@ AllAnswered p queries replies = ⊥
 abbrev pub length_of : Parts → Query → ℕ
 length_of parts q = unwrap_or (distance parts q.from q.to) 0
 
--- The line of a survey over some parts: each query is answered and accepted, the total is that of the
--- lengths of shortest walks, and the digest is of the publication and of all replies, in their order.
-pub record IsSurveyLine (parts : Parts) (s : Settings) (queries : List Query) (text : List ℕ) : Type 0 where
+-- The line of a survey over some parts: each query is answered and accepted, the total is that of
+-- the lengths of shortest walks, and the digest is of the publication and of all replies, in their
+-- order.
+pub record IsSurveyLine (parts : Parts) (s : Settings) (queries : List Query)
+    (text : List ℕ) : Type 0 where
   pub made : Publication
   pub is_made : IsSurveyed parts s made
   pub replies : List (List ℕ)
   pub answered : AllAnswered made queries replies
-  pub line : text ≡ survey_line (length queries) (length queries) (sum_by (length_of parts) queries) (sha256 (publication_text made ++ concat replies))
+  pub line : text ≡ survey_line (length queries) (length queries) (sum_by (length_of parts) queries)
+      (sha256 (publication_text made ++ concat replies))
 
 -- why there is none: the settings make no book of the parts, for this first reason
 abbrev pub WhyNoSurvey : Parts → Settings → SurveyError → Type 0

@@ -34,7 +34,8 @@ pub record CountsAll (p : Publication) (queries : List Query) (old new : Tally) 
   pub answered : AllAnswered p queries replies
   pub accepted : new.accepted ≡ old.accepted + length queries
   pub total : new.total ≡ old.total + sum_by (length_of p.parts) queries
-  pub digested : (text : List ℕ) → HoldsText old.hasher text → HoldsText new.hasher (text ++ concat replies)
+  pub digested : (text : List ℕ) → HoldsText old.hasher text →
+      HoldsText new.hasher (text ++ concat replies)
 
 -- what a survey has counted over its publication
 pub record IsTallied (p : Publication) (queries : List Query) (tally : Tally) : Type 0 where
@@ -45,7 +46,8 @@ pub record IsTallied (p : Publication) (queries : List Query) (tally : Tally) : 
   pub digested : HoldsText tally.hasher (publication_text p ++ concat replies)
 
 -- what a survey of parts by some settings has counted, over the publication that it made of these
-pub record IsCounted (parts : Parts) (s : Settings) (queries : List Query) (tally : Tally) : Type 0 where
+pub record IsCounted (parts : Parts) (s : Settings) (queries : List Query)
+    (tally : Tally) : Type 0 where
   pub made : Publication
   pub is_made : IsSurveyed parts s made
   pub tallied : IsTallied made queries tally

@@ -42,8 +42,10 @@ fn ask(
     requires public { public.now ≡ public_key survey_key }
     requires askable { IsAskable held.now }
     requires joined { AreJoined held.now.map.parts query }
-    ensures answered { IfOk result (λ it. IsAnswered (publication_in sha256 held.now) query it.reply.items) }
-    ensures length { IfOk result (λ it. distance held.now.map.parts query.from query.to ≡ Some it.length) }
+    ensures answered { IfOk result
+        (λ it. IsAnswered (publication_in sha256 held.now) query it.reply.items) }
+    ensures length { IfOk result (λ it.
+        distance held.now.map.parts query.from query.to ≡ Some it.length) }
     ensures bound { IfOk result (λ it. it.length < 2 ^ 48) }
 {
     map_laws();
@@ -75,7 +77,8 @@ fn count_one(
     requires joined { AreJoined held.now.map.parts query }
     requires few { tally.old.accepted < 1000 }
     requires room { tally.old.total ≤ tally.old.accepted * 2 ^ 48 }
-    ensures counts { OnOk result (CountsOne (publication_in sha256 held.now) query tally.old tally.new) }
+    ensures counts { OnOk result (CountsOne
+        (publication_in sha256 held.now) query tally.old tally.new) }
     ensures room { OnOk result (tally.new.total ≤ tally.new.accepted * 2 ^ 48) }
 {
     let answered = ask(alloc, held, public, query)?;
@@ -99,7 +102,8 @@ pub fn count_all(
     requires few { length queries.now ≤ 1000 }
     requires nothing { tally.old.accepted ≡ 0 }
     requires zero { tally.old.total ≡ 0 }
-    ensures { OnOk result (CountsAll (publication_in sha256 held.now) queries.now tally.old tally.new) }
+    ensures { OnOk result (CountsAll
+        (publication_in sha256 held.now) queries.now tally.old tally.new) }
 {
     for query in queries {
         count_one(alloc, held, public, tally, *query)?;

@@ -29,7 +29,8 @@ fn printed(
     total: u64,
     digest: &Digest32,
 ) -> Result<String, AllocError>
-    ensures { IfOk result (λ text. string_bytes text ≡ survey_line queries accepted total digest.now) }
+    ensures { IfOk result (λ text.
+        string_bytes text ≡ survey_line queries accepted total digest.now) }
 {
     let digits = hex::encode(alloc, digest)?;
     let mut text = String::new(alloc);

@@ -15,8 +15,8 @@ use octet_text::{Hasher, NoMemory, Octets, Sha};
 use proof_octets::{Publication, range_laws};
 use road_map::{Parts, map_laws};
 use road_reader::{GridError, grid_laws, grid_roads};
-use route_owner::{Signable, make_signable};
-use route_server::{BuildError, Held, InstallError, server_laws};
+use route_owner::make_signable;
+use route_server::{BuildError, Headed, Held, InstallError, server_laws};
 use std::alloc::Global;
 
 /// The key of a survey, of height 5 and made from zeros. Whoever knows that can sign by it, so it
@@ -43,7 +43,7 @@ fn sign(
     ensures refused { IfErr result (λ e. Makes sha256 sha256 parts settings.now (Err e)) }
 {
     range_laws();
-    let Signable { header, parts } = make_signable::<Sha>(alloc, parts, settings)?;
+    let Headed { header, parts } = make_signable::<Sha>(alloc, parts, settings)?;
     let mut signature = [0; 1292];
     key.sign_into(0, &header.write(), &mut signature);
     let Ok(signature) = Vec::from_slice(alloc, &signature) else {

@@ -91,7 +91,8 @@ fn count_grid(
 
 /// The line of what was counted over so many queries.
 fn line_of_tally(alloc: Global, queries: u32, tally: Tally) -> Result<Vec<u8>, NoMemory>
-    ensures { IfOk result (λ line. (text : List ℕ) → HoldsText tally.hasher text → line.items ≡ survey_line queries tally.accepted tally.total (sha256 text)) }
+    ensures { IfOk result (λ line. (text : List ℕ) → HoldsText tally.hasher text →
+        line.items ≡ survey_line queries tally.accepted tally.total (sha256 text)) }
 {
     let Tally {
         accepted,
@@ -116,8 +117,11 @@ pub fn survey(
     requires wide { 2 ≤ width }
     requires narrow { width ≤ 256 }
     requires few { wanted ≤ 1000 }
-    ensures line { IfOk result (λ line. IsSurveyLine (grid_of width seed) (survey_settings method seed) (survey_queries width seed wanted) line.items) }
-    ensures refused { IfErr result (WhyNoSurvey (grid_of width seed) (survey_settings method seed)) }
+    ensures line { IfOk result (λ line.
+        IsSurveyLine (grid_of width seed) (survey_settings method seed)
+        (survey_queries width seed wanted) line.items) }
+    ensures refused { IfErr result
+        (WhyNoSurvey (grid_of width seed) (survey_settings method seed)) }
 {
     grid_laws();
     let settings = survey_settings(method, seed);

@@ -2,22 +2,22 @@
 use Rattle.std.proofs.Common.{◌≡◌, ℕ, List, refl, ap}
 use Rattle.std.specs.declared.result.Result.{Result}
 use Rattle.std.specs.declared.result.Result.TheVariants.{Ok, Err}
-use Rattle.road_io.specs.Contents.{Shelf}
+use Rattle.road_io.specs.Contents.{Folder}
 use Rattle.book_model.specs.declared.items.Query.{Query}
 use Rattle.proof_octets.specs.declared.publication.Publication.{Publication}
 use Rattle.command_files.specs.Reading.{publication_at}
 use Rattle.command_files.specs.Exact.{HasOneEnd}
 use Rattle.command_files.specs.declared.fault.Fault.{Fault}
 use Rattle.command_files.specs.declared.fault.Fault.TheVariants.{UnknownNode, NoRoute}
-use Rattle.command_files.specs.declared.ended.Verdict.{Verdict}
-use Rattle.command_files.specs.declared.ended.Verdict.TheVariants.{Done}
+use Rattle.command_files.specs.declared.ended.Conclusion.{Conclusion}
+use Rattle.command_files.specs.declared.ended.Conclusion.TheVariants.{Done}
 use Rattle.command_files.proofs.Ends.{both_known, one_unknown}
 use Rattle.command_files.proofs.OneEnd.{one_reading}
 use Rattle.command_books.proofs.OneBuilding.{OneMaking, one_installing}
 use Rattle.server_commands.specs.Proving.{EndsReply, EndsProve, ends_prove}
 
 -- over an installed publication, `prove` has one end
-one_reply : (p : Publication) (q : Query) (o e : Result Verdict Fault) (s t : List ℕ) → EndsReply q p o s → EndsReply q p e t → o ≡ e
+one_reply : (p : Publication) (q : Query) (o e : Result Conclusion Fault) (s t : List ℕ) → EndsReply q p o s → EndsReply q p e t → o ≡ e
 one_reply p q (Ok Done) (Ok Done) s t h k = refl
 one_reply p q (Ok Done) (Err (UnknownNode id)) s t h k = absurd (both_known p.parts q.from q.to id h.0.walk.known h.0.end k.0)
 one_reply p q (Ok Done) (Err NoRoute) s t h k = absurd (k.0.apart h.0.length h.0.walk)
@@ -33,6 +33,6 @@ one_reply p q (Err NoRoute) e s t h k = absurd k
 one_reply p q o e s t h k = absurd h
 
 -- and so over the file
-pub only_prove : OneMaking → (name : List ℕ) (q : Query) (shelf : Shelf) → HasOneEnd (ends_prove name q shelf)
-only_prove makings name q shelf =
-    one_reading (publication_at shelf name) (EndsProve q) (λ b o p s t. one_installing makings b (EndsReply q b) o p s t (one_reply b q o p s t))
+pub only_prove : OneMaking → (name : List ℕ) (q : Query) (folder : Folder) → HasOneEnd (ends_prove name q folder)
+only_prove makings name q folder =
+    one_reading (publication_at folder name) (EndsProve q) (λ b o p s t. one_installing makings b (EndsReply q b) o p s t (one_reply b q o p s t))

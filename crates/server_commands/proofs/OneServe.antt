@@ -5,47 +5,47 @@ use Rattle.std.specs.declared.option.Option.TheVariants.{None, Some}
 use Rattle.std.specs.declared.result.Result.{Result}
 use Rattle.std.specs.declared.result.Result.TheVariants.{Ok, Err}
 use Rattle.road_io.specs.Causes.{Rose}
-use Rattle.road_io.specs.Contents.{Shelf}
+use Rattle.road_io.specs.Contents.{Folder}
 use Rattle.route_serving.specs.Inputs.{Input, split}
 use Rattle.command_files.specs.Reading.{publication_at}
 use Rattle.command_files.specs.Exact.{NoneFailed, IsExact, HasOneEnd}
 use Rattle.command_files.specs.declared.fault.Fault.{Fault}
 use Rattle.command_files.specs.declared.fault.Fault.TheVariants.{TruncatedFrame, FrameTooLong, Library, Source, Sink, Memory, TooManyFrames}
-use Rattle.command_files.specs.declared.ended.Verdict.{Verdict}
+use Rattle.command_files.specs.declared.ended.Conclusion.{Conclusion}
 use Rattle.command_files.proofs.OneEnd.{one_reading}
 use Rattle.command_books.proofs.OneBuilding.{OneMaking, one_installing}
 use Rattle.server_commands.specs.Serving.{EndsFrames, EndsServe, ends_serving, AnswersFrames, ServesFrames, most_octets, most_frames}
 
 -- over its file and an input, `serve` has one end
-only_serving : OneMaking → (name : List ℕ) (input : Input) (shelf : Shelf) → HasOneEnd (ends_serving name input shelf)
-only_serving makings name input shelf =
-    one_reading (publication_at shelf name) (EndsServe input) (λ b o p s t. one_installing makings b (EndsFrames input b) o p s t (λ x y. x.end ∙ sym y.end))
+only_serving : OneMaking → (name : List ℕ) (input : Input) (folder : Folder) → HasOneEnd (ends_serving name input folder)
+only_serving makings name input folder =
+    one_reading (publication_at folder name) (EndsServe input) (λ b o p s t. one_installing makings b (EndsFrames input b) o p s t (λ x y. x.end ∙ sym y.end))
 
-called : (name : List ℕ) (input : Input) (shelf : Shelf) (old new : Option (List ℕ)) (o : Result Verdict Fault) → AnswersFrames name input shelf old new o
-    → (o ≡ Err Library → ⊥) → (o ≡ Err Source → ⊥) → (o ≡ Err Sink → ⊥) → o ≢ Err Memory → (text : List ℕ) × ends_serving name input shelf o text
-called name input shelf old new (Ok verdict) a l s k m = (a.0, a.1)
-called name input shelf old new (Err FrameTooLong) a l s k m = (a.0, a.1)
-called name input shelf old new (Err TruncatedFrame) a l s k m = (a.0, a.1)
-called name input shelf old new (Err TooManyFrames) a l s k m = (a.0, a.1)
-called name input shelf old new (Err Source) a l s k m = absurd (s refl)
-called name input shelf old new (Err Sink) a l s k m = absurd (k refl)
-called name input shelf old new (Err Memory) a l s k m = absurd (m refl)
-called name input shelf old new (Err Library) a l s k m = absurd (l refl)
-called name input shelf old new (Err fault) a l s k m = ([], a.0)
+called : (name : List ℕ) (input : Input) (folder : Folder) (old new : Option (List ℕ)) (o : Result Conclusion Fault) → AnswersFrames name input folder old new o
+    → (o ≡ Err Library → ⊥) → (o ≡ Err Source → ⊥) → (o ≡ Err Sink → ⊥) → o ≢ Err Memory → (text : List ℕ) × ends_serving name input folder o text
+called name input folder old new (Ok verdict) a l s k m = (a.0, a.1)
+called name input folder old new (Err FrameTooLong) a l s k m = (a.0, a.1)
+called name input folder old new (Err TruncatedFrame) a l s k m = (a.0, a.1)
+called name input folder old new (Err TooManyFrames) a l s k m = (a.0, a.1)
+called name input folder old new (Err Source) a l s k m = absurd (s refl)
+called name input folder old new (Err Sink) a l s k m = absurd (k refl)
+called name input folder old new (Err Memory) a l s k m = absurd (m refl)
+called name input folder old new (Err Library) a l s k m = absurd (l refl)
+called name input folder old new (Err fault) a l s k m = ([], a.0)
 
-exact_input : OneMaking → (name : List ℕ) (input : Input) (shelf : Shelf) (old new : Option (List ℕ)) (o : Result Verdict Fault) → AnswersFrames name input shelf old new o
-    → (o ≡ Err Library → ⊥) → (o ≡ Err Source → ⊥) → (o ≡ Err Sink → ⊥) → IsExact (ends_serving name input shelf) o
-exact_input makings name input shelf old new o a l s k = record {
-  called_for = called name input shelf old new o a l s k;
-  only_one = λ other text full h. let mine = called name input shelf old new o a l s k full in only_serving makings name input shelf o other mine.0 text mine.1 h;
+exact_input : OneMaking → (name : List ℕ) (input : Input) (folder : Folder) (old new : Option (List ℕ)) (o : Result Conclusion Fault) → AnswersFrames name input folder old new o
+    → (o ≡ Err Library → ⊥) → (o ≡ Err Source → ⊥) → (o ≡ Err Sink → ⊥) → IsExact (ends_serving name input folder) o
+exact_input makings name input folder old new o a l s k = record {
+  called_for = called name input folder old new o a l s k;
+  only_one = λ other text full h. let mine = called name input folder old new o a l s k full in only_serving makings name input folder o other mine.0 text mine.1 h;
 }
 
 -- what was served is exact where no object outside failed
-pub exact_serve : OneMaking → (name : List ℕ) (files : Option Shelf) (left rest old new : Option (List ℕ)) (o : Result Verdict Fault) (l l' s s' k k' d d' : ℕ)
+pub exact_serve : OneMaking → (name : List ℕ) (files : Option Folder) (left rest old new : Option (List ℕ)) (o : Result Conclusion Fault) (l l' s s' k k' d d' : ℕ)
     → ServesFrames name files left rest s s' old new o → (o ≡ Err Library → Rose l l') → (o ≡ Err Sink → Rose k k')
-    → ¬ Rose s s' → NoneFailed l l' k k' d d' → IfSome files (λ shelf. IfSome left (λ text. IsExact (ends_serving name (split most_octets most_frames text) shelf) o))
+    → ¬ Rose s s' → NoneFailed l l' k k' d d' → IfSome files (λ folder. IfSome left (λ text. IsExact (ends_serving name (split most_octets most_frames text) folder) o))
 exact_serve makings name None left rest old new o l l' s s' k k' d d' a lc kc none n = tt
-exact_serve makings name (Some shelf) None rest old new o l l' s s' k k' d d' a lc kc none n = tt
-exact_serve makings name (Some shelf) (Some text) rest old new o l l' s s' k k' d d' a lc kc none n =
-    exact_input makings name (split most_octets most_frames text) shelf old new o (subst (λ input. AnswersFrames name input shelf old new o) a.served.1 a.served.2)
+exact_serve makings name (Some folder) None rest old new o l l' s s' k k' d d' a lc kc none n = tt
+exact_serve makings name (Some folder) (Some text) rest old new o l l' s s' k k' d d' a lc kc none n =
+    exact_input makings name (split most_octets most_frames text) folder old new o (subst (λ input. AnswersFrames name input folder old new o) a.served.1 a.served.2)
     (λ e. n.library_stays (lc e)) (λ e. none (a.source e)) (λ e. n.sink_stays (kc e))

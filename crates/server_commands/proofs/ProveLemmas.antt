@@ -4,7 +4,7 @@ use Rattle.std.specs.declared.option.Option.{Option}
 use Rattle.std.specs.declared.result.Result.{Result}
 use Rattle.std.specs.declared.result.Result.TheVariants.{Ok, Err}
 use Rattle.sha2.specs.Sha256.{sha256}
-use Rattle.road_io.specs.Contents.{Shelf}
+use Rattle.road_io.specs.Contents.{Folder}
 use Rattle.road_map.specs.Walks.{Knows}
 use Rattle.road_map.specs.Laws.{ArcLaws}
 use Rattle.road_map.specs.declared.parts.Parts.{Parts}
@@ -23,8 +23,8 @@ use Rattle.command_files.specs.TwoEnds.{IsFirstUnknown}
 use Rattle.command_files.specs.Endings.{Promises, NoDisk, NoEnd, MayEnd, WhyNot, Writes}
 use Rattle.command_files.specs.declared.fault.Fault.{Fault}
 use Rattle.command_files.specs.declared.fault.Fault.TheVariants.{UnknownNode, NoRoute}
-use Rattle.command_files.specs.declared.ended.Verdict.{Verdict}
-use Rattle.command_files.specs.declared.ended.Verdict.TheVariants.{Done}
+use Rattle.command_files.specs.declared.ended.Conclusion.{Conclusion}
+use Rattle.command_files.specs.declared.ended.Conclusion.TheVariants.{Done}
 use Rattle.command_files.proofs.Ends.{shortest_joins}
 use Rattle.command_files.proofs.Written.{CallsFor, over, reads, refused, written, why_map}
 use Rattle.command_books.specs.Installing.{EndsInstalling, IsInstallable}
@@ -99,21 +99,21 @@ module _ (arcs : (parts : Parts) (u : ℕ) → ArcLaws parts u) (p : Publication
 -- ---- the command
 
 -- a reply is written where the work was done, and where its client is told
-may_end : (q : Query) (p : Publication) (o : Result Verdict Fault) (text : List ℕ) → EndsReply q p o text → MayEnd TellsEnds o
+may_end : (q : Query) (p : Publication) (o : Result Conclusion Fault) (text : List ℕ) → EndsReply q p o text → MayEnd TellsEnds o
 may_end q p (Ok Done) text h = tt
 may_end q p (Err (UnknownNode id)) text h = tt
 may_end q p (Err NoRoute) text h = tt
 may_end q p o text h = absurd h
 
-module _ (files : Option Shelf) (name : List ℕ) (p : Publication) (q : Query) (l l' k k' : ℕ) (read : IfSome files (λ shelf. publication_at shelf name ≡ Ok p)) (old : Option (List ℕ)) where
+module _ (files : Option Folder) (name : List ℕ) (p : Publication) (q : Query) (l l' k k' : ℕ) (read : IfSome files (λ folder. publication_at folder name ≡ Ok p)) (old : Option (List ℕ)) where
   -- what the file of a publication calls for
-  calls : (o : Result Verdict Fault) (text : List ℕ) → EndsProve q p o text → CallsFor (ends_prove name q) files o text
+  calls : (o : Result Conclusion Fault) (text : List ℕ) → EndsProve q p o text → CallsFor (ends_prove name q) files o text
   calls o text h =
-      over files (λ shelf. publication_at shelf name ≡ Ok p) (λ shelf. ends_prove name q shelf o text)
-      (λ shelf is. reads (publication_at shelf name) p (EndsProve q) o text is h) read
+      over files (λ folder. publication_at folder name ≡ Ok p) (λ folder. ends_prove name q folder o text)
+      (λ folder is. reads (publication_at folder name) p (EndsProve q) o text is h) read
 
   -- a reply that was told
-  pub reply_told : (new : Option (List ℕ)) (end o : Result Verdict Fault) (text : List ℕ) → IsInstallable p → EndsReply q p end text → Writes end text old new k k' o
+  pub reply_told : (new : Option (List ℕ)) (end o : Result Conclusion Fault) (text : List ℕ) → IsInstallable p → EndsReply q p end text → Writes end text old new k k' o
       → Promises (ends_prove name q) TellsEnds NoDisk files l l' old new k k' o
   reply_told new end o text is h w =
       written (ends_prove name q) TellsEnds NoDisk files l l' k k' old (EndsProve q p) calls new end o text (may_end q p end text h) (installed p (EndsReply q p) end text is h) w

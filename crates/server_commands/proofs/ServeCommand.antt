@@ -7,7 +7,7 @@ use Rattle.std.specs.declared.result.Result.TheVariants.{Ok, Err}
 use Rattle.std.specs.Io.KnownBytes.{Appends, IsAtEnd}
 use Rattle.sha2.specs.Sha256.{sha256}
 use Rattle.road_io.specs.Causes.{Rose}
-use Rattle.road_io.specs.Contents.{Shelf}
+use Rattle.road_io.specs.Contents.{Folder}
 use Rattle.octet_frame.specs.Frames.{framed}
 use Rattle.proof_octets.specs.declared.header.Header.{Header}
 use Rattle.proof_octets.specs.declared.publication.Publication.{Publication}
@@ -22,9 +22,9 @@ use Rattle.route_serving.specs.declared.serving.ServeError.TheVariants as errors
 use Rattle.command_files.specs.Reading.{publication_at, IsOfFiles, Fails, Loads}
 use Rattle.command_files.specs.Endings.{EndsReading, MayEnd, Promises, NoDisk, NoEnd, WhyNot}
 use Rattle.command_files.specs.declared.fault.Fault.{Fault}
-use Rattle.command_files.specs.declared.fault.Fault.TheVariants.{Words, Missing, TooLong as too_long, Road, Dimacs, Malformed, HeaderWrong, BadHex, TruncatedFrame, FrameTooLong, Library, Source, Sink, Disk, Memory, TooManyFrames}
-use Rattle.command_files.specs.declared.ended.Verdict.{Verdict}
-use Rattle.command_files.specs.declared.ended.Verdict.TheVariants.{Done}
+use Rattle.command_files.specs.declared.fault.Fault.TheVariants.{Words, Missing, TooLong as too_long, Road, Dimacs, Malformed, HeaderWrong, BadHex, TruncatedFrame, FrameTooLong, Library, Source, Sink, Disk, Memory, TooManyFrames, MirrorLost}
+use Rattle.command_files.specs.declared.ended.Conclusion.{Conclusion}
+use Rattle.command_files.specs.declared.ended.Conclusion.TheVariants.{Done}
 use Rattle.command_files.proofs.Written.{CallsFor, failed, over, over_any, reads, keeps_same, appends_none, no_untold, refused, written, why_map}
 use Rattle.command_books.specs.Installing.{AfterBuild, IfInstalled, EndsInstalling, IsInstallable}
 use Rattle.command_books.proofs.Installings.{installed, not_installed}
@@ -48,38 +48,38 @@ not_done e is = cc
 
 -- ---- a file that spells no publication
 
-no_publication : (name : List ℕ) (input : Input) (shelf : Shelf) (e : Fault) → publication_at shelf name ≡ Err e → ends_serving name input shelf (Err e) []
-no_publication name input shelf e read = subst (λ (r : Result Publication Fault). EndsReading r (EndsServe input) (failed e) []) (sym read) (refl, refl)
+no_publication : (name : List ℕ) (input : Input) (folder : Folder) (e : Fault) → publication_at folder name ≡ Err e → ends_serving name input folder (Err e) []
+no_publication name input folder e read = subst (λ (r : Result Publication Fault). EndsReading r (EndsServe input) (failed e) []) (sym read) (refl, refl)
 
-unread : (name : List ℕ) (input : Input) (shelf : Shelf) (old : Option (List ℕ)) (e : Fault) → IsOfFiles e → Fails e (publication_at shelf name) → AnswersFrames name input shelf old old (Err e)
-unread name input shelf old Missing of read = (no_publication name input shelf Missing read, keeps_same old)
-unread name input shelf old too_long of read = (no_publication name input shelf too_long read, keeps_same old)
-unread name input shelf old (Road fault) of read = (no_publication name input shelf (Road fault) read, keeps_same old)
-unread name input shelf old (Dimacs fault) of read = (no_publication name input shelf (Dimacs fault) read, keeps_same old)
-unread name input shelf old (Malformed at) of read = (no_publication name input shelf (Malformed at) read, keeps_same old)
-unread name input shelf old BadHex of read = (no_publication name input shelf BadHex read, keeps_same old)
-unread name input shelf old Library of read = keeps_same old
-unread name input shelf old Memory of read = inl (keeps_same old)
-unread name input shelf old e of read = absurd of
+unread : (name : List ℕ) (input : Input) (folder : Folder) (old : Option (List ℕ)) (e : Fault) → IsOfFiles e → Fails e (publication_at folder name) → AnswersFrames name input folder old old (Err e)
+unread name input folder old Missing of read = (no_publication name input folder Missing read, keeps_same old)
+unread name input folder old too_long of read = (no_publication name input folder too_long read, keeps_same old)
+unread name input folder old (Road fault) of read = (no_publication name input folder (Road fault) read, keeps_same old)
+unread name input folder old (Dimacs fault) of read = (no_publication name input folder (Dimacs fault) read, keeps_same old)
+unread name input folder old (Malformed at) of read = (no_publication name input folder (Malformed at) read, keeps_same old)
+unread name input folder old BadHex of read = (no_publication name input folder BadHex read, keeps_same old)
+unread name input folder old Library of read = keeps_same old
+unread name input folder old Memory of read = inl (keeps_same old)
+unread name input folder old e of read = absurd of
 
-pub unread_serves : (files : Option Shelf) (name : List ℕ) (left old : Option (List ℕ)) (s s' : ℕ) (e : Fault) → IsOfFiles e → IfSome files (λ shelf. Fails e (publication_at shelf name))
+pub unread_serves : (files : Option Folder) (name : List ℕ) (left old : Option (List ℕ)) (s s' : ℕ) (e : Fault) → IsOfFiles e → IfSome files (λ folder. Fails e (publication_at folder name))
     → ServesFrames name files left left s s' old old (Err e)
 unread_serves files name left old s s' e of read = record {
-  served = over files (λ shelf. Fails e (publication_at shelf name)) (λ shelf. AnswersInput name left shelf old old (Err e))
-      (λ shelf h. let i = some_input left in (i.0, i.1, unread name i.0 shelf old e of h)) read;
+  served = over files (λ folder. Fails e (publication_at folder name)) (λ folder. AnswersInput name left folder old old (Err e))
+      (λ folder h. let i = some_input left in (i.0, i.1, unread name i.0 folder old e of h)) read;
   source = λ is. absurd (subst IsOfFiles (same_fault e Source is) of);
   drained = λ is. absurd (not_done e is);
 }
 
-module _ (files : Option Shelf) (name : List ℕ) (p : Publication) (l l' k k' : ℕ) (read : IfSome files (λ shelf. publication_at shelf name ≡ Ok p)) where
+module _ (files : Option Folder) (name : List ℕ) (p : Publication) (l l' k k' : ℕ) (read : IfSome files (λ folder. publication_at folder name ≡ Ok p)) where
   -- what the file of a publication calls for
-  calls : (o : Result Verdict Fault) (text : List ℕ) → EndsServeSome p o text → CallsFor (ends_serve name) files o text
+  calls : (o : Result Conclusion Fault) (text : List ℕ) → EndsServeSome p o text → CallsFor (ends_serve name) files o text
   calls o text h =
-      over files (λ shelf. publication_at shelf name ≡ Ok p) (λ shelf. ends_serve name shelf o text)
-      (λ shelf is. reads (publication_at shelf name) p EndsServeSome o text is h) read
+      over files (λ folder. publication_at folder name ≡ Ok p) (λ folder. ends_serve name folder o text)
+      (λ folder is. reads (publication_at folder name) p EndsServeSome o text is h) read
 
-  serving : (input : Input) (o : Result Verdict Fault) (text : List ℕ) (shelf : Shelf) → publication_at shelf name ≡ Ok p → EndsServe input p o text → ends_serving name input shelf o text
-  serving input o text shelf is h = reads (publication_at shelf name) p (EndsServe input) o text is h
+  serving : (input : Input) (o : Result Conclusion Fault) (text : List ℕ) (folder : Folder) → publication_at folder name ≡ Ok p → EndsServe input p o text → ends_serving name input folder o text
+  serving input o text folder is h = reads (publication_at folder name) p (EndsServe input) o text is h
 
   -- ---- a publication that is not installed
 
@@ -100,7 +100,7 @@ module _ (files : Option Shelf) (name : List ℕ) (p : Publication) (l l' k k' :
       after (Err (build.Plan e)) a = cc
       after (Err build.Memory) a = a
 
-  ends_some : (o : Result Verdict Fault) (text : List ℕ) → EndsInstalling p NoEnd o text → EndsServeSome p o text
+  ends_some : (o : Result Conclusion Fault) (text : List ℕ) → EndsInstalling p NoEnd o text → EndsServeSome p o text
   ends_some (Err Source) text h = absurd (no_source text h)
   ends_some o text h = (no_frames, not_installed p (EndsFrames no_frames p) o text h)
 
@@ -109,27 +109,28 @@ module _ (files : Option Shelf) (name : List ℕ) (p : Publication) (l l' k k' :
       refused (ends_serve name) TellsFrames NoDisk files l l' k k' old (EndsServeSome p) calls f
       (why_map NoDisk NoDisk (EndsInstalling p NoEnd) (EndsServeSome p) (λ x. x) ends_some f h)
 
-  refused_here : (shelf : Shelf) → publication_at shelf name ≡ Ok p → (input : Input) (old : Option (List ℕ)) (f : Fault) → WhyNot NoDisk (EndsInstalling p NoEnd) f → AnswersFrames name input shelf old old (Err f)
-  refused_here shelf is input old Memory h = inl (keeps_same old)
-  refused_here shelf is input old Disk h = absurd h
-  refused_here shelf is input old Words h = absurd h
-  refused_here shelf is input old Missing h = absurd h
-  refused_here shelf is input old too_long h = absurd h
-  refused_here shelf is input old Library h = absurd h
-  refused_here shelf is input old Source h = absurd h
-  refused_here shelf is input old Sink h = absurd h
-  refused_here shelf is input old TruncatedFrame h =
-      ([], serving input (Err TruncatedFrame) [] shelf is (not_installed p (EndsFrames input p) (Err TruncatedFrame) [] h), appends_none old)
-  refused_here shelf is input old FrameTooLong h =
-      ([], serving input (Err FrameTooLong) [] shelf is (not_installed p (EndsFrames input p) (Err FrameTooLong) [] h), appends_none old)
-  refused_here shelf is input old TooManyFrames h =
-      ([], serving input (Err TooManyFrames) [] shelf is (not_installed p (EndsFrames input p) (Err TooManyFrames) [] h), appends_none old)
-  refused_here shelf is input old f h = (serving input (Err f) [] shelf is (not_installed p (EndsFrames input p) (Err f) [] h), keeps_same old)
+  refused_here : (folder : Folder) → publication_at folder name ≡ Ok p → (input : Input) (old : Option (List ℕ)) (f : Fault) → WhyNot NoDisk (EndsInstalling p NoEnd) f → AnswersFrames name input folder old old (Err f)
+  refused_here folder is input old Memory h = inl (keeps_same old)
+  refused_here folder is input old Disk h = absurd h
+  refused_here folder is input old Words h = absurd h
+  refused_here folder is input old Missing h = absurd h
+  refused_here folder is input old too_long h = absurd h
+  refused_here folder is input old Library h = absurd h
+  refused_here folder is input old Source h = absurd h
+  refused_here folder is input old Sink h = absurd h
+  refused_here folder is input old MirrorLost h = absurd h
+  refused_here folder is input old TruncatedFrame h =
+      ([], serving input (Err TruncatedFrame) [] folder is (not_installed p (EndsFrames input p) (Err TruncatedFrame) [] h), appends_none old)
+  refused_here folder is input old FrameTooLong h =
+      ([], serving input (Err FrameTooLong) [] folder is (not_installed p (EndsFrames input p) (Err FrameTooLong) [] h), appends_none old)
+  refused_here folder is input old TooManyFrames h =
+      ([], serving input (Err TooManyFrames) [] folder is (not_installed p (EndsFrames input p) (Err TooManyFrames) [] h), appends_none old)
+  refused_here folder is input old f h = (serving input (Err f) [] folder is (not_installed p (EndsFrames input p) (Err f) [] h), keeps_same old)
 
   pub refused_serves : (left old : Option (List ℕ)) (s s' : ℕ) (f : Fault) → WhyNot NoDisk (EndsInstalling p NoEnd) f → ServesFrames name files left left s s' old old (Err f)
   refused_serves left old s s' f h = record {
-    served = over files (λ shelf. publication_at shelf name ≡ Ok p) (λ shelf. AnswersInput name left shelf old old (Err f))
-        (λ shelf is. let i = some_input left in (i.0, i.1, refused_here shelf is i.0 old f h)) read;
+    served = over files (λ folder. publication_at folder name ≡ Ok p) (λ folder. AnswersInput name left folder old old (Err f))
+        (λ folder is. let i = some_input left in (i.0, i.1, refused_here folder is i.0 old f h)) read;
     source = λ e. absurd (subst (λ x. WhyNot NoDisk (EndsInstalling p NoEnd) x) (same_fault f Source e) h);
     drained = λ e. absurd (not_done f e);
   }
@@ -155,7 +156,7 @@ module _ (files : Option Shelf) (name : List ℕ) (p : Publication) (l l' k k' :
     of_input input ending old new is w = subst (λ e. EndsServe input p (ended_at e) (framed w.replies)) is (replied input.frames input.ending old new w)
 
     -- replies that were written whole
-    told : (old new : Option (List ℕ)) (o : Result Verdict Fault) (text : List ℕ) → MayEnd TellsFrames o → EndsServeSome p o text → Appends old new text
+    told : (old new : Option (List ℕ)) (o : Result Conclusion Fault) (text : List ℕ) → MayEnd TellsFrames o → EndsServeSome p o text → Appends old new text
         → Promises (ends_serve name) TellsFrames NoDisk files l l' old new k k' o
     told old new o text may h app = written (ends_serve name) TellsFrames NoDisk files l l' k k' old (EndsServeSome p) calls new o o text may h (inl (refl, app))
 
@@ -174,34 +175,35 @@ module _ (files : Option Shelf) (name : List ℕ) (p : Publication) (l l' k k' :
         written (ends_serve name) TellsFrames NoDisk files l l' k k' old (EndsServeSome p) calls new (Ok Done) (Err Sink) (framed s.1.replies) tt
         (first_frames s.0 input, replied_front (take s.0 input.frames) old new s.1) (inr (refl, s.1.wrote, rose refl))
     served_ends input old new (Err errors.Memory) s rose = record {
-      answered = over_any files (λ shelf. Unit {0}) (λ shelf. tt);
+      answered = over_any files (λ folder. Unit {0}) (λ folder. tt);
       untold = no_untold files l l' (Err Memory) (λ e. cc) (λ e. cc);
       silent = λ g e n t. absurd (t (is_memory g e));
       library = λ e. absurd (cc);
       sink = λ e. absurd (cc);
       disk = λ e. absurd (cc);
       source = λ e. tt;
+      mirror = λ e. absurd (cc);
       words = λ e. cc;
     }
 
-    served_here : (shelf : Shelf) → publication_at shelf name ≡ Ok p → (input : Input) (old new : Option (List ℕ)) (r : Result (Unit {0}) ServeError) → ServesInput sha256 sha256 (first_state p) input old new r →
-        AnswersFrames name input shelf old new (ended_serving r)
-    served_here shelf is input old new (Ok ended) s = (framed s.1.replies, serving input (Ok Done) _ shelf is (of_input input Regular old new s.0 s.1), s.1.wrote)
-    served_here shelf is input old new (Err errors.FrameTooLong) s = (framed s.1.replies, serving input (Err FrameTooLong) _ shelf is (of_input input TooLong old new s.0 s.1), s.1.wrote)
-    served_here shelf is input old new (Err errors.TruncatedFrame) s = (framed s.1.replies, serving input (Err TruncatedFrame) _ shelf is (of_input input Truncated old new s.0 s.1), s.1.wrote)
-    served_here shelf is input old new (Err errors.TooManyFrames) s = (framed s.1.replies, serving input (Err TooManyFrames) _ shelf is (of_input input TooMany old new s.0 s.1), s.1.wrote)
-    served_here shelf is input old new (Err errors.Source) s =
-        (s.0, framed s.1.replies, serving (first_frames s.0 input) (Ok Done) _ shelf is (replied (take s.0 input.frames) Regular old new s.1), s.1.wrote)
-    served_here shelf is input old new (Err errors.Sink) s =
-        (s.0, framed s.1.replies, serving (first_frames s.0 input) (Ok Done) _ shelf is (replied_front (take s.0 input.frames) old new s.1), s.1.wrote)
-    served_here shelf is input old new (Err errors.Memory) s =
-        inr (s.0, framed s.1.replies, serving (first_frames s.0 input) (Ok Done) _ shelf is (replied (take s.0 input.frames) Regular old new s.1), s.1.wrote)
+    served_here : (folder : Folder) → publication_at folder name ≡ Ok p → (input : Input) (old new : Option (List ℕ)) (r : Result (Unit {0}) ServeError) → ServesInput sha256 sha256 (first_state p) input old new r →
+        AnswersFrames name input folder old new (ended_serving r)
+    served_here folder is input old new (Ok ended) s = (framed s.1.replies, serving input (Ok Done) _ folder is (of_input input Regular old new s.0 s.1), s.1.wrote)
+    served_here folder is input old new (Err errors.FrameTooLong) s = (framed s.1.replies, serving input (Err FrameTooLong) _ folder is (of_input input TooLong old new s.0 s.1), s.1.wrote)
+    served_here folder is input old new (Err errors.TruncatedFrame) s = (framed s.1.replies, serving input (Err TruncatedFrame) _ folder is (of_input input Truncated old new s.0 s.1), s.1.wrote)
+    served_here folder is input old new (Err errors.TooManyFrames) s = (framed s.1.replies, serving input (Err TooManyFrames) _ folder is (of_input input TooMany old new s.0 s.1), s.1.wrote)
+    served_here folder is input old new (Err errors.Source) s =
+        (s.0, framed s.1.replies, serving (first_frames s.0 input) (Ok Done) _ folder is (replied (take s.0 input.frames) Regular old new s.1), s.1.wrote)
+    served_here folder is input old new (Err errors.Sink) s =
+        (s.0, framed s.1.replies, serving (first_frames s.0 input) (Ok Done) _ folder is (replied_front (take s.0 input.frames) old new s.1), s.1.wrote)
+    served_here folder is input old new (Err errors.Memory) s =
+        inr (s.0, framed s.1.replies, serving (first_frames s.0 input) (Ok Done) _ folder is (replied (take s.0 input.frames) Regular old new s.1), s.1.wrote)
 
     served_answers : (left old new : Option (List ℕ)) (r : Result (Unit {0}) ServeError) → ((input : Input) × IsInput most_octets most_frames left input × ServesInput sha256 sha256 (first_state p) input old new r) →
-        IfSome files (λ shelf. AnswersInput name left shelf old new (ended_serving r))
+        IfSome files (λ folder. AnswersInput name left folder old new (ended_serving r))
     served_answers left old new r h =
-        over files (λ shelf. publication_at shelf name ≡ Ok p) (λ shelf. AnswersInput name left shelf old new (ended_serving r))
-        (λ shelf is. (h.0, h.1, served_here shelf is h.0 old new r h.2)) read
+        over files (λ folder. publication_at folder name ≡ Ok p) (λ folder. AnswersInput name left folder old new (ended_serving r))
+        (λ folder is. (h.0, h.1, served_here folder is h.0 old new r h.2)) read
 
     -- the same from the state that the service starts with
 

@@ -6,7 +6,7 @@ use Rattle.std.specs.declared.result.Result.TheVariants.{Ok, Err}
 use Rattle.std.specs.Io.KnownBytes.{Appends, IsAtEnd, Keeps}
 use Rattle.sha2.specs.Sha256.{sha256}
 use Rattle.road_io.specs.Causes.{Rose}
-use Rattle.road_io.specs.Contents.{Shelf, AppendsFront}
+use Rattle.road_io.specs.Contents.{Folder, AppendsFront}
 use Rattle.octet_frame.specs.Frames.{framed}
 use Rattle.proof_octets.specs.declared.publication.Publication.{Publication}
 use Rattle.route_service.specs.Machine.{State, first_state, Run}
@@ -17,8 +17,8 @@ use Rattle.command_files.specs.Reading.{publication_at}
 use Rattle.command_files.specs.Endings.{Ending, EndsReading}
 use Rattle.command_files.specs.declared.fault.Fault.{Fault}
 use Rattle.command_files.specs.declared.fault.Fault.TheVariants.{TruncatedFrame, FrameTooLong, Library, Source, Sink, Memory, TooManyFrames}
-use Rattle.command_files.specs.declared.ended.Verdict.{Verdict}
-use Rattle.command_files.specs.declared.ended.Verdict.TheVariants.{Done}
+use Rattle.command_files.specs.declared.ended.Conclusion.{Conclusion}
+use Rattle.command_files.specs.declared.ended.Conclusion.TheVariants.{Done}
 use Rattle.command_books.specs.Installing.{EndsInstalling}
 
 -- the most octets of a frame's body, and the most frames
@@ -29,15 +29,16 @@ abbrev pub most_frames : ℕ
 most_frames = 1000000
 
 -- how a run ends whose input ends so
-abbrev pub ended_at : InputEnding → Result Verdict Fault
+abbrev pub ended_at : InputEnding → Result Conclusion Fault
 ended_at Regular = Ok Done
 ended_at TooLong = Err FrameTooLong
 ended_at Truncated = Err TruncatedFrame
 ended_at TooMany = Err TooManyFrames
 
--- over an installed publication and the frames of an input: the framed replies of a run of the service, in which no session
--- is told what depends on others
-pub record EndsFrames (input : Input) (p : Publication) (outcome : Result Verdict Fault) (text : List ℕ) : Type 0 where
+-- over an installed publication and the frames of an input: the framed replies of a run of the
+-- service, in which no session is told what depends on others
+pub record EndsFrames (input : Input) (p : Publication) (outcome : Result Conclusion Fault)
+    (text : List ℕ) : Type 0 where
   pub last : State
   pub replies : List (List ℕ)
   pub run : Run sha256 sha256 (first_state p) input.frames replies last
@@ -50,8 +51,8 @@ abbrev pub EndsServe : Input → Publication → Ending
 EndsServe input p = EndsInstalling p (EndsFrames input p)
 
 -- the same over an input and the publication file of this name
-abbrev pub ends_serving : List ℕ → Input → Shelf → Ending
-ends_serving file input shelf = EndsReading (publication_at shelf file) (EndsServe input)
+abbrev pub ends_serving : List ℕ → Input → Folder → Ending
+ends_serving file input folder = EndsReading (publication_at folder file) (EndsServe input)
 
 -- `serve` over a publication and some input, behind whose frames the source may fail
 abbrev pub EndsServeSome : Publication → Ending
@@ -59,8 +60,8 @@ EndsServeSome p (Err Source) text = (input : Input) × EndsServe input p (Ok Don
 EndsServeSome p outcome text = (input : Input) × EndsServe input p outcome text
 
 -- the same over the publication file of this name; of which input, `AnswersInput` says
-abbrev pub ends_serve : List ℕ → Shelf → Ending
-ends_serve file shelf = EndsReading (publication_at shelf file) EndsServeSome
+abbrev pub ends_serve : List ℕ → Folder → Ending
+ends_serve file folder = EndsReading (publication_at folder file) EndsServeSome
 
 -- its client is told where the taking of frames ends, for it has answered frames by then
 abbrev pub TellsFrames : Fault → Type 0
@@ -78,32 +79,45 @@ abbrev pub first_frames : ℕ → Input → Input
 first_frames n input = record { frames = take n input.frames; ending = Regular }
 
 -- the replies to the first n frames
-abbrev pub EndsFirst : List ℕ → Input → Shelf → ℕ → List ℕ → Type 0
-EndsFirst file input shelf n = ends_serving file (first_frames n input) shelf (Ok Done)
+abbrev pub EndsFirst : List ℕ → Input → Folder → ℕ → List ℕ → Type 0
+EndsFirst file input folder n = ends_serving file (first_frames n input) folder (Ok Done)
 
--- What the sink has taken, by the end of `serve`: the replies to all frames of the input, or, where the source or the sink
--- failed or memory ran out, to the first of them; and nothing with any other fault.
-abbrev pub AnswersFrames : List ℕ → Input → Shelf → Option (List ℕ) → Option (List ℕ) → Result Verdict Fault → Type 0
-AnswersFrames file input shelf old new (Ok verdict) = (text : List ℕ) × ends_serving file input shelf (Ok verdict) text × Appends old new text
-AnswersFrames file input shelf old new (Err FrameTooLong) = (text : List ℕ) × ends_serving file input shelf (Err FrameTooLong) text × Appends old new text
-AnswersFrames file input shelf old new (Err TruncatedFrame) = (text : List ℕ) × ends_serving file input shelf (Err TruncatedFrame) text × Appends old new text
-AnswersFrames file input shelf old new (Err TooManyFrames) = (text : List ℕ) × ends_serving file input shelf (Err TooManyFrames) text × Appends old new text
-AnswersFrames file input shelf old new (Err Source) = (n : ℕ) × (text : List ℕ) × EndsFirst file input shelf n text × Appends old new text
-AnswersFrames file input shelf old new (Err Sink) = (n : ℕ) × (text : List ℕ) × EndsFirst file input shelf n text × AppendsFront old new text
-AnswersFrames file input shelf old new (Err Memory) =
-    Keeps old new ⊎ ((n : ℕ) × (text : List ℕ) × EndsFirst file input shelf n text × Appends old new text)
-AnswersFrames file input shelf old new (Err Library) = Keeps old new
-AnswersFrames file input shelf old new (Err fault) = ends_serving file input shelf (Err fault) [] × Keeps old new
+-- What the sink has taken, by the end of `serve`: the replies to all frames of the input, or, where
+-- the source or the sink failed or memory ran out, to the first of them; and nothing with any other
+-- fault.
+abbrev pub AnswersFrames : List ℕ → Input → Folder → Option (List ℕ) → Option (List ℕ) →
+    Result Conclusion Fault → Type 0
+AnswersFrames file input folder old new (Ok verdict) = (text : List ℕ) ×
+    ends_serving file input folder (Ok verdict) text × Appends old new text
+AnswersFrames file input folder old new (Err FrameTooLong) = (text : List ℕ) ×
+    ends_serving file input folder (Err FrameTooLong) text × Appends old new text
+AnswersFrames file input folder old new (Err TruncatedFrame) = (text : List ℕ) ×
+    ends_serving file input folder (Err TruncatedFrame) text × Appends old new text
+AnswersFrames file input folder old new (Err TooManyFrames) = (text : List ℕ) ×
+    ends_serving file input folder (Err TooManyFrames) text × Appends old new text
+AnswersFrames file input folder old new (Err Source) = (n : ℕ) × (text : List ℕ) ×
+    EndsFirst file input folder n text × Appends old new text
+AnswersFrames file input folder old new (Err Sink) = (n : ℕ) × (text : List ℕ) ×
+    EndsFirst file input folder n text × AppendsFront old new text
+AnswersFrames file input folder old new (Err Memory) =
+    Keeps old new ⊎ ((n : ℕ) × (text : List ℕ) × EndsFirst file input folder n text ×
+    Appends old new text)
+AnswersFrames file input folder old new (Err Library) = Keeps old new
+AnswersFrames file input folder old new (Err fault) = ends_serving file input folder (Err fault) []
+    × Keeps old new
 
 -- the frames are those of what is left in a source that tells it
-abbrev pub AnswersInput : List ℕ → Option (List ℕ) → Shelf → Option (List ℕ) → Option (List ℕ) → Result Verdict Fault → Type 0
-AnswersInput file left shelf old new outcome = (input : Input) × IsInput most_octets most_frames left input × AnswersFrames file input shelf old new outcome
+abbrev pub AnswersInput : List ℕ → Option (List ℕ) → Folder → Option (List ℕ) → Option (List ℕ) →
+    Result Conclusion Fault → Type 0
+AnswersInput file left folder old new outcome = (input : Input) ×
+    IsInput most_octets most_frames left input × AnswersFrames file input folder old new outcome
 
--- What `serve` does with its source, beside what each command promises: the sink has taken the replies to the frames of
--- what was left in it; a source that is blamed has failed; and where the work was done, nothing is left.
-pub record ServesFrames (file : List ℕ) (files : Option Shelf)
+-- What `serve` does with its source, beside what each command promises: the sink has taken the
+-- replies to the frames of what was left in it; a source that is blamed has failed; and where the
+-- work was done, nothing is left.
+pub record ServesFrames (file : List ℕ) (files : Option Folder)
     (left_before left_now : Option (List ℕ)) (source_before source_now : ℕ)
-    (old new : Option (List ℕ)) (outcome : Result Verdict Fault) : Type 0 where
-  pub served : IfSome files (λ shelf. AnswersInput file left_before shelf old new outcome)
+    (old new : Option (List ℕ)) (outcome : Result Conclusion Fault) : Type 0 where
+  pub served : IfSome files (λ folder. AnswersInput file left_before folder old new outcome)
   pub source : outcome ≡ Err Source → Rose source_before source_now
   pub drained : outcome ≡ Ok Done → IsAtEnd left_now

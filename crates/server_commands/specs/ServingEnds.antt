@@ -5,10 +5,10 @@ use Rattle.route_serving.specs.declared.serving.ServeError.{ServeError}
 use Rattle.route_serving.specs.declared.serving.ServeError.TheVariants as serve
 use Rattle.command_files.specs.declared.fault.Fault.{Fault}
 use Rattle.command_files.specs.declared.fault.Fault.TheVariants.{TruncatedFrame, FrameTooLong, Source, Sink, Memory, TooManyFrames}
-use Rattle.command_files.specs.declared.ended.Verdict.{Verdict}
-use Rattle.command_files.specs.declared.ended.Verdict.TheVariants.{Done}
+use Rattle.command_files.specs.declared.ended.Conclusion.{Conclusion}
+use Rattle.command_files.specs.declared.ended.Conclusion.TheVariants.{Done}
 
-abbrev pub ended_serving : Result (Unit {0}) ServeError → Result Verdict Fault
+abbrev pub ended_serving : Result (Unit {0}) ServeError → Result Conclusion Fault
 ended_serving (Ok done) = Ok Done
 ended_serving (Err serve.FrameTooLong) = Err FrameTooLong
 ended_serving (Err serve.TruncatedFrame) = Err TruncatedFrame

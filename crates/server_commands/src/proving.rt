@@ -11,7 +11,7 @@ ghost use Rattle.server_commands.specs.Proving.{EndsReply, TellsEnds, ends_prove
 
 use book_model::Query;
 use command_books::install;
-use command_files::{Fault, Told, Verdict, load_publication, write_told};
+use command_files::{Conclusion, Fault, Told, load_publication, write_told};
 use octet_text::{NoMemory, Sha};
 use proof_octets::{Publication, range_laws};
 use road_io::{Library, Sink};
@@ -27,7 +27,7 @@ pub fn prove<L: Library, K: Sink>(
     sink: &mut K,
     publication: &str,
     query: Query,
-) -> Result<Verdict, Fault>
+) -> Result<Conclusion, Fault>
     ensures { Promises (ends_prove publication.now query) TellsEnds NoDisk
         (L.files library.old) (L.faults library.old) (L.faults library.new)
         (K.taken sink.old) (K.taken sink.new) (K.faults sink.old) (K.faults sink.new) result }
@@ -55,7 +55,8 @@ fn told_of(alloc: Global, publication: Publication, query: Query) -> Result<Told
 /// The reply to a query.
 fn reply(alloc: Global, held: &Held<Sha>, query: Query) -> Result<Told, NoMemory>
     requires { length held.now.signature ≤ 1452 }
-    ensures { IfOk result (λ told. EndsReply query (publication_in sha256 held.now) told.end told.text.items) }
+    ensures { IfOk result (λ told.
+        EndsReply query (publication_in sha256 held.now) told.end told.text.items) }
 {
     let text = held.answer(alloc, query)?;
     let end = end_of(held, query, &text);
@@ -63,7 +64,7 @@ fn reply(alloc: Global, held: &Held<Sha>, query: Query) -> Result<Told, NoMemory
 }
 
 /// How a run ends that has written an honest reply.
-fn end_of(held: &Held<Sha>, query: Query, octets: &[u8]) -> Result<Verdict, Fault>
+fn end_of(held: &Held<Sha>, query: Query, octets: &[u8]) -> Result<Conclusion, Fault>
     requires { IsHonest sha256 sha256 (publication_in sha256 held.now) query octets.now }
     ensures { EndsReply query (publication_in sha256 held.now) result octets.now }
 {
@@ -71,7 +72,7 @@ fn end_of(held: &Held<Sha>, query: Query, octets: &[u8]) -> Result<Verdict, Faul
     match octets.first() {
         Some(1) => Err(Fault::UnknownNode(first_unknown(held, query))),
         Some(2) => Err(Fault::NoRoute),
-        _ => Ok(Verdict::Done),
+        _ => Ok(Conclusion::Done),
     }
 }
 

@@ -9,7 +9,7 @@ ghost use Rattle.server_commands.specs.Serving.{ServesFrames, TellsFrames, ends_
 ghost use Rattle.server_commands.specs.ServingEnds.{ended_serving};
 
 use command_books::install;
-use command_files::{Fault, Verdict, load_publication};
+use command_files::{Conclusion, Fault, load_publication};
 use octet_text::{NoMemory, Sha};
 use proof_octets::{Publication, range_laws};
 use road_io::{Library, Sink, Source};
@@ -30,7 +30,7 @@ pub fn serve<L: Library, S: Source, K: Sink>(
     source: &mut S,
     sink: &mut K,
     publication: &str,
-) -> Result<Verdict, Fault>
+) -> Result<Conclusion, Fault>
     ensures promised { Promises (ends_serve publication.now) TellsFrames NoDisk
         (L.files library.old) (L.faults library.old) (L.faults library.new)
         (K.taken sink.old) (K.taken sink.new) (K.faults sink.old) (K.faults sink.new) result }
@@ -60,11 +60,11 @@ fn service_over(alloc: Global, publication: Publication) -> Result<Service<Sha>,
 }
 
 /// How a run ends that served frames.
-fn ended_serving(served: Result<(), ServeError>) -> Result<Verdict, Fault>
+fn ended_serving(served: Result<(), ServeError>) -> Result<Conclusion, Fault>
     ensures { result ≡ ended_serving served }
 {
     match served {
-        Ok(()) => Ok(Verdict::Done),
+        Ok(()) => Ok(Conclusion::Done),
         Err(ServeError::FrameTooLong) => Err(Fault::FrameTooLong),
         Err(ServeError::TruncatedFrame) => Err(Fault::TruncatedFrame),
         Err(ServeError::TooManyFrames) => Err(Fault::TooManyFrames),

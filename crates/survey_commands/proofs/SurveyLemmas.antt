@@ -4,14 +4,14 @@ use Rattle.std.specs.declared.option.Option.{Option}
 use Rattle.std.specs.declared.option.Option.TheVariants.{None, Some}
 use Rattle.std.specs.declared.result.Result.{Result}
 use Rattle.std.specs.declared.result.Result.TheVariants.{Ok, Err}
-use Rattle.road_io.specs.Contents.{Shelf}
+use Rattle.road_io.specs.Contents.{Folder}
 use Rattle.book_model.specs.declared.settings.PlanError.{PlanError}
 use Rattle.command_files.specs.Endings.{NoDisk, PromisesWithoutFiles, TellsNone, WhyNot, Writes}
 use Rattle.command_files.specs.Exact.{HasOneEnd}
 use Rattle.command_files.specs.declared.fault.Fault.{Fault}
 use Rattle.command_files.specs.declared.fault.Fault.TheVariants.{Memory, Plan}
-use Rattle.command_files.specs.declared.ended.Verdict.{Verdict}
-use Rattle.command_files.specs.declared.ended.Verdict.TheVariants.{Done}
+use Rattle.command_files.specs.declared.ended.Conclusion.{Conclusion}
+use Rattle.command_files.specs.declared.ended.Conclusion.TheVariants.{Done}
 use Rattle.command_files.proofs.Written.{CallsFor, over_any, no_memory, refused, written_done}
 use Rattle.survey_commands.specs.Surveying.{EndsSurvey}
 
@@ -22,7 +22,7 @@ one_fault : (o : Option PlanError) (e f : PlanError) → o ≡ Some e → o ≡ 
 one_fault o e f one other = cc
 
 -- a survey has one end
-one_survey : (width seed method queries : ℕ) (o p : Result Verdict Fault) (s t : List ℕ) → EndsSurvey width seed method queries o s → EndsSurvey width seed method queries p t → o ≡ p
+one_survey : (width seed method queries : ℕ) (o p : Result Conclusion Fault) (s t : List ℕ) → EndsSurvey width seed method queries o s → EndsSurvey width seed method queries p t → o ≡ p
 one_survey width seed method queries (Ok Done) (Ok Done) s t h k = refl
 one_survey width seed method queries (Ok Done) (Err (Plan f)) s t h k = absurd (allowed_once _ f h.is_made.has_header.allowed k.0)
 one_survey width seed method queries (Ok Done) p s t h k = absurd k
@@ -35,20 +35,20 @@ pub only_survey : (width seed method queries : ℕ) → HasOneEnd (EndsSurvey wi
 only_survey width seed method queries o p s t = one_survey width seed method queries o p s t
 
 module _ (width seed method queries k k' : ℕ) (old : Option (List ℕ)) where
-  any : (files : Option Shelf) (o : Result Verdict Fault) (text : List ℕ) → EndsSurvey width seed method queries o text → CallsFor (λ shelf. EndsSurvey width seed method queries) files o text
-  any files o text h = over_any files (λ shelf. EndsSurvey width seed method queries o text) (λ shelf. h)
+  any : (files : Option Folder) (o : Result Conclusion Fault) (text : List ℕ) → EndsSurvey width seed method queries o text → CallsFor (λ folder. EndsSurvey width seed method queries) files o text
+  any files o text h = over_any files (λ folder. EndsSurvey width seed method queries o text) (λ folder. h)
 
   -- a line that was told
-  pub surveyed : (new : Option (List ℕ)) (o : Result Verdict Fault) (text line : List ℕ) → text ≡ line → EndsSurvey width seed method queries (Ok Done) line → Writes (Ok Done) text old new k k' o
+  pub surveyed : (new : Option (List ℕ)) (o : Result Conclusion Fault) (text line : List ℕ) → text ≡ line → EndsSurvey width seed method queries (Ok Done) line → Writes (Ok Done) text old new k k' o
       → PromisesWithoutFiles (EndsSurvey width seed method queries) NoDisk old new k k' o
   surveyed new o text line same is w files faults =
-      written_done (λ shelf. EndsSurvey width seed method queries) TellsNone NoDisk files faults faults k k' old (EndsSurvey width seed method queries) (any files) new Done o text line same is w
+      written_done (λ folder. EndsSurvey width seed method queries) TellsNone NoDisk files faults faults k k' old (EndsSurvey width seed method queries) (any files) new Done o text line same is w
 
   -- a grid that has no book
   pub not_surveyed : (e : PlanError) → EndsSurvey width seed method queries (Err (Plan e)) [] → PromisesWithoutFiles (EndsSurvey width seed method queries) NoDisk old old k k' (Err (Plan e))
   not_surveyed e h files faults =
-      refused (λ shelf. EndsSurvey width seed method queries) TellsNone NoDisk files faults faults k k' old (EndsSurvey width seed method queries) (any files) (Plan e) h
+      refused (λ folder. EndsSurvey width seed method queries) TellsNone NoDisk files faults faults k k' old (EndsSurvey width seed method queries) (any files) (Plan e) h
 
   -- want of memory
   pub memory_short : PromisesWithoutFiles (EndsSurvey width seed method queries) NoDisk old old k k' (Err Memory)
-  memory_short files faults = no_memory (λ shelf. EndsSurvey width seed method queries) TellsNone NoDisk files faults faults k k' old
+  memory_short files faults = no_memory (λ folder. EndsSurvey width seed method queries) TellsNone NoDisk files faults faults k k' old

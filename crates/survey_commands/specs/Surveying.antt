@@ -8,13 +8,16 @@ use Rattle.route_survey.specs.Asked.{survey_queries, survey_settings}
 use Rattle.route_survey.specs.Surveys.{IsSurveyLine}
 use Rattle.command_files.specs.Endings.{Ending}
 use Rattle.command_files.specs.declared.fault.Fault.TheVariants.{Plan}
-use Rattle.command_files.specs.declared.ended.Verdict.TheVariants.{Done}
+use Rattle.command_files.specs.declared.ended.Conclusion.TheVariants.{Done}
 
--- `survey` over the grid of a width and a seed: the line of so many drawn queries, or the first reason why the
--- grid has no book under the method; nothing that a file or the owner's disk holds is asked for
+-- `survey` over the grid of a width and a seed: the line of so many drawn queries, or the first
+-- reason why the grid has no book under the method; nothing that a file or the owner's disk holds
+-- is asked for
 abbrev pub EndsSurvey : ℕ → ℕ → ℕ → ℕ → Ending
 EndsSurvey width seed method queries (Ok Done) text =
-    IsSurveyLine (grid_of width seed) (survey_settings method seed) (survey_queries width seed queries) text
+    IsSurveyLine (grid_of width seed) (survey_settings method seed)
+    (survey_queries width seed queries) text
 EndsSurvey width seed method queries (Err (Plan e)) text =
-    (plan_fault (kind_of method) (grid_of width seed) (survey_settings method seed) ≡ Some e) × (text ≡ [])
+    (plan_fault (kind_of method) (grid_of width seed) (survey_settings method seed) ≡ Some e) ×
+    (text ≡ [])
 EndsSurvey width seed method queries outcome text = ⊥

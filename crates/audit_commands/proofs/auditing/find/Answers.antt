@@ -24,7 +24,7 @@ returns-clause-told g c =
     let o = c.in_ok-desk.ensures.opened in
     if_ok _ _ _
     (λ (told : Told). λ h. ends_of g.D.Disk c.args.disk.now c.open_desk.new.disk c.audit-answer.new.disk c.in_ok-desk.desk c.args.key.now c.args.reply.now c.args.query c.args.publication
-    (g.met.D.Disk.reads_image c.open_desk.new.disk) o.content o.key o.fits.named o.usable
+    (g.met.D.Disk.reads_image c.open_desk.new.disk) o.content o.areas o.fits.sound o.usable
     c.audit-answer.result told.end told.text.items c.audit-answer.ensures.finds h)
     c.tell.ensures.told
 
@@ -33,7 +33,7 @@ returns-clause-rests g c =
     let o = c.in_ok-desk.ensures.opened in
     if_ok _ _ _
     (λ (told : Told). λ h. rests_on g.D.Disk c.args.disk.now c.open_desk.new.disk c.audit-answer.new.disk c.in_ok-desk.desk c.args.key.now c.args.reply.now c.args.query c.args.publication
-    (g.met.D.Disk.reads_image c.open_desk.new.disk) o.content o.key o.fits.named
+    (g.met.D.Disk.reads_image c.open_desk.new.disk) o.content o.areas o.fits.sound
     c.audit-answer.ensures.left.moments c.audit-answer.result told.end told.text.items c.audit-answer.ensures.finds h)
     c.tell.ensures.told
 
@@ -42,7 +42,7 @@ returns-clause-others g c =
     let o = c.in_ok-desk.ensures.opened in
     if_err _ _ _
     (λ f h. rests_otherwise g.D.Disk c.args.disk.now c.open_desk.new.disk c.audit-answer.new.disk c.in_ok-desk.desk c.args.key.now c.args.reply.now c.args.query c.args.publication
-    (g.met.D.Disk.reads_image c.open_desk.new.disk) o.content o.key o.fits.named
+    (g.met.D.Disk.reads_image c.open_desk.new.disk) o.content o.areas o.fits.sound
     c.audit-answer.ensures.left.moments c.audit-answer.result f c.audit-answer.ensures.finds h)
     c.tell.ensures.refused
 
@@ -51,9 +51,9 @@ returns-clause-refused g c =
     let o = c.in_ok-desk.ensures.opened in
     if_err _ _ _
     (λ f h. why_not g.D.Disk c.args.disk.now c.open_desk.new.disk c.audit-answer.new.disk c.in_ok-desk.desk c.args.key.now c.args.reply.now c.args.query c.args.publication
-    (g.met.D.Disk.reads_image c.open_desk.new.disk) o.content o.key o.fits.named _ o.usable c.audit-answer.result
+    (g.met.D.Disk.reads_image c.open_desk.new.disk) o.content o.areas o.fits.sound _ o.usable c.audit-answer.result
     (look_failed g.D.Disk c.args.disk.now c.open_desk.new.disk c.audit-answer.new.disk c.in_ok-desk.desk c.args.key.now c.args.reply.now c.args.query c.args.publication
-    (g.met.D.Disk.reads_image c.open_desk.new.disk) o.content o.key o.fits.named o.is_open c.in_ok-desk.ensures.faults c.audit-answer.result c.audit-answer.ensures.finds)
+    (g.met.D.Disk.reads_image c.open_desk.new.disk) o.content o.areas o.fits.sound o.is_open c.in_ok-desk.ensures.faults c.audit-answer.result c.audit-answer.ensures.finds)
     f c.audit-answer.ensures.finds h)
     c.tell.ensures.refused
 

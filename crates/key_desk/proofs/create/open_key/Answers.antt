@@ -2,11 +2,11 @@ use Rattle.std.proofs.Common.{◌≡◌, List, ℕ, ◌<◌, get_or, arith, ◌�
 use Rattle.std.proofs.lemmas.Bool.{cases_eq}
 use Rattle.road_io.specs.Moments.{Image}
 use Rattle.road_io.proofs.MomentLaws.{continued, at_end}
-use Rattle.key_desk.specs.Layout.{kind_at, place_of, gate_at, AgreesOutside}
+use Rattle.desk_areas.specs.Layout.{kind_at, place_in, gate_at, AgreesOutside}
 use Rattle.key_desk.specs.Desk.{IsBlank, IsFresh}
-use Rattle.key_desk.proofs.Frame.{range_apart}
-use Rattle.key_desk.specs.Keys.{key_from}
-use Rattle.key_desk.proofs.KeyLemmas.{key_from-secret}
+use Rattle.desk_areas.proofs.Frame.{range_apart}
+use Rattle.desk_areas.specs.Keys.{key_from}
+use Rattle.desk_areas.proofs.KeyLemmas.{key_from-secret}
 use Rattle.key_desk.proofs.OnOks.{on_ok}
 use Rattle.key_desk.proofs.create.open_key.Given.{Over}
 use Rattle.key_desk.proofs.create.open_key.Goals as goal
@@ -24,13 +24,15 @@ module _ (g : Over) (c : After-open_block g) where
       let four : get_or i 4 0 ≡ get_or d 4 0 = h.same 4 (inr (omega arith)) in
       let kind : kind_at i 0 ≡ kind_at d 0 = cc in
       record {
-        block = record {
-          key_open = opened;
-          kind = kind ∙ block.0;
-          secret = range_apart 0 1 d i h 5 48 (inr (omega arith)) ∙ block.1 ∙ key_from-secret c.args.kind c.args.secret.now;
-          within = omega (arith, rest.0, h.long);
+        key_open = opened;
+        area = record {
+          block = record {
+            kind = kind ∙ block.0;
+            secret = range_apart 0 1 d i h 5 48 (inr (omega arith)) ∙ block.1 ∙ key_from-secret c.args.kind c.args.secret.now;
+            within = omega (arith, rest.0, h.long);
+          };
+          zero = λ k from to. h.same k (inr (omega (arith, from))) ∙ rest.1 k (omega (arith, from)) to;
         };
-        shut = λ slot lt. h.same (place_of slot) (inr (omega arith)) ∙ rest.1 (place_of slot) (omega arith) (omega arith);
       }
 
   fresh : (d i : List ℕ) → Image g.D.Disk c.put_block.new.disk d → AgreesOutside 0 1 d i → IsFresh (key_from c.args.kind c.args.secret.now) i

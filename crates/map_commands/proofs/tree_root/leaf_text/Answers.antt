@@ -1,10 +1,6 @@
-use Rattle.map_commands.proofs.RootLemmas.{few_arcs, short_new}
+use Rattle.map_commands.proofs.RootLemmas.{few_arcs}
 use Rattle.map_commands.proofs.tree_root.leaf_text.Goals as goal
 
 pub write-requires : goal.write-requires
 write-requires c =
     few_arcs c.args.map.now.parts c.parts-parts.ensures.is_map c.node-node.result c.arcs.result.now (c.arcs.ensures _ c.node-node.ensures) _ c.in_ok-leaf.ensures
-
-pub returns-clause-few : goal.returns-clause-few
-returns-clause-few c =
-    short_new c.args.map.now.parts c.parts-parts.ensures.is_map c.node-node.result c.arcs.result.now (c.arcs.ensures _ c.node-node.ensures) _ c.in_ok-leaf.ensures _ _ c.new-text.ensures.items c.in_ok-write.ensures.ok

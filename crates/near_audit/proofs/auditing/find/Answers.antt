@@ -15,8 +15,8 @@ returns-in_err-held-clause-left g c = left_alone g.D.Disk _ _ c.requires.fits
 
 pub returns-clause-finds : goal.returns-clause-finds
 returns-clause-finds g c =
-    found_finds g.H.Hasher.hash (look_at g.D.Disk c.args.desk.now c.args.disk.now c.find_in.new.disk) (public_key c.args.desk.now.key) c.args.public.now c.args.reply.now c.args.query c.args.publication c.in_ok-reply.reply c.in_ok-held.held c.find_in.result
-    c.if-not-is_key_of.ensures.same c.in_ok-reply.ensures.accepted c.in_ok-reply.ensures.read c.in_ok-held.ensures.installed c.in_ok-held.ensures.spelled c.method_laws.ensures.authentic c.map_laws.ensures.distances c.find_in.ensures.finds
+    found_finds g.H.Hasher.hash (look_at g.D.Disk c.args.desk.now c.args.disk.now c.find_in.new.disk) (public_key c.args.desk.now.key) c.args.public.now c.args.octets.now c.args.query c.args.publication c.in_ok-reply.reply c.in_ok-held.held c.find_in.result
+    c.if-not-is_key_of.ensures.same c.in_ok-reply.ensures.accepted c.in_ok-reply.ensures.good c.in_ok-held.ensures.installed c.in_ok-held.ensures.spelled c.method_laws.ensures.authentic c.map_laws.ensures.distances c.find_in.ensures.finds
 
 pub returns-clause-untouched : goal.returns-clause-untouched
 returns-clause-untouched g c =

@@ -3,9 +3,9 @@ use Rattle.octet_text.specs.Format.{whole}
 use Rattle.near_model.specs.declared.query.NearQuery.{NearQuery}
 use Rattle.near_model.specs.declared.reply.NearReply.{NearReply}
 use Rattle.near_model.specs.NearReplies.{near_reply}
+use Rattle.near_model.proofs.NearFormat.{near_good}
 use Rattle.near_client.specs.declared.within.Within.{Within}
 use Rattle.near_client.specs.NearVerdicts.{NearAccepts}
-use Rattle.near_client.proofs.ItemRoom.{is_read}
 use Rattle.near_audit.specs.NearComparing.{IsReplyTo}
 use Rattle.near_audit.proofs.steps.accepted_reply.Goals as goal
 
@@ -16,8 +16,8 @@ reply_is hash key octets q x a accepts is = record { accepted = x; accepts = acc
     same : ◌≡◌ {A = Result NearReply ℕ} (Ok accepts.reply) (Ok a) → accepts.reply ≡ a
     same e = cc
 
-pub returns-in-Ok-clause-read : goal.returns-in-Ok-clause-read
-returns-in-Ok-clause-read g c = is_read c.in-Ok.reply c.args.reply.now c.in-Ok.ensures.found.0 c.in-Ok.ensures.found.1 c.requires
+pub returns-in-Ok-clause-good : goal.returns-in-Ok-clause-good
+returns-in-Ok-clause-good g c = near_good c.in-Ok.reply c.in-Ok.ensures.found.0
 
 pub returns-in-Ok-clause-accepted : goal.returns-in-Ok-clause-accepted
 returns-in-Ok-clause-accepted g c =

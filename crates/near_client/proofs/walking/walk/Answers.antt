@@ -1,4 +1,4 @@
-use Rattle.std.proofs.Common.{◌≡◌, ℕ, Some, sym, subst}
+use Rattle.std.proofs.Common.{ℕ, Some, sym, subst}
 use Rattle.road_map.specs.Least.{IsLeast}
 use Rattle.proof_judge.specs.ItemWalks.{StandsTwice}
 use Rattle.proof_judge.specs.SharedTests.{AreShort}

@@ -1,7 +1,7 @@
 use Rattle.std.proofs.Common.{List, ℕ, sym, subst}
 use Rattle.std.specs.declared.result.Result.TheVariants.{Ok}
 use Rattle.std.proofs.lemmas.Result.{err_from_is_err_and}
-use Rattle.command_files.specs.declared.ended.Verdict.TheVariants.{Done}
+use Rattle.command_files.specs.declared.ended.Conclusion.TheVariants.{Done}
 use Rattle.near_server_commands.specs.NearReaching.{EndsReach}
 use Rattle.near_server_commands.proofs.NearReachLemmas.{reach_refused, reply_written}
 use Rattle.near_server_commands.proofs.reaching.reach.Goals as goal

@@ -5,7 +5,7 @@ use Rattle.sha2.specs.Sha256.{sha256}
 use Rattle.proof_octets.specs.declared.publication.Publication.{Publication}
 use Rattle.route_server.specs.Keeping.{publication_in}
 use Rattle.command_files.specs.Endings.{NoDisk, WhyNot}
-use Rattle.command_files.specs.declared.ended.Verdict.TheVariants.{Done}
+use Rattle.command_files.specs.declared.ended.Conclusion.TheVariants.{Done}
 use Rattle.command_books.proofs.Installings.{installed}
 use Rattle.near_server_commands.specs.NearReaching.{EndsNear, EndsReach}
 use Rattle.near_server_commands.proofs.NearReachLemmas.{if_err, why_behind, why_before}

@@ -4,7 +4,7 @@ use Rattle.std.proofs.Common.{refl}
 use Rattle.owner_commands.proofs.OwnerLemmas.{key_refused, key_told, made_of, on_any}
 use Rattle.road_io.specs.Moments.{EachImage}
 use Rattle.key_desk.specs.Desk.{IsBlank}
-use Rattle.key_desk.specs.Keys.{key_from}
+use Rattle.desk_areas.specs.Keys.{key_from}
 use Rattle.road_command.specs.View.{type_of}
 use Rattle.owner_commands.proofs.making.key.Goals as goal
 

@@ -1,7 +1,7 @@
 use Rattle.std.proofs.Common.{◌≡◌, Some, subst, sym, ◌∙◌, refl, slice_get, map}
 use Rattle.std.specs.List.{Contains}
 use Rattle.std.proofs.lemmas.Option.{slice_get_read}
-use Rattle.road_map.specs.declared.rows.Row.{Row}
+use Rattle.road_map.specs.declared.rows.NodeArcs.{NodeArcs}
 use Rattle.road_map.specs.Nets.{Placed}
 use Rattle.road_map.proofs.NetLaws.{long_more, net_more, one_item}
 use Rattle.road_map.proofs.net.net_of.Goals as goal
@@ -16,6 +16,6 @@ loop-row-preserved c =
     record {
       long = long_more c.loop-row.net.items c.push.new.self.items c.loop-row.row-index c.in_ok-arcs.arcs c.in_ok-push.ensures.items c.loop-row.invariant.long;
       each = net_more c.args.rows.now c.loop-row.net.items c.push.new.self.items c.loop-row.row-index c.in_ok-arcs.arcs c.in_ok-push.ensures.items c.loop-row.invariant.long c.loop-row.invariant.each
-          (λ row is. subst (λ (r : Row). Placed (map (λ (row : Row). row.node) c.args.rows.now) r.arcs c.in_ok-arcs.arcs) (one_item c.args.rows.now c.loop-row.row-index c.row-item.result row at is)
-          (subst (λ xs. Placed (map (λ (row : Row). row.node) c.args.rows.now) xs c.in_ok-arcs.arcs) c.as_slice.ensures c.in_ok-arcs.ensures));
+          (λ row is. subst (λ (r : NodeArcs). Placed (map (λ (row : NodeArcs). row.node) c.args.rows.now) r.arcs c.in_ok-arcs.arcs) (one_item c.args.rows.now c.loop-row.row-index c.row-item.result row at is)
+          (subst (λ xs. Placed (map (λ (row : NodeArcs). row.node) c.args.rows.now) xs c.in_ok-arcs.arcs) c.as_slice.ensures c.in_ok-arcs.ensures));
     }

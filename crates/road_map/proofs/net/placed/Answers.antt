@@ -2,7 +2,7 @@ use Rattle.std.proofs.Common.{◌≡◌, ◌<◌, ℕ, take, map, length, arith,
 use Rattle.std.proofs.lemmas.List.{take_more}
 use Rattle.std.proofs.lemmas.Option.{slice_get-get_or, slice_get_within}
 use Rattle.road_map.specs.declared.arc.Arc.{Arc}
-use Rattle.road_map.specs.declared.rows.Row.{Row}
+use Rattle.road_map.specs.declared.rows.NodeArcs.{NodeArcs}
 use Rattle.road_map.specs.Rows.{IsAt}
 use Rattle.road_map.proofs.Among.{contains_at}
 use Rattle.road_map.proofs.IdLaws.{at_some}
@@ -23,4 +23,4 @@ loop-arc-preserved c =
     let d : Arc = record { to = 0; length = 0 } in
     let at : IsAt c.args.rows.now _ c.unwrap-to.result = at_some (IsAt c.args.rows.now _) c.place_of.result c.unwrap-to.result c.unwrap-to.ensures c.place_of.ensures.found in
     rw (take_more c.args.arcs.now c.loop-arc.arc-index d c.loop-arc-test.true, c.in_ok-push.ensures.items)
-    (Placed-snoc (map (λ (row : Row). row.node) c.args.rows.now) (take c.loop-arc.arc-index c.args.arcs.now) c.loop-arc.out.items _ _ c.loop-arc.invariant refl (place_of_row c.args.rows.now _ c.unwrap-to.result at))
+    (Placed-snoc (map (λ (row : NodeArcs). row.node) c.args.rows.now) (take c.loop-arc.arc-index c.args.arcs.now) c.loop-arc.out.items _ _ c.loop-arc.invariant refl (place_of_row c.args.rows.now _ c.unwrap-to.result at))

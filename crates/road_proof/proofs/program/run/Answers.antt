@@ -1,5 +1,6 @@
-use Rattle.road_proof.proofs.RunLemmas.{exact_run, honest_run, exact_serving}
+use Rattle.road_proof.proofs.RunLemmas.{exact_run, honest_run, taken_run, exact_serving}
 use Rattle.road_proof.proofs.HonestLemmas.{Verdicts, AcceptedLaws}
+use Rattle.road_proof.proofs.TakenLemmas.{RefusedLaws}
 use Rattle.road_proof.proofs.program.run.Given.{Over}
 use Rattle.road_proof.proofs.program.run.Goals as goal
 use Rattle.road_proof.proofs.program.run.Goals.{After-near_laws}
@@ -31,6 +32,12 @@ returns-clause-honest g c =
     rw c.of.ensures.outcome
     (honest_run g.D.Disk c.args.disk.now c.work.new.disk _ _ _ _ _ _ _ _ _ (verdicts g (goal.at.returns-clause-honest g c).After-near_laws)
     (laws g (goal.at.returns-clause-honest g c).After-near_laws) c.work.ensures.promised)
+
+pub returns-clause-taken : goal.returns-clause-taken
+returns-clause-taken g c =
+    let said : RefusedLaws = record { unknown = c.honest_laws.ensures.unknown; apart = c.honest_laws.ensures.apart } in
+    rw c.of.ensures.outcome
+    (taken_run g.D.Disk c.args.disk.now c.work.new.disk _ _ _ _ _ _ _ _ _ (laws g (goal.at.returns-clause-taken g c).After-near_laws) said c.work.ensures.promised)
 
 pub returns-clause-takes : goal.returns-clause-takes
 returns-clause-takes g c = rw c.of.ensures.outcome c.work.ensures.takes

@@ -33,10 +33,18 @@ pub returns-in-Some-Desk-clause-promised : goal.returns-in-Some-Desk-clause-prom
 returns-in-Some-Desk-clause-promised g c =
     run_stays g.D.Disk c.args.disk.now c.desk.new.disk _ _ _ _ _ _ _ _ _ _ (rw c.in-Some-Desk.field-0-is at c.in-Some-Desk.ensures) (c.desk.ensures.promised _ _) c.desk.ensures.stays c.desk.ensures.stays
 
+pub returns-in-Some-Succeed-clause-promised : goal.returns-in-Some-Succeed-clause-promised
+returns-in-Some-Succeed-clause-promised g c =
+    run_promises g.D.Disk c.args.disk.now c.succeed.new.disk _ _ _ _ _ _ _ _ _ _ (rw c.in-Some-Succeed.field-0-is at c.in-Some-Succeed.ensures) c.succeed.ensures.promised c.succeed.ensures.adds c.succeed.ensures.stands
+
+pub returns-in-Some-Links-clause-promised : goal.returns-in-Some-Links-clause-promised
+returns-in-Some-Links-clause-promised g c =
+    run_stays g.D.Disk c.args.disk.now c.links.new.disk _ _ _ _ _ _ _ _ _ _ (rw c.in-Some-Links.field-0-is at c.in-Some-Links.ensures) (c.links.ensures.promised _ _) c.links.ensures.stays c.links.ensures.stays
+
 pub returns-in-Some-Publish-clause-promised : goal.returns-in-Some-Publish-clause-promised
 returns-in-Some-Publish-clause-promised g c =
     run_promises g.D.Disk c.args.disk.now c.publish.new.disk _ _ _ _ _ _ _ _ _ _ (rw c.in-Some-Publish.field-0-is at c.in-Some-Publish.ensures) c.publish.ensures.promised
-    (c.publish.ensures.sealed, c.publish.ensures.signs) c.publish.ensures.stands
+    (c.publish.ensures.sealed, c.publish.ensures.signs, c.publish.ensures.untouched) c.publish.ensures.stands
 
 pub returns-in-Some-Audit-clause-promised : goal.returns-in-Some-Audit-clause-promised
 returns-in-Some-Audit-clause-promised g c =
@@ -84,6 +92,14 @@ returns-in-Some-Key-clause-takes g c =
 pub returns-in-Some-Desk-clause-takes : goal.returns-in-Some-Desk-clause-takes
 returns-in-Some-Desk-clause-takes g c =
     run_takes _ _ _ _ _ _ _ _ _ _ (rw c.in-Some-Desk.field-0-is at c.in-Some-Desk.ensures) tt refl (λ e. absurd ((c.desk.ensures.promised (None) 0).source e))
+
+pub returns-in-Some-Succeed-clause-takes : goal.returns-in-Some-Succeed-clause-takes
+returns-in-Some-Succeed-clause-takes g c =
+    run_takes _ _ _ _ _ _ _ _ _ _ (rw c.in-Some-Succeed.field-0-is at c.in-Some-Succeed.ensures) tt refl (λ e. absurd (c.succeed.ensures.promised.source e))
+
+pub returns-in-Some-Links-clause-takes : goal.returns-in-Some-Links-clause-takes
+returns-in-Some-Links-clause-takes g c =
+    run_takes _ _ _ _ _ _ _ _ _ _ (rw c.in-Some-Links.field-0-is at c.in-Some-Links.ensures) tt refl (λ e. absurd ((c.links.ensures.promised (None) 0).source e))
 
 pub returns-in-Some-Publish-clause-takes : goal.returns-in-Some-Publish-clause-takes
 returns-in-Some-Publish-clause-takes g c =

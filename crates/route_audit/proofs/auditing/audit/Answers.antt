@@ -56,7 +56,7 @@ returns-in_err-held-clause-left g c = left_alone g.D.Disk _ _ c.requires.fits
 pub returns-clause-finds : goal.returns-clause-finds
 returns-clause-finds g c =
     found_finds g.H.Hasher.hash (look_at g.D.Disk c.args.desk.now c.args.disk.now c.find_in.new.disk) (public_key c.args.desk.now.key) c.args.public.now c.args.reply.now c.args.query c.args.publication c.in_ok-answer.answer c.in_ok-held.held c.find_in.result
-    c.if-not-is_key_of.ensures.same c.in_ok-answer.ensures.accepted c.in_ok-answer.ensures.read c.in_ok-held.ensures.installed c.in_ok-held.ensures.spelled c.method_laws.ensures.authentic c.method_laws.ensures.sound c.find_in.ensures.finds
+    c.if-not-is_key_of.ensures.same c.in_ok-answer.ensures.accepted c.in_ok-answer.ensures.good c.in_ok-held.ensures.installed c.in_ok-held.ensures.spelled c.method_laws.ensures.authentic c.method_laws.ensures.sound c.find_in.ensures.finds
 
 pub returns-clause-comes : goal.returns-clause-comes
 returns-clause-comes g c auditable opened steady =
@@ -67,7 +67,7 @@ returns-clause-comes g c auditable opened steady =
     (c.verdict_laws.ensures.one hash) (λ key octets q least x. (c.verdict_laws.ensures.accepts hash key octets q least x).0) (c.server_laws.ensures hash sha256)
     (works g.D.Disk c.args.desk.now c.args.disk.now c.find_in.new.disk opened steady) auditable
     (found_finds hash look key c.args.public.now c.args.reply.now c.args.query c.args.publication c.in_ok-answer.answer c.in_ok-held.held c.find_in.result
-    c.if-not-is_key_of.ensures.same c.in_ok-answer.ensures.accepted c.in_ok-answer.ensures.read c.in_ok-held.ensures.installed c.in_ok-held.ensures.spelled c.method_laws.ensures.authentic c.method_laws.ensures.sound c.find_in.ensures.finds)
+    c.if-not-is_key_of.ensures.same c.in_ok-answer.ensures.accepted c.in_ok-answer.ensures.good c.in_ok-held.ensures.installed c.in_ok-held.ensures.spelled c.method_laws.ensures.authentic c.method_laws.ensures.sound c.find_in.ensures.finds)
 
 pub returns-clause-untouched : goal.returns-clause-untouched
 returns-clause-untouched g c =

@@ -3,4 +3,4 @@ use Rattle.route_audit.proofs.comparing.clash_of_pairs.Goals as goal
 
 pub clash_under-requires-clause-folds : goal.clash_under-requires-clause-folds
 clash_under-requires-clause-folds g c =
-    rw (c.as_slice-2.ensures, c.in_ok-texts.ensures.texts, c.as_slice.ensures, c.as_slice-3.ensures) (folds_pairs g.H.Hasher.hash c.args.held.now c.args.answer.now c.requires.same c.requires.covered)
+    rw (c.as_slice.ensures, c.requires.texts, c.as_slice-2.ensures) (folds_pairs g.H.Hasher.hash c.args.held.now c.args.answer.now c.requires.same c.requires.covered)

@@ -1,10 +1,12 @@
-use Rattle.std.proofs.Common.{sym, ◌∙◌, ◌≡◌, Ok, Result, ℕ, List}
+use Rattle.std.proofs.Common.{arith, sym, ◌∙◌, ◌≡◌, Ok, Result, ℕ, List}
 use Rattle.book_model.specs.declared.items.Query.{Query}
 use Rattle.octet_text.specs.Format.{whole}
+use Rattle.octet_text.proofs.Fields.{whole_found}
 use Rattle.proof_octets.specs.declared.reply.Answer as answers
 use Rattle.proof_octets.specs.declared.reply.Reply.{Reply}
 use Rattle.proof_octets.specs.declared.reply.Reply.TheVariants as replies
 use Rattle.proof_octets.specs.Replies.{reply}
+use Rattle.proof_octets.proofs.FormatLaws.{reply_exact}
 use Rattle.route_client.specs.declared.accepted.Accepted.{Accepted}
 use Rattle.route_client.specs.Verdicts.{Accepts}
 use Rattle.route_audit.specs.Comparing.{IsAnswerTo}
@@ -23,3 +25,7 @@ returns-in-Ok-clause-accepted g c =
     let a = c.in-Ok.checked.answer in
     let x : Accepted = record { length = c.in-Ok.checked.length; route = a.items.route; version = a.header.version; header = a.header } in
     answer_is hash c.args.public.now c.args.reply.now c.args.query x a ((c.verdict_laws.ensures.accepts hash c.args.public.now c.args.reply.now c.args.query 0 x).1 c.in-Ok.ensures.verdict) c.in-Ok.ensures.spelled
+
+pub returns-in-Ok-clause-spelled : goal.returns-in-Ok-clause-spelled
+returns-in-Ok-clause-spelled g c =
+    (whole_found reply reply_exact c.args.reply.now (replies.Answer c.in-Ok.checked.answer) (λ i. omega (arith, c.type_inv.reply i)) c.in-Ok.ensures.spelled).1

@@ -3,6 +3,6 @@ use Rattle.route_owner.proofs.publishing.make_signable.Goals as goal
 
 pub returns-clause-signable : goal.returns-clause-signable
 returns-clause-signable g c =
-    let held = c.in_ok-held.ensures in
-    signable _ c.in_ok-held.held _ _ _ _ c.header_laws.ensures held.kept held.parts held.settings held.makes c.header-header.ensures c.into_parts.ensures
+    let headed = c.in_ok-headed.ensures in
+    signable _ _ _ _ _ headed.parts headed.has headed.good
     c.settings_have_widths.ensures.numbers c.settings_have_widths.ensures.version c.parts_have_widths.ensures.nodes c.parts_have_widths.ensures.roads

@@ -1,0 +1,14 @@
+//! Tests of the client and of the audits: worked rows over one map, and signed answers of another program.
+//! Each shows what no clause says.
+#![tactic(auto)]
+
+#[cfg(test)]
+mod audit;
+#[cfg(test)]
+mod audit_reach;
+#[cfg(test)]
+mod client;
+#[cfg(test)]
+mod octets;
+#[cfg(test)]
+mod signed_answers;

@@ -1,0 +1,21 @@
+//! Tests of judges and books: worked rows, and what no clause says.
+#![tactic(auto)]
+
+#[cfg(test)]
+mod border_items;
+#[cfg(test)]
+mod codes;
+#[cfg(test)]
+mod distances;
+#[cfg(test)]
+mod items;
+#[cfg(test)]
+mod plain;
+#[cfg(test)]
+mod plain_items;
+#[cfg(test)]
+mod reaching;
+#[cfg(test)]
+mod with_borders;
+#[cfg(test)]
+mod with_landmarks;

@@ -1,0 +1,9 @@
+pub mod Areas
+pub mod Frame
+pub mod Growth
+pub mod KeyLemmas
+pub mod Pairs
+pub mod Pieces
+pub mod ReadLemmas
+pub mod Signed
+pub mod Texts

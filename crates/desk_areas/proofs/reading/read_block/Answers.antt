@@ -1,0 +1,9 @@
+use Rattle.std.proofs.Common.{◌∙◌}
+use Rattle.desk_areas.proofs.ReadLemmas.{kind_read, secret_read}
+use Rattle.desk_areas.proofs.reading.read_block.Goals as goal
+
+pub returns-clause-kind : goal.returns-clause-kind
+returns-clause-kind g c x told = kind_read c.args.base x c.read_at.new.into (c.in_ok-read_at.ensures.octets x told)
+
+pub returns-clause-secret : goal.returns-clause-secret
+returns-clause-secret g c x told = c.copy_from_slice.ensures.after ∙ secret_read c.args.base x c.read_at.new.into (c.in_ok-read_at.ensures.octets x told)

@@ -1,0 +1,17 @@
+-- An area as callers see it.
+use Rattle.std.specs.Prelude.{ℕ, List, [], slice_index_or}
+use Rattle.lms_tree.specs.Signatures.{KeyOf}
+use Rattle.desk_areas.specs.declared.area.Count.{Count}
+
+-- an area: its key, and how its slots are counted
+pub record AreaView : Type 0 where
+  pub key : KeyOf
+  pub counts : List Count
+
+-- what stands where there is no area
+abbrev pub no_area : AreaView
+no_area = record { key = record { kind = 0; i = []; seed = [] }; counts = [] }
+
+-- one of some areas
+abbrev pub area_in : List AreaView → ℕ → AreaView
+area_in areas number = slice_index_or areas number no_area

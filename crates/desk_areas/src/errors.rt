@@ -1,0 +1,59 @@
+//! Why no desk is opened.
+
+use road_io::Failed;
+use std::alloc::{AllocError, AllocFailed};
+use thiserror::Error;
+
+/// Why no desk was opened.
+#[derive(Clone, Copy, Debug, PartialEq, Eq, Error)]
+pub enum StartError {
+    /// The disk holds a key already, which a new one may not replace.
+    #[error("The disk holds a key already.")]
+    Held,
+    /// The disk holds no key.
+    #[error("The disk holds no key.")]
+    NoKey,
+    /// An area of the disk can't be used: its kind is unknown, its slots are not all on the disk, or its key is not
+    /// the one that the link before it names.
+    #[error("The disk holds a key that can't be used.")]
+    BadBlock,
+    /// The disk failed.
+    #[error("The disk failed.")]
+    DiskFault,
+    /// No memory was found.
+    #[error("No memory was found.")]
+    Memory,
+}
+
+impl From<Failed> for StartError {
+    ghost use Rattle.std.specs.Prelude.{◌≡◌};
+    ghost use Rattle.desk_areas.specs.declared.errors.StartError.TheVariants.{DiskFault};
+
+    ghost from_gives = { λ _ e. e ≡ DiskFault };
+
+    fn from(_: Failed) -> Self {
+        StartError::DiskFault
+    }
+}
+
+impl From<AllocError> for StartError {
+    ghost use Rattle.std.specs.Prelude.{◌≡◌};
+    ghost use Rattle.desk_areas.specs.declared.errors.StartError.TheVariants.{Memory};
+
+    ghost from_gives = { λ _ e. e ≡ Memory };
+
+    fn from(_: AllocError) -> Self {
+        StartError::Memory
+    }
+}
+
+impl<T: Drop> From<AllocFailed<T>> for StartError {
+    ghost use Rattle.std.specs.Prelude.{◌≡◌};
+    ghost use Rattle.desk_areas.specs.declared.errors.StartError.TheVariants.{Memory};
+
+    ghost from_gives = { λ _ e. e ≡ Memory };
+
+    fn from(_: AllocFailed<T>) -> Self {
+        StartError::Memory
+    }
+}

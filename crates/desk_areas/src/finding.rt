@@ -1,0 +1,91 @@
+//! The search for a text in the spent slots of areas.
+ghost use Rattle.std.specs.Prelude.{◌≡◌, ◌≢◌, ◌+◌, ◌*◌, ◌<◌, ◌≤◌, ◌^◌, ◌↔◌, List, ℕ, Some, true, false, length, take, drop, min, IfOk, slice_index_or};
+ghost use Rattle.std.specs.Option.{ForSome};
+ghost use Rattle.road_io.specs.Causes.{HasCause};
+ghost use Rattle.road_io.specs.Disk.{Stays};
+ghost use Rattle.road_io.specs.Moments.{Image, EachImage, AtEachMoment};
+ghost use Rattle.desk_areas.specs.Layout.{place_in, text_at};
+ghost use Rattle.desk_areas.specs.Reading.{IsLaidOut, FindsIn, FindsEarlier};
+
+use crate::area::{Area, Count, place_in};
+use road_io::{Disk, Failed};
+
+// Whether the slot at this place has this text.
+fn has_text<D: Disk>(disk: &mut D, place: u64, text: &[u8]) -> Result<bool, Failed>
+    requires within { ForSome (D.content disk.old) (λ c. place + 128 ≤ length c) }
+    requires place { place < 2 ^ 63 }
+    ensures yes { IfOk result (λ b. b ≡ true →
+        ForSome (D.content disk.old) (λ c. text_at c place ≡ text.now)) }
+    ensures no { IfOk result (λ b. b ≡ false →
+        ForSome (D.content disk.old) (λ c. text_at c place ≢ text.now)) }
+    ensures content { D.content disk.new ≡ D.content disk.old }
+    ensures moments { AtEachMoment D.Disk disk.old disk.new Stays }
+    ensures cause { HasCause (D.faults disk.old) (D.faults disk.new) result }
+{
+    let mut octets = [0u8; 127];
+    disk.read_at(place + 1, &mut octets)?;
+    Ok(same_text(&octets, text))
+}
+
+// Whether a length octet and a text field hold this text.
+fn same_text(octets: &[u8; 127], text: &[u8]) -> bool
+    ensures { (result ≡ true) ↔ (take (min (slice_index_or octets.now 0 0) 126)
+        (drop 1 octets.now) ≡ text.now) }
+{
+    let len = (octets[0] as usize).min(126);
+    &octets[1..len + 1] == text
+}
+
+/// Whether a spent slot of the area at a base has this text.
+pub fn find_text<D: Disk>(
+    base: u64,
+    counts: &[Count],
+    disk: &mut D,
+    text: &[u8],
+) -> Result<bool, Failed>
+    requires within { ForSome (D.content disk.old)
+        (λ c. place_in base (length counts.now) ≤ length c) }
+    requires few { length counts.now ≤ 1024 }
+    requires low { base ≤ 917952 }
+    ensures yes { IfOk result (λ found. found ≡ true →
+        ForSome (D.content disk.old) (FindsIn counts.now base text.now)) }
+    ensures no { IfOk result (λ found. found ≡ false →
+        ForSome (D.content disk.old) (λ c. FindsIn counts.now base text.now c → ⊥)) }
+    ensures content { D.content disk.new ≡ D.content disk.old }
+    ensures moments { AtEachMoment D.Disk disk.old disk.new Stays }
+    ensures cause { HasCause (D.faults disk.old) (D.faults disk.new) result }
+{
+    let mut number = 0u32;
+    for count in counts {
+        if *count == Count::Spent {
+            if has_text(disk, place_in(base, number), text)? {
+                return Ok(true);
+            }
+        }
+        number += 1;
+    }
+    Ok(false)
+}
+
+/// Whether a spent slot of one of the first areas has this text.
+pub fn find_earlier<D: Disk>(areas: &[Area], disk: &mut D, text: &[u8]) -> Result<bool, Failed>
+    requires laid_out { ForSome (D.content disk.old) (IsLaidOut areas.now) }
+    requires few { length areas.now ≤ 7 }
+    ensures yes { IfOk result (λ found. found ≡ true →
+        ForSome (D.content disk.old) (FindsEarlier areas.now text.now)) }
+    ensures no { IfOk result (λ found. found ≡ false →
+        ForSome (D.content disk.old) (λ c. FindsEarlier areas.now text.now c → ⊥)) }
+    ensures content { D.content disk.new ≡ D.content disk.old }
+    ensures moments { AtEachMoment D.Disk disk.old disk.new Stays }
+    ensures cause { HasCause (D.faults disk.old) (D.faults disk.new) result }
+{
+    let mut base = 0u64;
+    for area in areas {
+        let counts = area.counts();
+        if find_text(base, counts, disk, text)? {
+            return Ok(true);
+        }
+        base = place_in(base, counts.len() as u32);
+    }
+    Ok(false)
+}

@@ -1,0 +1,16 @@
+//! The areas of an owner's disk, each a key with its slots: what is written to one slot, and what is read of them.
+#![tactic(auto)]
+
+pub use area::{Area, Count, build_key, place_in, slots_of};
+pub use errors::StartError;
+pub use finding::{find_earlier, find_text};
+pub use laws::signed_lists_pairs;
+pub use reading::{Found, has_name, read_gate, read_next};
+pub use writing::{open_gate, put, put_text, store};
+
+mod area;
+mod errors;
+mod finding;
+mod laws;
+mod reading;
+mod writing;

@@ -1,0 +1,13 @@
+//! Tests of the owner, of the commands and of the service. Each shows what no clause says.
+#![tactic(auto)]
+
+#[cfg(test)]
+mod desk;
+#[cfg(test)]
+mod map;
+#[cfg(test)]
+mod owner;
+#[cfg(test)]
+mod serving;
+#[cfg(test)]
+mod survey;

@@ -1,0 +1,49 @@
+//! Surveys: a line that was made apart, and the four methods over one grid.
+
+use book_model::PlanError;
+use command_files::{Conclusion, Fault};
+use mem_io::MemSink;
+use road_command::Survey;
+use route_survey::survey;
+use std::test::Fail;
+use survey_commands::survey as survey_command;
+
+/// The line is that of checks/survey/line.py: a query from 3 to 4, and one from 4 to 4.
+#[test]
+fn surveys_over_grids(rt: HostRuntime) -> Result<(), Fail> {
+    let alloc = rt.alloc();
+    let line =
+        "queries 2 accepted 2 total 118 digest a057ca07871d1e35fc4e90456d405b6cb2a3b007b0331493389b2ef3700f2db4\n";
+    let many = Err(Fault::Plan(PlanError::TooManyNodes(1089)));
+    let small = Survey {
+        width: 2,
+        seed: 0,
+        method: 1,
+        queries: 2,
+    };
+    let wide = Survey {
+        width: 33,
+        seed: 7,
+        method: 2,
+        queries: 1,
+    };
+    for (asked, written, end) in [(small, line, Ok(Conclusion::Done)), (wide, "", many)] {
+        let mut sink = MemSink::new(alloc, 1000, 1000, Vec::new(alloc))?;
+        let ended = survey_command(alloc, &mut sink, asked);
+        assert_eq!(rt; ended, end);
+        assert_eq!(rt; sink.taken(), written.as_bytes());
+    }
+    Ok(())
+}
+
+#[test]
+fn each_method_finds_the_same_lengths(rt: HostRuntime) -> Result<(), Fail> {
+    for method in 1..=4 {
+        let line = survey(rt.alloc(), 8, 5, method, 20)?;
+        assert!(rt;
+            line.starts_with(b"queries 20 accepted 20 total 35040 digest "),
+            "method {method}"
+        );
+    }
+    Ok(())
+}

@@ -1,0 +1,128 @@
+-- The next key of a desk.
+use Rattle.std.specs.Prelude.{◌≡◌, ◌≢◌, ◌⊎◌, ℕ, ◌+◌, ◌-◌, ◌<◌, ◌≤◌, true, List, [], ◌∷◌, ◌++◌, length, get_or, replicate, slice_set}
+use Rattle.std.specs.declared.option.Option.{Option}
+use Rattle.std.specs.declared.result.Result.{Result}
+use Rattle.std.specs.declared.result.Result.TheVariants.{Err}
+use Rattle.std.specs.Option.{ForSome}
+use Rattle.lms_tree.specs.Signatures.{KeyOf}
+use Rattle.key_desk.specs.declared.desk.Desk.{Desk}
+use Rattle.key_desk.specs.declared.succeed.SucceedError.{SucceedError}
+use Rattle.key_desk.specs.declared.succeed.SucceedError.TheVariants.{NoKey, BadBlock, TooManyKeys, NoSuccession, SameSecret, DiskFault, Memory}
+use Rattle.desk_areas.specs.declared.errors.StartError.{StartError}
+use Rattle.desk_areas.specs.declared.errors.StartError.TheVariants as start
+use Rattle.desk_areas.specs.declared.area.Count.TheVariants
+use Rattle.desk_areas.specs.Faults.{IsBadBlock, IsUsable}
+use Rattle.desk_areas.specs.Keys.{key_at}
+use Rattle.desk_areas.specs.Layout.{slots_of, place_in, base_of, gate_at, gate_of, last_slot, IsAreaOpen, IsOpen, IsCurrent, SignsAtMost}
+use Rattle.key_desk.specs.Desk.{count_at, key_of}
+
+-- the number of the slot that signs the next key
+abbrev pub last_number : Desk → ℕ
+last_number desk = slots_of desk.key.kind - 1
+
+-- the desk after its last slot has signed a key: that key's area is the current one, and all of its
+-- slots are free
+abbrev pub next_desk : Desk → KeyOf → Desk
+next_desk desk key = record {
+  earlier = desk.earlier ++ record {
+    key = desk.key;
+    counts = slice_set desk.counts (last_number desk) TheVariants.Spent;
+  } ∷ [];
+  base = place_in desk.base (slots_of desk.key.kind);
+  key = key;
+  counts = replicate (slots_of key.kind) TheVariants.Free;
+  is_open = true;
+}
+
+-- the key's area can be added: there are fewer than eight areas, the last slot is not spent, and no
+-- area has its I
+pub record CanSucceed (desk : Desk) (key : KeyOf) : Type 0 where
+  pub opened : desk.is_open ≡ true
+  pub few : length desk.earlier < 7
+  pub free : count_at desk (last_number desk) ≢ TheVariants.Spent
+  pub known : 0 < slots_of key.kind
+  pub named : length key.i ≡ 16
+  pub distinct : (area : ℕ) → area ≤ length desk.earlier → (key_of desk area).i ≢ key.i
+
+-- every octet of the image in this range is zero
+pub record IsZero (from size : ℕ) (image : List ℕ) : Type 0 where
+  pub long : from + size ≤ length image
+  pub zero : (k : ℕ) → from ≤ k → k < from + size → get_or image k 0 ≡ 0
+
+-- the image as it was, or the last slot of its current area has signed this text and nothing else
+-- was signed
+pub record SignsLink (text d i : List ℕ) : Type 0 where
+  pub area : ℕ
+  pub current : IsCurrent d area
+  pub signs : SignsAtMost (last_slot d area) text d i
+
+-- ---- refusals
+
+-- the last slot of the image's current area is spent
+abbrev pub IsLastSpent : List ℕ → Type 0
+IsLastSpent image = (area : ℕ) × IsCurrent image area × (0 < gate_of image (last_slot image area))
+
+-- an open area of the image has a key of this name
+abbrev pub HasName : List ℕ → List ℕ → Type 0
+HasName image name = (area : ℕ) × IsAreaOpen image area ×
+    ((key_at image (base_of image area)).i ≡ name)
+
+-- why a key of this name can't follow the keys of an image: the first that holds, in this order
+abbrev pub Refuses : List ℕ → List ℕ → SucceedError → Type 0
+Refuses image name NoKey = IsOpen image → ⊥
+Refuses image name BadBlock = IsOpen image × IsBadBlock image
+Refuses image name TooManyKeys = IsUsable image × IsCurrent image 7
+Refuses image name NoSuccession = IsUsable image × (IsCurrent image 7 → ⊥) × IsLastSpent image
+Refuses image name SameSecret = IsUsable image × (IsCurrent image 7 → ⊥) × (IsLastSpent image → ⊥) ×
+    HasName image name
+Refuses image name DiskFault = ⊥
+Refuses image name Memory = ⊥
+
+-- A refusal is the one that what the disk holds calls for. This says nothing of a fault of the disk
+-- or of want of
+-- memory.
+abbrev pub IsCalledFor : Option (List ℕ) → List ℕ → SucceedError → Type 0
+IsCalledFor content name DiskFault = Unit {0}
+IsCalledFor content name Memory = Unit {0}
+IsCalledFor content name e = ForSome content (λ c. Refuses c name e)
+
+-- what the disk calls for is answered, unless the disk failed or memory ran out
+abbrev pub AnswersRefusal : {X : Type 0} → List ℕ → List ℕ → Result X SucceedError → Type 0
+AnswersRefusal image name answer = (e : SucceedError) → Refuses image name e → (answer ≡ Err e) ⊎
+    ((answer ≡ Err DiskFault) ⊎ (answer ≡ Err Memory))
+
+-- a desk has a key of this name
+abbrev pub HasKeyNamed : Desk → List ℕ → Type 0
+HasKeyNamed desk name = (area : ℕ) × (area ≤ length desk.earlier) × ((key_of desk area).i ≡ name)
+
+-- why a key of this name can't follow a desk's keys: the first that holds, in this order
+abbrev pub DeskRefuses : Desk → List ℕ → SucceedError → Type 0
+DeskRefuses desk name TooManyKeys = length desk.earlier ≡ 7
+DeskRefuses desk name NoSuccession = (length desk.earlier < 7) ×
+    (count_at desk (last_number desk) ≡ TheVariants.Spent)
+DeskRefuses desk name SameSecret = (length desk.earlier < 7) ×
+    (count_at desk (last_number desk) ≢ TheVariants.Spent) × HasKeyNamed desk name
+DeskRefuses desk name e = ⊥
+
+-- a key of this name can follow
+pub record CanFollow (desk : Desk) (name : List ℕ) : Type 0 where
+  pub few : length desk.earlier < 7
+  pub free : count_at desk (last_number desk) ≢ TheVariants.Spent
+  pub other : HasKeyNamed desk name → ⊥
+
+abbrev pub IsDeskCalledFor : Desk → List ℕ → SucceedError → Type 0
+IsDeskCalledFor desk name DiskFault = Unit {0}
+IsDeskCalledFor desk name Memory = Unit {0}
+IsDeskCalledFor desk name e = DeskRefuses desk name e
+
+-- what a desk refuses is answered
+abbrev pub AnswersDeskRefusal : {X : Type 0} → Desk → List ℕ → Result X SucceedError → Type 0
+AnswersDeskRefusal desk name answer = (e : SucceedError) → DeskRefuses desk name e → answer ≡ Err e
+
+-- why nothing follows where no desk opens
+abbrev pub started : StartError → SucceedError
+started start.NoKey = NoKey
+started start.BadBlock = BadBlock
+started start.DiskFault = DiskFault
+started start.Held = Memory
+started start.Memory = Memory

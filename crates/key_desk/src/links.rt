@@ -1,0 +1,136 @@
+//! The keys of a desk, and the links from each of them to the next.
+ghost use Rattle.std.specs.Prelude.{◌≡◌, ◌+◌, ◌<◌, ◌≤◌, ◌↔◌, Ok, Err, false, length, IfOk, IsErr, IsErrOf};
+ghost use Rattle.lms_tree.specs.ChainFiles.{chain_file, link_row};
+ghost use Rattle.lms_tree.specs.Chains.{chained};
+ghost use Rattle.lms_tree.specs.Links.{link_text};
+ghost use Rattle.lms_tree.specs.Signatures.{public_key, verified};
+ghost use Rattle.key_desk.specs.Links.{link_of};
+
+use crate::desk::{Desk, signature_len};
+use desk_areas::slots_of;
+use lms_tree::{Key, Link, link_text};
+use octet_text::Octets;
+use std::alloc::{AllocError, AllocFailed, Global};
+use thiserror::Error;
+
+/// Why a desk doesn't tell its links.
+#[derive(Clone, Copy, Debug, PartialEq, Eq, Error)]
+pub enum LinksError {
+    /// The disk failed before: the desk must be opened again.
+    #[error("The desk is closed since its disk failed, and must be opened again.")]
+    Closed,
+    /// No memory was found.
+    #[error("No memory was found.")]
+    Memory,
+}
+
+impl From<AllocError> for LinksError {
+    ghost use Rattle.std.specs.Prelude.{◌≡◌};
+    ghost use Rattle.key_desk.specs.declared.links.LinksError.TheVariants.{Memory};
+
+    ghost from_gives = { λ _ e. e ≡ Memory };
+
+    fn from(_: AllocError) -> Self {
+        LinksError::Memory
+    }
+}
+
+impl<T: Drop> From<AllocFailed<T>> for LinksError {
+    ghost use Rattle.std.specs.Prelude.{◌≡◌};
+    ghost use Rattle.key_desk.specs.declared.links.LinksError.TheVariants.{Memory};
+
+    ghost from_gives = { λ _ e. e ≡ Memory };
+
+    fn from(_: AllocFailed<T>) -> Self {
+        LinksError::Memory
+    }
+}
+
+impl Desk {
+    ghost use Rattle.key_desk.specs.Desk.{key_of};
+    ghost use Rattle.key_desk.specs.Links.{link_from, links_of};
+
+    /// How many keys the desk has, one for each open area. The last of them is the current one.
+    pub fn key_count(&self) -> u32
+        ensures { result ≡ length self.now.earlier + 1 }
+    {
+        self.earlier().len() as u32 + 1
+    }
+
+    // The key of an open area.
+    fn key_in(&self, area: u32) -> &Key
+        requires { area ≤ length self.now.earlier }
+        ensures { result.now ≡ key_of self.now area }
+    {
+        let earlier = self.earlier();
+        if (area as usize) < earlier.len() {
+            earlier[area as usize].key()
+        } else {
+            self.key()
+        }
+    }
+
+    /// The public key of an open area. It takes no memory.
+    pub fn public_of(&self, area: u32) -> [u8; 56]
+        requires { area ≤ length self.now.earlier }
+        ensures { result ≡ public_key (key_of self.now area) }
+    {
+        self.key_in(area).public()
+    }
+
+    // The link from the key of an area to that of the area behind it.
+    fn link_from(&self, alloc: Global, area: u32) -> Result<Link, LinksError>
+        requires known { area < length self.now.earlier }
+        requires few { area < 7 }
+        ensures link { IfOk result (λ link. link ≡ link_from self.now area) }
+        ensures good { IfOk result
+            (λ link. verified (public_key (key_of self.now area))
+            (link_text link.key) link.signature ≡ Ok tt) }
+        ensures fits { IfOk result (λ link. link_row.Fits link) }
+        ensures memory { IsErr result → result ≡ Err LinksError.Memory }
+    {
+        let next = self.public_of(area + 1);
+        link_to(alloc, self.key_in(area), next)
+    }
+
+    /// The links from the first key to the current one, in order: for each key behind another the key, and the
+    /// signature of its link text by the last one-time key of the one before it. They are the same octets at each
+    /// call.
+    pub fn links(&self, alloc: Global) -> Result<Vec<Link>, LinksError>
+        ensures links { IfOk result (λ links. links.items ≡ links_of self.now) }
+        ensures chained { IfOk result
+            (λ links. chained (public_key (key_of self.now 0)) links.items ≡ Ok tt) }
+        ensures fits { IfOk result (λ links. chain_file.Fits links.items) }
+        ensures closed { IsErrOf result LinksError.Closed ↔ (self.now.is_open ≡ false) }
+    {
+        let is_open = self.is_open();
+        if !is_open {
+            return Err(LinksError::Closed);
+        }
+        let mut links = Vec::new(alloc);
+        let count = self.earlier().len() as u32;
+        for area in 0..count {
+            let link = self.link_from(alloc, area)?;
+            links.push(link)?;
+        }
+        Ok(links)
+    }
+}
+
+// The link from a key to the next one: its last one-time key signs the link text.
+fn link_to(alloc: Global, key: &Key, next: [u8; 56]) -> Result<Link, LinksError>
+    ensures link { IfOk result (λ link. link ≡ link_of key.now next) }
+    ensures good { IfOk result (λ link.
+        verified (public_key key.now) (link_text link.key) link.signature ≡ Ok tt) }
+    ensures fits { IfOk result (λ link. link_row.Fits link) }
+    ensures memory { IsErr result → result ≡ Err LinksError.Memory }
+{
+    let last = slots_of(key.kind()).saturating_sub(1);
+    let length = signature_len(key.kind());
+    let mut signature = vec![in alloc; 0u8; length as usize]?;
+    key.sign_into(last, &link_text(&next), &mut signature);
+    Ok(Link {
+        key: next,
+        signature: Octets::from_vec(signature),
+    })
+}

@@ -1,0 +1,11 @@
+//! Tests of lines, texts for a person, and files of hexadecimal digits: what no clause says.
+#![tactic(auto)]
+
+#[cfg(test)]
+mod hex_files;
+#[cfg(test)]
+mod near_lines;
+#[cfg(test)]
+mod route_lines;
+#[cfg(test)]
+mod told;

@@ -1,0 +1,6 @@
+pub mod WayLemmas
+pub mod TextLemmas
+pub mod DigitLemmas
+pub mod GoodLemmas
+pub mod RootLemmas
+pub mod ReduceLemmas

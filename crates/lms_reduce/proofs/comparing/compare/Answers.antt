@@ -1,0 +1,41 @@
+use Rattle.std.proofs.Common.{◌≡◌, ℕ, List, take, drop, IfOk, IfNone, arith, ap, subst, ◌∙◌, sym}
+use Rattle.std.proofs.lemmas.List.{drop-drop}
+use Rattle.lms_ots.specs.Chains.{public_of, candidate_of, key_of, ended_value, digits_of}
+use Rattle.lms_tree.specs.Signatures.{number_at}
+use Rattle.lms_reduce.specs.Comparing.{ShowsOwn}
+use Rattle.lms_reduce.specs.Released.{claimed_digits}
+use Rattle.lms_reduce.proofs.RootLemmas.{IfNone-none, take-part}
+use Rattle.lms_reduce.proofs.comparing.compare.Goals as goal
+
+candidate-is : (i : List ℕ) (q : ℕ) (c text ots digits : List ℕ) → c ≡ take 32 (drop 4 ots) → digits ≡ digits_of i q c text → key_of i q (ended_value i q digits ots) ≡ candidate_of i q ots text
+unfolding candidate_of
+candidate-is i q c text ots digits ec ed =
+    ap (λ (d : List ℕ). key_of i q (ended_value i q d ots)) (ed ∙ ap (λ (x : List ℕ). digits_of i q x text) ec)
+
+pub compare_ends-requires-clause-same : goal.compare_ends-requires-clause-same
+compare_ends-requires-clause-same c =
+    let key = c.args.key.now in
+    let q = c.args.q in
+    let text = c.args.text.now in
+    let i = c.i-i.result in
+    let ots = take 1124 (drop 4 c.args.sig.now) in
+    candidate-is i q c.array_at.result text ots c.digits-digits.result c.array_at.ensures c.digits-digits.ensures
+    ∙ ap (λ (x : List ℕ). candidate_of x q ots text) c.i-i.ensures
+    ∙ IfNone-none c.in_ok-clash.field-0 c.in_default.is c.in_ok-clash.ensures.none
+    ∙ ap (λ (x : List ℕ). public_of x q key.seed) (sym c.i-i.ensures) ∙ ap (public_of i q) (sym c.seed-seed.ensures)
+
+pub returns-clause-none : goal.returns-clause-none
+returns-clause-none c =
+    let key = c.args.key.now in
+    let q = c.args.q in
+    let text = c.args.text.now in
+    let sig = c.args.sig.now in
+    let ots = take 1124 (drop 4 sig) in
+    let c_is : c.array_at.result ≡ take 32 (drop 8 sig) = c.array_at.ensures ∙ take-part 4 32 1124 (drop 4 sig) (omega arith) ∙ ap (take 32) (drop-drop 4 4 sig) in
+    let digits : c.digits-digits.result ≡ claimed_digits key text sig =
+    c.digits-digits.ensures ∙ ap (λ (x : List ℕ). digits_of x q c.array_at.result text) c.i-i.ensures
+    ∙ ap (λ n. digits_of key.i n c.array_at.result text) c.requires.slot ∙ ap (λ (x : List ℕ). digits_of key.i (number_at sig 0) x text) c_is in
+    let shows : List ℕ → List ℕ → List ℕ → Type 0 = λ i seed d. IfOk c.compare_chains.result (λ r. IfNone r (ShowsOwn i q seed d ots)) in
+    subst (λ (d : List ℕ). shows key.i key.seed d) digits
+    (subst (λ (s : List ℕ). shows key.i s c.digits-digits.result) c.seed-seed.ensures
+    (subst (λ (i : List ℕ). shows i c.seed-seed.result c.digits-digits.result) c.i-i.ensures c.compare_chains.ensures.none))

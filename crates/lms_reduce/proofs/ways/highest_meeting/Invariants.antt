@@ -1,0 +1,16 @@
+use Rattle.std.proofs.Common.{◌≡◌, ◌/◌, ◌^◌, length, IfSome, IfNone}
+use Rattle.lms_reduce.specs.Ways.{AreCollision, raised}
+use Rattle.lms_reduce.proofs.ways.highest_meeting.Given as goal
+
+abbrev pub invariant-loop-level : goal.invariant-loop-level
+invariant-loop-level g l =
+    let hash = g.H.Hasher.hash in
+    record {
+      node_is : l.node ≡ l.r / 2 ^ l.level;
+      left_size : length l.left ≡ 32;
+      right_size : length l.right ≡ 32;
+      left_is : l.left ≡ raised hash l.i l.r l.initial.left l.left_path l.level;
+      right_is : l.right ≡ raised hash l.i l.r l.initial.right l.right_path l.level;
+      found : IfSome l.highest (λ two. AreCollision hash two.left two.right);
+      together : IfNone l.highest (l.left ≡ l.right → l.initial.left ≡ l.initial.right);
+    }

@@ -1,0 +1,5 @@
+pub mod Texts
+pub mod Ways
+pub mod Released
+pub mod Comparing
+pub mod Reduction

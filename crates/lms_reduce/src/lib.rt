@@ -1,0 +1,19 @@
+//! Forgeries reduced to the hash: what a verified signature on a text comes down to that the owner's
+//! key never signed. From the key's own `I` and `SEED` comes a collision of SHA-256, or a value of a
+//! chain that no signature of the key has released.
+//!
+//! The comparisons are generic in the hash.
+#![tactic(auto)]
+
+pub use laws::released_laws;
+pub use reduced::{ReduceError, Reduced};
+pub use reducing::reduce;
+
+mod comparing;
+mod laws;
+mod reduced;
+mod reducing;
+#[cfg(test)]
+mod tests;
+mod texts;
+mod ways;

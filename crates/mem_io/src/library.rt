@@ -1,0 +1,142 @@
+//! A library in memory, which tells its files.
+ghost use Rattle.std.specs.Prelude.{◌≡◌, ◌≢◌, ◌≤◌, ◌+◌, ◌-◌, ◌^◌, List, ℕ, OnOk, OnErr, IfOk, IfErr, IfSome, find, min, Contains, vec_len};
+ghost use Rattle.std.specs.declared.option.Option.TheVariants.{Some, None};
+ghost use Rattle.std.specs.Option.{option_copied};
+ghost use Rattle.std.specs.Str.{bytes_eq};
+ghost use Rattle.std.specs.String.{string_bytes};
+
+use octet_text::NoMemory;
+use road_io::{Library, LoadError};
+use std::alloc::Global;
+
+/// A file of a library in memory.
+#[derive(Drop)]
+pub struct NamedFile {
+    name: String,
+    octets: Vec<u8>,
+}
+
+/// A library in memory. Its calls are numbered from 0, and those that were planned to fail do.
+#[derive(Drop)]
+pub struct MemLibrary {
+    alloc: Global,
+    files: Vec<NamedFile>,
+    fails: Vec<u64>,
+    calls: u64,
+    faults: u64,
+}
+
+impl MemLibrary {
+    ghost use Rattle.mem_io.specs.MemLibrary.{files_of, HasSamePlan, IsPlannedLoad, IsNewLibrary};
+
+    /// A library without files. The loads whose numbers stand in `fails` will fail.
+    pub fn new(alloc: Global, fails: Vec<u64>) -> MemLibrary
+        ensures { IsNewLibrary fails.items result }
+    {
+        MemLibrary {
+            alloc,
+            files: Vec::new(alloc),
+            fails,
+            calls: 0,
+            faults: 0,
+        }
+    }
+
+    /// Puts a file under a name, in place of what was there.
+    pub fn put(&mut self, name: &str, octets: &[u8]) -> Result<(), NoMemory>
+        ensures ok { OnOk result (files_of self.new name.now ≡ Some octets.now) }
+        ensures others { (other : List ℕ) → other ≢ name.now →
+            files_of self.new other ≡ files_of self.old other }
+        ensures err { OnErr result (files_of self.new ≡ files_of self.old) }
+        ensures plan { HasSamePlan self.old self.new }
+    {
+        let Ok(name) = String::from_str(self.alloc, name) else {
+            return Err(NoMemory);
+        };
+        let Ok(octets) = octets.to_vec(self.alloc) else {
+            return Err(NoMemory);
+        };
+        match self.files.insert(0, NamedFile { name, octets }) {
+            Ok(()) => Ok(()),
+            Err(_) => Err(NoMemory),
+        }
+    }
+}
+
+fn first_named<'a>(files: &'a [NamedFile], name: &str) -> Option<&'a NamedFile>
+    ensures { option_copied result ≡ find
+        (λ file. bytes_eq (string_bytes file.name) name.now) files.now }
+{
+    files.iter().find(|file| file.name.as_str() == name)
+}
+
+impl Library for MemLibrary {
+    ghost use Rattle.mem_io.specs.MemLibrary.{files_of, CountsLoad, IsPlannedLoad};
+    ghost use Rattle.road_io.specs.Contents.{Gives};
+    ghost use Rattle.road_io.specs.Causes.{HasLoadCause};
+
+    ghost files = { λ l. Some (files_of l) };
+
+    ghost faults = { λ l. l.faults };
+
+    fn load(&mut self, alloc: Global, name: &str, most: usize) -> Result<Vec<u8>, LoadError>
+        ensures most { IfOk result (λ octets. vec_len octets ≤ most) }
+        ensures file { IfSome (Some (files_of self.old))
+            (λ folder. Gives (folder name.now) most result) }
+        ensures same { Some (files_of self.new) ≡ Some (files_of self.old) }
+        ensures later { self.old.faults ≤ self.new.faults }
+        ensures kept { OnOk result (self.new.faults ≡ self.old.faults) }
+        ensures cause { IfErr result
+            (HasLoadCause (Some (files_of self.old)) self.old.faults self.new.faults) }
+        ensures planned { IsPlannedLoad self.old → result ≡ Err LoadError.Failed }
+        ensures only_planned { result ≡ Err LoadError.Failed → IsPlannedLoad self.old }
+        ensures counts { CountsLoad self.old self.new }
+        ensures faulted { IsPlannedLoad self.old →
+            self.new.faults ≡ min (self.old.faults + 1) (2 ^ 64 - 1) }
+        ensures unfaulted { ¬ IsPlannedLoad self.old → self.new.faults ≡ self.old.faults }
+    {
+        let call = self.calls;
+        self.calls = call.saturating_add(1);
+        if self.fails.contains(&call) {
+            self.faults = self.faults.saturating_add(1);
+            return Err(LoadError::Failed);
+        }
+        let Some(file) = first_named(&self.files, name) else {
+            return Err(LoadError::Missing);
+        };
+        if file.octets.len() > most {
+            return Err(LoadError::TooLong);
+        }
+        match file.octets.to_vec(alloc) {
+            Ok(octets) => Ok(octets),
+            Err(_) => Err(LoadError::Memory),
+        }
+    }
+}
+
+#[cfg(test)]
+mod tests {
+    use super::*;
+    use std::test::Fail;
+
+    #[test]
+    fn files_are_found_by_name(rt: HostRuntime) -> Result<(), Fail> {
+        let alloc = rt.alloc();
+        let fails = vec![in alloc; 3]?;
+        let mut library = MemLibrary::new(alloc, fails);
+        library.put("a", b"first")?;
+        library.put("b", b"other")?;
+        library.put("a", b"second")?;
+        let found = library.load(alloc, "a", 6)?;
+        assert_eq!(rt; found.as_slice(), b"second".as_slice());
+        let too_long = library.load(alloc, "a", 5);
+        assert!(rt; matches!(&too_long, Err(LoadError::TooLong)));
+        let missing = library.load(alloc, "c", 5);
+        assert!(rt; matches!(&missing, Err(LoadError::Missing)));
+        let failed = library.load(alloc, "b", 5);
+        assert!(rt; matches!(&failed, Err(LoadError::Failed)));
+        let after = library.load(alloc, "b", 5)?;
+        assert_eq!(rt; after.as_slice(), b"other".as_slice());
+        Ok(())
+    }
+}

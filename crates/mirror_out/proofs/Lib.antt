@@ -1,0 +1,2 @@
+pub mod Promising
+pub mod Spreading

@@ -1,0 +1,5 @@
+pub mod FileMirror
+pub mod MemMirror
+pub mod Mirrors
+pub mod Promises
+pub mod Spreader

@@ -1,0 +1,45 @@
+//! A further place that takes what is written.
+ghost use Rattle.std.specs.Prelude.{◌≡◌, ◌+◌, ◌≤◌, List, ℕ, length, OnOk, OnErr};
+ghost use Rattle.std.specs.declared.option.Option.{Option};
+ghost use Rattle.std.specs.Option.{option_map};
+ghost use Rattle.std.specs.Io.KnownBytes.{Appends};
+ghost use Rattle.road_io.specs.Causes.{HasCause};
+ghost use Rattle.mirror_out.specs.Mirrors.{PromisedLess};
+
+use road_io::Failed;
+
+/// A further place that takes what is written, and keeps it behind what it held.
+pub trait Mirror: Drop {
+    /// The octets that it holds, where it tells them.
+    ghost octets: { Self → Option (List ℕ) };
+
+    /// Its label.
+    ghost named: { Self → ℕ };
+
+    /// How often it has failed. The count stops at 2^64 - 1.
+    ghost faults: { Self → ℕ };
+
+    /// How many puts it promises to take.
+    ghost puts: { Self → ℕ };
+
+    /// How many octets it promises to take in them.
+    ghost room: { Self → ℕ };
+
+    /// The label, which no put changes.
+    fn label(&self) -> u32
+        ensures { result ≡ named self.now };
+
+    /// The octets that it holds, and none where it doesn't tell them.
+    fn held(&self) -> Option<&[u8]>
+        ensures { option_map (λ r. r.now) result ≡ octets self.now };
+
+    /// Takes a piece, behind what it holds. It fails only where it promised no put, or fewer octets
+    /// than the piece has.
+    fn put(&mut self, piece: &[u8]) -> Result<(), Failed>
+        ensures ok { OnOk result (Appends (octets self.old) (octets self.new) piece.now) }
+        ensures label { named self.new ≡ named self.old }
+        ensures err { OnErr result (PromisedLess 1 piece.now (puts self.old) (room self.old)) }
+        ensures puts { OnOk result (puts self.old ≤ puts self.new + 1) }
+        ensures room { OnOk result (room self.old ≤ room self.new + length piece.now) }
+        ensures cause { HasCause (faults self.old) (faults self.new) result };
+}

@@ -1,0 +1,11 @@
+use Rattle.std.proofs.Common.{List, ap, ◌∙◌}
+use Rattle.lms_tree.specs.ChainFiles.{chain_file}
+use Rattle.lms_tree.specs.declared.links.Link.{Link}
+use Rattle.owner_commands.proofs.SuccessionLemmas.{chain_told}
+use Rattle.owner_commands.proofs.linking.chain_on.Goals as goal
+
+pub returns-in-Ok-write_links-clause-chain : goal.returns-in-Ok-write_links-clause-chain
+returns-in-Ok-write_links-clause-chain g c =
+    let o = c.in_ok-desk.ensures.opened in
+    chain_told _ c.in_ok-desk.desk _ _ o.areas o.fits.sound c.in-Ok.ensures.links
+    (c.in-Ok-write_links.ensures ∙ ap (λ (l : List Link). chain_file.spell l) c.deref.ensures.value)

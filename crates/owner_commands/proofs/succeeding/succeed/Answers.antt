@@ -1,0 +1,39 @@
+use Rattle.std.proofs.Common.{refl, inl, inr}
+use Rattle.std.proofs.lemmas.Result.{err_from_is_err_and}
+use Rattle.road_io.specs.Moments.{EachImage}
+use Rattle.desk_areas.specs.Keys.{key_from}
+use Rattle.road_command.specs.View.{type_of}
+use Rattle.command_desks.specs.Opening.{IsKeyOn}
+use Rattle.command_desks.proofs.Disks.{no_moment, no_step}
+use Rattle.owner_commands.proofs.OwnerLemmas.{made_of, on_any}
+use Rattle.owner_commands.proofs.SuccessionLemmas.{next_refused, next_told, links_file}
+use Rattle.owner_commands.proofs.succeeding.succeed.Goals as goal
+
+pub returns-in_err-secret-clause-stands : goal.returns-in_err-secret-clause-stands
+returns-in_err-secret-clause-stands g c = no_step g.D.Disk c.args.disk.now
+
+pub returns-in_err-secret-clause-adds : goal.returns-in_err-secret-clause-adds
+returns-in_err-secret-clause-adds g c =
+    let p = err_from_is_err_and c.from_residual.result c.from_residual.ensures.1 in
+    rw p.1 (record { made = tt; links = inl (no_moment g.D.Disk c.args.disk.now) })
+
+pub returns-in_err-line-clause-promised : goal.returns-in_err-line-clause-promised
+returns-in_err-line-clause-promised g c =
+    let p = err_from_is_err_and c.from_residual-in_err-line.result c.from_residual-in_err-line.ensures.1 in
+    rw (p.1, p.2)
+    (next_refused _ _ _ _ _ _ _ _ _ _ c.in_ok-secret.ensures.loads.read _ _ c.in_err-line.ensures.refused)
+
+pub returns-in_err-line-clause-adds : goal.returns-in_err-line-clause-adds
+returns-in_err-line-clause-adds g c =
+    let p = err_from_is_err_and c.from_residual-in_err-line.result c.from_residual-in_err-line.ensures.1 in
+    rw p.1 (record { made = tt; links = inr (links_file _ _ _ (g.D.Disk.content c.args.disk.now) _ (Unit {0}) 0 0 0 0 c.in_ok-secret.ensures.loads.read (g.D.Disk.content c.args.disk.now) g.D.Disk c.args.disk.now c.make_next.new.disk c.make_next.ensures.links) })
+
+pub returns-clause-promised : goal.returns-clause-promised
+returns-clause-promised g c =
+    next_told _ _ _ _ _ _ _ _ _ _ c.in_ok-secret.ensures.loads.read _ _ _ _ _ refl c.in_ok-line.ensures.line c.write_text.ensures
+
+pub returns-clause-adds : goal.returns-clause-adds
+returns-clause-adds g c = record {
+  made = on_any _ _ (made_of _ _ _ (λ s. EachImage g.D.Disk c.make_next.new.disk (λ i. IsKeyOn i (key_from (type_of c.args.kind) s))) c.in_ok-secret.ensures.loads.read c.in_ok-line.ensures.made);
+  links = inr (links_file _ _ _ (g.D.Disk.content c.args.disk.now) _ (Unit {0}) 0 0 0 0 c.in_ok-secret.ensures.loads.read (g.D.Disk.content c.args.disk.now) g.D.Disk c.args.disk.now c.make_next.new.disk c.make_next.ensures.links);
+}

@@ -1,0 +1,70 @@
+-- What `succeed` writes, and does to the owner's disk.
+use Rattle.std.specs.Prelude.{◌≡◌, ◌⊎◌, ℕ, List, [], take, IfOk, OnOk, IfSome}
+use Rattle.std.specs.declared.option.Option.{Option}
+use Rattle.std.specs.declared.result.Result.{Result}
+use Rattle.std.specs.declared.result.Result.TheVariants.{Ok, Err}
+use Rattle.std.specs.Option.{ForSome}
+use Rattle.road_io.specs.declared.disk.Disk.{Ghosts}
+use Rattle.road_io.specs.Disk.{Stays}
+use Rattle.road_io.specs.Moments.{EachImage, AtEachMoment}
+use Rattle.road_io.specs.Contents.{Folder}
+use Rattle.lms_tree.specs.Signatures.{public_key}
+use Rattle.lms_tree.specs.Links.{link_text}
+use Rattle.desk_areas.specs.Keys.{key_from}
+use Rattle.key_desk.specs.Succession.{SignsLink, Refuses}
+use Rattle.key_desk.specs.declared.succeed.SucceedError.{SucceedError}
+use Rattle.key_desk.specs.declared.succeed.SucceedError.TheVariants as why
+use Rattle.command_desks.specs.Opening.{IsKeyOn}
+use Rattle.command_files.specs.HexFiles.{secret_at}
+use Rattle.command_files.specs.Endings.{Ending, EndsReading}
+use Rattle.command_files.specs.declared.fault.Fault.{Fault}
+use Rattle.command_files.specs.declared.fault.Fault.TheVariants.{Disk, Memory, NoKey, BadBlock, TooManyKeys, NoSuccession, SameSecret}
+use Rattle.command_files.specs.declared.ended.Conclusion.{Conclusion}
+use Rattle.command_files.specs.declared.ended.Conclusion.TheVariants.{Done}
+use Rattle.owner_commands.specs.OwnerKey.{key_line}
+
+-- the fault that a refused succession is
+abbrev pub fault_of : SucceedError → Fault
+fault_of why.NoKey = NoKey
+fault_of why.BadBlock = BadBlock
+fault_of why.TooManyKeys = TooManyKeys
+fault_of why.NoSuccession = NoSuccession
+fault_of why.SameSecret = SameSecret
+fault_of why.DiskFault = Disk
+fault_of why.Memory = Memory
+
+-- `succeed` with a secret: the line of the new public key where nothing refuses it, and the first
+-- refusal where one does
+abbrev pub EndsSuccession : Option (List ℕ) → ℕ → List ℕ → Ending
+EndsSuccession content kind secret outcome text =
+    ((outcome ≡ Ok Done) × ForSome content
+    (λ c. (e : SucceedError) → Refuses c (take 16 secret) e → ⊥) ×
+    (text ≡ key_line kind secret))
+    ⊎ ((e : SucceedError) × (outcome ≡ Err (fault_of e)) ×
+    ForSome content (λ c. Refuses c (take 16 secret) e) × (text ≡ []))
+
+-- the same over the hex file of a secret
+abbrev pub ends_succession : Option (List ℕ) → List ℕ → ℕ → Folder → Ending
+ends_succession content secret kind folder = EndsReading (secret_at folder secret)
+    (EndsSuccession content kind)
+
+-- in every image the last open area has the key of the secret and the type
+abbrev pub MakesNext : {D : Type 0} → Ghosts D → D → ℕ → Result (List ℕ) Fault → Type 0
+MakesNext g disk kind secret = IfOk secret
+    (λ secret. EachImage g disk (λ i. IsKeyOn i (key_from kind secret)))
+
+-- at each moment the images are those at entry, or the last slot of the current area has besides
+-- signed the link to the
+-- key of the file's secret
+pub record LinksFile {D : Type 0} (g : Ghosts D) (old new : D) (files : Option Folder)
+    (name : List ℕ) (kind : ℕ) : Type 0 where
+  pub secret : List ℕ
+  pub of_file : IfSome files (λ folder. secret_at folder name ≡ Ok secret)
+  pub each : AtEachMoment g old new
+      (λ d i. (i ≡ d) ⊎ SignsLink (link_text (public_key (key_from kind secret))) d i)
+
+-- a key is added where none of the refusals holds, and no image changes but by its link
+pub record AddsKey {D : Type 0} (g : Ghosts D) (old new : D) (files : Option Folder) (name : List ℕ)
+    (kind : ℕ) (outcome : Result Conclusion Fault) : Type 0 where
+  pub made : OnOk outcome (IfSome files (λ folder. MakesNext g new kind (secret_at folder name)))
+  pub links : AtEachMoment g old new Stays ⊎ LinksFile g old new files name kind

@@ -1,0 +1,53 @@
+//! The command `links`.
+
+ghost use Rattle.std.specs.Prelude.{IfOk, IfErr};
+ghost use Rattle.std.specs.Option.{ForSome};
+ghost use Rattle.road_io.specs.Causes.{Rose};
+ghost use Rattle.road_io.specs.Disk.{Stays};
+ghost use Rattle.road_io.specs.Moments.{AtEachMoment};
+ghost use Rattle.desk_areas.specs.Faults.{IsUsable};
+ghost use Rattle.command_files.specs.Endings.{PromisesWithoutFiles, WhyNot, NoEnd};
+ghost use Rattle.command_desks.specs.Opening.{EndsOpening};
+ghost use Rattle.owner_commands.specs.ChainLine.{IsChainOn, EndsLinks};
+
+use command_desks::open_desk;
+use command_files::{Conclusion, Fault, write_text};
+use key_desk::LinksError;
+use lms_tree::write_links;
+use road_io::{Disk, Sink};
+use std::alloc::Global;
+
+/// Writes the chain file that leads from the owner's first key to the current one.
+pub fn links<K: Sink, D: Disk>(
+    alloc: Global,
+    sink: &mut K,
+    disk: &mut D,
+) -> Result<Conclusion, Fault>
+    ensures promised { PromisesWithoutFiles (EndsLinks (D.content disk.old)) (Rose (D.faults disk.old) (D.faults disk.new))
+        (K.taken sink.old) (K.taken sink.new) (K.faults sink.old) (K.faults sink.new) result }
+    ensures stays { AtEachMoment D.Disk disk.old disk.new Stays }
+{
+    let chain = chain_on(alloc, disk)?;
+    write_text(sink, &chain)
+}
+
+/// The chain file of the desk over the keys on the disk.
+fn chain_on<D: Disk>(alloc: Global, disk: &mut D) -> Result<Vec<u8>, Fault>
+    ensures usable { IfOk result (λ chain. ForSome (D.content disk.old) IsUsable) }
+    ensures chain { IfOk result (λ chain.
+        ForSome (D.content disk.old) (λ c. IsChainOn c chain.items)) }
+    ensures refused { IfErr result
+        (WhyNot (Rose (D.faults disk.old) (D.faults disk.new))
+        (EndsOpening (D.content disk.old) NoEnd)) }
+    ensures stays { AtEachMoment D.Disk disk.old disk.new Stays }
+{
+    let desk = open_desk(alloc, disk)?;
+    match desk.links(alloc) {
+        Ok(links) => match write_links(alloc, &links) {
+            Ok(chain) => Ok(chain),
+            Err(_) => Err(Fault::Memory),
+        },
+        Err(LinksError::Memory) => Err(Fault::Memory),
+        Err(LinksError::Closed) => unreachable!(),
+    }
+}

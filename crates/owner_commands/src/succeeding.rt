@@ -1,0 +1,82 @@
+//! The command `succeed`.
+
+ghost use Rattle.std.specs.Prelude.{◌≡◌, ◌⊎◌, IfOk, IfErr, IfSome, OnOk};
+ghost use Rattle.road_io.specs.Causes.{Rose};
+ghost use Rattle.road_io.specs.Moments.{AtEachMoment, EachImage};
+ghost use Rattle.lms_tree.specs.Links.{link_text};
+ghost use Rattle.lms_tree.specs.Signatures.{public_key};
+ghost use Rattle.desk_areas.specs.Keys.{key_from};
+ghost use Rattle.key_desk.specs.Stands.{KeepsStanding};
+ghost use Rattle.key_desk.specs.Succession.{SignsLink};
+ghost use Rattle.road_command.specs.View.{type_of};
+ghost use Rattle.command_files.specs.Endings.{Promises, TellsNone, WhyNot};
+ghost use Rattle.command_desks.specs.Opening.{IsKeyOn};
+ghost use Rattle.owner_commands.specs.NextKey.{AddsKey, EndsSuccession, ends_succession, fault_of};
+
+use crate::making::line_of_key;
+use command_files::{Conclusion, Fault, load_hex, write_text};
+use key_desk::{Desk, SucceedError};
+use road_command::KeyKind;
+use road_io::{Disk, Library, Sink};
+use std::alloc::Global;
+
+/// Makes the next key on the disk, which the current key signs with its last one-time key, and writes its public key.
+pub fn succeed<L: Library, K: Sink, D: Disk>(
+    alloc: Global,
+    library: &mut L,
+    sink: &mut K,
+    disk: &mut D,
+    secret: &str,
+    kind: KeyKind,
+) -> Result<Conclusion, Fault>
+    ensures promised { Promises (ends_succession (D.content disk.old) secret.now (type_of kind)) TellsNone (Rose (D.faults disk.old) (D.faults disk.new))
+        (L.files library.old) (L.faults library.old) (L.faults library.new)
+        (K.taken sink.old) (K.taken sink.new) (K.faults sink.old) (K.faults sink.new) result }
+    ensures adds { AddsKey D.Disk disk.old disk.new (L.files library.old) secret.now
+        (type_of kind) result }
+    ensures stands { KeepsStanding D.Disk disk.old disk.new }
+{
+    let secret: [u8; 48] = load_hex(alloc, library, secret)?;
+    let line = make_next(alloc, disk, &secret, kind)?;
+    write_text(sink, &line)
+}
+
+/// Makes the next key on the disk, and answers the line of its public key.
+fn make_next<D: Disk>(
+    alloc: Global,
+    disk: &mut D,
+    secret: &[u8; 48],
+    kind: KeyKind,
+) -> Result<[u8; 113], Fault>
+    ensures line { IfOk result (λ line.
+        EndsSuccession (D.content disk.old) (type_of kind) secret.now (Ok Conclusion.Done) line) }
+    ensures made { OnOk result (EachImage D.Disk disk.new
+        (λ i. IsKeyOn i (key_from (type_of kind) secret.now))) }
+    ensures refused { IfErr result
+        (WhyNot (Rose (D.faults disk.old) (D.faults disk.new))
+        (EndsSuccession (D.content disk.old) (type_of kind) secret.now)) }
+    ensures links { AtEachMoment D.Disk disk.old disk.new
+        (λ d i. (i ≡ d) ⊎ SignsLink
+        (link_text (public_key (key_from (type_of kind) secret.now))) d i) }
+    ensures stands { KeepsStanding D.Disk disk.old disk.new }
+{
+    match Desk::succeed(alloc, disk, kind.number(), secret) {
+        Ok(desk) => Ok(line_of_key(&desk.public())),
+        Err(e) => Err(not_followed(e)),
+    }
+}
+
+/// The fault that a refused succession is.
+fn not_followed(e: SucceedError) -> Fault
+    ensures { result ≡ fault_of e }
+{
+    match e {
+        SucceedError::NoKey => Fault::NoKey,
+        SucceedError::BadBlock => Fault::BadBlock,
+        SucceedError::TooManyKeys => Fault::TooManyKeys,
+        SucceedError::NoSuccession => Fault::NoSuccession,
+        SucceedError::SameSecret => Fault::SameSecret,
+        SucceedError::DiskFault => Fault::Disk,
+        SucceedError::Memory => Fault::Memory,
+    }
+}

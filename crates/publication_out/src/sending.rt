@@ -1,0 +1,57 @@
+//! Pieces of a publication, each to the sink and then to the mirrors.
+ghost use Rattle.std.specs.Prelude.{◌≡◌, ◌+◌, ◌≤◌, List, ℕ, length, vec_len, OnOk, OnErr};
+ghost use Rattle.std.specs.Io.KnownBytes.{Appends};
+ghost use Rattle.road_io.specs.Causes.{HasCause};
+ghost use Rattle.road_io.specs.Contents.{AppendsFront};
+ghost use Rattle.proof_octets.specs.Publications.{publication as publications, publication_text};
+ghost use Rattle.mirror_out.specs.Mirrors.{Mirrors};
+ghost use Rattle.mirror_out.specs.Spreader.{lost_of, most_of};
+ghost use Rattle.publication_out.specs.Sent.{pieces_in, MirrorsFront};
+
+use mirror_out::{Mirror, Spreader};
+use proof_octets::Publication;
+use publication_pieces::pieces_of;
+use road_io::{Failed, Sink, write_all};
+
+/// How many octets are handed on at once.
+const PIECE: usize = 4096;
+
+/// Hands the octets of a publication to a sink and to mirrors, in pieces of 4,096 octets, the last with
+/// what is left, each as it is made: to the sink first. Takes no memory.
+///
+/// Where the sink fails, it has taken a front of the octets, and the mirrors that stay a front too.
+pub fn send<K: Sink, M: Mirror>(
+    publication: &Publication,
+    sink: &mut K,
+    spreader: &mut Spreader,
+    mirrors: &mut Vec<M>,
+) -> Result<(), Failed>
+    requires fits { publications.Fits publication.now }
+    requires room { length (lost_of spreader.old) + vec_len mirrors.old ≤ most_of spreader.old }
+    ensures whole { OnOk result (Appends (K.taken sink.old) (K.taken sink.new)
+        (publication_text publication.now)) }
+    ensures front { OnErr result (AppendsFront (K.taken sink.old) (K.taken sink.new)
+        (publication_text publication.now)) }
+    ensures cause { HasCause (K.faults sink.old) (K.faults sink.new) result }
+    ensures mirrored { OnOk result
+        (Mirrors M.octets M.named M.puts M.room
+        (pieces_in (publication_text publication.now))
+        (publication_text publication.now) mirrors.old.items mirrors.new.items) }
+    ensures mirrored_front { OnErr result
+        (MirrorsFront M.octets M.named M.puts M.room
+        (publication_text publication.now) mirrors.old.items mirrors.new.items) }
+    ensures count { length (lost_of spreader.new) + vec_len mirrors.new ≡ length
+        (lost_of spreader.old) + vec_len mirrors.old }
+    ensures most { most_of spreader.new ≡ most_of spreader.old }
+{
+    let mut pieces = pieces_of(publication);
+    let mut buffer = [0; PIECE];
+    let mut count = pieces.next(&mut buffer);
+    while count > 0 {
+        let piece = &buffer[..count];
+        write_all(sink, piece)?;
+        spreader.put(mirrors, piece);
+        count = pieces.next(&mut buffer);
+    }
+    Ok(())
+}

@@ -1,0 +1,3 @@
+pub mod Raising
+pub mod Rising
+pub mod Spots

@@ -1,0 +1,68 @@
+//! A whole road map as a ground.
+
+ghost use Rattle.std.specs.Prelude.{◌≡◌, ◌≤◌, ◌↔◌, ℕ, None, Some, IfOk, IfSome};
+ghost use Rattle.std.specs.Option.{option_copied};
+ghost use Rattle.road_map.specs.Walks.{Knows, distance};
+ghost use Rattle.road_search.specs.Labelling.{length_at, route_at};
+ghost use Rattle.road_search.specs.OverMap.{map_ways, IsShortestWay};
+
+use crate::ground::Ground;
+use crate::label_setting::search_to;
+use crate::labels::Labels;
+use crate::marks::Hashed;
+use octet_text::NoMemory;
+use road_map::{Arc, Map, map_laws};
+use std::alloc::Global;
+
+/// A map in which every length passes.
+#[derive(Clone, Copy)]
+pub struct WholeMap<'a> {
+    pub map: &'a Map,
+}
+
+impl Ground for WholeMap<'_> {
+    ghost ways = { λ w. map_ways w.map.now.parts };
+
+    fn arcs(&self, id: u32) -> Option<&[Arc]> {
+        let map = self.map;
+        arcs_at(map, id)
+    }
+
+    fn lets(&self, _id: u32, _length: u64) -> bool {
+        true
+    }
+
+    ghost lets_shorter = { λ w id short long le h. h };
+}
+
+/// The arcs out of an id, if it is known.
+fn arcs_at(map: &Map, id: u32) -> Option<&[Arc]>
+    ensures { option_copied result ≡ (map_ways map.now.parts).arcs id }
+{
+    let _parts = map.parts();
+    match map.position(id) {
+        None => None,
+        Some(position) => Some(map.arcs(position)),
+    }
+}
+
+/// The distances from a node to one end and to all that is as near, and a shortest route to that end.
+///
+/// It costs what is as near as the end, or all that a walk leads to where none leads to the end. A
+/// length beyond that of the end says nothing.
+pub fn distances_to(alloc: Global, map: &Map, from: u32, to: u32) -> Result<Labels, NoMemory>
+    requires { Knows map.now.parts from }
+    ensures end { IfOk result (λ found. length_at found to ≡ distance map.now.parts from to) }
+    ensures route { IfOk result (λ found.
+        IfSome (route_at found to) (IsShortestWay map.now.parts from to (length_at found to))) }
+    ensures near { IfOk result (λ found. (v d most : ℕ) → length_at found to ≡ Some most →
+        d ≤ most → (length_at found v ≡ Some d) ↔ (distance map.now.parts from v ≡ Some d)) }
+    ensures missing { IfOk result (λ found. found.missing ≡ None) }
+{
+    map_laws();
+    let _parts = map.parts();
+    let whole = WholeMap { map };
+    let mut marks = Hashed::new(alloc);
+    let _bound = search_to(alloc, &whole, &mut marks, from, to, u64::MAX)?;
+    Ok(Labels::new(marks, None))
+}

@@ -1,0 +1,89 @@
+//! Where the texts of an answer's leaves stand in the octets that spell it.
+
+ghost use Rattle.std.specs.Prelude.{◌≡◌, ◌+◌, ◌<◌, ◌^◌, [], ◌∷◌, ◌++◌, length, map, IfOk, OnOk};
+ghost use Rattle.road_leaf.specs.Leaves.{node_leaf_text, pair_leaf};
+ghost use Rattle.merkle_cover.specs.Cuts.{cut_from, AreIn};
+ghost use Rattle.proof_octets.specs.Good.{IsGood};
+ghost use Rattle.proof_octets.specs.declared.reply.Reply.TheVariants.{Answer as spelled_answer};
+ghost use Rattle.proof_octets.specs.Replies.{reply_text};
+ghost use Rattle.route_client.specs.Cutting.{cuts_at, end_at};
+
+use leaf_texts::text_length;
+use merkle_cover::Cut;
+use octet_text::NoMemory;
+use proof_octets::Answer;
+use road_leaf::{NodeLeaf, PairLeaf};
+use std::alloc::Global;
+
+/// Where the texts of an answer's leaves stand in the octets that spell it.
+#[derive(Drop)]
+pub struct LeafCuts {
+    pub nodes: Vec<Cut>,
+    pub pairs: Vec<Cut>,
+}
+
+// Adds the cut of a text, and answers where it ends.
+fn push_cut(cuts: &mut Vec<Cut>, start: u32, length: u32) -> Result<u32, NoMemory>
+    requires { start + length < 2 ^ 32 }
+    ensures end { IfOk result (λ end. end ≡ start + length) }
+    ensures cut { OnOk result (cuts.new.items ≡ cuts.old.items ++
+        record { start = start; end = start + length } ∷ []) }
+{
+    let end = start + length;
+    cuts.push(Cut { start, end })?;
+    Ok(end)
+}
+
+/// Adds the cuts of node items that stand one behind the other from a place on, each text behind its
+/// place in the tree and its length, and answers where they end.
+pub fn push_nodes(cuts: &mut Vec<Cut>, at: u32, leaves: &[NodeLeaf]) -> Result<u32, NoMemory>
+    requires { end_at 6 at (map node_leaf_text leaves.now) < 2 ^ 32 }
+    ensures cuts { OnOk result (cuts.new.items ≡ cuts.old.items ++ cuts_at 6 at
+        (map node_leaf_text leaves.now)) }
+    ensures end { IfOk result (λ end. end ≡ end_at 6 at (map node_leaf_text leaves.now)) }
+{
+    let mut next = at;
+    for leaf in leaves {
+        next = push_cut(cuts, next + 6, text_length(leaf))?;
+    }
+    Ok(next)
+}
+
+// The same of pair items, each text behind its place in the tree.
+fn push_pairs(cuts: &mut Vec<Cut>, at: u32, leaves: &[PairLeaf]) -> Result<u32, NoMemory>
+    requires { end_at 4 at (map pair_leaf.spell leaves.now) < 2 ^ 32 }
+    ensures cuts { OnOk result (cuts.new.items ≡ cuts.old.items ++ cuts_at 4 at
+        (map pair_leaf.spell leaves.now)) }
+    ensures end { IfOk result (λ end. end ≡ end_at 4 at (map pair_leaf.spell leaves.now)) }
+{
+    let mut next = at;
+    for _ in 0..leaves.len() {
+        next = push_cut(cuts, next + 4, 17)?;
+    }
+    Ok(next)
+}
+
+/// Where the texts of an answer's leaves stand in the octets that spell it.
+pub fn leaf_cuts(alloc: Global, octets: &[u8], answer: &Answer) -> Result<LeafCuts, NoMemory>
+    requires good { IsGood answer.now }
+    requires spelled { octets.now ≡ reply_text (spelled_answer answer.now) }
+    requires short { length octets.now < 2 ^ 32 }
+    ensures nodes_in { IfOk result (λ cuts. AreIn octets.now cuts.nodes.items) }
+    ensures pairs_in { IfOk result (λ cuts. AreIn octets.now cuts.pairs.items) }
+    ensures nodes { IfOk result (λ cuts.
+        map (cut_from octets.now) cuts.nodes.items ≡ map node_leaf_text answer.now.items.nodes) }
+    ensures pairs { IfOk result (λ cuts.
+        map (cut_from octets.now) cuts.pairs.items ≡ map pair_leaf.spell answer.now.items.pairs) }
+{
+    let signature = answer.signature.as_slice().len() as u32;
+    let route = answer.items.route.as_slice().len() as u32;
+    let mut nodes = Vec::new(alloc);
+    let end = push_nodes(
+        &mut nodes,
+        115 + signature + 4 * route,
+        answer.items.nodes.as_slice(),
+    )?;
+    let mut pairs = Vec::new(alloc);
+    push_pairs(&mut pairs, end + 4, answer.items.pairs.as_slice())?;
+    Ok(LeafCuts { nodes, pairs })
+}

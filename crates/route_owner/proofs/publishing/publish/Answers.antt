@@ -1,0 +1,29 @@
+use Rattle.std.proofs.Common.{◌≡◌, ◌≤◌, ℕ, List, length, ◌∙◌, ap, subst, sym, arith}
+use Rattle.lms_tree.specs.Signatures.{number_at}
+use Rattle.route_owner.proofs.Sealing.{all_written, fits_with, no_link, signed_so, signs_header, sealed_so, published_so, seal_short}
+use Rattle.route_owner.proofs.publishing.publish.Goals as goal
+
+signature_is : (g : _) (c : goal.After-result-in-Ok-sign-1 g) → c.from_vec.result ≡ c.sign.new.out
+signature_is g c = c.from_vec.ensures ∙ all_written _ _ _ c.in-Ok-zeros.signature.ok.0 (c.sign.auto.out ∙ ap length c.deref_mut.ensures.value)
+
+pub sign-requires-clause-plain : goal.sign-requires-clause-plain
+sign-requires-clause-plain g c = no_link c.in-Ok.signable.header _ (c.length_laws.ensures.header _ c.in-Ok.ensures.signable.good_header) c.write.ensures
+
+pub returns-in-Ok-sign-clause-published : goal.returns-in-Ok-sign-clause-published
+returns-in-Ok-sign-clause-published g c =
+    published_so c.range_laws.ensures.publication _ _ _ _ _ _ _ _ _ _ _ c.in-Ok.ensures.signable (signature_is g c)
+    (seal_short c.args.desk.now.key.kind _ 0 c.sign.new.out c.sig_len.ensures (c.sign.auto.out ∙ ap length c.deref_mut.ensures.value ∙ c.in-Ok-zeros.ensures))
+    c.in-Ok-sign.ensures.same.key c.in-Ok-sign.ensures.early c.write.ensures c.in-Ok-sign.ensures.signature
+
+pub returns-in-Ok-sign-clause-sealed : goal.returns-in-Ok-sign-clause-sealed
+returns-in-Ok-sign-clause-sealed g c =
+    sealed_so _ _ _ _ c.sign.new.self _ c.in-Ok-sign.field-0 _ (ap (λ x. number_at x 0) (signature_is g c) ∙ c.in-Ok-sign.ensures.signature.number_is) c.write.ensures
+    c.in-Ok-sign.ensures.fits.areas (ap length c.in-Ok-sign.ensures.same.earlier) c.in-Ok-sign.ensures.was_free c.in-Ok-sign.ensures.signed.signed
+
+pub returns-in-Ok-sign-clause-moments : goal.returns-in-Ok-sign-clause-moments
+returns-in-Ok-sign-clause-moments g c =
+    signs_header _ _ _ _ _ _ c.in-Ok.signable.header _ _ c.in-Ok.ensures.signable.has c.write.ensures c.in-Ok-sign.ensures.moments.2
+
+pub returns-in-Err-sign-clause-moments : goal.returns-in-Err-sign-clause-moments
+returns-in-Err-sign-clause-moments g c =
+    signs_header _ _ _ _ _ _ c.in-Ok.signable.header _ _ c.in-Ok.ensures.signable.has c.write.ensures c.in-Err-sign.ensures.moments.2

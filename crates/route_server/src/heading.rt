@@ -1,0 +1,83 @@
+//! The header of a book whose leaves are not kept.
+ghost use Rattle.std.specs.Prelude.{◌≡◌, ◌≤◌, ◌<◌, ◌^◌, IfOk, IfErr, Err};
+ghost use Rattle.sha2.specs.Sha256.{sha256};
+ghost use Rattle.book_model.specs.Books.{kind_of};
+ghost use Rattle.proof_method.specs.Planning.{book_fault, own_fault};
+ghost use Rattle.proof_octets.specs.Good.{IsGoodHeader};
+ghost use Rattle.route_server.specs.Headers.{HasHeader, Makes};
+
+use crate::errors::BuildError;
+use crate::headers::header_laws;
+use crate::held::header_with;
+use crate::order::leaf_order;
+use crate::risen::{node_root, pair_root};
+use crate::settings_check::check_settings;
+use any_book::AnyBook;
+use book_model::Settings;
+use octet_text::Hasher;
+use proof_method::MethodBook;
+use proof_octets::Header;
+use road_map::{Map, Parts};
+use std::alloc::Global;
+
+/// The header of a book, and the parts that it was made of.
+pub struct Headed {
+    pub header: Header,
+    pub parts: Parts,
+}
+
+// The header of the book of a map, under settings that pass the tests that all methods share.
+fn header_over<H: Hasher>(
+    alloc: Global,
+    map: Map,
+    settings: &Settings,
+) -> Result<Headed, BuildError>
+    requires order { settings.now.order ≤ 5 }
+    requires fan { 2 ≤ settings.now.fan }
+    requires fan_max { settings.now.fan ≤ 32 }
+    requires own { book_fault map.parts settings.now ≡ own_fault
+        (kind_of settings.now.method) map.parts settings.now }
+    ensures has { IfOk result (λ it. HasHeader H.hash sha256 map.parts settings.now it.header) }
+    ensures good { IfOk result (λ it. settings.now.version < 2 ^ 64 → IsGoodHeader it.header) }
+    ensures parts { IfOk result (λ it. it.parts ≡ map.parts) }
+    ensures refused { IfErr result (λ e. Makes H.hash sha256 map.parts settings.now (Err e)) }
+{
+    header_laws::<H>();
+    let _parts = map.parts();
+    let order = leaf_order(alloc, &map, settings)?;
+    let ids = order.as_slice();
+    let book = AnyBook::plan(alloc, map, settings, ids)?;
+    let nodes = node_root::<H, AnyBook>(alloc, &book, ids, settings.fan)?;
+    let leaves = book.pairs();
+    let pairs = pair_root::<H>(alloc, leaves, settings.fan)?;
+    let header = header_with(
+        settings,
+        ids.len() as u32,
+        nodes,
+        leaves.len() as u32,
+        pairs,
+        book.numbers(),
+    );
+    Ok(Headed {
+        header,
+        parts: book.into_map().into_parts(),
+    })
+}
+
+/// The header of the book of parts and settings, and the parts again: what `Held::build` answers,
+/// without the texts of the leaves and the digests of their trees. The memory that it takes is that of
+/// the map and the book.
+pub fn header_of<H: Hasher>(
+    alloc: Global,
+    parts: Parts,
+    settings: &Settings,
+) -> Result<Headed, BuildError>
+    ensures has { IfOk result (λ it. HasHeader H.hash sha256 parts settings.now it.header) }
+    ensures good { IfOk result (λ it. settings.now.version < 2 ^ 64 → IsGoodHeader it.header) }
+    ensures parts { IfOk result (λ it. it.parts ≡ parts) }
+    ensures refused { IfErr result (λ e. Makes H.hash sha256 parts settings.now (Err e)) }
+{
+    let map = Map::build(alloc, parts)?;
+    check_settings(settings)?;
+    header_over::<H>(alloc, map, settings)
+}

@@ -1,0 +1,86 @@
+//! The roots of the trees over a book's leaves, which are spelled one at a time.
+ghost use Rattle.std.specs.Prelude.{◌≡◌, ℕ, ◌≤◌, List, [], length, IfOk};
+ghost use Rattle.road_map.specs.Maps.{IsMap};
+ghost use Rattle.book_model.specs.Books.{leaves_of};
+ghost use Rattle.proof_method.specs.Gathering.{IsOrderOf};
+ghost use Rattle.merkle_cover.specs.Trees.{root};
+ghost use Rattle.rising_tree.specs.Rising.{Takes};
+ghost use Rattle.route_server.specs.Fitting.{FitsFormats};
+ghost use Rattle.route_server.specs.Headers.{node_texts, pair_texts, root_or_zeros};
+
+use crate::widths::has_widths;
+use octet_text::{Digest32, Hasher, NoMemory};
+use proof_method::MethodBook;
+use rising_tree::{Rising, RisingError};
+use road_leaf::{PairLeaf, put_node_leaf};
+use road_map::map_laws;
+use std::alloc::Global;
+
+// A tree of so many leaves that has taken no text.
+fn unpushed<H: Hasher>(alloc: Global, leaves: u32, fan: u8) -> Result<Rising<H>, NoMemory>
+    requires fan { 2 ≤ fan }
+    requires fan_max { fan ≤ 32 }
+    requires leaves { 1 ≤ leaves }
+    requires leaves_max { leaves ≤ 2097152 }
+    ensures unpushed { IfOk result (λ r. r.pushed ≡ 0) }
+    ensures leaves { IfOk result (λ r. r.leaves ≡ leaves) }
+    ensures takes { IfOk result (λ r. (texts : List (List ℕ)) → length texts ≡ leaves →
+        Takes H.hash fan [] texts r) }
+{
+    match Rising::new(alloc, leaves, fan, &[]) {
+        Ok(rising) => Ok(rising),
+        Err(RisingError::Memory) => Err(NoMemory),
+        Err(_) => unreachable!(),
+    }
+}
+
+/// The root of the tree over a book's node leaves, in an order of its ids.
+pub fn node_root<H: Hasher, B: MethodBook>(
+    alloc: Global,
+    book: &B,
+    order: &[u32],
+    fan: u8,
+) -> Result<Digest32, NoMemory>
+    requires map { IsMap (B.shown book.now).parts }
+    requires order { IsOrderOf (B.shown book.now).parts order.now }
+    requires fits { FitsFormats (B.kind book.now) (B.shown book.now) }
+    requires fan { 2 ≤ fan }
+    requires fan_max { fan ≤ 32 }
+    ensures { IfOk result (λ r. r ≡ root H.hash
+        (node_texts (leaves_of (B.shown book.now) order.now)) fan) }
+{
+    map_laws();
+    let count = order.len() as u32;
+    let mut rising = unpushed::<H>(alloc, count, fan)?;
+    let mut text = Vec::new(alloc);
+    for id in order {
+        let leaf = book.node_leaf(alloc, *id)?;
+        has_widths(&leaf);
+        text.clear();
+        put_node_leaf(&mut text, &leaf)?;
+        rising.push(&text);
+    }
+    Ok(rising.end().root)
+}
+
+/// The root of the tree over the leaves of pairs, and zeros where there are none.
+pub fn pair_root<H: Hasher>(
+    alloc: Global,
+    pairs: &[PairLeaf],
+    fan: u8,
+) -> Result<Digest32, NoMemory>
+    requires few { length pairs.now ≤ 2097152 }
+    requires fan { 2 ≤ fan }
+    requires fan_max { fan ≤ 32 }
+    ensures { IfOk result (λ r. r ≡ root_or_zeros H.hash fan (pair_texts pairs.now)) }
+{
+    if pairs.is_empty() {
+        return Ok([0; 32]);
+    }
+    let count = pairs.len() as u32;
+    let mut rising = unpushed::<H>(alloc, count, fan)?;
+    for pair in pairs {
+        rising.push(&pair.write());
+    }
+    Ok(rising.end().root)
+}

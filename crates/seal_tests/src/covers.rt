@@ -1,0 +1,244 @@
+//! What no clause says: published digests, calls that succeed, and texts of refusals.
+ghost use Rattle.std.specs.Prelude.{◌≡◌, Ok};
+ghost use Rattle.std.specs.Bool.{OnTrue};
+ghost use Rattle.octet_text.specs.Toy.{toy_digest as toy_hash};
+ghost use Rattle.merkle_cover.specs.Trees.{tree_of};
+
+use merkle_cover::{
+    Cut, CutTexts, FoldError, Texts, Tree, TreeError, TwoTexts, are_in, are_rising, clash, fold,
+};
+use octet_text::{Digest32, Hasher, NoMemory, Sha, Toy};
+use std::alloc::{AllocError, Global};
+use std::process::Abort;
+
+// The roots of five leaves with fan-out 2 and 3, and the cover's digest where the last is not chosen.
+const ROOT_BY_TWO: Digest32 = [
+    0xe5, 0xf7, 0xde, 0xf0, 0x31, 0x06, 0xc0, 0xda, 0x43, 0x71, 0x21, 0xc9, 0xf9, 0x67, 0x93, 0x96,
+    0xd7, 0x74, 0x65, 0x95, 0xcd, 0x2a, 0x3c, 0x28, 0xfd, 0x80, 0x83, 0xdd, 0xd7, 0xde, 0x68, 0x06,
+];
+
+const COVER_BY_TWO: Digest32 = [
+    0x26, 0xf7, 0xe5, 0x97, 0x80, 0xdb, 0x68, 0xb8, 0x5b, 0x17, 0xfa, 0x80, 0xa6, 0x98, 0x3e, 0x8d,
+    0xfa, 0x53, 0x9e, 0x73, 0xb3, 0x88, 0xa3, 0xc5, 0xd5, 0xd2, 0xeb, 0x06, 0xfa, 0x67, 0x3d, 0x00,
+];
+
+const ROOT_BY_THREE: Digest32 = [
+    0x3c, 0x49, 0x79, 0xca, 0xa9, 0x1f, 0xe5, 0xd8, 0xa2, 0xfb, 0x5b, 0xa1, 0x9b, 0x63, 0x1d, 0x87,
+    0x0d, 0x0f, 0xda, 0x53, 0x8a, 0x09, 0xe0, 0xb1, 0xa8, 0xa7, 0x27, 0xae, 0x44, 0x8c, 0x0b, 0x05,
+];
+
+const COVER_BY_THREE: Digest32 = [
+    0x5a, 0xeb, 0x19, 0x6e, 0x83, 0x59, 0x82, 0x31, 0xb4, 0x5c, 0x61, 0xf3, 0xe0, 0xc5, 0xa0, 0xfd,
+    0xa4, 0x9b, 0x0d, 0x4f, 0x86, 0xa6, 0xdb, 0x5f, 0x89, 0x3a, 0xac, 0xcc, 0xf5, 0x14, 0xfa, 0x99,
+];
+
+// The SHA-256 digest of 00 and the leaf text of a map's only node, of id 7 at -1 and 2.
+const ONE_NODE: [u8; 15] = [0x4e, 0, 0, 0, 7, 0xff, 0xff, 0xff, 0xff, 0, 0, 0, 2, 0, 0];
+
+const ROOT_OF_ONE_NODE: Digest32 = [
+    0x0b, 0xfc, 0x2e, 0x4d, 0x0e, 0x3d, 0xae, 0x60, 0x77, 0xc5, 0xb8, 0x42, 0x69, 0x41, 0xc6, 0xb4,
+    0x3c, 0x58, 0xab, 0x48, 0x6b, 0x1a, 0x83, 0xd6, 0xe6, 0x15, 0x11, 0x42, 0xb0, 0xf2, 0x4b, 0xf2,
+];
+
+fn texts_of(alloc: Global, parts: &[&[u8]]) -> Result<Texts, NoMemory> {
+    let mut texts = Texts::new(alloc);
+    for part in parts {
+        if !texts.fits(part) {
+            return Err(NoMemory);
+        }
+        texts.push(part)?;
+    }
+    Ok(texts)
+}
+
+fn five_leaves(alloc: Global) -> Result<Texts, NoMemory> {
+    texts_of(alloc, &[b"a", b"bc", b"", b"def", b"g"])
+}
+
+// Octets in which the texts of the first four leaves stand, and "fed" at the end.
+const CUT: &[u8] = b"abcdefed";
+
+const FIRST_FOUR: [Cut; 4] = [
+    Cut { start: 0, end: 1 },
+    Cut { start: 1, end: 3 },
+    Cut { start: 3, end: 3 },
+    Cut { start: 3, end: 6 },
+];
+
+const SECOND_AND_FOURTH: [Cut; 2] = [Cut { start: 1, end: 3 }, Cut { start: 3, end: 6 }];
+
+const ANOTHER_FOURTH: [Cut; 2] = [Cut { start: 1, end: 3 }, Cut { start: 5, end: 8 }];
+
+// Texts that stand in these octets.
+fn texts_at<'a>(rt: &impl Abort, cuts: &'a [Cut]) -> CutTexts<'a> {
+    assert!(rt; are_in(CUT, cuts));
+    CutTexts::new(CUT, cuts)
+}
+
+fn toy_digest(last: u8) -> Digest32 {
+    let mut digest = [0; 32];
+    digest[31] = last;
+    digest
+}
+
+fn folded<H: Hasher>(
+    rt: &impl Abort,
+    fan: u8,
+    places: &[u32],
+    texts: &CutTexts<'_>,
+    cover: &[Digest32],
+) -> Result<Digest32, FoldError> {
+    assert!(rt; 2 <= fan && fan <= 32);
+    assert!(rt; !places.is_empty());
+    assert!(rt; texts.count() as usize == places.len());
+    fold::<H>(5, fan, places, texts, cover)
+}
+
+// What the cover of the first four of five leaves is, and what it folds to.
+fn covers_and_folds<H: Hasher>(
+    rt: &impl Abort,
+    alloc: Global,
+    fan: u8,
+    digest: &Digest32,
+    root: &Digest32,
+) -> Result<(), NoMemory> {
+    let leaves = five_leaves(alloc)?;
+    match Tree::<H>::build(alloc, &leaves, fan) {
+        Ok(tree) => {
+            assert_eq!(rt; tree.root(), *root);
+            let places = [0, 1, 2, 3];
+            assert!(rt; are_rising(tree.leaves(), &places));
+            let cover = tree.cover(alloc, &places)?;
+            assert_eq!(rt; cover.as_slice(), [*digest].as_slice());
+            let texts = texts_at(rt, &FIRST_FOUR);
+            assert_eq!(rt; folded::<H>(rt, fan, &places, &texts, &cover), Ok(*root));
+            assert_eq!(rt;
+                folded::<H>(rt, fan, &places, &texts, &[]),
+                Err(FoldError::CoverShort)
+            );
+            let two = [*digest, *digest];
+            assert_eq!(rt;
+                folded::<H>(rt, fan, &places, &texts, &two),
+                Err(FoldError::CoverLong)
+            );
+            let falling = [1, 1, 2, 3];
+            assert_eq!(rt;
+                folded::<H>(rt, fan, &falling, &texts, &cover),
+                Err(FoldError::Place(1))
+            );
+            let above = [0, 1, 2, 5];
+            assert_eq!(rt;
+                folded::<H>(rt, fan, &above, &texts, &cover),
+                Err(FoldError::Place(3))
+            );
+        }
+        Err(_) => assert!(rt; false),
+    }
+    Ok(())
+}
+
+#[test]
+fn covers_of_five_leaves_fold_to_the_root(rt: HostRuntime) -> Result<(), NoMemory> {
+    let alloc = rt.alloc();
+    covers_and_folds::<Sha>(&rt, alloc, 2, &COVER_BY_TWO, &ROOT_BY_TWO)?;
+    covers_and_folds::<Sha>(&rt, alloc, 3, &COVER_BY_THREE, &ROOT_BY_THREE)?;
+    covers_and_folds::<Toy>(&rt, alloc, 2, &toy_digest(105), &toy_digest(194))?;
+    covers_and_folds::<Toy>(&rt, alloc, 3, &toy_digest(103), &toy_digest(191))
+}
+
+#[test]
+fn a_tree_of_one_leaf_has_its_digest(rt: HostRuntime) -> Result<(), NoMemory> {
+    let alloc = rt.alloc();
+    let leaves = texts_of(alloc, &[&ONE_NODE])?;
+    assert_eq!(rt; leaves.total(), 15);
+    assert_eq!(rt;
+        Tree::<Sha>::build(alloc, &leaves, 2).map(|tree| tree.root()),
+        Ok(ROOT_OF_ONE_NODE)
+    );
+    assert_eq!(rt;
+        Tree::<Sha>::build(alloc, &leaves, 1).err(),
+        Some(TreeError::Fan)
+    );
+    assert_eq!(rt;
+        Tree::<Sha>::build(alloc, &leaves, 33).err(),
+        Some(TreeError::Fan)
+    );
+    assert_eq!(rt;
+        Tree::<Sha>::build(alloc, &Texts::new(alloc), 2).err(),
+        Some(TreeError::Empty)
+    );
+    Ok(())
+}
+
+#[test]
+fn texts_with_one_sum_clash(rt: HostRuntime) -> Result<(), NoMemory> {
+    let alloc = rt.alloc();
+    let leaves = five_leaves(alloc)?;
+    let places = [1, 3];
+    match Tree::<Toy>::build(alloc, &leaves, 2) {
+        Ok(tree) => {
+            assert!(rt; are_rising(tree.leaves(), &places));
+            let cover = tree.cover(alloc, &places)?;
+            let own = texts_at(&rt, &SECOND_AND_FOURTH);
+            assert!(rt; clash_of(&rt, alloc, &tree, &leaves, &places, &own, &cover)?.is_none());
+            let other = texts_at(&rt, &ANOTHER_FOURTH);
+            match clash_of(&rt, alloc, &tree, &leaves, &places, &other, &cover)? {
+                Some(two) => {
+                    assert_eq!(rt; two.left.as_slice(), b"\0def".as_slice());
+                    assert_eq!(rt; two.right.as_slice(), b"\0fed".as_slice());
+                }
+                None => assert!(rt; false),
+            }
+        }
+        Err(_) => assert!(rt; false),
+    }
+    Ok(())
+}
+
+// The clash of a tree with what folds to its root.
+fn clash_of(
+    rt: &impl Abort,
+    alloc: Global,
+    tree: &Tree<Toy>,
+    leaves: &Texts,
+    places: &[u32],
+    texts: &CutTexts<'_>,
+    cover: &[Digest32],
+) -> Result<Option<TwoTexts>, NoMemory>
+    requires { tree.now ≡ tree_of toy_hash leaves.now tree.now.fan }
+{
+    assert!(rt; !places.is_empty());
+    assert!(rt; texts.count() as usize == places.len());
+    let count = leaves.count();
+    let fan = tree.fan();
+    assert!(rt; 1 <= count);
+    assert!(rt; 2 <= fan && fan <= 32);
+    let digest = fold::<Toy>(count, fan, places, texts, cover);
+    assert!(rt; is_root(&digest, &tree.root()));
+    clash::<Toy>(alloc, tree, leaves, places, texts, cover)
+}
+
+fn is_root(digest: &Result<Digest32, FoldError>, root: &Digest32) -> bool
+    ensures { OnTrue result (digest.now ≡ Ok root.now) }
+{
+    match digest {
+        Ok(digest) => digest == root,
+        Err(_) => false,
+    }
+}
+
+#[test]
+fn refusals_are_whole_sentences(rt: HostRuntime) -> Result<(), AllocError> {
+    let alloc = rt.alloc();
+    let place = FoldError::Place(3);
+    assert_eq!(rt;
+        format!(in alloc; "{place}")?.as_str(),
+        "The place at index 3 is no leaf, or does not exceed the one before."
+    );
+    let fan = TreeError::Fan;
+    assert_eq!(rt;
+        format!(in alloc; "{fan}")?.as_str(),
+        "The fan-out of a tree is from 2 to 32."
+    );
+    Ok(())
+}

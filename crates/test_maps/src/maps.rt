@@ -1,0 +1,83 @@
+//! Maps of rows.
+
+use road_map::{Map, MapError, Node, Nodes, Parts, Road, Roads};
+use std::alloc::{AllocError, Global};
+
+/// The five nodes: id, x and y.
+pub const NODES: [(u32, i32, i32); 5] = [
+    (1, 0, 0),
+    (2, 10, 0),
+    (3, 20, 0),
+    (4, 10, 10),
+    (5, 50, 50),
+];
+
+/// Their roads: two ends and a length.
+pub const ROADS: [(u32, u32, u32); 4] = [(1, 2, 4), (2, 3, 5), (1, 4, 3), (4, 3, 7)];
+
+/// Their road file.
+pub const FIVE_NODES: &str = "roads 1
+node 1 0 0
+node 2 10 0
+node 3 20 0
+node 4 10 10
+node 5 50 50
+road 1 2 4
+road 2 3 5
+road 1 4 3
+road 4 3 7
+";
+
+/// The parts of rows: of each node its id, x and y, of each road its two ends and its length.
+pub fn parts_of(
+    alloc: Global,
+    nodes: &[(u32, i32, i32)],
+    roads: &[(u32, u32, u32)],
+) -> Result<Parts, AllocError> {
+    Ok(Parts {
+        nodes: nodes_of(alloc, nodes)?,
+        roads: roads_of(alloc, roads)?,
+    })
+}
+
+fn nodes_of(alloc: Global, rows: &[(u32, i32, i32)]) -> Result<Nodes, AllocError> {
+    let mut nodes = Vec::new(alloc);
+    for (id, x, y) in rows {
+        nodes.push(Node {
+            id: *id,
+            x: *x,
+            y: *y,
+        })?;
+    }
+    Ok(Nodes::from_vec(nodes))
+}
+
+fn roads_of(alloc: Global, rows: &[(u32, u32, u32)]) -> Result<Roads, AllocError> {
+    let mut roads = Vec::new(alloc);
+    for (a, b, length) in rows {
+        roads.push(Road {
+            a: *a,
+            b: *b,
+            length: *length,
+        })?;
+    }
+    Ok(Roads::from_vec(roads))
+}
+
+/// The map of rows.
+pub fn map_of(
+    alloc: Global,
+    nodes: &[(u32, i32, i32)],
+    roads: &[(u32, u32, u32)],
+) -> Result<Map, MapError> {
+    Map::build(alloc, parts_of(alloc, nodes, roads)?)
+}
+
+/// The rows of so many nodes at one place, with the ids from 1 on.
+pub fn apart(alloc: Global, count: u32) -> Result<Vec<(u32, i32, i32)>, AllocError> {
+    let mut rows = Vec::new(alloc);
+    for index in 0..count {
+        rows.push((index.saturating_add(1), 0, 0))?;
+    }
+    Ok(rows)
+}

@@ -43,8 +43,7 @@ pub record IsBrought (octets header signature : List ℕ) : Type 0 where
   pub signature_is : signature ≡ answer.signature
 
 -- Brings says which header, by its octets, and which signature a reply brings: that header stands
--- in one slot of every
--- image
+-- in one slot of every image
 pub record IsHeaderSigned {D : Type 0} (g : Ghosts D) (disk : D)
     (Brings : List ℕ → List ℕ → Type 0) : Type 0 where
   pub header : List ℕ
@@ -64,8 +63,7 @@ pub record IsCollisionLine (text : List ℕ) : Type 0 where
   pub line : text ≡ collision_line left right
 
 -- the line of the header that a reply brings, which the owner never signed, in no slot of any
--- image, and of the reply's
--- own signature, which is verified on it under the public key
+-- image, and of the reply's own signature, which is verified on it under the public key
 pub record IsForgedLine {D : Type 0} (g : Ghosts D) (disk : D) (Brings : List ℕ → List ℕ → Type 0)
     (key text : List ℕ) : Type 0 where
   pub header : List ℕ
@@ -113,8 +111,7 @@ WritesFindings g disk Brings key reply files old new outcome = Unit {0}
 -- ---- the headline
 
 -- the accepted route is a shortest one in the signed map: the accepted header is that of the map,
--- and stands in one
--- slot of every image
+-- and stands in one slot of every image
 pub record IsTrue {D : Type 0} (g : Ghosts D) (disk : D) (p : Publication) (q : Query)
     (x : Accepted) : Type 0 where
   pub of_map : HasHeader sha256 sha256 p.parts p.settings p.header
@@ -136,9 +133,8 @@ IsAcceptedHeader accepted Brings header signature = (header ≡ header_text acce
     Brings header signature
 
 -- what was accepted is true, or there is evidence, by the accepted header and the reply's own
--- signature where the line is
--- the forged one, or its header is another publication's, unless memory was short or an object
--- outside failed
+-- signature where the line is the forged one, or its header is another publication's, unless memory
+-- was short or an object outside failed
 abbrev pub FindsTruth : {D : Type 0} → Ghosts D → D → (List ℕ → List ℕ → Type 0) → List ℕ →
     Publication → Header → Type 0 → Option (List ℕ) → Option (List ℕ) → Result Conclusion Fault →
     Type 0
@@ -154,10 +150,8 @@ FindsTruth g disk Brings key p accepted Truth old new (Err Disk) = Unit {0}
 FindsTruth g disk Brings key p accepted Truth old new outcome = ⊥
 
 -- The files spell a public key, a publication, of whatever header, that can be installed, as its
--- header is that of its
--- parts and settings, and octets that the client accepts under the key, whatever they are; and the
--- key is that of the
--- owner's disk, which can be used.
+-- header is that of its parts and settings, and octets that the client accepts under the key,
+-- whatever they are; and the key is that of the owner's disk, which can be used.
 pub record IsAcceptedFile (content : Option (List ℕ)) (folder : Folder)
     (key_name publication_name reply_name : List ℕ) (q : Query) (key : List ℕ) (p : Publication)
     (x : Accepted) : Type 0 where

@@ -21,13 +21,11 @@ abbrev pub EndsReading : {X : Type 0} → Result X Fault → (X → Ending) → 
 EndsReading read Next outcome text = MatchResult read (λ x. Next x outcome text)
     (λ first. (outcome ≡ Err first) × (text ≡ []))
 
--- Ends says with which outcome the files let a command end, and which text it then writes.
--- The outcome is such a one, or want of memory, or the library's or the disk's failure, and the
--- sink has taken its text,
--- or a front of such a text where it failed. Where a mirror was lost, the sink has taken all of the
--- text of work that
--- was done. Only ends that name unknown nodes or no route, or a fault of frames or of their
--- source, may have a text beside a fault.
+-- Ends says with which outcome the files let a command end, and which text it then writes. The
+-- outcome is such a one, or want of memory, or the library's or the disk's failure, and the sink
+-- has taken its text, or a front of such a text where it failed. Where a mirror was lost, the sink
+-- has taken all of the text of work that was done. Only ends that name unknown nodes or no route,
+-- or a fault of frames or of their source, may have a text beside a fault.
 abbrev pub Answered : Ending → Option (List ℕ) → Option (List ℕ) → Result Conclusion Fault → Type 0
 Answered Ends old new (Ok verdict) = (text : List ℕ) × Ends (Ok verdict) text × Appends old new text
 Answered Ends old new (Err Memory) = Unit {0}
@@ -71,10 +69,9 @@ abbrev pub NoDisk : Type 0
 NoDisk = ⊥
 
 -- What a command promises that loads files and writes to the sink. Ends says with which outcome a
--- folder lets it end, and
--- which text it then writes; Tells, of which faults its client is told by a text, as a command that
--- takes frames has told
--- its client where their source failed; DiskFailed, what a disk that failed has done.
+-- folder lets it end, and which text it then writes; Tells, of which faults its client is told by a
+-- text, as a command that takes frames has told its client where their source failed; DiskFailed,
+-- what a disk that failed has done.
 pub record Promises (Ends : Folder → Ending) (Tells : Fault → Type 0) (DiskFailed : Type 0)
     (files : Option Folder) (library_before library_now : ℕ)
     (old new : Option (List ℕ)) (sink_before sink_now : ℕ)

@@ -6,8 +6,7 @@ use Rattle.desk_areas.specs.Layout.{slots_at, place_in, base_of, gate_at, text_a
 use Rattle.desk_areas.specs.Keys.{key_at}
 
 -- The area at a base can't be used: its kind is unknown, its slots are not all within the image, or
--- a spent slot
--- that is not its last holds a link text.
+-- a spent slot that is not its last holds a link text.
 pub data IsBadArea (image : List ℕ) (base : ℕ) : Type 0 where
   UnknownKind : slots_at image base ≡ 0 → IsBadArea image base
   TooShort : length image < place_in base (slots_at image base) → IsBadArea image base
@@ -16,8 +15,7 @@ pub data IsBadArea (image : List ℕ) (base : ℕ) : Type 0 where
       IsBadArea image base
 
 -- An area can't be used: by itself, since an area before it has its I, since the link text before
--- it names another key,
--- or since it is the eighth and its last slot is spent with a link text.
+-- it names another key, or since it is the eighth and its last slot is spent with a link text.
 pub data IsFaulty (image : List ℕ) (area : ℕ) : Type 0 where
   Alone : IsBadArea image (base_of image area) → IsFaulty image area
   SameName : (other : ℕ) → other < area →

@@ -1,8 +1,7 @@
 -- The octets of an owner's disk. An area is a key block of 64 octets and then the key's slots of
--- 128 octets, and the
--- next area begins where it ends. The last slot of an area signs the key of the next one. All
--- places within an
--- area are counted from its base. A disk with one key has one area, at base 0.
+-- 128 octets, and the next area begins where it ends. The last slot of an area signs the key of the
+-- next one. All places within an area are counted from its base. A disk with one key has one area,
+-- at base 0.
 use Rattle.std.specs.Prelude.{◌≡◌, ◌⊎◌, ℕ, zero, suc, ◌+◌, ◌-◌, ◌*◌, ◌<◌, ◌≤◌, ◌==◌, min, List, length, get_or, take, drop, if◌then◌else◌}
 use Rattle.std.specs.List.{count_by, range_with_len}
 use Rattle.lms_tree.specs.Links.{IsLink}
@@ -82,8 +81,7 @@ pub record HasLink (image : List ℕ) (area : ℕ) : Type 0 where
   pub link : IsLink (text_of image (last_slot image area))
 
 -- The area is open: the first one by the key gate, each later one by the link text that the area
--- before it has
--- signed. Eight areas are open at most.
+-- before it has signed. Eight areas are open at most.
 unfoldable pub IsAreaOpen : List ℕ → ℕ → Type 0
 IsAreaOpen image zero = 0 < gate_at image 0
 IsAreaOpen image (suc area) = IsAreaOpen image area × HasLink image area × (area < 7)

@@ -1,7 +1,6 @@
 -- Road files of the challenge: what a graph and its coordinates say, or their first fault.
 -- Source: file formats of the 9th DIMACS Implementation Challenge, Shortest Paths, 2006; the
--- limits, the order of the
--- faults and roads as pairs of arcs are this program's profile.
+-- limits, the order of the faults and roads as pairs of arcs are this program's profile.
 use Rattle.std.specs.Prelude.{ℕ, ◌+◌, ◌==◌, Bool, false, not, ◌&&◌, nat_lt, nat_le, List, [], ◌∷◌, length, map, take, slice_get, filter, find, count_by, Option, None, Some, Result, Ok, Err, codes, if◌then◌else◌}
 use Rattle.std.specs.List.{range_with_len, filter_map}
 use Rattle.std.specs.Option.{ok_or}

@@ -53,8 +53,7 @@ IsUsedUp desk = (number : ℕ) → number + 1 < slots_of desk.key.kind →
     count_at desk number ≢ TheVariants.Free
 
 -- the desk counts the slots of each area, no two areas have one I, and the last slot of the current
--- area is in no
--- signing
+-- area is in no signing
 pub record IsSound (desk : Desk) : Type 0 where
   pub few : length desk.earlier < 8
   pub known : 0 < slots_of desk.key.kind
@@ -80,8 +79,7 @@ pub record HasKey (key : KeyOf) (base : ℕ) (image : List ℕ) : Type 0 where
   pub within : place_in base (slots_of key.kind) ≤ length image
 
 -- the open areas of the image have the desk's keys, each later one is named by the link text before
--- it, and no other
--- spent slot holds a link text
+-- it, and no other spent slot holds a link text
 pub record HasAreas (desk : Desk) (image : List ℕ) : Type 0 where
   pub current : IsCurrent image (length desk.earlier)
   pub based : base_of image (length desk.earlier) ≡ desk.base

@@ -11,11 +11,9 @@ pub record Crashed {D : Type 0} (g : Ghosts D) (k : ℕ) (old new : D) : Type 0 
   pub left : (i : List ℕ) → Image g new i → g.image_at old k i
 
 -- One step of a run, from a disk and the pairs that were signed so far. A call, `create` and
--- `reopen` among
--- them, keeps what stands, whatever it answers. One that signs had a closed gate in every image
--- before, and
--- has its pair signed in every image after. A crash cuts a call at one of its moments, or comes
--- before it.
+-- `reopen` among them, keeps what stands, whatever it answers. One that signs had a closed gate in
+-- every image before, and has its pair signed in every image after. A crash cuts a call at one of
+-- its moments, or comes before it.
 pub data Step {D : Type 0} (g : Ghosts D) (old new : D)
     (before after : List (SlotId × List ℕ)) : Type 0 where
   Called : KeepsStanding g old new → after ≡ before → Step g old new before after

@@ -46,9 +46,16 @@ impl Model for Desk {
 
     ghost Value = { View };
 
-    ghost view = { λ d. record { earlier = d.earlier.items; base = d.base; key = d.key; counts = d.counts.items; is_open = d.is_open } };
+    ghost view = { λ d. record {
+      earlier = d.earlier.items;
+      base = d.base;
+      key = d.key;
+      counts = d.counts.items;
+      is_open = d.is_open;
+    } };
 
-    ghost invariant = { λ d. (length d.counts.items ≡ slots_of d.key.kind) × (d.base ≤ 131136 * length d.earlier.items) × (length d.earlier.items ≤ 7) };
+    ghost invariant = { λ d. (length d.counts.items ≡ slots_of d.key.kind) ×
+        (d.base ≤ 131136 * length d.earlier.items) × (length d.earlier.items ≤ 7) };
 }
 
 impl Desk {

@@ -72,15 +72,18 @@ fn raise<D: Disk>(
     requires zeros { zeros.now ≡ replicate (place_in 0 (slots_of kind)) 0 }
     requires link { link.now ≡ link_text (public_key (key_from kind secret.now)) }
     ensures moments { (desk : View) → Fits D.Disk desk disk.old →
-        CanSucceed desk (key_from kind secret.now) → desk.base ≡ base → slots_of desk.key.kind ≡ slots
+        CanSucceed desk (key_from kind secret.now) → desk.base ≡ base →
+        slots_of desk.key.kind ≡ slots
         → AtEachMoment D.Disk disk.old disk.new
         (SignsAtMost (slot_here desk (last_number desk))
         (link_text (public_key (key_from kind secret.now)))) }
     ensures fits { (desk : View) → Fits D.Disk desk disk.old →
-        CanSucceed desk (key_from kind secret.now) → desk.base ≡ base → slots_of desk.key.kind ≡ slots
+        CanSucceed desk (key_from kind secret.now) → desk.base ≡ base →
+        slots_of desk.key.kind ≡ slots
         → OnOk result (Fits D.Disk (next_desk desk (key_from kind secret.now)) disk.new) }
     ensures signed { (desk : View) → Fits D.Disk desk disk.old →
-        CanSucceed desk (key_from kind secret.now) → desk.base ≡ base → slots_of desk.key.kind ≡ slots
+        CanSucceed desk (key_from kind secret.now) → desk.base ≡ base →
+        slots_of desk.key.kind ≡ slots
         → OnOk result (EachImage D.Disk disk.new
         (λ i. IsSigned i (slot_here desk (last_number desk))
         (link_text (public_key (key_from kind secret.now))))) }

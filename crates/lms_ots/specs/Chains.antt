@@ -24,8 +24,7 @@ chain_of i q at from zero x = x
 chain_of i q at from (suc count) x = step_of i q at (from + count) (chain_of i q at from count x)
 
 -- the hash of 34 values, one for each chain: H(I || u32str(q) || D_PBLC || value[0] || .. ||
--- value[33])
--- (§ 4.3 and § 4.6)
+-- value[33]) (§ 4.3 and § 4.6)
 unfoldable pub key_of : List ℕ → ℕ → (ℕ → List ℕ) → List ℕ
 key_of i q values = sha256 (prefix i q 0x8080 ++ flat_map values (range_with_len 0 34))
 

@@ -1,7 +1,6 @@
 -- The texts whose hashes lead from a signature to the root of a tree. RFC 8554: the steps of a
--- chain (§ 4.3), the
--- signed text (§ 4.5), the ends of the chains (§ 4.6), the leaves and the inner nodes of a tree (§
--- 5.3).
+-- chain (§ 4.3), the signed text (§ 4.5), the ends of the chains (§ 4.6), the leaves and the inner
+-- nodes of a tree (§ 5.3).
 use Rattle.std.specs.Prelude.{ℕ, ◌/◌, ◌%◌, ◌==◌, List, [], ◌∷◌, ◌++◌, if◌then◌else◌}
 use Rattle.std.specs.List.{range_with_len, flat_map}
 use Rattle.lms_ots.specs.Chains.{prefix}

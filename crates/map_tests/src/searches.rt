@@ -19,7 +19,10 @@ impl Ground for Barred<'_> {
     ghost use Rattle.std.specs.Prelude.{slice_get};
     ghost use Rattle.road_search.specs.Barring.{lets_below, lets_below_shorter};
 
-    ghost ways = { λ g. record { arcs = λ id. slice_get g.rows.now id; lets = lets_below g.id g.bar } };
+    ghost ways = { λ g. record {
+      arcs = λ id. slice_get g.rows.now id;
+      lets = lets_below g.id g.bar;
+    } };
 
     fn arcs(&self, id: u32) -> Option<&[Arc]> {
         match self.rows.get(id as usize) {

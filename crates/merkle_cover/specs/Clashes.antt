@@ -20,10 +20,8 @@ folded_text hash n f chosen given (suc k) p cover =
     1 ∷ folded_in_turn (need n f chosen k) (folded hash n f chosen given k) (children n f k p) cover
 
 -- at some place that is there, and has a chosen leaf, the tree hashes the left text and the fold
--- the
--- right one, whose digests are given or folded of what is given: it takes its digests from the
--- cover behind as many as
--- stand left of the place
+-- the right one, whose digests are given or folded of what is given: it takes its digests from the
+-- cover behind as many as stand left of the place
 pub record AreHashed (hash : List ℕ → List ℕ) (leaves : List (List ℕ)) (f : ℕ) (chosen : List ℕ)
     (given cover : List (List ℕ)) (left right : List ℕ) : Type 0 where
   pub k : ℕ
@@ -36,8 +34,7 @@ pub record AreHashed (hash : List ℕ → List ℕ) (leaves : List (List ℕ)) (
       (drop (left_of (length leaves) f chosen (top (length leaves) f - k) k p) cover)
 
 -- what is given below place p of level k is what the tree has there: texts from one index to
--- another,
--- and cover digests from a place in the cover
+-- another, and cover digests from a place in the cover
 pub record SameBelow (hash : List ℕ → List ℕ) (leaves : List (List ℕ)) (f : ℕ) (chosen : List ℕ)
     (given cover : List (List ℕ)) (k p start item next : ℕ) : Type 0 where
   pub texts : (q : ℕ) → item ≤ q → q < next →

@@ -44,8 +44,8 @@ need n f chosen (suc k) p =
     if has_chosen f chosen (suc k) p then sum_by (need n f chosen k) (children n f k p) else 1
 
 -- how many digests of the cover, over n leaves, stand left of a place of level k that has a chosen
--- leaf and lies d levels
--- below the top: those left of its parent, and those of the places before it below that parent
+-- leaf and lies d levels below the top: those left of its parent, and those of the places before it
+-- below that parent
 unfoldable pub left_of : ℕ → ℕ → List ℕ → ℕ → ℕ → ℕ → ℕ
 left_of n f chosen zero k p = 0
 left_of n f chosen (suc d) k p =
@@ -70,8 +70,7 @@ folded_in_turn taken folded (p ∷ ps) cover = folded p cover ++ folded_in_turn 
     (drop (taken p) cover)
 
 -- the digest of place p of level k: a place with no chosen leaf takes the next digest of the cover,
--- a
--- chosen leaf has the digest of its text, and any other place that of its children's digests
+-- a chosen leaf has the digest of its text, and any other place that of its children's digests
 unfoldable pub folded : (List ℕ → List ℕ) → ℕ → ℕ → List ℕ → List (List ℕ) → ℕ → ℕ → List (List ℕ) →
     List ℕ
 folded hash n f chosen texts zero p cover =

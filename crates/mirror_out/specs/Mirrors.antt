@@ -1,6 +1,5 @@
 -- What a list of mirrors takes. M is a mirror, of which octets, label, puts and room tell what it
--- holds, its
--- label, and how many puts and octets it promises.
+-- holds, its label, and how many puts and octets it promises.
 use Rattle.std.specs.Prelude.{◌≡◌, ◌⊎◌, ℕ, ◌+◌, ◌<◌, ◌≤◌, List, [], ◌∷◌, length}
 use Rattle.std.specs.declared.option.Option.{Option}
 use Rattle.std.specs.Io.KnownBytes.{Appends}
@@ -28,8 +27,7 @@ module _ {M : Type 0} (octets : M → Option (List ℕ)) (label puts room : M �
       Spreads count text old kept rest)
 
   -- The same over several puts, without the labels: those that stay took the text, each of the
-  -- others had
-  -- promised less.
+  -- others had promised less.
   abbrev pub Mirrors : ℕ → List ℕ → List M → List M → Type 0
   Mirrors count text [] kept = kept ≡ []
   Mirrors count text (m ∷ old) kept =

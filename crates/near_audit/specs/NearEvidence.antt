@@ -1,7 +1,7 @@
 -- What a reply shows over a publication's own node tree.
 -- Source: Merkle, CRYPTO 1987 (what folds to a tree's root and is not the tree's own shows two
--- texts with one
--- digest), and Papadias, Zhang, Mamoulis and Tao, VLDB 2003 (range search in a road network).
+-- texts with one digest), and Papadias, Zhang, Mamoulis and Tao, VLDB 2003 (range search in a road
+-- network).
 use Rattle.std.specs.Prelude.{◌≡◌, ◌≢◌, ℕ, Some, List, Contains, Ok}
 use Rattle.book_model.specs.Books.{Kind, Book, leaf, leaves_of, leaf_order}
 use Rattle.merkle_cover.specs.declared.clashes.TwoTexts.{TwoTexts}
@@ -34,8 +34,7 @@ pub record IsOwn (hash sha : List ℕ → List ℕ) (p : Publication) (a : NearR
   pub nodes : IsTreesOwn hash (near_part sha p book a)
 
 -- so its items are leaves of the book, and the accepted nodes are exactly those within the radius
--- of the
--- publication's map, each with its distance
+-- of the publication's map, each with its distance
 pub record IsRight (hash sha : List ℕ → List ℕ) (p : Publication) (q : NearQuery) (x : Within)
     (a : NearReply) : Type 0 where
   pub own : IsOwn hash sha p a

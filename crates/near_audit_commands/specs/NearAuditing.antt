@@ -1,6 +1,5 @@
 -- What `audit-reach` writes: the steps of `audit` in their order, with the client and the comparing
--- of replies on a
--- radius.
+-- of replies on a radius.
 use Rattle.std.specs.Prelude.{◌≡◌, ◌≢◌, ◌⊎◌, ℕ, List, []}
 use Rattle.std.specs.declared.option.Option.{Option}
 use Rattle.std.specs.declared.result.Result.{Result}
@@ -42,8 +41,7 @@ EndsNearClient key octets q Next outcome text =
     Next x accepts.reply outcome text)
 
 -- what the reply brings is of the publication's node tree, and its nodes are those within the
--- radius, or two texts have
--- one digest
+-- radius, or two texts have one digest
 abbrev pub EndsNearComparing : Publication → NearQuery → Within → NearReply → Ending
 EndsNearComparing p q x a outcome text =
     ((outcome ≡ Ok Done) × IsRight sha256 sha256 p q x a × (text ≡ right_line))

@@ -35,8 +35,7 @@ pub record IsNearBrought (octets header signature : List ℕ) : Type 0 where
   pub signature_is : signature ≡ reply.signature
 
 -- the accepted nodes are exactly those within the radius of the signed map, each with its distance:
--- the accepted header
--- is that of the map, and stands in one slot of every image
+-- the accepted header is that of the map, and stands in one slot of every image
 pub record IsNearTrue {D : Type 0} (g : Ghosts D) (disk : D) (p : Publication) (q : NearQuery)
     (x : Within) : Type 0 where
   pub of_map : HasHeader sha256 sha256 p.parts p.settings p.header
@@ -46,10 +45,8 @@ pub record IsNearTrue {D : Type 0} (g : Ghosts D) (disk : D) (p : Publication) (
   pub within : AreWithin p.parts q x.nodes
 
 -- The files spell a public key, a publication, of whatever header, that can be installed, as its
--- header is that of its
--- parts and settings, and octets that the client accepts under the key, whatever they are; and the
--- key is that of the
--- owner's disk, which can be used.
+-- header is that of its parts and settings, and octets that the client accepts under the key,
+-- whatever they are; and the key is that of the owner's disk, which can be used.
 pub record IsAcceptedReach (content : Option (List ℕ)) (folder : Folder)
     (key_name publication_name reply_name : List ℕ) (q : NearQuery) (key : List ℕ) (p : Publication)
     (x : Within) : Type 0 where
@@ -66,8 +63,7 @@ pub record IsAcceptedReach (content : Option (List ℕ)) (folder : Folder)
   pub owners : IsOwnersKey image key
 
 -- whatever octets the client accepts, `audit-reach` finds that they are true, or of another
--- publication, or writes
--- evidence
+-- publication, or writes evidence
 abbrev pub AuditsAcceptedReach : {D : Type 0} → Ghosts D → Option (List ℕ) → D → List ℕ → List ℕ →
     List ℕ → NearQuery → Option Folder → Option (List ℕ) → Option (List ℕ) →
     Result Conclusion Fault → Type 0

@@ -34,12 +34,15 @@ pub fn audit_reach<L: Library, K: Sink, D: Disk>(
     reply: &str,
     query: NearQuery,
 ) -> Result<Conclusion, Fault>
-    ensures promised { Promises (ends_audit_reach (D.content disk.old) key.now publication.now reply.now query) TellsNone (Rose (D.faults disk.old) (D.faults disk.new))
+    ensures promised { Promises (ends_audit_reach
+        (D.content disk.old) key.now publication.now reply.now query) TellsNone
+        (Rose (D.faults disk.old) (D.faults disk.new))
         (L.files library.old) (L.faults library.old) (L.faults library.new)
         (K.taken sink.old) (K.taken sink.new) (K.faults sink.old) (K.faults sink.new) result }
     ensures finds { WritesFindings D.Disk disk.new IsNearBrought key.now reply.now
         (L.files library.old) (K.taken sink.old) (K.taken sink.new) result }
-    ensures headline { AuditsAcceptedReach D.Disk (D.content disk.old) disk.new key.now publication.now reply.now query
+    ensures headline { AuditsAcceptedReach D.Disk
+        (D.content disk.old) disk.new key.now publication.now reply.now query
         (L.files library.old) (K.taken sink.old) (K.taken sink.new) result }
     ensures stays { AtEachMoment D.Disk disk.old disk.new Stays }
 {
@@ -59,7 +62,9 @@ fn write_findings<L: Library, K: Sink, D: Disk>(
     reply: &str,
     query: NearQuery,
 ) -> Result<Conclusion, Fault>
-    ensures promised { Promises (ends_audit_reach (D.content disk.old) key.now publication.now reply.now query) TellsNone (Rose (D.faults disk.old) (D.faults disk.new))
+    ensures promised { Promises (ends_audit_reach
+        (D.content disk.old) key.now publication.now reply.now query) TellsNone
+        (Rose (D.faults disk.old) (D.faults disk.new))
         (L.files library.old) (L.faults library.old) (L.faults library.new)
         (K.taken sink.old) (K.taken sink.new) (K.faults sink.old) (K.faults sink.new) result }
     ensures finds { WritesFindings D.Disk disk.new IsNearBrought key.now reply.now

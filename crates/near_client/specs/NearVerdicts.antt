@@ -1,11 +1,9 @@
 -- What a client says of octets as the reply to a query for what lies within a radius: the first
--- test
--- that they don't pass, or the nodes that it accepts. What it accepts is said by the walks over the
--- items that the reply brings.
+-- test that they don't pass, or the nodes that it accepts. What it accepts is said by the walks
+-- over the items that the reply brings.
 -- Source: Papadias, Zhang, Mamoulis and Tao, VLDB 2003 (range search in a road network), and Yiu,
--- Lin and
--- Mouratidis, ICDE 2010 (signed roots, tuples and covers). The order of the tests is this program's
--- profile.
+-- Lin and Mouratidis, ICDE 2010 (signed roots, tuples and covers). The order of the tests is this
+-- program's profile.
 use Rattle.std.specs.Prelude.{◌≡◌, ℕ, ◌+◌, ◌≤◌, List, map, None, Some, Result, Ok, Err}
 use Rattle.octet_text.specs.Format.{whole}
 use Rattle.road_map.specs.Least.{IsLeast}

@@ -54,8 +54,7 @@ MakesNext g disk kind secret = IfOk secret
     (λ secret. EachImage g disk (λ i. IsKeyOn i (key_from kind secret)))
 
 -- at each moment the images are those at entry, or the last slot of the current area has besides
--- signed the link to the
--- key of the file's secret
+-- signed the link to the key of the file's secret
 pub record LinksFile {D : Type 0} (g : Ghosts D) (old new : D) (files : Option Folder)
     (name : List ℕ) (kind : ℕ) : Type 0 where
   pub secret : List ℕ

@@ -11,8 +11,7 @@ use Rattle.command_files.specs.Endings.{Ending}
 use Rattle.command_files.specs.declared.ended.Conclusion.TheVariants.{Done}
 
 -- the public key of the key that stands in the last open area, how many of its one-time keys are
--- left, and how many
--- it has, without the last one, which is kept for the next key
+-- left, and how many it has, without the last one, which is kept for the next key
 pub record IsDeskLine (image text : List ℕ) : Type 0 where
   pub key : KeyOf
   pub on_disk : IsKeyOn image key

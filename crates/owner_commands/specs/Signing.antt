@@ -31,8 +31,7 @@ use Rattle.command_files.specs.declared.ended.Conclusion.{Conclusion}
 -- ---- one signing
 
 -- A publication's header stands in every image, in the slot of the last open area that its
--- signature names, and
--- that slot was not spent in what the disk read.
+-- signature names, and that slot was not spent in what the disk read.
 pub record StandsOnDisk {D : Type 0} (g : Ghosts D) (old new : D) (p : Publication) : Type 0 where
   pub area : ℕ
   pub current : EachImage g new (λ i. IsCurrent i area)
@@ -56,8 +55,7 @@ SignsAtMostHeader g old new parts s = AtEachMoment g old new Stays ⊎
 -- ---- a run
 
 -- what was written is all of a text where the work was done, though a mirror may be lost, and a
--- front of it where
--- the sink failed; this is said of no other end
+-- front of it where the sink failed; this is said of no other end
 abbrev pub Wrote : Result Conclusion Fault → Option (List ℕ) → Option (List ℕ) → List ℕ → Type 0
 Wrote (Ok verdict) old new text = Appends old new text
 Wrote (Err MirrorLost) old new text = Appends old new text
@@ -95,9 +93,8 @@ OnNoWriting (Err fault) P = P
 -- promises
 module _ {M : Type 0} (octets : M → Option (List ℕ)) (label puts room : M → ℕ) where
   -- The mirrors that stay took all of a text, each of the others had promised less: all stay where
-  -- the work was done,
-  -- and not all where one is said to be lost. Where the sink failed, those that stay took a front
-  -- of it.
+  -- the work was done, and not all where one is said to be lost. Where the sink failed, those that
+  -- stay took a front of it.
   abbrev pub Mirrored : Result Conclusion Fault → List ℕ → List M → List M → Type 0
   Mirrored (Ok verdict) text old kept = Mirrors octets label puts room
       (pieces_in text) text old kept × (length kept ≡ length old)
@@ -137,9 +134,9 @@ SignsAtMostOne g old new files roads s = AtEachMoment g old new Stays ⊎
 -- ---- a refusal
 
 -- A publication that was refused before the signing began leaves the disk: no image changes at any
--- moment. That is where the road file is missing or has a fault, the desk does not open, the settings
--- have no book, all one-time keys were used, or memory is short. Nothing is said here of a sink or a
--- disk that failed or a mirror that was lost.
+-- moment. That is where the road file is missing or has a fault, the desk does not open, the
+-- settings have no book, all one-time keys were used, or memory is short. Nothing is said here of a
+-- sink or a disk that failed or a mirror that was lost.
 abbrev pub StaysRefused : {D : Type 0} → Ghosts D → D → D → Fault → Type 0
 StaysRefused g old new Sink = Unit {0}
 StaysRefused g old new Disk = Unit {0}

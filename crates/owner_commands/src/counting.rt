@@ -22,7 +22,8 @@ pub fn desk<K: Sink, D: Disk>(
     sink: &mut K,
     disk: &mut D,
 ) -> Result<Conclusion, Fault>
-    ensures promised { PromisesWithoutFiles (EndsDesk (D.content disk.old)) (Rose (D.faults disk.old) (D.faults disk.new))
+    ensures promised { PromisesWithoutFiles (EndsDesk (D.content disk.old))
+        (Rose (D.faults disk.old) (D.faults disk.new))
         (K.taken sink.old) (K.taken sink.new) (K.faults sink.old) (K.faults sink.new) result }
     ensures stays { AtEachMoment D.Disk disk.old disk.new Stays }
 {

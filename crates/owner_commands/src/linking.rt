@@ -23,7 +23,8 @@ pub fn links<K: Sink, D: Disk>(
     sink: &mut K,
     disk: &mut D,
 ) -> Result<Conclusion, Fault>
-    ensures promised { PromisesWithoutFiles (EndsLinks (D.content disk.old)) (Rose (D.faults disk.old) (D.faults disk.new))
+    ensures promised { PromisesWithoutFiles (EndsLinks (D.content disk.old))
+        (Rose (D.faults disk.old) (D.faults disk.new))
         (K.taken sink.old) (K.taken sink.new) (K.faults sink.old) (K.faults sink.new) result }
     ensures stays { AtEachMoment D.Disk disk.old disk.new Stays }
 {

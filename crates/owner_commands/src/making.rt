@@ -30,7 +30,8 @@ pub fn key<L: Library, K: Sink, D: Disk>(
     secret: &str,
     kind: KeyKind,
 ) -> Result<Conclusion, Fault>
-    ensures promised { Promises (ends_key (D.content disk.old) secret.now (type_of kind)) TellsNone (Rose (D.faults disk.old) (D.faults disk.new))
+    ensures promised { Promises (ends_key (D.content disk.old) secret.now (type_of kind)) TellsNone
+        (Rose (D.faults disk.old) (D.faults disk.new))
         (L.files library.old) (L.faults library.old) (L.faults library.new)
         (K.taken sink.old) (K.taken sink.new) (K.faults sink.old) (K.faults sink.new) result }
     ensures made { OnOk result (IfSome (L.files library.old)

@@ -33,7 +33,8 @@ pub fn publish<L: Library, K: Sink, D: Disk, M: Mirror>(
     roads: &str,
     settings: &Settings,
 ) -> Result<Conclusion, Fault>
-    ensures promised { Promises (ends_publish (D.content disk.old) roads.now settings.now) TellsLost (Rose (D.faults disk.old) (D.faults disk.new))
+    ensures promised { Promises (ends_publish (D.content disk.old) roads.now settings.now) TellsLost
+        (Rose (D.faults disk.old) (D.faults disk.new))
         (L.files library.old) (L.faults library.old) (L.faults library.new)
         (K.taken sink.old) (K.taken sink.new) (K.faults sink.old) (K.faults sink.new) result }
     ensures sealed { SealsWhatItWrites D.Disk disk.old disk.new (K.taken sink.old)

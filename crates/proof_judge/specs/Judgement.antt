@@ -1,7 +1,6 @@
 -- How items are judged: the first failing test of a method, or the length of the route.
 -- Source: Yiu, Lin and Mouratidis, ICDE 2010: what a client verifies under DIJ, FULL, LDM and HYP.
--- The order of
--- the tests and their answers are this program's profile.
+-- The order of the tests and their answers are this program's profile.
 use Rattle.std.specs.Prelude.{◌≡◌, ℕ, ◌+◌, ◌-◌, ◌^◌, ◌==◌, ◌≤◌, ◌<◌, ◌⊎◌, min, max, nat_lt, ◌&&◌, if◌then◌else◌, IsTrue, Option, None, Some, is_some, Result, Ok, Err, List, [], ◌∷◌, find}
 use Rattle.std.specs.Option.{option_map}
 use Rattle.road_map.specs.declared.arc.Arc.{Arc}

@@ -7,8 +7,7 @@ use Rattle.book_model.specs.declared.settings.PlanError.TheVariants as plan
 use Rattle.book_model.specs.Books.{Kind, kind_of, plan_fault, method_fault}
 
 -- Which books are offered: the first reason why there is none, of the method, the order, the
--- fan-out, the method's
--- parameters and the size of the map.
+-- fan-out, the method's parameters and the size of the map.
 abbrev pub book_fault : Parts → Settings → Option PlanError
 book_fault parts s = plan_fault (kind_of s.method) parts s
 

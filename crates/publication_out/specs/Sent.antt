@@ -10,8 +10,7 @@ pieces_in text = div_ceil (length text) 4096
 
 module _ {M : Type 0} (octets : M → Option (List ℕ)) (label puts room : M → ℕ) where
   -- those that stay took a front of the text, in no more puts than it has pieces, each of the
-  -- others had
-  -- promised less
+  -- others had promised less
   pub record MirrorsFront (text : List ℕ) (old kept : List M) : Type 0 where
     pub n : ℕ
     pub count : ℕ

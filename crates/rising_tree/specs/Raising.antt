@@ -25,8 +25,7 @@ pub record IsRaised (hash : List ℕ → List ℕ) (texts : List (List ℕ)) (n 
   pub whole : m + 1 ≡ n → d ≡ root hash texts f
 
 -- On the way, at a place of a level that the leaf makes whole: the levels below have one text more.
--- The
--- cover has it up to another level.
+-- The cover has it up to another level.
 pub record IsOnItsWay (hash : List ℕ → List ℕ) (texts : List (List ℕ)) (n f m : ℕ)
     (waiting : List (List ℕ)) (spots : List Spot) (cover : List (List ℕ)) (level from place : ℕ)
     (d : List ℕ) : Type 0 where

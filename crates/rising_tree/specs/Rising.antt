@@ -19,10 +19,8 @@ first_rising_refusal n fan places =
     (first_fault n places)))
 
 -- What contracts see of a tree that rises: its leaves and its fan-out, how many texts it has taken,
--- the
--- digests that wait for their group, each at its level and its place in the group, where the
--- cover's
--- digests stand, those of them that are made, and the digest that was made last.
+-- the digests that wait for their group, each at its level and its place in the group, where the
+-- cover's digests stand, those of them that are made, and the digest that was made last.
 pub record Growth : Type 0 where
   pub leaves : ℕ
   pub fan : ℕ

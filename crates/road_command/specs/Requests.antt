@@ -167,8 +167,7 @@ desk_words [] = Some Desk
 desk_words _ = None
 
 -- a road file's name, the method, the version, the leaf order, its seed, the fan-out, and the
--- method's
--- three parameters
+-- method's three parameters
 abbrev pub publish_words : List (List ℕ) → Option Request
 publish_words (roads ∷ method ∷ version ∷ order ∷ seed ∷ fan ∷ p1 ∷ p2 ∷ p3 ∷ []) = do
   parameters ← parameters_of p1 p2 p3

@@ -4,8 +4,7 @@ use Rattle.std.specs.Fmt.{decimal}
 use Rattle.hex.specs.Hex.{encode_lower}
 
 -- a public key in lower case hex, a space, how many one-time keys are left, a space, how many there
--- are, and a
--- line end
+-- are, and a line end
 abbrev pub desk_line : List ℕ → ℕ → ℕ → List ℕ
 desk_line public left size = encode_lower public ++ codes " " ++ decimal left ++ codes " " ++
     decimal size ++ codes "\n"

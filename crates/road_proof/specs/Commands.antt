@@ -38,8 +38,7 @@ use Rattle.near_audit_commands.specs.NearAuditing.{ends_audit_reach}
 use Rattle.near_audit_commands.specs.NearHeadline.{IsNearBrought, AuditsAcceptedReach}
 
 -- With which outcome the files, and what the disk holds, let a command end, and which text it then
--- writes. Under `serve`
--- the end also rests on the source's input, of which `ServesFrames` speaks.
+-- writes. Under `serve` the end also rests on the source's input, of which `ServesFrames` speaks.
 abbrev pub Ends : Option (List ℕ) → Request → Folder → Ending
 Ends content (Route roads from to) folder = ends_route roads from to folder
 Ends content (Root roads fan) folder = ends_root roads fan folder
@@ -121,8 +120,7 @@ pub record RunPromises {D : Type 0} (g : Ghosts D) (old new : D) (asked : Option
   pub stands : KeepsStanding g old new
 
 -- What must be told of the disk, so that an end is exact: its content, for a command that uses the
--- disk. The end of `serve`
--- is not exact by the files and the disk.
+-- disk. The end of `serve` is not exact by the files and the disk.
 abbrev pub IsTold : Request → Option (List ℕ) → Type 0
 IsTold (Key file kind) content = content ≢ None
 IsTold (Succeed file kind) content = content ≢ None

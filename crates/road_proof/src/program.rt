@@ -43,13 +43,17 @@ pub fn run<L: Library, S: Source, K: Sink, D: Disk, M: Mirror>(
     ensures status { result.status ≡ status_of (outcome_of result) }
     ensures promised { RunPromises D.Disk disk.old disk.new (request_of words.now)
         (L.files library.old) (L.faults library.old) (L.faults library.new)
-        (K.taken sink.old) (K.taken sink.new) (K.faults sink.old) (K.faults sink.new) (outcome_of result) }
+        (K.taken sink.old) (K.taken sink.new) (K.faults sink.old) (K.faults sink.new)
+        (outcome_of result) }
     ensures takes { RunTakes (request_of words.now) (L.files library.old)
         (S.left source.old) (S.left source.new) (S.faults source.old) (S.faults source.new)
         (K.taken sink.old) (K.taken sink.new) (outcome_of result) }
-    ensures mirrors { OnMirrors M.octets M.named M.puts M.room D.Disk disk.old disk.new (request_of words.now)
-        (K.taken sink.old) (K.taken sink.new) mirrors.old.items mirrors.new.items (outcome_of result) }
-    ensures exact { NoneFailed (L.faults library.old) (L.faults library.new) (K.faults sink.old) (K.faults sink.new)
+    ensures mirrors { OnMirrors M.octets M.named M.puts M.room D.Disk disk.old disk.new
+        (request_of words.now)
+        (K.taken sink.old) (K.taken sink.new) mirrors.old.items mirrors.new.items
+        (outcome_of result) }
+    ensures exact { NoneFailed (L.faults library.old) (L.faults library.new) (K.faults sink.old)
+        (K.faults sink.new)
         (D.faults disk.old) (D.faults disk.new) →
         IfSome (request_of words.now)
         (λ request. IfSome (L.files library.old) (λ folder. IsTold request (D.content disk.old) →
@@ -60,9 +64,11 @@ pub fn run<L: Library, S: Source, K: Sink, D: Disk, M: Mirror>(
         IfServe (request_of words.now) (λ file.
         IsExactServing file (L.files library.old) (S.left source.old) (outcome_of result)) }
     ensures honest { IfSome (request_of words.now) (λ request.
-        AcceptsHonest request (L.files library.old) (K.taken sink.old) (K.taken sink.new) (outcome_of result)) }
+        AcceptsHonest request (L.files library.old) (K.taken sink.old) (K.taken sink.new)
+        (outcome_of result)) }
     ensures taken { IfSome (request_of words.now) (λ request.
-        RepliesAreTaken request (L.files library.old) (K.taken sink.old) (K.taken sink.new) (outcome_of result)) }
+        RepliesAreTaken request (L.files library.old) (K.taken sink.old) (K.taken sink.new)
+        (outcome_of result)) }
 {
     map_laws();
     server_laws();
@@ -89,7 +95,8 @@ fn work<L: Library, S: Source, K: Sink, D: Disk, M: Mirror>(
     ensures takes { RunTakes (request_of words.now) (L.files library.old)
         (S.left source.old) (S.left source.new) (S.faults source.old) (S.faults source.new)
         (K.taken sink.old) (K.taken sink.new) result }
-    ensures mirrors { OnMirrors M.octets M.named M.puts M.room D.Disk disk.old disk.new (request_of words.now)
+    ensures mirrors { OnMirrors M.octets M.named M.puts M.room D.Disk disk.old disk.new
+        (request_of words.now)
         (K.taken sink.old) (K.taken sink.new) mirrors.old.items mirrors.new.items result }
 {
     match command_of(words) {

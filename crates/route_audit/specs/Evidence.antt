@@ -1,7 +1,6 @@
 -- What an answer shows over a publication's own trees.
 -- Source: Merkle, A Digital Signature Based on a Conventional Encryption Function, CRYPTO 1987:
--- what folds to a
--- tree's root and is not the tree's own shows two texts with one digest.
+-- what folds to a tree's root and is not the tree's own shows two texts with one digest.
 use Rattle.std.specs.Prelude.{◌≡◌, ◌≢◌, ◌⊎◌, ℕ, List, length, Ok}
 use Rattle.road_map.specs.Routes.{IsShortest}
 use Rattle.book_model.specs.declared.items.Query.{Query}
@@ -76,8 +75,7 @@ pub record IsRight (hash sha : List ℕ → List ℕ) (p : Publication) (q : Que
 -- ---- collisions
 
 -- what is brought is not the tree's own, and at one place the tree hashes the left text, and the
--- fold of what is
--- brought the right one
+-- fold of what is brought the right one
 pub record Clashes (hash : List ℕ → List ℕ) (part : Part) (two : TwoTexts) : Type 0 where
   pub not_own : ¬ IsTreesOwn hash part
   pub hashed : AreHashed hash part.leaves part.fan part.places part.texts part.cover two.left

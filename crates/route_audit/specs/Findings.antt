@@ -18,8 +18,7 @@ use Rattle.route_audit.specs.declared.finding.Finding.{Finding}
 use Rattle.route_audit.specs.declared.finding.Finding.TheVariants.{Right, Collision, Forged}
 
 -- what is audited: octets as a reply to a query, under a public key and against a publication, at a
--- desk with
--- this public key
+-- desk with this public key
 pub record Audited : Type 0 where
   pub desk_key : List ℕ
   pub public : List ℕ
@@ -67,8 +66,7 @@ pub record IsOther (hash sha : List ℕ → List ℕ) (look : Look) (u : Audited
   pub other : (answer_of installed).header ≢ u.publication.header
 
 -- What an audit answers: the first of these that holds. Each asks that the earlier steps were
--- passed. Want of
--- memory may come at any time.
+-- passed. Want of memory may come at any time.
 abbrev pub Finds : (List ℕ → List ℕ) → (List ℕ → List ℕ) → Look → Audited →
     Result Finding AuditError → Type 0
 Finds hash sha look u (Err OtherKey) = u.public ≢ u.desk_key
@@ -88,8 +86,7 @@ Finds hash sha look u (Err Memory) = Unit {0}
 -- ---- one always comes
 
 -- octets that the client accepts under the desk's key, with any least version, and the publication
--- whose header
--- they carry
+-- whose header they carry
 pub record IsAuditable (hash sha : List ℕ → List ℕ) (u : Audited) : Type 0 where
   pub key : u.public ≡ u.desk_key
   pub least : ℕ

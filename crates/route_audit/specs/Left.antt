@@ -8,8 +8,7 @@ use Rattle.key_desk.specs.Desk.{SameAreas, Fits, KeepsAllKnown}
 use Rattle.key_desk.specs.Stands.{KeepsStanding}
 
 -- the desk keeps its areas and its counts and fits its disk, no image of the disk changes, and what
--- was known and
--- what was signed stays so
+-- was known and what was signed stays so
 pub record IsLeft {D : Type 0} (g : Ghosts D) (old_desk : Desk) (old : D) (new_desk : Desk)
     (new : D) : Type 0 where
   pub areas : SameAreas old_desk new_desk

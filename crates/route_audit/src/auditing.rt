@@ -90,8 +90,21 @@ pub fn audit<H: Hasher, D: Disk>(
     requires fits { Fits D.Disk desk.old disk.old }
     requires short { length reply.now < 2 ^ 32 }
     ensures finds { Finds H.hash sha256 (look_at D.Disk desk.old disk.old disk.new)
-        (record { desk_key = public_key desk.old.key; public = public.now; reply = reply.now; query = query; publication = publication }) result }
-    ensures comes { IsAuditable H.hash sha256 (record { desk_key = public_key desk.old.key; public = public.now; reply = reply.now; query = query; publication = publication })
+        (record {
+          desk_key = public_key desk.old.key;
+          public = public.now;
+          reply = reply.now;
+          query = query;
+          publication = publication;
+        }) result }
+    ensures comes { IsAuditable H.hash sha256
+        (record {
+          desk_key = public_key desk.old.key;
+          public = public.now;
+          reply = reply.now;
+          query = query;
+          publication = publication;
+        })
         → desk.old.is_open ≡ true → ¬ Rose (D.faults disk.old) (D.faults disk.new) → Comes result }
     ensures untouched { BeforeLook result ((desk.new ≡ desk.old) × (disk.new ≡ disk.old)) }
     ensures left { IsLeft D.Disk desk.old disk.old desk.new disk.new }

@@ -33,8 +33,7 @@ abbrev pub slot_in : ℕ → Publication → SlotId
 slot_in area p = record { area = area; number = slot_of p }
 
 -- the publication of parts and settings: with the header of their book, signed by a one-time key of
--- the key that is
--- not its last
+-- the key that is not its last
 pub record IsPublication (hash : List ℕ → List ℕ) (key : KeyOf) (parts : Parts) (s : Settings)
     (p : Publication) : Type 0 where
   pub of_parts : p.parts ≡ parts
@@ -67,8 +66,7 @@ OnNoSigning (Err (Desk e)) P = Unit {0}
 OnNoSigning (Err Memory) P = P
 
 -- at each moment the images are those at entry, or have one pair more, of the header and a slot,
--- and nothing
--- outside that slot changes
+-- and nothing outside that slot changes
 pub record SignsHeader {D : Type 0} (g : Ghosts D) (old new : D) (hash : List ℕ → List ℕ)
     (parts : Parts) (s : Settings) : Type 0 where
   pub slot : SlotId

@@ -283,7 +283,7 @@ fn fill_piece(content: &mut Vec<u8>, p: Piece, fill: u8)
 }
 
 impl Disk for MemDisk {
-    ghost use Rattle.road_io.specs.Causes.{HasCause};
+    ghost use Rattle.road_io.specs.Causes.{HasCause, RoseBy};
     ghost use Rattle.road_io.specs.Disk.{Passes, Stays, Torn};
     ghost use Rattle.mem_io.specs.MemDisk.{disk_clock, disk_content, disk_image_at, disk_synced, journal_taken, CanCall, CanSync, CanWrite, Counts};
 
@@ -294,6 +294,8 @@ impl Disk for MemDisk {
     ghost image_at = { λ m k i. LeftAt m.base.items m.entries.items m.octets.items k i };
 
     ghost faults = { λ m. m.faults };
+
+    ghost calls = { λ m. m.calls };
 
     ghost reads_image = { λ m c is.
         read_left m.base.items m.entries.items m.octets.items
@@ -308,6 +310,7 @@ impl Disk for MemDisk {
         ensures moments { Passes disk_clock disk_image_at self.old self.new Stays }
         ensures kept { OnOk result (self.new.faults ≡ self.old.faults) }
         ensures cause { HasCause self.old.faults self.new.faults result }
+        ensures counted { RoseBy 1 self.old.calls self.new.calls }
         ensures faulted { OnErr result (self.new.faults ≡ min (self.old.faults + 1) (2 ^ 64 - 1)) }
         ensures done { OnOk result (CanCall self.old) }
         ensures refused { OnErr result (¬ CanCall self.old) }
@@ -332,6 +335,7 @@ impl Disk for MemDisk {
         ensures moments { Passes disk_clock disk_image_at self.old self.new Stays }
         ensures kept { OnOk result (self.new.faults ≡ self.old.faults) }
         ensures cause { HasCause self.old.faults self.new.faults result }
+        ensures counted { RoseBy 1 self.old.calls self.new.calls }
         ensures faulted { OnErr result (self.new.faults ≡ min (self.old.faults + 1) (2 ^ 64 - 1)) }
         ensures done { OnOk result (CanCall self.old) }
         ensures refused { OnErr result (¬ CanCall self.old) }
@@ -361,6 +365,7 @@ impl Disk for MemDisk {
             (Torn at (length octets.now)) }
         ensures kept { OnOk result (self.new.faults ≡ self.old.faults) }
         ensures cause { HasCause self.old.faults self.new.faults result }
+        ensures counted { RoseBy 1 self.old.calls self.new.calls }
         ensures faulted { OnErr result (self.new.faults ≡ min (self.old.faults + 1) (2 ^ 64 - 1)) }
         ensures done { OnOk result (CanWrite self.old at (length octets.now)) }
         ensures refused { OnErr result (¬ CanWrite self.old at (length octets.now)) }
@@ -400,6 +405,7 @@ impl Disk for MemDisk {
         ensures moments { Passes disk_clock disk_image_at self.old self.new Stays }
         ensures kept { OnOk result (self.new.faults ≡ self.old.faults) }
         ensures cause { HasCause self.old.faults self.new.faults result }
+        ensures counted { RoseBy 1 self.old.calls self.new.calls }
         ensures faulted { OnErr result (self.new.faults ≡ min (self.old.faults + 1) (2 ^ 64 - 1)) }
         ensures synced { OnOk result (disk_synced self.new ≡ disk_content self.old) }
         ensures done { OnOk result (CanSync self.old) }
@@ -463,6 +469,7 @@ mod tests {
         assert_eq!(rt; disk.len(), Ok(4));
         assert_eq!(rt; disk.len(), Err(Failed), "from the stop on");
         assert_eq!(rt; disk.faults, 4);
+        assert_eq!(rt; disk.calls, 9);
         Ok(())
     }
 }

@@ -1,38 +1,56 @@
 //! What no clause says: a publication worked out by hand, cut into pieces of seven octets.
 ghost use Rattle.std.specs.Prelude.{◌≡◌, ◌<◌, ◌^◌, length};
 
-use octet_text::{put_i32, put_octets, put_u8, put_u16, put_u32, put_u64};
+use crate::publications::{octets_before_nodes, put_numbers};
+use octet_text::NoMemory;
 use proof_octets::Publication;
 use publication_pieces::pieces_of;
 use std::alloc::Global;
 use std::test::Fail;
 
 // Five nodes and four roads under DIJ, with a signature of 1,292 octets.
-fn publication_text(alloc: Global) -> Result<Vec<u8>, Fail> {
-    let mut text = Vec::new(alloc);
-    put_octets(&mut text, b"RPP1RPF1")?;
-    put_octets(&mut text, &[1, 0, 2, 0])?;
-    put_u64(&mut text, 3)?;
-    put_u32(&mut text, 5)?;
-    put_octets(&mut text, &[17; 32])?;
-    put_octets(&mut text, &[0; 52])?;
-    put_u16(&mut text, 1292)?;
-    for place in 0..1292u32 {
-        put_u8(&mut text, (place % 251) as u8)?;
+fn publication_text(alloc: Global) -> Result<Vec<u8>, NoMemory> {
+    let mut signature = [0; 1292];
+    for place in 0..1292 {
+        signature[place] = (place % 251) as u8;
     }
-    put_octets(&mut text, &[0; 32])?;
-    put_u32(&mut text, 5)?;
-    for (id, x, y) in [(1, 0, 0), (2, 10, 0), (3, 20, 0), (4, 10, -10), (5, 50, 50)] {
-        put_u32(&mut text, id)?;
-        put_i32(&mut text, x)?;
-        put_i32(&mut text, y)?;
-    }
-    put_u32(&mut text, 4)?;
-    for number in [1, 2, 4, 2, 3, 5, 1, 4, 3, 4, 3, 7] {
-        put_u32(&mut text, number)?;
-    }
+    let mut text = octets_before_nodes(alloc, 3, 5, &signature)?;
+    put_numbers(&mut text, &NUMBERS)?;
     Ok(text)
 }
+
+// How many nodes, each with its place, and how many roads, each with its length.
+const NUMBERS: [u32; 29] = [
+    5,
+    1,
+    0,
+    0,
+    2,
+    10,
+    0,
+    3,
+    20,
+    0,
+    4,
+    10,
+    0xffff_fff6,
+    5,
+    50,
+    50,
+    4,
+    1,
+    2,
+    4,
+    2,
+    3,
+    5,
+    1,
+    4,
+    3,
+    4,
+    3,
+    7,
+];
 
 #[test]
 fn a_publication_is_given_in_pieces_of_seven(rt: HostRuntime) -> Result<(), Fail> {

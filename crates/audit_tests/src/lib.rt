@@ -7,6 +7,8 @@ mod audit;
 #[cfg(test)]
 mod audit_reach;
 #[cfg(test)]
+mod chains;
+#[cfg(test)]
 mod client;
 #[cfg(test)]
 mod octets;

@@ -35,3 +35,4 @@ shown (command.Reach publication query) = request.Reach publication.now query
 shown (command.CheckReach key reply query least) = request.CheckReach key.now reply.now query least
 shown (command.AuditReach key publication reply query) = request.AuditReach key.now publication.now
     reply.now query
+shown (command.Reduce key text signature) = request.Reduce key.now text.now signature.now

@@ -2,7 +2,7 @@
 
 ghost use Rattle.std.specs.Prelude.{◌≡◌, ◌<◌, length, drop};
 ghost use Rattle.std.specs.Option.{option_map};
-ghost use Rattle.road_command.specs.Requests.{request_of, route_words, root_words, dimacs_words, key_words, succeed_words, links_words, desk_words, publish_words, prove_words, serve_words, check_words, audit_words, survey_words, reach_words, check_reach_words, audit_reach_words};
+ghost use Rattle.road_command.specs.Requests.{request_of, route_words, root_words, dimacs_words, key_words, succeed_words, links_words, desk_words, publish_words, prove_words, serve_words, check_words, audit_words, survey_words, reach_words, check_reach_words, audit_reach_words, reduce_words};
 ghost use Rattle.road_command.specs.View.{shown};
 
 use crate::asked::Survey;
@@ -95,6 +95,12 @@ pub enum Command<'a> {
         reply: &'a str,
         query: NearQuery,
     },
+    /// Find out what a signature on a text comes down to, with the owner's disk.
+    Reduce {
+        key: &'a str,
+        text: &'a str,
+        signature: &'a str,
+    },
 }
 
 /// The command that the words ask for, if they fit one.
@@ -121,6 +127,7 @@ pub fn command_of(words: &Words) -> Option<Command<'_>>
         "reach" => reach_of(words),
         "check-reach" => check_reach_of(words),
         "audit-reach" => audit_reach_of(words),
+        "reduce" => reduce_of(words),
         _ => None,
     }
 }
@@ -352,5 +359,19 @@ fn audit_reach_of(words: &Words) -> Option<Command<'_>>
         publication: words.word(2),
         reply: words.word(3),
         query,
+    })
+}
+
+fn reduce_of(words: &Words) -> Option<Command<'_>>
+    requires { 0 < length words.now }
+    ensures { option_map shown result ≡ reduce_words (drop 1 words.now) }
+{
+    if words.count() != 4 {
+        return None;
+    }
+    Some(Command::Reduce {
+        key: words.word(1),
+        text: words.word(2),
+        signature: words.word(3),
     })
 }

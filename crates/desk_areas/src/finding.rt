@@ -104,8 +104,8 @@ pub fn read_text<D: Disk>(disk: &mut D, place: u64, into: &mut [u8; 126]) -> Res
 {
     let mut octets = [0u8; 127];
     disk.read_at(place + 1, &mut octets)?;
-    into.copy_from_slice(&octets[1..]);
     let len = (octets[0] as u32).min(126);
+    into.copy_from_slice(&octets[1..]);
     Ok(len)
 }
 

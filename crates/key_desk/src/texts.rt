@@ -1,9 +1,9 @@
 //! The texts that the slots of a desk have signed.
-ghost use Rattle.std.specs.Prelude.{◌≡◌, ◌≢◌, ◌^◌, ◌<◌, ◌≤◌, ◌↔◌, ℕ, List, Err, false, IfOk, OnOk, IfNone, IsSome, IsErr, IsErrOf};
+ghost use Rattle.std.specs.Prelude.{◌≡◌, ◌≢◌, ◌^◌, ◌<◌, ◌≤◌, ◌↔◌, ℕ, List, Err, true, false, length, IfOk, OnOk, IfNone, IsSome, IsErr, IsErrOf};
 ghost use Rattle.road_io.specs.Causes.{Rose};
 ghost use Rattle.road_io.specs.Disk.{Stays};
 ghost use Rattle.road_io.specs.Moments.{AtEachMoment};
-ghost use Rattle.desk_areas.specs.Layout.{SlotId, place_of};
+ghost use Rattle.desk_areas.specs.Layout.{SlotId, place_of, slots_of};
 ghost use Rattle.key_desk.specs.Stands.{KeepsStanding};
 
 use crate::desk::{Desk, DeskError};
@@ -11,20 +11,31 @@ use desk_areas::{Count, base_of, place_in, read_text};
 use road_io::{Disk, Failed};
 
 impl Desk {
-    ghost use Rattle.key_desk.specs.Desk.{count_of, HasAreas, IsSlotOf, IsSound, Fits, KeepsAllKnown};
+    ghost use Rattle.key_desk.specs.Desk.{count_of, counts_of, key_of, HasAreas, IsSlotOf, IsSound, Fits, KeepsAllKnown};
     ghost use Rattle.key_desk.specs.SlotTexts.{HasInSlot};
 
-    // How a slot of an open area is counted.
-    fn count_in(&self, area: u32, slot: u32) -> Count
-        requires { IsSlotOf self.now (record { area = area; number = slot }) }
-        ensures { result ≡ count_of self.now (record { area = area; number = slot }) }
+    // How the slots of an open area are counted.
+    fn counts_in(&self, area: u32) -> &[Count]
+        requires { area ≤ length self.now.earlier }
+        ensures counts { result.now ≡ counts_of self.now area }
+        ensures sized { length result.now ≡ slots_of (key_of self.now area).kind }
     {
         let earlier = self.earlier();
         if (area as usize) < earlier.len() {
-            earlier[area as usize].counts()[slot as usize]
+            earlier[area as usize].counts()
         } else {
-            self.counts()[slot as usize]
+            self.counts()
         }
+    }
+
+    // Whether a slot of an open area counts as spent.
+    fn is_spent(&self, area: u32, slot: u32) -> bool
+        requires { IsSlotOf self.now (record { area = area; number = slot }) }
+        ensures { (result ≡ true) ↔
+            (count_of self.now (record { area = area; number = slot }) ≡ Count.Spent) }
+    {
+        let counts = self.counts_in(area);
+        counts[slot as usize] == Count::Spent
     }
 
     // Where a slot of an open area begins.
@@ -74,8 +85,8 @@ impl Desk {
         if !is_open {
             return Err(DeskError::Closed);
         }
-        let count = self.count_in(area, slot);
-        if count != Count::Spent {
+        let is_spent = self.is_spent(area, slot);
+        if !is_spent {
             return Ok(None);
         }
         let place = self.place_of(area, slot);

@@ -1,5 +1,5 @@
 -- What a signature comes down to, told of the disk and of its images.
-use Rattle.std.proofs.Common.{◌≡◌, ◌≢◌, ◌⊎◌, inl, inr, ℕ, ◌+◌, ◌*◌, ◌<◌, ◌≤◌, List, [], length, take, drop, Option, Some, None, IfSome, refl, sym, ap, ◌∙◌, subst, arith}
+use Rattle.std.proofs.Common.{◌≡◌, ◌≢◌, ◌⊎◌, ◌↔◌, inl, inr, ℕ, ◌+◌, ◌*◌, ◌<◌, ◌≤◌, List, [], length, take, drop, Option, Some, None, IfSome, refl, sym, ap, ◌∙◌, subst, arith}
 use Rattle.std.proofs.lemmas.List.{append-nil}
 use Rattle.std.specs.Prelude.{slice_index}
 use Rattle.std.specs.declared.result.Result.{Result}
@@ -14,7 +14,12 @@ use Rattle.road_io.specs.Moments.{Image, EachImage, AtEachMoment}
 use Rattle.road_io.proofs.MomentLaws.{at_end}
 use Rattle.lms_tree.specs.Signatures.{KeyOf, height_of, number_at, public_key, sealed, verified}
 use Rattle.lms_reduce.specs.Released.{own_value, signed_digits, IsUnreleased}
-use Rattle.lms_reduce.specs.Reduction.{Reduces}
+use Rattle.lms_reduce.specs.Reduction.{IsOfSigned, Reduces}
+use Rattle.lms_reduce.specs.declared.reduced.ReduceError.{ReduceError}
+use Rattle.lms_reduce.specs.declared.reduced.ReduceError.TheVariants.{NotVerified, Signed}
+use Rattle.lms_tree.specs.declared.seals.SealError.{SealError}
+use Rattle.route_client.specs.declared.errors.CheckError.TheVariants.{BadSignature}
+use Rattle.road_line.specs.VerdictLine.{refused_line}
 use Rattle.lms_reduce.specs.declared.reduced.Reduced.{Reduced}
 use Rattle.lms_reduce.specs.declared.reduced.Reduced.TheVariants.{Collision, Chain}
 use Rattle.lms_reduce.proofs.GoodLemmas.{good-length}
@@ -31,7 +36,7 @@ use Rattle.command_files.specs.declared.ended.Conclusion.TheVariants.{Done, Refu
 use Rattle.command_files.proofs.Written.{CallsFor, reads, refused, written, why_map}
 use Rattle.command_desks.specs.Opening.{EndsOpening, HasBlocks, IsOpened}
 use Rattle.command_desks.proofs.Openings.{shut}
-use Rattle.reduce_commands.specs.ReduceLine.{reduced_line}
+use Rattle.reduce_commands.specs.ReduceLine.{reduced_line, signed_line}
 use Rattle.reduce_commands.specs.Reducing.{HasSigned, HasSpent, IsKeyIn, TellsReduced, TellsSlot, EndsReducing, EndsReduce, ends_reduce}
 use Rattle.reduce_commands.specs.Unreleased.{ShowsLater, IsUnreleasedLine, IsClashLine, RestsOnReduced, WritesReduced}
 use Rattle.reduce_commands.proofs.Slots.{key_in, none_in}
@@ -40,7 +45,43 @@ use Rattle.reduce_commands.proofs.Slots.{key_in, none_in}
 later : {D : Type 0} (g : Ghosts D) (mid new : D) (P : List ℕ → Type 0) → AtEachMoment g mid new Stays → EachImage g mid P → EachImage g new P
 later g mid new P m h i now = let w = at_end g mid new Stays m i now in subst P (sym w.2) (h w.0 w.1)
 
--- ---- what is told
+-- ---- what an answer tells
+
+-- an answer that was given, and one that was refused
+abbrev given : Reduced → Result Reduced ReduceError
+given r = Ok r
+
+abbrev refusal : ReduceError → Result Reduced ReduceError
+refusal e = Err e
+
+-- a signature that is not bad is good
+good_else : (v : Result (Unit {0}) SealError) → ((why : SealError) → v ≡ Err why → ⊥) → v ≡ Ok tt
+good_else (Ok tt) none = refl
+good_else (Err why) none = absurd (none why refl)
+
+module _ (key : KeyOf) (spent : Option (List ℕ)) (text sig line : List ℕ) where
+  pub told_reduced : (r : Reduced) → ((why : SealError) → (given r ≡ Err (NotVerified why)) ↔ (verified (public_key key) text sig ≡ Err why)) → ((q : ℕ) → (given r ≡ Err (Signed q)) ↔ IsOfSigned key spent text sig q)
+      → Reduces key spent text sig r → line ≡ reduced_line r → TellsReduced key spent text sig (Ok Evidence) line
+  told_reduced r bad signed reduces is =
+      let good = good_else (verified (public_key key) text sig) (λ why e. not_refused (NotVerified why) ((bad why).1 e)) in
+      inr (good, inr ((λ same. not_refused (Signed (number_at sig 0)) ((signed (number_at sig 0)).1 (record { good = good; signed = same; of_slot = refl }))), r, reduces, refl, is))
+    where
+      not_refused : (e : ReduceError) → given r ≡ Err e → ⊥
+      not_refused e same = cc
+
+  pub told_signed : (slot : ℕ) → ((q : ℕ) → (refusal (Signed slot) ≡ Err (Signed q)) ↔ IsOfSigned key spent text sig q) → line ≡ signed_line slot → TellsReduced key spent text sig (Ok Done) line
+  told_signed slot signed is = let h = (signed slot).0 refl in inr (h.good, inl (h.signed, refl, is ∙ ap signed_line h.of_slot))
+
+  pub told_refused : (why : SealError) → ((w : SealError) → (refusal (NotVerified why) ≡ Err (NotVerified w)) ↔ (verified (public_key key) text sig ≡ Err w)) → line ≡ refused_line (BadSignature why) → TellsReduced key spent text sig (Ok Refused) line
+  told_refused why bad is = inl (why, (bad why).0 refl, refl, is)
+
+-- told of a key and of a slot's text that are these
+pub told_slot : {D : Type 0} (g : Ghosts D) (disk : D) (area : ℕ) (key key' : KeyOf) (spent spent' : Option (List ℕ)) (text sig : List ℕ) (o : Result Conclusion Fault) (line : List ℕ) → key' ≡ key → spent' ≡ spent
+    → EachImage g disk (λ i. HasSpent i area sig spent) → TellsReduced key' spent' text sig o line → TellsSlot g disk area key text sig o line
+told_slot g disk area key key' spent spent' text sig o line same_key same_spent each tells =
+    (spent, each, subst (λ (k : KeyOf). TellsReduced k spent text sig o line) same_key (subst (λ (s : Option (List ℕ)). TellsReduced key' s text sig o line) same_spent tells))
+
+-- ---- what is told of the disk
 
 module _ {D : Type 0} (g : Ghosts D) (old mid : D) (desk : Desk) (public text sig : List ℕ) (opened : IsOpened g old mid desk) (reads_image : (c : List ℕ) → g.content mid ≡ Some c → Image g mid c) where
   -- the line of an area's slot is that of what the disk holds
@@ -113,7 +154,17 @@ module _ (shows : Shows) {D : Type 0} (g : Ghosts D) (mid new : D) (desk : Desk)
   told_rests o line (spent, each, inr (good, inl signed)) = subst (λ x. RestsOnReduced g new x line) (sym signed.1) tt
   told_rests o line (spent, each, inr (good, inr evidence)) = subst (λ x. RestsOnReduced g new x line) (sym evidence.3) (by_reduced spent line each good evidence.1 evidence.2 evidence.4)
 
+-- a fault behind an opening
+pub not_told_since : (old mid new : ℕ) (content : Option (List ℕ)) (public text sig : List ℕ) (f : Fault) → old ≤ mid → (f ≡ faults.Memory) ⊎ ((f ≡ faults.Disk) × Rose mid new) → WhyNot (Rose old new) (EndsReduce content public text sig) f
+not_told_since old mid new content public text sig f le (inl is) = not_told (Rose old new) content public text sig f (inl is)
+not_told_since old mid new content public text sig f le (inr h) = not_told (Rose old new) content public text sig f (inr (h.0, rose_since old mid new le h.1))
+
 -- ---- the command
+
+-- the octets of a hex file, as they are read again
+pub hex_as : (files mid later : Option Folder) (name a b : List ℕ) → later ≡ mid → mid ≡ files → a ≡ b → IfSome later (λ folder. hex_text_at folder name ≡ Ok b) → IfSome files (λ folder. hex_text_at folder name ≡ Ok a)
+hex_as files mid later name a b first second same h =
+    subst (λ (f : Option Folder). IfSome f (λ folder. hex_text_at folder name ≡ Ok a)) (first ∙ second) (subst (λ xs. IfSome later (λ folder. hex_text_at folder name ≡ Ok xs)) (sym same) h)
 
 -- what three files make of an end
 module _ (files : Option Folder) (content : Option (List ℕ)) (key_name text_name sig_name public text sig : List ℕ)

@@ -1,5 +1,5 @@
 -- The keys of a desk's areas, and what their slots have signed.
-use Rattle.std.proofs.Common.{◌≡◌, ◌≢◌, ℕ, ◌<◌, ◌≤◌, List, length, take, Option, Some, None, IfSome, refl, sym, ap, ◌∙◌, subst, arith}
+use Rattle.std.proofs.Common.{◌≡◌, ◌≢◌, ◌↔◌, ℕ, Bool, true, false, ◌<◌, ◌≤◌, List, length, take, Option, Some, None, IfSome, IfNone, Result, Ok, Err, IfOk, IfErr, refl, sym, ap, ◌∙◌, subst, arith}
 use Rattle.std.specs.Option.{option_map}
 use Rattle.road_io.specs.declared.disk.Disk.{Ghosts}
 use Rattle.road_io.specs.Moments.{EachImage}
@@ -10,9 +10,11 @@ use Rattle.desk_areas.proofs.Areas.{open_down}
 use Rattle.desk_areas.proofs.Growth.{open_upto}
 use Rattle.key_desk.specs.declared.desk.Desk.{Desk}
 use Rattle.key_desk.specs.Desk.{key_of, HasAreas, IsSound}
+use Rattle.key_desk.specs.declared.desk.DeskError.{DeskError}
+use Rattle.key_desk.specs.declared.desk.DeskError.TheVariants.{KeysUsedUp, DiskFault, Closed}
 use Rattle.key_desk.specs.SlotTexts.{HasInSlot}
 use Rattle.key_desk.proofs.ReadGood.{key_is}
-use Rattle.reduce_commands.specs.Reducing.{HasSigned, HasSpent, IsKeyIn, slot_named}
+use Rattle.reduce_commands.specs.Reducing.{HasSigned, HasSpent, IsKeyIn, IsNamed, slot_named}
 
 -- ---- keys
 
@@ -70,3 +72,34 @@ told_spent g disk area number sig octets (Some n) long is told i now = record {
 pub told_short : {D : Type 0} (g : Ghosts D) (disk : D) (slot : SlotId) (octets : List ℕ) (found : Option ℕ) → HasInSlot g disk slot octets found → IfSome found (λ n. n ≤ 126)
 told_short g disk slot octets None told = tt
 told_short g disk slot octets (Some n) told = told.0
+
+-- a number that was found within the slots is the slot that the signature names
+pub named_within : (desk : Desk) (area : ℕ) (sig : List ℕ) (slot : ℕ) (found : Option ℕ) → slot ≡ number_at sig 0 → 4 ≤ length sig → IfSome found (λ n. (n ≡ slot) × (slot < slots_of (key_of desk area).kind)) → IfSome found (IsNamed desk area sig)
+named_within desk area sig slot None is long h = tt
+named_within desk area sig slot (Some n) is long h = record { number = h.0 ∙ is; long = long; known = omega (arith, h.0, h.1) }
+
+-- and one that wasn't names none that has signed anything
+pub named_beyond : (desk : Desk) (area : ℕ) (sig : List ℕ) (slot : ℕ) (found : Option ℕ) → area ≤ length desk.earlier → slot ≡ number_at sig 0 → 4 ≤ length sig → IfNone found (slots_of (key_of desk area).kind ≤ slot)
+    → IfNone found ((i : List ℕ) → HasAreas desk i → HasSpent i area sig None)
+named_beyond desk area sig slot None le is long high i areas = beyond desk i area slot sig areas le long is high
+named_beyond desk area sig slot (Some n) le is long h = tt
+
+-- ---- what follows of a result
+
+pub ok_then : {T E : Type 0} (r : Result T E) (P Q : T → Type 0) → ((x : T) → P x → Q x) → IfOk r P → IfOk r Q
+ok_then (Ok x) P Q f h = f x h
+ok_then (Err e) P Q f h = tt
+
+pub err_then : {T E : Type 0} (r : Result T E) (P Q : E → Type 0) → ((x : E) → P x → Q x) → IfErr r P → IfErr r Q
+err_then (Ok x) P Q f h = tt
+err_then (Err e) P Q f h = f e h
+
+-- an open desk refuses only where its disk failed
+pub failed_then : {T : Type 0} (r : Result T DeskError) (opened : Bool) (P : Type 0) → opened ≡ true → (r ≡ Err DiskFault → P) → (r ≡ Err Closed) ↔ (opened ≡ false) → r ≢ Err KeysUsedUp → IfErr r (λ e. P)
+failed_then (Ok x) opened P is fault closed used = tt
+failed_then (Err DiskFault) opened P is fault closed used = fault refl
+failed_then (Err Closed) opened P is fault closed used = absurd (no_both opened is (closed.0 refl))
+  where
+    no_both : (b : Bool) → b ≡ true → b ≡ false → ⊥
+    no_both b yes no = cc
+failed_then (Err KeysUsedUp) opened P is fault closed used = absurd (used refl)

@@ -12,8 +12,10 @@ use Rattle.lms_tree.specs.Signatures.{KeyOf, number_at, public_key, verified}
 use Rattle.lms_tree.specs.declared.seals.SealError.{SealError}
 use Rattle.lms_reduce.specs.Reduction.{Reduces}
 use Rattle.lms_reduce.specs.declared.reduced.Reduced.{Reduced}
-use Rattle.desk_areas.specs.Layout.{SlotId, base_of, IsAreaOpen, IsSigned}
+use Rattle.desk_areas.specs.Layout.{SlotId, slots_of, base_of, IsAreaOpen, IsSigned}
 use Rattle.desk_areas.specs.Keys.{key_at}
+use Rattle.key_desk.specs.declared.desk.Desk.{Desk}
+use Rattle.key_desk.specs.Desk.{key_of}
 use Rattle.route_client.specs.declared.errors.CheckError.TheVariants.{BadSignature}
 use Rattle.road_line.specs.VerdictLine.{refused_line}
 use Rattle.command_files.specs.HexFiles.{public_key_at, hex_text_at}
@@ -44,6 +46,12 @@ pub record HasSpent (image : List ℕ) (area : ℕ) (sig : List ℕ) (spent : Op
     Type 0 where
   pub named : 4 ≤ length sig → HasSigned image (slot_named area sig) spent
   pub unnamed : length sig < 4 → spent ≡ None
+
+-- the number of a slot of a desk's area is the one that a signature names
+pub record IsNamed (desk : Desk) (area : ℕ) (sig : List ℕ) (slot : ℕ) : Type 0 where
+  pub number : slot ≡ number_at sig 0
+  pub long : 4 ≤ length sig
+  pub known : slot < slots_of (key_of desk area).kind
 
 -- ---- the steps
 

@@ -39,7 +39,8 @@ pub fn reduce<L: Library, K: Sink, D: Disk>(
         (Rose (D.faults disk.old) (D.faults disk.new))
         (L.files library.old) (L.faults library.old) (L.faults library.new)
         (K.taken sink.old) (K.taken sink.new) (K.faults sink.old) (K.faults sink.new) result }
-    ensures unreleased { WritesReduced D.Disk disk.new (K.taken sink.old) (K.taken sink.new) result }
+    ensures unreleased { WritesReduced D.Disk disk.new (K.taken sink.old)
+        (K.taken sink.new) result }
     ensures stays { AtEachMoment D.Disk disk.old disk.new Stays }
 {
     let public: [u8; 56] = load_hex(alloc, library, key)?;

@@ -1,14 +1,14 @@
 //! The keys of a desk, and what their slots have signed.
 
-ghost use Rattle.std.specs.Prelude.{◌≡◌, ◌≢◌, ◌≤◌, ℕ, true, length, take, IfOk, IfErr, IfSome, IfNone};
+ghost use Rattle.std.specs.Prelude.{◌≡◌, ◌≢◌, ◌<◌, ◌≤◌, ℕ, List, None, true, length, take, IfOk, IfErr, IfSome, IfNone};
 ghost use Rattle.std.specs.Option.{option_map};
 ghost use Rattle.road_io.specs.Causes.{Rose};
 ghost use Rattle.road_io.specs.Disk.{Stays};
 ghost use Rattle.road_io.specs.Moments.{AtEachMoment, EachImage};
 ghost use Rattle.lms_tree.specs.Signatures.{number_at, public_key};
 ghost use Rattle.desk_areas.specs.Layout.{slots_of};
-ghost use Rattle.key_desk.specs.Desk.{Fits, key_of};
-ghost use Rattle.reduce_commands.specs.Reducing.{HasSpent};
+ghost use Rattle.key_desk.specs.Desk.{Fits, HasAreas, key_of};
+ghost use Rattle.reduce_commands.specs.Reducing.{HasSpent, IsNamed};
 
 use desk_areas::slots_of;
 use key_desk::{AreaError, Desk, DeskError};
@@ -42,13 +42,38 @@ fn slots_in(desk: &Desk, area: u32) -> u32
     }
 }
 
-/// The number of the slot that a signature names.
+/// The number of the slot that a signature names in its first four octets.
 #[tactic(auto, unfolding(lms_tree::specs::Signatures::number_at))]
-fn number(sig: &[u8]) -> u32
-    requires { 4 ≤ length sig.now }
-    ensures { result ≡ number_at sig.now 0 }
+fn number(sig: &[u8]) -> Option<u32>
+    ensures some { IfSome result (λ slot. (slot ≡ number_at sig.now 0) × (4 ≤ length sig.now)) }
+    ensures none { IfNone result (length sig.now < 4) }
 {
-    u32::from_be_bytes(array_at(sig, 0))
+    if sig.len() < 4 {
+        return None;
+    }
+    Some(u32::from_be_bytes(array_at(sig, 0)))
+}
+
+/// A slot's number, where there are as many slots.
+fn within(slot: u32, slots: u32) -> Option<u32>
+    ensures some { IfSome result (λ number. (number ≡ slot) × (slot < slots)) }
+    ensures none { IfNone result (slots ≤ slot) }
+{
+    if slot < slots { Some(slot) } else { None }
+}
+
+/// The slot of an open area that a signature names.
+fn slot_of(desk: &Desk, area: u32, sig: &[u8]) -> Option<u32>
+    requires opened { desk.now.is_open ≡ true }
+    requires area { area ≤ length desk.now.earlier }
+    ensures some { IfSome result (IsNamed desk.now area sig.now) }
+    ensures none { IfNone result ((i : List ℕ) → HasAreas desk.now i →
+        HasSpent i area sig.now None) }
+{
+    match number(sig) {
+        None => None,
+        Some(slot) => within(slot, slots_in(desk, area)),
+    }
 }
 
 /// How many octets the slot of an area has signed that a signature names, where it has signed some: they are put at
@@ -67,17 +92,12 @@ pub fn spent_of<D: Disk>(
         HasSpent i area sig.now (option_map (λ n. take n into.new) found))) }
     ensures short { IfOk result (λ found. IfSome found (λ n. n ≤ 126)) }
     ensures desk { IfOk result (λ found. desk.new ≡ desk.old) }
-    ensures fits { Fits D.Disk desk.new disk.new }
     ensures failed { IfErr result (λ e. Rose (D.faults disk.old) (D.faults disk.new)) }
     ensures faults { D.faults disk.old ≤ D.faults disk.new }
     ensures stays { AtEachMoment D.Disk disk.old disk.new Stays }
 {
-    if sig.len() < 4 {
-        return Ok(None);
+    match slot_of(desk, area, sig) {
+        None => Ok(None),
+        Some(slot) => desk.text_of(disk, area, slot, into),
     }
-    let slot = number(sig);
-    if slot >= slots_in(desk, area) {
-        return Ok(None);
-    }
-    desk.text_of(disk, area, slot, into)
 }

@@ -20,22 +20,22 @@ returns-clause-promised g c =
 pub returns-in_err-public-clause-unreleased : goal.returns-in_err-public-clause-unreleased
 returns-in_err-public-clause-unreleased g c =
     let p = err_from_is_err_and c.from_residual.result c.from_residual.ensures.1 in
-    rw (p.1, p.2) tt
+    rw p.1 tt
 
 pub returns-in_err-text-clause-unreleased : goal.returns-in_err-text-clause-unreleased
 returns-in_err-text-clause-unreleased g c =
     let p = err_from_is_err_and c.from_residual-in_err-text.result c.from_residual-in_err-text.ensures.1 in
-    rw (p.1, p.2) tt
+    rw p.1 tt
 
 pub returns-in_err-sig-clause-unreleased : goal.returns-in_err-sig-clause-unreleased
 returns-in_err-sig-clause-unreleased g c =
     let p = err_from_is_err_and c.from_residual-in_err-sig.result c.from_residual-in_err-sig.ensures.1 in
-    rw (p.1, p.2) tt
+    rw p.1 tt
 
 pub returns-in_err-told-clause-unreleased : goal.returns-in_err-told-clause-unreleased
 returns-in_err-told-clause-unreleased g c =
     let p = err_from_is_err_and c.from_residual-in_err-told.result c.from_residual-in_err-told.ensures.1 in
-    rw (p.1, p.2) tt
+    rw p.1 tt
 
 pub returns-clause-unreleased : goal.returns-clause-unreleased
 returns-clause-unreleased g c = reduced_written g.D.Disk c.find.new.disk _ _ _ _ _ _ _ c.in_ok-told.ensures.rests c.write_told.ensures

@@ -140,6 +140,14 @@ fn each_command_line_is_read(rt: HostRuntime) -> Result<(), Fail> {
                 chain: None,
             },
         ),
+        (
+            "reduce k.hex header signature",
+            Command::Reduce {
+                key: "k.hex",
+                text: "header",
+                signature: "signature",
+            },
+        ),
     ] {
         let words = words_of(&rt, rt.alloc(), line)?;
         assert_eq!(rt; command_of(&words), Some(command), "at {line}");
@@ -172,6 +180,7 @@ fn other_command_lines_fit_no_command(rt: HostRuntime) -> Result<(), Fail> {
         "reach a.pub 1 18446744073709551616",
         "check-reach k r 1 3",
         "audit-reach k p r 4294967296 3",
+        "reduce k header",
         "",
     ] {
         let words = words_of(&rt, rt.alloc(), line)?;

@@ -25,6 +25,7 @@ pub data Request : Type 0 where
   Reach : List ℕ → NearQuery → Request
   CheckReach : List ℕ → List ℕ → NearQuery → ℕ → Option (List ℕ) → Request
   AuditReach : List ℕ → List ℕ → List ℕ → NearQuery → Option (List ℕ) → Request
+  Reduce : List ℕ → List ℕ → List ℕ → Request
 
 -- ---- single words
 
@@ -263,6 +264,11 @@ audit_reach_words (key ∷ publication ∷ reply ∷ from ∷ radius ∷ chain �
     audit_reach_of key publication reply from radius (Some chain)
 audit_reach_words _ = None
 
+-- the names of files of a public key, a text and a signature
+abbrev pub reduce_words : List (List ℕ) → Option Request
+reduce_words (key ∷ text ∷ signature ∷ []) = Some (Reduce key text signature)
+reduce_words _ = None
+
 -- the command that words ask for, if they fit one
 abbrev pub request_of : List (List ℕ) → Option Request
 request_of [] = None
@@ -283,4 +289,5 @@ request_of (verb ∷ words) =
     else if bytes_eq verb (codes "reach") then reach_words words
     else if bytes_eq verb (codes "check-reach") then check_reach_words words
     else if bytes_eq verb (codes "audit-reach") then audit_reach_words words
+    else if bytes_eq verb (codes "reduce") then reduce_words words
     else None

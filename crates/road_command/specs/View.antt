@@ -38,3 +38,4 @@ shown (command.CheckReach key reply query least chain) = request.CheckReach key.
     least (option_map (λ word. word.now) chain)
 shown (command.AuditReach key publication reply query chain) = request.AuditReach key.now
     publication.now reply.now query (option_map (λ word. word.now) chain)
+shown (command.Reduce key text signature) = request.Reduce key.now text.now signature.now

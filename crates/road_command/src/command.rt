@@ -2,7 +2,7 @@
 
 ghost use Rattle.std.specs.Prelude.{◌≡◌, ◌<◌, ◌≤◌, length, drop};
 ghost use Rattle.std.specs.Option.{option_map};
-ghost use Rattle.road_command.specs.Requests.{request_of, route_words, root_words, dimacs_words, key_words, succeed_words, links_words, desk_words, publish_words, prove_words, serve_words, check_words, check_of, audit_words, audit_of, survey_words, reach_words, check_reach_words, check_reach_of, audit_reach_words, audit_reach_of, word_at};
+ghost use Rattle.road_command.specs.Requests.{request_of, route_words, root_words, dimacs_words, key_words, succeed_words, links_words, desk_words, publish_words, prove_words, serve_words, check_words, check_of, audit_words, audit_of, survey_words, reach_words, check_reach_words, check_reach_of, audit_reach_words, audit_reach_of, word_at, reduce_words};
 ghost use Rattle.road_command.specs.View.{shown};
 
 use crate::asked::Survey;
@@ -103,6 +103,12 @@ pub enum Command<'a> {
         query: NearQuery,
         chain: Option<&'a str>,
     },
+    /// Find out what a signature on a text comes down to, with the owner's disk.
+    Reduce {
+        key: &'a str,
+        text: &'a str,
+        signature: &'a str,
+    },
 }
 
 /// The command that the words ask for, if they fit one.
@@ -129,6 +135,7 @@ pub fn command_of(words: &Words) -> Option<Command<'_>>
         "reach" => reach_of(words),
         "check-reach" => check_reach_of(words),
         "audit-reach" => audit_reach_of(words),
+        "reduce" => reduce_of(words),
         _ => None,
     }
 }
@@ -404,5 +411,19 @@ fn audit_reach_along<'a>(words: &'a Words, chain: Option<&'a str>) -> Option<Com
         reply: words.word(3),
         query,
         chain,
+    })
+}
+
+fn reduce_of(words: &Words) -> Option<Command<'_>>
+    requires { 0 < length words.now }
+    ensures { option_map shown result ≡ reduce_words (drop 1 words.now) }
+{
+    if words.count() != 4 {
+        return None;
+    }
+    Some(Command::Reduce {
+        key: words.word(1),
+        text: words.word(2),
+        signature: words.word(3),
     })
 }

@@ -13,7 +13,7 @@ use Rattle.route_client.specs.declared.accepted.Accepted.{Accepted}
 use Rattle.route_client.specs.declared.errors.CheckError.{CheckError}
 use Rattle.route_client.specs.Verdicts.{IsVerdict}
 use Rattle.route_laws.specs.Honest.{AnswersAreAccepted, AreAccepted}
-use Rattle.road_command.specs.Requests.{Request, Route, Root, Dimacs, Key, Succeed, Links, Desk, Publish, Prove, Serve, Check, Audit, Survey, Reach, CheckReach, AuditReach}
+use Rattle.road_command.specs.Requests.{Request, Route, Root, Dimacs, Key, Succeed, Links, Desk, Publish, Prove, Serve, Check, Audit, Survey, Reach, CheckReach, AuditReach, Reduce}
 use Rattle.command_files.specs.HexFiles.{public_key_at}
 use Rattle.command_files.specs.Reading.{octets_at}
 use Rattle.command_files.specs.Endings.{EndsReading, Answered}
@@ -150,3 +150,4 @@ accepts_honest verdicts laws (Reach publication q) files content old new o a los
 accepts_honest verdicts laws (CheckReach key reply q least) (Some folder) content old new o a lost = λ p file. near_writes verdicts.near_one verdicts.near_accepted laws.near_replies folder key reply q least p file old new o a lost
 accepts_honest verdicts laws (CheckReach key reply q least) None content old new o a lost = tt
 accepts_honest verdicts laws (AuditReach key publication reply q) files content old new o a lost = tt
+accepts_honest verdicts laws (Reduce key text signature) files content old new o a lost = tt

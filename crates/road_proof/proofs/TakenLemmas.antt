@@ -14,7 +14,7 @@ use Rattle.proof_octets.specs.declared.publication.Publication.{Publication}
 use Rattle.route_server.specs.declared.errors.BuildError.{BuildError}
 use Rattle.route_server.specs.declared.errors.BuildError.TheVariants as build
 use Rattle.route_laws.specs.Honest.{UnknownNodesAreTold, NoRoutesAreTold}
-use Rattle.road_command.specs.Requests.{Request, Route, Root, Dimacs, Key, Succeed, Links, Desk, Publish, Prove, Serve, Check, Audit, Survey, Reach, CheckReach, AuditReach}
+use Rattle.road_command.specs.Requests.{Request, Route, Root, Dimacs, Key, Succeed, Links, Desk, Publish, Prove, Serve, Check, Audit, Survey, Reach, CheckReach, AuditReach, Reduce}
 use Rattle.command_files.specs.Reading.{publication_at}
 use Rattle.command_files.specs.TwoEnds.{IsFirstUnknown}
 use Rattle.command_files.specs.Endings.{Ending, Answered}
@@ -115,3 +115,4 @@ replies_taken laws refused (Audit key publication reply q) files content old new
 replies_taken laws refused (Survey width seed method queries) files content old new o a = tt
 replies_taken laws refused (CheckReach key reply q least) files content old new o a = tt
 replies_taken laws refused (AuditReach key publication reply q) files content old new o a = tt
+replies_taken laws refused (Reduce key text signature) files content old new o a = tt

@@ -11,7 +11,7 @@ use Rattle.road_io.specs.Contents.{Folder}
 use Rattle.road_io.specs.Disk.{Stays}
 use Rattle.road_io.specs.Moments.{AtEachMoment}
 use Rattle.key_desk.specs.Stands.{KeepsStanding}
-use Rattle.road_command.specs.Requests.{Request, Route, Root, Dimacs, Key, Succeed, Links, Desk, Publish, Prove, Serve, Check, Audit, Survey, Reach, CheckReach, AuditReach}
+use Rattle.road_command.specs.Requests.{Request, Route, Root, Dimacs, Key, Succeed, Links, Desk, Publish, Prove, Serve, Check, Audit, Survey, Reach, CheckReach, AuditReach, Reduce}
 use Rattle.command_files.specs.Endings.{Ending, Promises, TellsNone}
 use Rattle.command_files.specs.declared.fault.Fault.{Fault}
 use Rattle.command_files.specs.declared.fault.Fault.TheVariants.{Words, MirrorLost}
@@ -31,6 +31,8 @@ use Rattle.owner_commands.specs.Publishing.{TellsLost, ends_publish}
 use Rattle.owner_commands.specs.Signing.{SealsWhatItWrites, SealsWhatItMirrors, SignsAtMostOne, StaysRefused}
 use Rattle.audit_commands.specs.Auditing.{ends_audit}
 use Rattle.audit_commands.specs.Headline.{IsBrought, WritesFindings, AuditsAccepted}
+use Rattle.reduce_commands.specs.Reducing.{ends_reduce}
+use Rattle.reduce_commands.specs.Unreleased.{WritesReduced}
 use Rattle.survey_commands.specs.Surveying.{EndsSurvey}
 use Rattle.near_server_commands.specs.NearReaching.{ends_reach}
 use Rattle.near_client_commands.specs.NearChecking.{ends_check_reach}
@@ -58,6 +60,7 @@ Ends content (Reach publication q) folder = ends_reach publication q folder
 Ends content (CheckReach key reply q least) folder = ends_check_reach key reply q least folder
 Ends content (AuditReach key publication reply q) folder = ends_audit_reach content key publication
     reply q folder
+Ends content (Reduce key text signature) folder = ends_reduce content key text signature folder
 
 -- of which faults a command tells its client by a text
 abbrev pub TellsClient : Request → Fault → Type 0
@@ -86,6 +89,8 @@ OnDisk g old new (AuditReach key publication reply q) files taken_before taken_n
     WritesFindings g new IsNearBrought key reply files taken_before taken_now outcome
     × AuditsAcceptedReach g (g.content old) new key publication reply q files taken_before taken_now
     outcome
+OnDisk g old new (Reduce key text signature) files taken_before taken_now outcome =
+    AtEachMoment g old new Stays × WritesReduced g new taken_before taken_now outcome
 OnDisk g old new request files taken_before taken_now outcome = AtEachMoment g old new Stays
 
 -- M is a mirror, of which octets, label, puts and room tell what it holds, its label, and what it
@@ -129,6 +134,7 @@ IsTold Desk content = content ≢ None
 IsTold (Publish roads settings) content = content ≢ None
 IsTold (Audit key publication reply q) content = content ≢ None
 IsTold (AuditReach key publication reply q) content = content ≢ None
+IsTold (Reduce key text signature) content = content ≢ None
 IsTold (Serve publication) content = ⊥
 IsTold request content = Unit {0}
 

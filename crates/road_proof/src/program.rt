@@ -20,6 +20,7 @@ use near_client_commands::check_reach;
 use near_proof::near_laws;
 use near_server_commands::reach;
 use owner_commands::{desk, key, links, publish, succeed};
+use reduce_commands::reduce;
 use road_command::{Command, Words, command_of};
 use road_io::{Disk, Library, Sink, Source};
 use road_map::map_laws;
@@ -153,5 +154,12 @@ fn work<L: Library, S: Source, K: Sink, D: Disk, M: Mirror>(
                 query,
             },
         ) => audit_reach(alloc, library, sink, disk, key, publication, reply, query),
+        Some(
+            Command::Reduce {
+                key,
+                text,
+                signature,
+            },
+        ) => reduce(alloc, library, sink, disk, key, text, signature),
     }
 }

@@ -9,7 +9,7 @@ use Rattle.proof_octets.specs.Headers.{header_text}
 use Rattle.route_server.specs.Installing.{Installs}
 use Rattle.route_server.specs.Keeping.{Kept, IsKept, HasSpellings, header_in, publication_in}
 use Rattle.route_server.proofs.KeepLemmas.{has_header}
-use Rattle.route_audit.specs.Looks.{Look}
+use Rattle.desk_look.specs.Looks.{Look}
 use Rattle.route_audit.specs.declared.finding.Finding.{Finding}
 use Rattle.route_audit.specs.declared.finding.Finding.TheVariants.{Right, Collision, Forged}
 use Rattle.route_audit.proofs.FindingLemmas.{OneMade, installable}

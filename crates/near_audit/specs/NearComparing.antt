@@ -8,7 +8,7 @@ use Rattle.route_server.specs.Keeping.{Kept, header_in}
 use Rattle.route_server.specs.declared.errors.InstallError.TheVariants as installs
 use Rattle.route_audit.specs.Comparing.{part_under}
 use Rattle.route_audit.specs.Evidence.{Part, IsTreesOwn, Clashes, AreCollision}
-use Rattle.route_audit.specs.Looks.{Look}
+use Rattle.desk_look.specs.Looks.{Look}
 use Rattle.route_audit.specs.declared.finding.Finding.{Finding}
 use Rattle.route_audit.specs.declared.finding.Finding.TheVariants.{Right, Collision, Forged}
 use Rattle.near_model.specs.declared.query.NearQuery.{NearQuery}

@@ -5,7 +5,7 @@ use Rattle.proof_octets.specs.Headers.{header_text}
 use Rattle.route_server.specs.Headers.{HasHeader}
 use Rattle.route_server.specs.Installing.{Installs}
 use Rattle.route_server.specs.declared.errors.InstallError.TheVariants as installs
-use Rattle.route_audit.specs.Looks.{Look}
+use Rattle.desk_look.specs.Looks.{Look}
 use Rattle.route_audit.specs.declared.finding.Finding.{Finding}
 use Rattle.route_audit.specs.declared.finding.Finding.TheVariants.{Right, Collision, Forged}
 use Rattle.near_model.specs.declared.query.NearQuery.{NearQuery}

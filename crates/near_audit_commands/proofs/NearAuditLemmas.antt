@@ -22,7 +22,7 @@ use Rattle.proof_octets.specs.declared.publication.Publication.{Publication}
 use Rattle.proof_octets.specs.Headers.{header_text}
 use Rattle.route_server.specs.declared.errors.BuildError.TheVariants as build
 use Rattle.route_server.specs.declared.errors.InstallError.TheVariants as install
-use Rattle.route_audit.specs.Looks.{LookFails, look_at}
+use Rattle.desk_look.specs.Looks.{LookFails, look_at}
 use Rattle.near_audit.specs.NearFindings.{Audited, NearFinds, reply_of}
 use Rattle.near_audit.specs.declared.errors.NearAuditError.{NearAuditError}
 use Rattle.near_audit.specs.declared.errors.NearAuditError.TheVariants as audit

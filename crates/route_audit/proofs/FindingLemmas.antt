@@ -25,7 +25,7 @@ use Rattle.route_server.specs.Keeping.{Kept, IsKept, HasSpellings, header_in, pu
 use Rattle.route_server.proofs.KeepLemmas.{has_header}
 use Rattle.route_audit.specs.Comparing.{Compares, FindsIn, IsAnswerTo, IsRefused, IsNotInstalled, node_part_of, pair_part_of}
 use Rattle.route_audit.specs.Findings.{Audited, IsAccepted, IsInstalled, IsAuditable, Finds, Comes, BeforeLook}
-use Rattle.route_audit.specs.Looks.{Look}
+use Rattle.desk_look.specs.Looks.{Look}
 use Rattle.route_audit.specs.declared.errors.AuditError.{AuditError}
 use Rattle.route_audit.specs.declared.errors.AuditError.TheVariants.{OtherKey, Refused, Install, Desk, OtherPublication, Memory}
 use Rattle.route_audit.specs.declared.finding.Finding.{Finding}

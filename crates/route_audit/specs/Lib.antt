@@ -1,5 +1,3 @@
 pub mod Comparing
 pub mod Evidence
 pub mod Findings
-pub mod Left
-pub mod Looks

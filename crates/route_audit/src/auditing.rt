@@ -1,8 +1,8 @@
 //! The audit of a reply.
-ghost use Rattle.std.specs.Prelude.{◌≡◌, ◌<◌, ◌^◌, length, true, Ok};
+ghost use Rattle.std.specs.Prelude.{◌≡◌, ◌<◌, ◌≤◌, ◌^◌, length, true, Ok};
 ghost use Rattle.sha2.specs.Sha256.{sha256};
 ghost use Rattle.road_io.specs.Causes.{Rose};
-ghost use Rattle.lms_tree.specs.Signatures.{public_key};
+ghost use Rattle.lms_tree.specs.Chains.{chained, verified_along};
 ghost use Rattle.key_desk.specs.Desk.{Fits};
 ghost use Rattle.proof_octets.specs.Good.{IsGood};
 ghost use Rattle.proof_octets.specs.Headers.{header_text};
@@ -11,76 +11,85 @@ ghost use Rattle.proof_octets.specs.declared.reply.Reply.TheVariants.{Answer as 
 ghost use Rattle.route_client.specs.Verdicts.{nodes_covered, pairs_covered};
 ghost use Rattle.route_audit.specs.Comparing.{FindsIn};
 ghost use Rattle.route_audit.specs.Findings.{BeforeLook, Comes, Finds, IsAuditable};
-ghost use Rattle.route_audit.specs.Left.{IsLeft};
-ghost use Rattle.route_audit.specs.Looks.{Says, look_at};
+ghost use Rattle.desk_look.specs.Left.{IsLeft};
+ghost use Rattle.desk_look.specs.Looks.{IsKeyFrom, look_at};
 
 use crate::comparing::compare;
-use crate::steps::{accepted_answer, install, is_key_of, is_same_header};
+use crate::steps::{accepted_answer, install, is_same_header};
 use crate::{AuditError, Finding};
 use book_model::Query;
-use key_desk::{Desk, DeskError};
+use desk_look::{LookError, look, own_key};
+use key_desk::Desk;
+use lms_tree::Link;
 use octet_text::{Hasher, NoMemory};
 use proof_method::method_laws;
-use proof_octets::{Answer, Header, Publication};
+use proof_octets::{Answer, Publication};
 use road_io::Disk;
 use route_client::verdict_laws;
 use route_server::{Held, server_laws};
 use std::alloc::Global;
 
-/// Whether a header is signed in a slot.
-pub fn is_signed<D: Disk>(desk: &mut Desk, disk: &mut D, header: &Header) -> Result<bool, DeskError>
-    requires { Fits D.Disk desk.old disk.old }
-    ensures says { Says (look_at D.Disk desk.old disk.old disk.new)
-        (header_text header.now) result }
-    ensures left { IsLeft D.Disk desk.old disk.old desk.new disk.new }
-{
-    desk.signed(disk, &header.write())
-}
-
 // What an accepted answer is evidence of, by the desk and the book of a publication.
 fn find_in<H: Hasher, D: Disk>(
     alloc: Global,
     held: &Held<H>,
+    public: &[u8; 56],
+    chain: &[Link],
     reply: &[u8],
-    answer: Answer,
+    answer: &Answer,
     desk: &mut Desk,
     disk: &mut D,
 ) -> Result<Finding, AuditError>
     requires fits { Fits D.Disk desk.old disk.old }
-    requires good { IsGood answer }
-    requires spelled { reply.now ≡ reply_text (spelled_answer answer) }
+    requires own { IsKeyFrom desk.old 0 public.now }
+    requires good { IsGood answer.now }
+    requires spelled { reply.now ≡ reply_text (spelled_answer answer.now) }
     requires short { length reply.now < 2 ^ 32 }
-    requires nodes { nodes_covered H.hash answer ≡ Ok tt }
-    requires pairs { pairs_covered H.hash answer ≡ Ok tt }
-    ensures finds { FindsIn H.hash
-        (look_at D.Disk desk.old disk.old disk.new) held.now answer result }
+    requires chain { chained public.now chain.now ≡ Ok tt }
+    requires signed { verified_along public.now chain.now
+        (header_text answer.now.header) answer.now.signature ≡ Ok tt }
+    requires nodes { nodes_covered H.hash answer.now ≡ Ok tt }
+    requires pairs { pairs_covered H.hash answer.now ≡ Ok tt }
+    ensures finds { FindsIn H.hash (look_at D.Disk desk.old disk.old disk.new)
+        public.now chain.now held.now answer.now result }
     ensures left { IsLeft D.Disk desk.old disk.old desk.new disk.new }
 {
-    match is_signed(desk, disk, &answer.header) {
-        Ok(true) => {}
-        Ok(false) => return Ok(Finding::forged(answer)),
-        Err(failure) => return Err(AuditError::Desk(failure)),
+    match look(
+        alloc,
+        desk,
+        disk,
+        public,
+        chain,
+        &answer.header,
+        answer.signature.as_slice(),
+    ) {
+        Ok(None) => {}
+        Ok(Some(forgery)) => return Ok(Finding::forged(forgery)),
+        Err(LookError::Desk(failure)) => return Err(AuditError::Desk(failure)),
+        Err(LookError::Memory) => return Err(AuditError::Memory),
     }
     if !is_same_header(&answer.header, &held.header()) {
         return Err(AuditError::OtherPublication);
     }
-    match compare::<H>(alloc, held, reply, &answer) {
+    match compare::<H>(alloc, held, reply, answer) {
         Ok(finding) => Ok(finding),
         Err(NoMemory) => Err(AuditError::Memory),
     }
 }
 
-/// What a reply that a client accepted is evidence of, by the owner's desk and a publication. The first of
-/// these is answered:
+/// What a reply that a client accepted under a public key and a chain of links is evidence of, by the owner's
+/// desk and a publication. The first of these is answered:
 ///
-/// `OtherKey` where the public key is not the desk's; `Refused` where the client does not accept the reply,
+/// `OtherKey` where the public key is none of the desk's; `Refused` where the client does not accept the reply,
 /// whatever its version; `Install` where the publication's header is not that of its parts and settings;
-/// `Desk` where the desk is closed, or its disk fails; `Forged` where the accepted header stands in no spent
-/// slot; `OtherPublication` where it is not the publication's; `Collision` where what the reply brings is not
-/// of the publication's trees, the node tree first; and else `Right`.
+/// `Desk` where the desk is closed, or its disk fails; `Forged` of the first link whose text stands in no spent
+/// slot; `Forged` of the accepted header where it stands in none; `OtherPublication` where it is not the
+/// publication's; `Collision` where what the reply brings is not of the publication's trees, the node tree
+/// first; and else `Right`.
 pub fn audit<H: Hasher, D: Disk>(
     alloc: Global,
     public: &[u8],
+    chain: &[Link],
     reply: &[u8],
     query: Query,
     publication: Publication,
@@ -89,33 +98,36 @@ pub fn audit<H: Hasher, D: Disk>(
 ) -> Result<Finding, AuditError>
     requires fits { Fits D.Disk desk.old disk.old }
     requires short { length reply.now < 2 ^ 32 }
+    requires few { length chain.now ≤ 7 }
     ensures finds { Finds H.hash sha256 (look_at D.Disk desk.old disk.old disk.new)
         (record {
-          desk_key = public_key desk.old.key;
           public = public.now;
+          chain = chain.now;
           reply = reply.now;
           query = query;
           publication = publication;
         }) result }
-    ensures comes { IsAuditable H.hash sha256
+    ensures comes { (auditable : IsAuditable H.hash sha256
+        (look_at D.Disk desk.old disk.old disk.new)
         (record {
-          desk_key = public_key desk.old.key;
           public = public.now;
+          chain = chain.now;
           reply = reply.now;
           query = query;
           publication = publication;
-        })
-        → desk.old.is_open ≡ true → ¬ Rose (D.faults disk.old) (D.faults disk.new) → Comes result }
+        }))
+        → desk.old.is_open ≡ true → ¬ Rose (D.faults disk.old) (D.faults disk.new) →
+        Comes auditable.accepted.header publication.header result }
     ensures untouched { BeforeLook result ((desk.new ≡ desk.old) × (disk.new ≡ disk.old)) }
     ensures left { IsLeft D.Disk desk.old disk.old desk.new disk.new }
 {
     verdict_laws();
     server_laws();
     method_laws();
-    if !is_key_of(desk, public) {
+    let Some(key) = own_key(desk, public) else {
         return Err(AuditError::OtherKey);
-    }
-    let answer = accepted_answer::<H>(alloc, public, reply, query)?;
+    };
+    let answer = accepted_answer::<H>(alloc, public, chain, reply, query)?;
     let held = install::<H>(alloc, publication)?;
-    find_in::<H, D>(alloc, &held, reply, answer, desk, disk)
+    find_in::<H, D>(alloc, &held, &key, chain, reply, &answer, desk, disk)
 }

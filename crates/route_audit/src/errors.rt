@@ -8,8 +8,8 @@ use thiserror::Error;
 /// Why there is no finding. Want of memory is `Memory` alone, never inside another.
 #[derive(Clone, Copy, Debug, PartialEq, Eq, Error)]
 pub enum AuditError {
-    /// The public key is not the desk's.
-    #[error("The public key is not that of the desk.")]
+    /// The public key is none of the desk's.
+    #[error("The public key is none of the desk's.")]
     OtherKey,
     /// The client does not accept the reply, for this reason.
     #[error("The reply is refused. {0}")]

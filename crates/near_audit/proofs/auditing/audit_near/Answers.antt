@@ -1,7 +1,7 @@
 use Rattle.sha2.specs.Sha256.{sha256}
 use Rattle.lms_tree.specs.Signatures.{public_key}
-use Rattle.route_audit.specs.Looks.{look_at}
-use Rattle.route_audit.proofs.LeftLemmas.{works}
+use Rattle.desk_look.specs.Looks.{look_at}
+use Rattle.desk_look.proofs.LeftLemmas.{works}
 use Rattle.near_audit.proofs.NearFindingLemmas.{at, comes}
 use Rattle.near_audit.proofs.auditing.audit_near.Goals as goal
 

@@ -1,6 +1,6 @@
 use Rattle.lms_tree.specs.Signatures.{public_key}
-use Rattle.route_audit.specs.Looks.{look_at}
-use Rattle.route_audit.proofs.LeftLemmas.{left_alone}
+use Rattle.desk_look.specs.Looks.{look_at}
+use Rattle.desk_look.proofs.LeftLemmas.{left_alone}
 use Rattle.near_audit.proofs.NearFindingLemmas.{found_finds, found_late}
 use Rattle.near_audit.proofs.auditing.find.Goals as goal
 

@@ -2,9 +2,9 @@ use Rattle.std.proofs.lemmas.Result.{err_from_is_err_and}
 use Rattle.sha2.specs.Sha256.{sha256}
 use Rattle.std.proofs.Common.{Err}
 use Rattle.lms_tree.specs.Signatures.{public_key}
-use Rattle.route_audit.specs.Looks.{look_at}
+use Rattle.desk_look.specs.Looks.{look_at}
 use Rattle.route_audit.proofs.FindingLemmas.{at, refused_finds, not_installed_finds, found_finds, found_late, comes}
-use Rattle.route_audit.proofs.LeftLemmas.{left_alone, works}
+use Rattle.desk_look.proofs.LeftLemmas.{left_alone, works}
 use Rattle.route_audit.proofs.auditing.audit.Goals as goal
 
 -- ---- the key is another

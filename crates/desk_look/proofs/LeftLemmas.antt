@@ -6,8 +6,8 @@ use Rattle.key_desk.specs.Desk.{Fits}
 use Rattle.road_io.specs.Causes.{Rose}
 use Rattle.key_desk.specs.declared.desk.DeskError.{DeskError}
 use Rattle.key_desk.specs.declared.desk.DeskError.TheVariants.{KeysUsedUp, DiskFault, Closed}
-use Rattle.route_audit.specs.Left.{IsLeft}
-use Rattle.route_audit.specs.Looks.{look_at}
+use Rattle.desk_look.specs.Left.{IsLeft}
+use Rattle.desk_look.specs.Looks.{look_at}
 
 same_time : (k n : ℕ) → n ≤ k → k ≤ n → k ≡ n
 same_time k n a b = omega (arith, a, b)
@@ -17,6 +17,7 @@ left_alone {D} g desk disk fits = record {
   areas = record { earlier = refl; base = refl; key = refl };
   counts = refl;
   fits = fits;
+  stays_open = λ opened steady. opened;
   known = record { texted = λ s t k. k; spent = λ s t k. k };
   moments = record {
     later = omega arith;

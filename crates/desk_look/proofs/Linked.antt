@@ -12,7 +12,7 @@ use Rattle.desk_areas.proofs.Areas.{open_before, open_down, open_link}
 use Rattle.key_desk.specs.declared.desk.Desk.{Desk}
 use Rattle.key_desk.specs.Desk.{key_of, Fits}
 use Rattle.key_desk.proofs.Finding.{own_signed}
-use Rattle.desk_look.specs.Forgeries.{link_at, key_before, text_at, forgery_of, AreLinksSigned, Forges, Looked}
+use Rattle.desk_look.specs.Forgeries.{link_at, key_before, text_at, forgery, forgery_of, AreLinksSigned, Forges, Looked}
 use Rattle.desk_look.specs.Looking.{FindsForgery, LeadsOn, IsFirstStray, IsSealingKey}
 use Rattle.desk_look.specs.Looks.{IsKeyFrom, Look, Says, look_at}
 use Rattle.desk_look.specs.declared.forgery.Forgery.{Forgery}
@@ -105,7 +105,9 @@ module _ {D : Type 0} (g : Ghosts D) (desk : Desk) (disk new : D) (fits : Fits g
   found_header : desk.is_open ≡ true → LeadsOn desk links → (look_at g desk disk new).Unsigned header → (f : Forgery) → IsSealingKey key links header signature f.key → f.text ≡ header → f.signature ≡ signature
       → Forges (look_at g desk disk new) key links header signature f
   found_header opened led unsigned f sealing text_is signature_is =
-      let is : f ≡ record { key = key_before key links sealing.reached; text = header; signature = signature } = cc in
+      let last = key_before key links sealing.reached in
+      let is : f ≡ forgery last header signature =
+      ap (λ (k : List ℕ). forgery k f.text f.signature) sealing.is ∙ ap (λ (t : List ℕ). forgery last t f.signature) text_is ∙ ap (λ (s : List ℕ). forgery last header s) signature_is in
       record {
         first = inr (record { linked = λ n lt. linked opened n (led n lt); unsigned = unsigned; reached = sealing.reached; upto = sealing.upto; is = is });
         forgery = record {

@@ -1,15 +1,15 @@
 //! What a desk says of the texts that an accepted reply stands on: the links of its chain, and its header.
-ghost use Rattle.std.specs.Prelude.{◌≡◌, ◌<◌, length, IfOk, Ok};
+ghost use Rattle.std.specs.Prelude.{◌≡◌, ◌<◌, length, IfOk, OnOk, Ok};
 ghost use Rattle.lms_tree.specs.Chains.{chained, verified_along};
 ghost use Rattle.key_desk.specs.Desk.{Fits};
 ghost use Rattle.desk_look.specs.Forgeries.{Looked, forgery as forgery_with, forgery_of};
 ghost use Rattle.desk_look.specs.Left.{IsLeft};
 ghost use Rattle.desk_look.specs.Looking.{FindsForgery};
-ghost use Rattle.desk_look.specs.Looks.{IsKeyFrom, look_at};
+ghost use Rattle.desk_look.specs.Looks.{IsKeyFrom, Says, look_at};
 
 use crate::keys::{first_stray, sealing_key};
 use crate::{Forgery, LookError};
-use key_desk::Desk;
+use key_desk::{Desk, DeskError};
 use lms_tree::{Link, link_text};
 use octet_text::{NoMemory, Octets, put_octets};
 use road_io::Disk;
@@ -79,6 +79,16 @@ fn find_forgery(
     Ok(Some(forgery(alloc, key, header, signature)?))
 }
 
+// Whether a text is signed.
+fn is_signed<D: Disk>(desk: &mut Desk, disk: &mut D, text: &[u8]) -> Result<bool, DeskError>
+    requires { Fits D.Disk desk.old disk.old }
+    ensures says { Says (look_at D.Disk desk.old disk.old disk.new) text.now result }
+    ensures stays { OnOk result (desk.new ≡ desk.old) }
+    ensures left { IsLeft D.Disk desk.old disk.old desk.new disk.new }
+{
+    desk.signed(disk, text)
+}
+
 /// The first of the texts that an accepted reply stands on that its owner never signed, each link's before the
 /// header's, by the owner's desk: a link text is signed exactly where it names a later key of the desk's.
 pub fn look<D: Disk>(
@@ -98,10 +108,10 @@ pub fn look<D: Disk>(
         public.now chain.now header.now signature.now result }
     ensures left { IsLeft D.Disk desk.old disk.old desk.new disk.new }
 {
-    match desk.signed(disk, header) {
+    match is_signed(desk, disk, header) {
         Err(failure) => Err(LookError::Desk(failure)),
-        Ok(is_signed) => {
-            match find_forgery(alloc, desk, public, chain, header, signature, is_signed) {
+        Ok(signed) => {
+            match find_forgery(alloc, desk, public, chain, header, signature, signed) {
                 Ok(found) => Ok(found),
                 Err(NoMemory) => Err(LookError::Memory),
             }

@@ -3,3 +3,4 @@ pub mod Authentic
 pub mod Judged
 pub mod Signed
 pub mod FindingLemmas
+pub mod RouteLemmas

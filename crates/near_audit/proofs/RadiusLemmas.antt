@@ -18,7 +18,7 @@ use Rattle.near_model.specs.declared.reply.NearReply.{NearReply}
 use Rattle.near_model.specs.NearReplies.{near_reply, IsGoodNear}
 use Rattle.near_client.specs.declared.errors.NearError.{NearError}
 use Rattle.near_client.specs.declared.within.Within.{Within}
-use Rattle.near_client.specs.NearVerdicts.{IsNearVerdict, NearAccepts}
+use Rattle.near_client.specs.NearVerdicts.{IsNearVerdict, NearAccepts, items_covered}
 use Rattle.near_audit.specs.NearComparing.{Compares, part_of}
 use Rattle.near_audit.specs.NearEvidence.{IsRight}
 use Rattle.near_audit.specs.Radii.{NearAcceptsAs, radii}
@@ -41,7 +41,7 @@ not_both_ends : (x : Within) (e : NearError) → ◌≡◌ {A = Result Within Ne
 not_both_ends x e is = cc
 
 -- acceptance with any least version is acceptance
-any_least : (hash : List ℕ → List ℕ) (key : List ℕ) (links : List Link) (octets : List ℕ) (q : NearQuery) (least : ℕ) (x : Within) → NearAccepts hash key links octets q least x → NearAccepts hash key links octets q 0 x
+abbrev any_least : (hash : List ℕ → List ℕ) (key : List ℕ) (links : List Link) (octets : List ℕ) (q : NearQuery) (least : ℕ) (x : Within) → NearAccepts hash key links octets q least x → NearAccepts hash key links octets q 0 x
 any_least hash key links octets q least x is = record {
   reply = is.reply;
   spelled = is.spelled;
@@ -56,11 +56,21 @@ any_least hash key links octets q least x is = record {
   header = is.header;
 }
 
+-- what spells a reply and is accepted is accepted as that reply
+pub accepts_as : (hash : List ℕ → List ℕ) (key : List ℕ) (links : List Link) (octets : List ℕ) (q : NearQuery) (x : Within) (a : NearReply) → NearAccepts hash key links octets q 0 x → whole near_reply octets ≡ Ok a → NearAcceptsAs hash key links octets q 0 x a
+accepts_as hash key links octets q x a accepts is = record { accepts = accepts; is = one_spelled accepts.reply a (whole near_reply octets) accepts.spelled is }
+
+pub spelled_as : (hash : List ℕ → List ℕ) (key : List ℕ) (links : List Link) (octets : List ℕ) (q : NearQuery) (least : ℕ) (x : Within) (a : NearReply) → NearAcceptsAs hash key links octets q least x a → whole near_reply octets ≡ Ok a
+spelled_as hash key links octets q least x a h = subst (λ (y : NearReply). whole near_reply octets ≡ Ok y) h.is h.accepts.spelled
+
+pub covered_as : (hash : List ℕ → List ℕ) (key : List ℕ) (links : List Link) (octets : List ℕ) (q : NearQuery) (least : ℕ) (x : Within) (a : NearReply) → NearAcceptsAs hash key links octets q least x a → items_covered hash a ≡ Ok tt
+covered_as hash key links octets q least x a h = subst (λ (y : NearReply). items_covered hash y ≡ Ok tt) h.is h.accepts.covered
+
 pub are_replies : OneVerdict → AcceptsVerdict → AreReplies radii
 are_replies one accepts = record {
   chain = λ hash key links octets q least x a h. h.accepts.chain;
   signed = λ hash key links octets q least x a h. subst (λ (y : NearReply). verified_along key links (header_text y.header) y.signature ≡ Ok tt) h.is h.accepts.signed;
-  spelled = λ hash key links octets q least x a h. subst (λ (y : NearReply). whole near_reply octets ≡ Ok y) h.is h.accepts.spelled;
+  spelled = spelled_as;
   same_header = λ hash key links octets q least x a h. h.accepts.header ∙ ap (λ (y : NearReply). y.header) h.is;
   any_least = λ hash key links octets q least x a h. record { accepts = any_least hash key links octets q least x h.accepts; is = h.is };
   one_taken = λ hash key links octets q x y a b h k. same_taken x y (one hash key links octets q 0 (Ok x) (Ok y) (accepts hash key links octets q 0 x h.accepts) (accepts hash key links octets q 0 y k.accepts));

@@ -1,5 +1,5 @@
 -- Replies on routes are a kind of replies.
-use Rattle.std.proofs.Common.{◌≡◌, ℕ, List, Result, Ok, Err, refl, sym, ap, subst, arith, ◌∙◌}
+use Rattle.std.proofs.Common.{◌≡◌, ℕ, List, Result, Ok, Err, IfOk, refl, sym, ap, subst, arith, ◌∙◌}
 use Rattle.sha2.specs.Sha256.{sha256}
 use Rattle.octet_text.specs.Format.{whole}
 use Rattle.book_model.specs.declared.items.Query.{Query}
@@ -45,7 +45,7 @@ not_both_ends : (x : Accepted) (e : CheckError) → ◌≡◌ {A = Result Accept
 not_both_ends x e is = cc
 
 -- acceptance with any least version is acceptance
-any_least : (hash : List ℕ → List ℕ) (key : List ℕ) (links : List Link) (octets : List ℕ) (q : Query) (least : ℕ) (x : Accepted) → Accepts hash key links octets q least x → Accepts hash key links octets q 0 x
+abbrev any_least : (hash : List ℕ → List ℕ) (key : List ℕ) (links : List Link) (octets : List ℕ) (q : Query) (least : ℕ) (x : Accepted) → Accepts hash key links octets q least x → Accepts hash key links octets q 0 x
 any_least hash key links octets q least x is = record {
   answer = is.answer;
   spelled = is.spelled;
@@ -62,11 +62,18 @@ any_least hash key links octets q least x is = record {
   header = is.header;
 }
 
+-- what spells an answer and is accepted is accepted as that answer
+pub accepts_as : (hash : List ℕ → List ℕ) (key : List ℕ) (links : List Link) (octets : List ℕ) (q : Query) (x : Accepted) (a : answers.Answer) → Accepts hash key links octets q 0 x → whole formats.reply octets ≡ Ok (replies.Answer a) → AcceptsAs hash key links octets q 0 x a
+accepts_as hash key links octets q x a accepts is = record { accepts = accepts; is = one_spelled accepts.answer a (whole formats.reply octets) accepts.spelled is }
+
+pub spelled_as : (hash : List ℕ → List ℕ) (key : List ℕ) (links : List Link) (octets : List ℕ) (q : Query) (least : ℕ) (x : Accepted) (a : answers.Answer) → AcceptsAs hash key links octets q least x a → whole formats.reply octets ≡ Ok (replies.Answer a)
+spelled_as hash key links octets q least x a h = subst (λ (y : answers.Answer). whole formats.reply octets ≡ Ok (replies.Answer y)) h.is h.accepts.spelled
+
 pub are_replies : OneVerdict → AcceptsVerdict → AreReplies routes
 are_replies one accepts = record {
   chain = λ hash key links octets q least x a h. h.accepts.chain;
   signed = λ hash key links octets q least x a h. subst (λ (y : answers.Answer). verified_along key links (header_text y.header) y.signature ≡ Ok tt) h.is h.accepts.signed;
-  spelled = λ hash key links octets q least x a h. subst (λ (y : answers.Answer). whole formats.reply octets ≡ Ok (replies.Answer y)) h.is h.accepts.spelled;
+  spelled = spelled_as;
   same_header = λ hash key links octets q least x a h. h.accepts.header ∙ ap (λ (y : answers.Answer). y.header) h.is;
   any_least = λ hash key links octets q least x a h. record { accepts = any_least hash key links octets q least x h.accepts; is = h.is };
   one_taken = λ hash key links octets q x y a b h k. same_taken x y (one hash key links octets q 0 (Ok x) (Ok y) (accepts hash key links octets q 0 x h.accepts) (accepts hash key links octets q 0 y k.accepts));
@@ -90,3 +97,8 @@ compared hash k q a Right kept spelled good header true_of sound compares = λ k
         (record { kept = kept; spelled = spelled; good = good; header = header; kind = accepts.kind; method = accepts.method; judged = accepts.judged; route = accepts.route }) true_of sound own.0 own.1
 compared hash k q a (Collision left right) kept spelled good header true_of sound compares = collides_of hash k kept a (two_texts left right) compares.0 compares.1
 compared hash k q a (Forged key text signature) kept spelled good header true_of sound compares = absurd compares
+
+-- what follows of a value follows where there is one
+pub if_ok : {T E : Type 0} (r : Result T E) (P Q : T → Type 0) → ((x : T) → P x → Q x) → IfOk r P → IfOk r Q
+if_ok (Ok x) P Q f h = f x h
+if_ok (Err e) P Q f h = tt

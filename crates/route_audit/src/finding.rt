@@ -43,8 +43,9 @@ impl Finding {
     pub fn forged(forgery: Forgery) -> Finding
         ensures { result ≡ Forged forgery.key forgery.text forgery.signature }
     {
+        let key = forgery.key;
         Finding::Forged {
-            key: forgery.key,
+            key,
             text: forgery.text,
             signature: forgery.signature,
         }

@@ -124,16 +124,18 @@ fn work<L: Library, S: Source, K: Sink, D: Disk, M: Mirror>(
                 reply,
                 query,
                 least,
+                chain,
             },
-        ) => check(alloc, library, sink, key, reply, query, least),
+        ) => check(alloc, library, sink, key, reply, query, least, chain),
         Some(
             Command::Audit {
                 key,
-                publication,
+                publication: file,
                 reply,
                 query,
+                chain,
             },
-        ) => audit(alloc, library, sink, disk, key, publication, reply, query),
+        ) => audit(alloc, library, sink, disk, key, file, reply, query, chain),
         Some(Command::Survey(asked)) => survey(alloc, sink, asked),
         Some(Command::Reach { publication, query }) => {
             reach(alloc, library, sink, publication, query)
@@ -144,16 +146,18 @@ fn work<L: Library, S: Source, K: Sink, D: Disk, M: Mirror>(
                 reply,
                 query,
                 least,
+                chain,
             },
-        ) => check_reach(alloc, library, sink, key, reply, query, least),
+        ) => check_reach(alloc, library, sink, key, reply, query, least, chain),
         Some(
             Command::AuditReach {
                 key,
-                publication,
+                publication: file,
                 reply,
                 query,
+                chain,
             },
-        ) => audit_reach(alloc, library, sink, disk, key, publication, reply, query),
+        ) => audit_reach(alloc, library, sink, disk, key, file, reply, query, chain),
         Some(
             Command::Reduce {
                 key,

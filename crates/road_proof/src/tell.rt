@@ -101,7 +101,7 @@ impl<'a> Message<'a> {
             ),
             _ => write!(
                 f,
-                "road_proof: {reply}: {} not to be used: the reply rests on a header that the owner never signed, or on two texts of one digest, as the line that was written says. Keep that line with the three files.",
+                "road_proof: {reply}: {} not to be used: the reply rests on a text that the owner never signed, or on two texts of one digest, as the line that was written says. Keep that line with the three files.",
                 brought(self.command)
             ),
         }
@@ -190,7 +190,7 @@ impl<'a> Message<'a> {
             Fault::UnknownNode(id) => write!(f, "It has no node {id}."),
             Fault::NoRoute => f.write_str("No route joins the two nodes."),
             Fault::HeaderWrong => f.write_str("Its header is not that of its map and settings."),
-            Fault::OtherKey => f.write_str(other_key(self.command)),
+            Fault::OtherKey => f.write_str("This public key is none of those in owner.desk."),
             Fault::OtherPublication => write!(
                 f,
                 "{} not to be used before the reply is audited with its own publication, which is another one of the owner's.",
@@ -234,11 +234,12 @@ impl<'a> Message<'a> {
                 }
             }
             Fault::Malformed(place) => {
+                let (kind, wanted) = self.malformed();
                 write!(
                     f,
-                    "It is no publication, and can't be read from place {place} on."
+                    "It is no {kind}, and can't be read from place {place} on."
                 )?;
-                self.look(f, Look::Publication)
+                self.look(f, wanted)
             }
             Fault::BadHex => {
                 let wanted = digits_of(self.command, self.facts.name);
@@ -250,6 +251,14 @@ impl<'a> Message<'a> {
                 f.write_str("It can't be read")?;
                 reason(f, self.facts.file_error)
             }
+        }
+    }
+
+    /// What the file that was asked for last should be, where it could not be read.
+    fn malformed(&self) -> (&'static str, Look) {
+        match chain_of(self.command) {
+            Some(chain) if chain == self.facts.name => ("chain file", Look::Chain),
+            _ => ("publication", Look::Publication),
         }
     }
 
@@ -400,6 +409,19 @@ fn key_of(command: Option<Command<'_>>) -> &str {
     }
 }
 
+/// The name of a command's chain file, where one is named.
+fn chain_of(command: Option<Command<'_>>) -> Option<&str> {
+    match command {
+        Some(
+            Command::Check { chain, .. }
+            | Command::Audit { chain, .. }
+            | Command::CheckReach { chain, .. }
+            | Command::AuditReach { chain, .. },
+        ) => chain,
+        _ => None,
+    }
+}
+
 /// The name of the file that a command has its map from.
 fn map_of(command: Option<Command<'_>>) -> &str {
     match command {
@@ -433,14 +455,6 @@ fn settings_of(command: Option<Command<'_>>) -> Option<u8> {
     match command {
         Some(Command::Publish { settings, .. }) => Some(settings.method),
         _ => None,
-    }
-}
-
-/// What is said of a public key that is not the owner's.
-fn other_key(command: Option<Command<'_>>) -> &'static str {
-    match command {
-        Some(Command::Reduce { .. }) => "This public key is that of no key in owner.desk.",
-        _ => "This public key is not that of the key in owner.desk.",
     }
 }
 

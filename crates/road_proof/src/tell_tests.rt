@@ -204,7 +204,7 @@ fn ends_over_real_files_are_told(rt: HostRuntime) -> Result<(), Fail> {
             None,
             ErrorKind::Other,
             None,
-            "road_proof: r: The route is not to be used: the reply rests on a header that the owner never signed, or on two texts of one digest, as the line that was written says. Keep that line with the three files.",
+            "road_proof: r: The route is not to be used: the reply rests on a text that the owner never signed, or on two texts of one digest, as the line that was written says. Keep that line with the three files.",
         ),
         (
             audit,

@@ -3,6 +3,7 @@ pub mod Blocks
 pub mod Counts
 pub mod Finding
 mod FreeSlots
+pub mod KeptKeys
 pub mod LinkLemmas
 pub mod OnOks
 pub mod Raising

@@ -9,13 +9,13 @@ use Rattle.lms_tree.specs.Signatures.{KeyOf, public_key}
 use Rattle.lms_tree.specs.Links.{IsLink, link_text}
 use Rattle.key_desk.specs.declared.desk.Desk.{Desk}
 use Rattle.desk_areas.specs.declared.area.Count.TheVariants
-use Rattle.desk_areas.specs.Layout.{SlotId, slots_of, place_in, gate_at, text_at, gate_of, text_of, IsSigned, AgreesOutside, SameSigned, SignsAtMost}
+use Rattle.desk_areas.specs.Layout.{SlotId, slots_of, place_in, place_of, slots_at, base_of, gate_at, text_at, gate_of, text_of, IsSigned, AgreesOutside, OutsideSlot, SameSigned, SignsAtMost}
 use Rattle.key_desk.specs.Desk.{count_of, slot_here, key_of, IsSlotOf, HasAreas, SameSpent, Fits, IsBlankArea}
-use Rattle.key_desk.specs.Succession.{last_number, next_desk, CanSucceed}
+use Rattle.key_desk.specs.Succession.{last_number, next_desk, CanSucceed, HasKeys}
 use Rattle.desk_areas.specs.Settled.{IsSettled}
-use Rattle.desk_areas.proofs.Areas.{slot_cases}
+use Rattle.desk_areas.proofs.Areas.{slot_cases, bases, kinds, secrets}
 use Rattle.key_desk.proofs.Counts.{own_here, count_here, free_isnt_spent}
-use Rattle.key_desk.proofs.Steps.{place_here}
+use Rattle.key_desk.proofs.Steps.{place_here, known_on}
 use Rattle.desk_areas.proofs.Growth.{SameFront, torn_front, outside_front}
 use Rattle.key_desk.proofs.Successors
 
@@ -66,6 +66,10 @@ module _ {D : Type 0} (g : Ghosts D) (desk : Desk) (key : KeyOf) (old : D) (fits
   pub front_moments : (new : D) → AtEachMoment g old new (SameFront (place_in desk.base (slots_of desk.key.kind))) → AtEachMoment g old new SameSigned
   front_moments new m = weaker g old new _ SameSigned m (λ d i now h. Successors.front_same desk d i (fits.areas d now) h)
 
+  -- the blocks of the desk's keys stay
+  pub front_keys : (new : D) → AtEachMoment g old new (SameFront (place_in desk.base (slots_of desk.key.kind))) → AtEachMoment g old new (λ d i. HasKeys desk i)
+  front_keys new m = weaker g old new _ (λ d i. HasKeys desk i) m (λ d i now h. let areas = Successors.front_areas desk d i (fits.areas d now) h in areas.keys)
+
   -- what is known of an image once the area is added
   pub record Added (d e : List ℕ) : Type 0 where
     pub areas : HasAreas desk e
@@ -93,6 +97,14 @@ module _ {D : Type 0} (g : Ghosts D) (desk : Desk) (key : KeyOf) (old : D) (fits
       (λ d e i now_d now_e h j.
       let a = added d e now_d h in
       same_signed_twice d e i (Successors.front_same desk d e (fits.areas d now_d) h) (Successors.text_same desk fits.sound.known e i a.areas a.shut j))
+
+  pub text_keys : (mid new : D) → AtEachMoment g old mid (SameFront (place_in desk.base (slots_of desk.key.kind))) → AtEachMoment g mid new (AgreesOutside (place_in desk.base (last_number desk) + 1) (place_in desk.base (last_number desk) + 128)) → AtEachMoment g old new (λ d i. HasKeys desk i)
+  text_keys mid new m k = continued g old mid new _ _ (λ d i. HasKeys desk i) m k
+      (λ d i now h. let areas = Successors.front_areas desk d i (fits.areas d now) h in areas.keys)
+      (λ d e i now_d now_e h j.
+      let a = added d e now_d h in
+      let areas = Successors.text_areas desk fits.sound.known e i a.areas a.shut j in
+      areas.keys)
 
   -- what is known of each image once the text is written
   pub record Texted (i : List ℕ) : Type 0 where
@@ -130,6 +142,27 @@ module _ {D : Type 0} (g : Ghosts D) (desk : Desk) (key : KeyOf) (old : D) (fits
   text_here i areas is = ap (λ (p : ℕ). text_at i p) (place_here desk i (last_number desk) areas) ∙ is
 
   -- ---- the gate
+
+  -- the gate is no part of a key block
+  gate_blocks : (e i : List ℕ) → HasAreas desk e → AgreesOutside (place_in desk.base (last_number desk)) (place_in desk.base (last_number desk) + 1) e i → HasKeys desk i
+  gate_blocks e i areas h area le =
+      let slot = slot_here desk (last_number desk) in
+      let at : place_of e slot ≡ place_in desk.base (last_number desk) = place_here desk e (last_number desk) areas in
+      let out : OutsideSlot slot e i = record {
+        long = h.long;
+        same = λ n apart. h.same n (elim apart [ inl before ↦ inl (omega (arith, before, at)) | inr behind ↦ inr (omega (arith, behind, at)) ]);
+      } in
+      let known : slot.number < slots_at e (base_of e slot.area) = known_on desk e slot areas last_own in
+      let was = areas.keys area le in
+      record {
+        kind = kinds slot e i out known area ∙ was.kind;
+        secret = secrets slot e i out known area ∙ was.secret;
+        within = omega (arith, was.within, out.long, bases slot e i out known area);
+      }
+
+  pub gate_keys : (mid new : D) → AtEachMoment g old mid (λ d i. HasKeys desk i) → ((i : List ℕ) → Image g mid i → Texted i) → AtEachMoment g mid new (AgreesOutside (place_in desk.base (last_number desk)) (place_in desk.base (last_number desk) + 1)) → AtEachMoment g old new (λ d i. HasKeys desk i)
+  gate_keys mid new m ready k = continued g old mid new _ _ (λ d i. HasKeys desk i) m k (λ d i now h. h)
+      (λ d e i now_d now_e h j. let r = ready e now_e in gate_blocks e i r.areas j)
 
   module _ (mid new : D) (before : AtEachMoment g old mid SameSigned) (ready : (i : List ℕ) → Image g mid i → Texted i) (blank : EachImage g mid (IsBlankArea key (place_in desk.base (slots_of desk.key.kind))))
       (stored : EachImage g mid (λ i. text_at i (place_in desk.base (last_number desk)) ≡ link_text (public_key key)))

@@ -9,7 +9,7 @@ use Rattle.lms_tree.specs.Links.{IsLink, link_mark, link_text}
 use Rattle.key_desk.specs.View.{View}
 use Rattle.desk_areas.specs.Layout.{slots_of, place_in, gate_at, text_at, AgreesOutside, SameSigned, SignsAtMost, IsSigned}
 use Rattle.key_desk.specs.Desk.{slot_here, Fits, IsBlankArea}
-use Rattle.key_desk.specs.Succession.{last_number, next_desk, CanSucceed}
+use Rattle.key_desk.specs.Succession.{last_number, next_desk, CanSucceed, HasKeys}
 use Rattle.desk_areas.specs.Settled.{IsSettled}
 use Rattle.desk_areas.proofs.Growth.{SameFront}
 use Rattle.key_desk.proofs.Raising
@@ -40,12 +40,18 @@ module _ {D : Type 0} (g : Ghosts D) (desk : View) (key : KeyOf) (old : D) (fits
     pub signs1 : AtEachMoment g old one (SignsAtMost (slot_here desk (last_number desk)) (link_text (public_key key)))
     signs1 = weaker g old one _ _ (Raising.front_moments g desk key old fits can one front1) (λ d i now h. Raising.signs_none _ _ d i h)
 
+    pub keys1 : AtEachMoment g old one (λ d i. HasKeys desk i)
+    keys1 = Raising.front_keys g desk key old fits can one front1
+
     module _ (two : D) (m2 : AtEachMoment g one two (AgreesOutside (end + 1) (end + 53))) where
       front2 : AtEachMoment g old two (SameFront (place_in desk.base (slots_of desk.key.kind)))
       front2 = Raising.blocked g desk key old fits can one two (end + 1) (end + 53) (omega (arith, end_here)) front1 m2
 
       pub signs2 : AtEachMoment g old two (SignsAtMost (slot_here desk (last_number desk)) (link_text (public_key key)))
       signs2 = weaker g old two _ _ (Raising.front_moments g desk key old fits can two front2) (λ d i now h. Raising.signs_none _ _ d i h)
+
+      pub keys2 : AtEachMoment g old two (λ d i. HasKeys desk i)
+      keys2 = Raising.front_keys g desk key old fits can two front2
 
       -- nor while the text is written
       module _ (three : D) (m3 : AtEachMoment g two three (AgreesOutside (place + 1) (place + 128))) where
@@ -57,6 +63,9 @@ module _ {D : Type 0} (g : Ghosts D) (desk : View) (key : KeyOf) (old : D) (fits
 
         pub signs3 : AtEachMoment g old three (SignsAtMost (slot_here desk (last_number desk)) (link_text (public_key key)))
         signs3 = weaker g old three _ _ same3 (λ d i now h. Raising.signs_none _ _ d i h)
+
+        pub keys3 : AtEachMoment g old three (λ d i. HasKeys desk i)
+        keys3 = Raising.text_keys g desk key old fits can two three front2 text3
 
         -- the gate signs the link
         module _ (four : D) (m4 : AtEachMoment g three four (AgreesOutside place (place + 1))) (blank : EachImage g two (IsBlankArea key end)) (stored : EachImage g three (λ i. text_at i place ≡ link_text (public_key key))) where
@@ -71,6 +80,9 @@ module _ {D : Type 0} (g : Ghosts D) (desk : View) (key : KeyOf) (old : D) (fits
 
           pub signs4 : AtEachMoment g old four (SignsAtMost (slot_here desk (last_number desk)) (link_text (public_key key)))
           signs4 = Raising.gate_moments g desk key old fits can three four same3 (Raising.texted g desk key old fits can two three front2 text3) blank3 stored3 gate4
+
+          pub keys4 : AtEachMoment g old four (λ d i. HasKeys desk i)
+          keys4 = Raising.gate_keys g desk key old fits can three four keys3 (Raising.texted g desk key old fits can two three front2 text3) gate4
 
           module _ (size : length (public_key key) ≡ 56) (gate : EachImage g four (λ i. gate_at i place ≡ 1)) where
             gate_is : EachImage g four (λ i. gate_at i (place_in desk.base (last_number desk)) ≡ 1)

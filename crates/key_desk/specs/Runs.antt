@@ -12,13 +12,13 @@ pub record Crashed {D : Type 0} (g : Ghosts D) (k : ℕ) (old new : D) : Type 0 
 
 -- One step of a run, from a disk and the pairs that were signed so far. A call, `create` and
 -- `reopen` among them, keeps what stands, whatever it answers. One that signs had a closed gate in
--- every image before, and has its pair signed in every image after. A crash cuts a call at one of
--- its moments, or comes before it.
+-- one image before, as in what the disk read, and has its pair signed in every image after. A crash
+-- cuts a call at one of its moments, or comes before it.
 pub data Step {D : Type 0} (g : Ghosts D) (old new : D)
     (before after : List (SlotId × List ℕ)) : Type 0 where
   Called : KeepsStanding g old new → after ≡ before → Step g old new before after
-  Signed : (slot : SlotId) (text : List ℕ) → KeepsStanding g old new →
-      EachImage g old (λ i. gate_of i slot ≡ 0) → EachImage g new (λ i. IsSigned i slot text) →
+  Signed : (slot : SlotId) (text was : List ℕ) → KeepsStanding g old new → Image g old was →
+      gate_of was slot ≡ 0 → EachImage g new (λ i. IsSigned i slot text) →
       after ≡ before ++ (slot, text) ∷ [] → Step g old new before after
   Cut : (called : D) (k : ℕ) → KeepsStanding g old called → g.clock old ≤ k → k ≤ g.clock called →
       Crashed g k called new → after ≡ before → Step g old new before after

@@ -14,7 +14,7 @@ use Rattle.desk_areas.specs.declared.area.Count.TheVariants
 use Rattle.desk_areas.specs.Faults.{IsBadBlock, IsUsable}
 use Rattle.desk_areas.specs.Keys.{key_at}
 use Rattle.desk_areas.specs.Layout.{slots_of, place_in, base_of, gate_at, gate_of, last_slot, IsAreaOpen, IsOpen, IsCurrent, SignsAtMost}
-use Rattle.key_desk.specs.Desk.{count_at, key_of}
+use Rattle.key_desk.specs.Desk.{count_at, key_of, HasKey}
 
 -- the number of the slot that signs the next key
 abbrev pub last_number : Desk → ℕ
@@ -43,6 +43,11 @@ pub record CanSucceed (desk : Desk) (key : KeyOf) : Type 0 where
   pub known : 0 < slots_of key.kind
   pub named : length key.i ≡ 16
   pub distinct : (area : ℕ) → area ≤ length desk.earlier → (key_of desk area).i ≢ key.i
+
+-- the blocks of the desk's keys stand in the image
+abbrev pub HasKeys : Desk → List ℕ → Type 0
+HasKeys desk image = (area : ℕ) → area ≤ length desk.earlier →
+    HasKey (key_of desk area) (base_of image area) image
 
 -- every octet of the image in this range is zero
 pub record IsZero (from size : ℕ) (image : List ℕ) : Type 0 where

@@ -316,7 +316,7 @@ impl Desk {
             result ≡ Err DeskError.KeysUsedUp }
         ensures known { KeepsAllKnown D.Disk self.old disk.old self.new disk.new }
         ensures moments { (q : ℕ) × (IfOk result (λ number. number ≡ q)) ×
-            AtEachMoment D.Disk disk.old disk.new
+            (q + 1 < slots_of self.old.key.kind) × AtEachMoment D.Disk disk.old disk.new
             (λ d i. OutsideSlot (slot_here self.old q) d i ×
             SignsAtMost (slot_here self.old q) text.now d i) }
         ensures stands { KeepsStanding D.Disk disk.old disk.new }

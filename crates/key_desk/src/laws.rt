@@ -44,11 +44,10 @@ pub fn tickets_back_keep_fits<D: Disk>()
         (record old { counts = slice_set old.counts slot TheVariants.Free }) disk }
 {}
 
-/// Over every run of calls, of crashes inside or between them and of reopenings, on a disk that tells its
-/// content, the pairs that were signed stand in every image, and no one-time key has signed twice.
+/// Over every run of calls, of crashes inside or between them and of reopenings, the pairs that were signed
+/// stand in every image, and no one-time key has signed twice.
 pub fn no_slot_signs_twice<D: Disk>()
     ensures { (disk : D) (pairs : List (SlotId × List ℕ))
-        (states : List (D × List (SlotId × List ℕ))) → ((d : D) → (i : List ℕ) × Image D.Disk d i)
-        → IsRun D.Disk disk pairs states → Stands D.Disk disk pairs → HasDistinctSlots pairs →
-        StandThroughout D.Disk states }
+        (states : List (D × List (SlotId × List ℕ))) → IsRun D.Disk disk pairs states →
+        Stands D.Disk disk pairs → HasDistinctSlots pairs → StandThroughout D.Disk states }
 {}

@@ -8,11 +8,11 @@ ghost use Rattle.lms_tree.specs.Signatures.{public_key};
 ghost use Rattle.lms_tree.specs.Links.{link_text};
 ghost use Rattle.desk_areas.specs.Layout.{slots_of, place_in, last_slot, IsSigned, IsCurrent, AgreesOutside, SignsAtMost};
 ghost use Rattle.desk_areas.specs.Keys.{key_from};
-ghost use Rattle.key_desk.specs.Stands.{KeepsStanding};
+ghost use Rattle.key_desk.specs.Stands.{KeepsStanding, SameKeys};
 ghost use Rattle.desk_areas.specs.Settled.{IsSettled};
 ghost use Rattle.key_desk.specs.Desk.{slot_here, Fits, IsBlankArea};
 ghost use Rattle.key_desk.specs.View.{View};
-ghost use Rattle.key_desk.specs.Succession.{last_number, next_desk, CanSucceed, IsZero, SignsLink, DeskRefuses, CanFollow, IsDeskCalledFor, AnswersDeskRefusal, IsCalledFor, AnswersRefusal, started};
+ghost use Rattle.key_desk.specs.Succession.{last_number, next_desk, CanSucceed, HasKeys, IsZero, SignsLink, DeskRefuses, CanFollow, IsDeskCalledFor, AnswersDeskRefusal, IsCalledFor, AnswersRefusal, started};
 
 use crate::create::block_of;
 use crate::desk::Desk;
@@ -77,6 +77,10 @@ fn raise<D: Disk>(
         → AtEachMoment D.Disk disk.old disk.new
         (SignsAtMost (slot_here desk (last_number desk))
         (link_text (public_key (key_from kind secret.now)))) }
+    ensures keys { (desk : View) → Fits D.Disk desk disk.old →
+        CanSucceed desk (key_from kind secret.now) → desk.base ≡ base →
+        slots_of desk.key.kind ≡ slots
+        → AtEachMoment D.Disk disk.old disk.new (λ d i. HasKeys desk i) }
     ensures fits { (desk : View) → Fits D.Disk desk disk.old →
         CanSucceed desk (key_from kind secret.now) → desk.base ≡ base →
         slots_of desk.key.kind ≡ slots
@@ -233,6 +237,7 @@ impl Desk {
         ensures fits { IfOk result (λ desk. Fits D.Disk desk disk.new) }
         ensures opened { IfOk result (λ desk. desk.is_open ≡ true) }
         ensures key { IfOk result (λ desk. desk.key ≡ key_from kind secret.now) }
+        ensures follows { IfOk result (λ desk. 0 < length desk.earlier) }
         ensures signed { OnOk result
             (EachImage D.Disk disk.new
             (λ i. (a : ℕ) × IsCurrent i (suc a) ×
@@ -242,6 +247,7 @@ impl Desk {
             (λ c. AnswersRefusal c (take 16 secret.now) result) }
         ensures moments { AtEachMoment D.Disk disk.old disk.new
             (λ d i. (i ≡ d) ⊎ SignsLink (link_text (public_key (key_from kind secret.now))) d i) }
+        ensures keys { AtEachMoment D.Disk disk.old disk.new SameKeys }
         ensures stands { KeepsStanding D.Disk disk.old disk.new }
         ensures untouched { IsErr result → result ≢ Err SucceedError.DiskFault →
             AtEachMoment D.Disk disk.old disk.new Stays }
@@ -275,6 +281,7 @@ impl Desk {
         ensures moments { AtEachMoment D.Disk disk.old disk.new
             (SignsAtMost (slot_here self (last_number self))
             (link_text (public_key (key_from kind secret.now)))) }
+        ensures keys { AtEachMoment D.Disk disk.old disk.new (λ d i. HasKeys self i) }
         ensures refused { IfErr result (IsDeskCalledFor self (take 16 secret.now)) }
         ensures refused_else { AnswersDeskRefusal self (take 16 secret.now) result }
         ensures untouched { IsErr result → result ≢ Err SucceedError.DiskFault →
@@ -310,6 +317,7 @@ impl Desk {
         ensures moments { AtEachMoment D.Disk disk.old disk.new
             (SignsAtMost (slot_here self (last_number self))
             (link_text (public_key (key_from kind secret.now)))) }
+        ensures keys { AtEachMoment D.Disk disk.old disk.new (λ d i. HasKeys self i) }
         ensures only { IfErr result
             (λ e. (e ≡ SucceedError.DiskFault) ⊎ (e ≡ SucceedError.Memory)) }
         ensures untouched { IsErr result → result ≢ Err SucceedError.DiskFault →

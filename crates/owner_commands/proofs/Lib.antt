@@ -2,3 +2,6 @@ pub mod OwnerLemmas
 pub mod PublishLemmas
 pub mod OneOwner
 pub mod SuccessionLemmas
+pub mod StandingLemmas
+pub mod ReleaseLaws
+mod Worked

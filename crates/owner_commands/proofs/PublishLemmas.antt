@@ -14,19 +14,19 @@ use Rattle.road_io.proofs.MomentLaws.{continued}
 use Rattle.road_map.specs.declared.parts.Parts.{Parts}
 use Rattle.book_model.specs.declared.settings.Settings.{Settings}
 use Rattle.lms_tree.specs.Signatures.{KeyOf}
-use Rattle.desk_areas.specs.Layout.{slots_of, OutsideSlot, SignsAtMost}
+use Rattle.desk_areas.specs.Layout.{slots_of, IsSigned}
 use Rattle.desk_areas.specs.declared.area.Count.TheVariants as counts
 use Rattle.key_desk.specs.Desk.{count_at, slot_here, IsSound, Fits, IsUsedUp}
 use Rattle.key_desk.proofs.Counts.{count_here, own_here}
 use Rattle.key_desk.proofs.Successors.{slots_on}
 use Rattle.key_desk.specs.Stands.{KeepsStanding}
-use Rattle.key_desk.proofs.Standing.{standing_same, standing_spend}
+use Rattle.key_desk.proofs.Standing.{standing, standing_same}
 use Rattle.key_desk.specs.declared.desk.Desk.{Desk}
 use Rattle.proof_octets.specs.declared.header.Header.{Header}
 use Rattle.proof_octets.specs.Headers.{header_text}
 use Rattle.proof_octets.specs.declared.publication.Publication.{Publication}
 use Rattle.proof_octets.specs.Publications.{publication_text}
-use Rattle.route_owner.specs.Published.{IsPublication, IsSealed, SignsHeader}
+use Rattle.route_owner.specs.Published.{IsPublication, IsSealed, SignsInSlot, SignsHeader}
 use Rattle.route_server.specs.Headers.{HasHeader, Makes}
 use Rattle.route_server.specs.declared.errors.BuildError.{BuildError}
 use Rattle.command_files.specs.Reading.{parts_at}
@@ -53,7 +53,7 @@ module _ {D : Type 0} (g : Ghosts D) (old mid new : D) where
     of_book = is.has_header;
     usable = usable;
     is = record { of_parts = is.of_parts; of_settings = is.of_settings; of_header = refl; signed = signed; fits = is.fits };
-    on_disk = record { area = length desk.earlier; current = on_disk.current; was_free = λ c at. on_disk.was_free c (reads c (same ∙ at)); stands = on_disk.stands };
+    on_disk = record { area = length desk.earlier; current = on_disk.current; early = on_disk.early; was_free = λ c at. on_disk.was_free c (reads c (same ∙ at)); stands = on_disk.stands };
   }
     where
       signed : ForSome (g.content old) (λ c. IsSignedFrom c p.header p)
@@ -87,14 +87,11 @@ module _ {D : Type 0} (g : Ghosts D) (old mid new : D) where
     slot = signing.slot;
     header = signing.header;
     of_book = signing.of_book;
-    each = continued g old mid new Stays Step Step opening signing.each here there;
+    each = continued g old mid new Stays _ Step opening signing.each (λ d i at is. inl is) there;
   })
     where
       Step : List ℕ → List ℕ → Type 0
-      Step d i = OutsideSlot signing.slot d i × SignsAtMost signing.slot (header_text signing.header) d i
-
-      here : (d i : List ℕ) → Image g old d → Stays d i → Step d i
-      here d i at is = subst (λ x. Step d x) (sym is) (record { long = refl; same = λ k out. refl }, record { keeps = λ a t h. h; adds = λ a t h. inl h })
+      Step d i = (i ≡ d) ⊎ SignsInSlot signing.slot (header_text signing.header) d i
 
       there : (d e i : List ℕ) → Image g old d → Image g mid e → Stays d e → Step e i → Step d i
       there d e i at after is step = subst (λ x. Step x i) is step
@@ -102,7 +99,8 @@ module _ {D : Type 0} (g : Ghosts D) (old mid new : D) where
   -- so what stands stays
   pub stands_after : (parts : Parts) (s : Settings) → SignsAtMostHeader g old new parts s → KeepsStanding g old new
   stands_after parts s (inl stays) = standing_same g old new stays
-  stands_after parts s (inr signs) = standing_spend g old new signs.slot (header_text signs.header) signs.each
+  stands_after parts s (inr signs) = standing g old new (λ d i. (i ≡ d) ⊎ SignsInSlot signs.slot (header_text signs.header) d i) signs.each
+      (λ d i h t text signed. elim h [ inl is ↦ subst (λ x. IsSigned x t text) (sym is) signed | inr one ↦ one.signs.keeps t text signed ])
 
 -- ---- why nothing is published
 

@@ -4,3 +4,5 @@ pub mod ChainLine
 pub mod OwnerDesk
 pub mod Publishing
 pub mod Signing
+pub mod StandingKeys
+pub mod Releases

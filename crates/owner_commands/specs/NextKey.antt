@@ -11,6 +11,7 @@ use Rattle.road_io.specs.Contents.{Folder}
 use Rattle.lms_tree.specs.Signatures.{public_key}
 use Rattle.lms_tree.specs.Links.{link_text}
 use Rattle.desk_areas.specs.Keys.{key_from}
+use Rattle.key_desk.specs.Stands.{SameKeys}
 use Rattle.key_desk.specs.Succession.{SignsLink, Refuses}
 use Rattle.key_desk.specs.declared.succeed.SucceedError.{SucceedError}
 use Rattle.key_desk.specs.declared.succeed.SucceedError.TheVariants as why
@@ -22,6 +23,8 @@ use Rattle.command_files.specs.declared.fault.Fault.TheVariants.{Disk, Memory, N
 use Rattle.command_files.specs.declared.ended.Conclusion.{Conclusion}
 use Rattle.command_files.specs.declared.ended.Conclusion.TheVariants.{Done}
 use Rattle.owner_commands.specs.OwnerKey.{key_line}
+use Rattle.owner_commands.specs.Signing.{OnWriting}
+use Rattle.owner_commands.specs.StandingKeys.{FollowsByFile}
 
 -- the fault that a refused succession is
 abbrev pub fault_of : SucceedError → Fault
@@ -62,8 +65,12 @@ pub record LinksFile {D : Type 0} (g : Ghosts D) (old new : D) (files : Option F
   pub each : AtEachMoment g old new
       (λ d i. (i ≡ d) ⊎ SignsLink (link_text (public_key (key_from kind secret))) d i)
 
--- a key is added where none of the refusals holds, and no image changes but by its link
+-- A key is added where none of the refusals holds, and no image changes but by its link. The keys of
+-- the areas that are open stay. Where a line may have been written, the new key stands behind
+-- another, which has signed its link text.
 pub record AddsKey {D : Type 0} (g : Ghosts D) (old new : D) (files : Option Folder) (name : List ℕ)
     (kind : ℕ) (outcome : Result Conclusion Fault) : Type 0 where
   pub made : OnOk outcome (IfSome files (λ folder. MakesNext g new kind (secret_at folder name)))
   pub links : AtEachMoment g old new Stays ⊎ LinksFile g old new files name kind
+  pub keys : AtEachMoment g old new SameKeys
+  pub follows : OnWriting outcome (FollowsByFile g new files name kind)

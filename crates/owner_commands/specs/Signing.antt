@@ -1,5 +1,5 @@
 -- What `publish` does to the owner's disk.
-use Rattle.std.specs.Prelude.{◌≡◌, ◌⊎◌, ℕ, ◌<◌, List, length, IfSome}
+use Rattle.std.specs.Prelude.{◌≡◌, ◌⊎◌, ℕ, ◌+◌, ◌<◌, List, length, IfSome}
 use Rattle.std.specs.declared.option.Option.{Option}
 use Rattle.std.specs.declared.result.Result.{Result}
 use Rattle.std.specs.declared.result.Result.TheVariants.{Ok, Err}
@@ -14,13 +14,13 @@ use Rattle.road_io.specs.Moments.{EachImage, AtEachMoment}
 use Rattle.road_io.specs.Contents.{Folder, AppendsFront}
 use Rattle.mirror_out.specs.Mirrors.{Mirrors}
 use Rattle.publication_out.specs.Sent.{pieces_in, MirrorsFront}
-use Rattle.desk_areas.specs.Layout.{IsCurrent, gate_of, IsSigned}
+use Rattle.desk_areas.specs.Layout.{IsCurrent, slots_at, base_of, gate_of, IsSigned}
 use Rattle.proof_octets.specs.declared.header.Header.{Header}
 use Rattle.proof_octets.specs.declared.publication.Publication.{Publication}
 use Rattle.proof_octets.specs.Headers.{header_text}
 use Rattle.proof_octets.specs.Publications.{publication_text}
 use Rattle.route_server.specs.Headers.{HasHeader}
-use Rattle.route_owner.specs.Published.{slot_in, SignsHeader}
+use Rattle.route_owner.specs.Published.{slot_of, slot_in, SignsHeader}
 use Rattle.command_files.specs.Reading.{parts_at}
 use Rattle.desk_areas.specs.Faults.{IsUsable}
 use Rattle.owner_commands.specs.Publishing.{IsPublicationOf}
@@ -31,10 +31,11 @@ use Rattle.command_files.specs.declared.ended.Conclusion.{Conclusion}
 -- ---- one signing
 
 -- A publication's header stands in every image, in the slot of the last open area that its
--- signature names, and that slot was not spent in what the disk read.
+-- signature names, and that slot was not spent in what the disk read. It is not the area's last.
 pub record StandsOnDisk {D : Type 0} (g : Ghosts D) (old new : D) (p : Publication) : Type 0 where
   pub area : ℕ
   pub current : EachImage g new (λ i. IsCurrent i area)
+  pub early : EachImage g new (λ i. slot_of p + 1 < slots_at i (base_of i area))
   pub was_free : ForSome (g.content old) (λ c. gate_of c (slot_in area p) ≡ 0)
   pub stands : EachImage g new (λ i. IsSigned i (slot_in area p) (header_text p.header))
 

@@ -9,6 +9,7 @@ ghost use Rattle.desk_areas.specs.Faults.{IsUsable};
 ghost use Rattle.command_files.specs.Endings.{PromisesWithoutFiles, WhyNot, NoEnd};
 ghost use Rattle.command_desks.specs.Opening.{EndsOpening};
 ghost use Rattle.owner_commands.specs.ChainLine.{IsChainOn, EndsLinks};
+ghost use Rattle.owner_commands.specs.StandingKeys.{IsStandingChain, ChainsWhatItWrites};
 
 use command_desks::open_desk;
 use command_files::{Conclusion, Fault, write_text};
@@ -27,6 +28,8 @@ pub fn links<K: Sink, D: Disk>(
         (Rose (D.faults disk.old) (D.faults disk.new))
         (K.taken sink.old) (K.taken sink.new) (K.faults sink.old) (K.faults sink.new) result }
     ensures stays { AtEachMoment D.Disk disk.old disk.new Stays }
+    ensures sealed { ChainsWhatItWrites D.Disk disk.new (K.taken sink.old) (K.taken sink.new)
+        result }
 {
     let chain = chain_on(alloc, disk)?;
     write_text(sink, &chain)
@@ -41,6 +44,7 @@ fn chain_on<D: Disk>(alloc: Global, disk: &mut D) -> Result<Vec<u8>, Fault>
         (WhyNot (Rose (D.faults disk.old) (D.faults disk.new))
         (EndsOpening (D.content disk.old) NoEnd)) }
     ensures stays { AtEachMoment D.Disk disk.old disk.new Stays }
+    ensures stand { IfOk result (λ chain. IsStandingChain D.Disk disk.new chain.items) }
 {
     let desk = open_desk(alloc, disk)?;
     match desk.links(alloc) {

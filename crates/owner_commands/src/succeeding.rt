@@ -6,12 +6,13 @@ ghost use Rattle.road_io.specs.Moments.{AtEachMoment, EachImage};
 ghost use Rattle.lms_tree.specs.Links.{link_text};
 ghost use Rattle.lms_tree.specs.Signatures.{public_key};
 ghost use Rattle.desk_areas.specs.Keys.{key_from};
-ghost use Rattle.key_desk.specs.Stands.{KeepsStanding};
+ghost use Rattle.key_desk.specs.Stands.{KeepsStanding, SameKeys};
 ghost use Rattle.key_desk.specs.Succession.{SignsLink};
 ghost use Rattle.road_command.specs.View.{type_of};
 ghost use Rattle.command_files.specs.Endings.{Promises, TellsNone, WhyNot};
 ghost use Rattle.command_desks.specs.Opening.{IsKeyOn};
 ghost use Rattle.owner_commands.specs.NextKey.{AddsKey, EndsSuccession, ends_succession, fault_of};
+ghost use Rattle.owner_commands.specs.StandingKeys.{FollowsAnother};
 
 use crate::making::line_of_key;
 use command_files::{Conclusion, Fault, load_hex, write_text};
@@ -59,6 +60,9 @@ fn make_next<D: Disk>(
     ensures links { AtEachMoment D.Disk disk.old disk.new
         (λ d i. (i ≡ d) ⊎ SignsLink
         (link_text (public_key (key_from (type_of kind) secret.now))) d i) }
+    ensures keys { AtEachMoment D.Disk disk.old disk.new SameKeys }
+    ensures follows { OnOk result
+        (FollowsAnother D.Disk disk.new (key_from (type_of kind) secret.now)) }
     ensures stands { KeepsStanding D.Disk disk.old disk.new }
 {
     match Desk::succeed(alloc, disk, kind.number(), secret) {

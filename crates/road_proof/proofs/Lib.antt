@@ -1,3 +1,5 @@
 pub mod HonestLemmas
 pub mod TakenLemmas
 pub mod RunLemmas
+pub mod LifeLaws
+pub mod LifeWorked

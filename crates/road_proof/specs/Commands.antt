@@ -27,6 +27,7 @@ use Rattle.owner_commands.specs.OwnerKey.{KeepsKey, ends_key}
 use Rattle.owner_commands.specs.NextKey.{AddsKey, ends_succession}
 use Rattle.owner_commands.specs.ChainLine.{EndsLinks}
 use Rattle.owner_commands.specs.OwnerDesk.{EndsDesk}
+use Rattle.owner_commands.specs.StandingKeys.{ChainsWhatItWrites}
 use Rattle.owner_commands.specs.Publishing.{TellsLost, ends_publish}
 use Rattle.owner_commands.specs.Signing.{SealsWhatItWrites, SealsWhatItMirrors, SignsAtMostOne, StaysRefused}
 use Rattle.audit_commands.specs.Auditing.{ends_audit}
@@ -79,6 +80,8 @@ OnDisk g old new (Key secret kind) files taken_before taken_now outcome = KeepsK
     secret kind outcome
 OnDisk g old new (Succeed secret kind) files taken_before taken_now outcome = AddsKey g old new
     files secret kind outcome
+OnDisk g old new Links files taken_before taken_now outcome = AtEachMoment g old new Stays ×
+    ChainsWhatItWrites g new taken_before taken_now outcome
 OnDisk g old new (Publish roads settings) files taken_before taken_now outcome =
     SealsWhatItWrites g old new taken_before taken_now outcome ×
     SignsAtMostOne g old new files roads settings × IfErr outcome (StaysRefused g old new)

@@ -1,3 +1,4 @@
 pub mod Commands
 pub mod Sources
 pub mod Accepting
+pub mod Lives

@@ -4,11 +4,13 @@
 #![tactic(auto)]
 
 mod again;
+mod laws;
 mod mirror_files;
 mod program;
 mod tell;
 
 use again::look_again;
+pub use laws::no_key_signs_twice;
 use mirror_files::{is_lost, labels_of, mirrors_here};
 pub use program::run;
 use road_command::{MOST_WORDS, Words};

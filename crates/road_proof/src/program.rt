@@ -9,6 +9,7 @@ ghost use Rattle.road_proof.specs.Commands.{Ends, IsTold, OnMirrors, RunPromises
 ghost use Rattle.road_proof.specs.Sources.{IfServe, IsExactServing, RunTakes};
 ghost use Rattle.road_proof.specs.Accepting.{AcceptsHonest, RepliesAreTaken};
 
+use crate::laws::no_key_signs_twice;
 use audit_commands::audit;
 use client_commands::check;
 use command_files::{Conclusion, Ended, Fault};
@@ -71,6 +72,7 @@ pub fn run<L: Library, S: Source, K: Sink, D: Disk, M: Mirror>(
         RepliesAreTaken request (L.files library.old) (K.taken sink.old) (K.taken sink.new)
         (outcome_of result)) }
 {
+    no_key_signs_twice::<D, M>();
     map_laws();
     server_laws();
     verdict_laws();

@@ -1,5 +1,5 @@
 -- What is signed is the publication that was promised.
-use Rattle.std.proofs.Common.{◌≡◌, ℕ, ◌+◌, ◌^◌, ◌≤◌, ◌<◌, List, ◌++◌, length, take, drop, [], append-nil, append_assoc, ◌-◌, refl, sym, ap, subst, ◌∙◌, arith, ◌↔◌}
+use Rattle.std.proofs.Common.{◌≡◌, ℕ, ◌+◌, ◌^◌, ◌≤◌, ◌<◌, List, ◌++◌, length, take, drop, [], append-nil, append_assoc, ◌-◌, refl, sym, ap, subst, ◌∙◌, arith, inr, ◌↔◌}
 use Rattle.std.specs.List.{All}
 use Rattle.std.proofs.lemmas.List.{length-append, length-take-le, length-drop, drop-drop}
 use Rattle.std.proofs.Math.Seq.{drop-length, take-length}
@@ -8,19 +8,21 @@ use Rattle.sha2.specs.Sha256.{sha256}
 use Rattle.road_map.specs.declared.parts.Parts.{Parts}
 use Rattle.road_io.specs.declared.disk.Disk.{Ghosts}
 use Rattle.road_io.specs.Moments.{EachImage, AtEachMoment}
+use Rattle.road_io.proofs.MomentLaws.{weaker}
 use Rattle.book_model.specs.declared.settings.Settings.{Settings}
 use Rattle.lms_tree.specs.Signatures.{KeyOf, number_at, seal_len, height_of}
 use Rattle.lms_tree.specs.Links.{IsLink}
-use Rattle.key_desk.specs.Desk.{IsSignature, HasAreas}
+use Rattle.key_desk.specs.Desk.{IsSignature, HasAreas, slot_here}
 use Rattle.key_desk.specs.declared.desk.Desk.{Desk}
-use Rattle.desk_areas.specs.Layout.{SlotId, slots_of, gate_of, IsCurrent, IsSigned, OutsideSlot, SignsAtMost}
+use Rattle.key_desk.proofs.Successors.{slots_on}
+use Rattle.desk_areas.specs.Layout.{SlotId, slots_of, slots_at, base_of, gate_of, IsCurrent, IsSigned, OutsideSlot, SignsAtMost}
 use Rattle.proof_octets.specs.declared.header.Header.{Header}
 use Rattle.proof_octets.specs.declared.publication.Publication.{Publication}
 use Rattle.proof_octets.specs.Headers.{header_text}
 use Rattle.proof_octets.specs.Publications.{publication, publication_text}
 use Rattle.proof_octets.specs.Good.{IsGoodPublication, IsGoodNode, IsGoodRoad, IsGoodHeader}
 use Rattle.route_server.specs.Headers.{HasHeader, header_of}
-use Rattle.route_owner.specs.Published.{HasSettingWidths, IsPublication, IsSealed, IsSignable, SignsHeader, publication_with}
+use Rattle.route_owner.specs.Published.{HasSettingWidths, IsPublication, IsSealed, IsSignable, SignsInSlot, SignsHeader, publication_with}
 
 -- a header that was made can be signed
 pub signable : (hash : List ℕ → List ℕ) (parts left : Parts) (s : Settings) (h : Header) → left ≡ parts → HasHeader hash sha256 parts s h → (s.version < 2 ^ 64 → IsGoodHeader h)
@@ -86,17 +88,35 @@ pub no_link : (header : Header) (text : List ℕ) → length (header_text header
 no_link header text long is link = omega (arith, link.size, ap length is, long)
 
 module _ {D : Type 0} (g : Ghosts D) (old new : D) where
+  -- a change of one slot of a desk's current area that is not its last
+  in_slot : (desk : Desk) (q : ℕ) (header : Header) (text d i : List ℕ) → text ≡ header_text header → q + 1 < slots_of desk.key.kind → HasAreas desk d
+      → OutsideSlot (slot_here desk q) d i × SignsAtMost (slot_here desk q) text d i → SignsInSlot (slot_here desk q) (header_text header) d i
+  in_slot desk q header text d i is early areas h = record {
+    current = areas.current;
+    early = omega (arith, early, slots_on desk d areas);
+    outside = h.0;
+    signs = subst (λ t. SignsAtMost (slot_here desk q) t d i) is h.1;
+  }
+
   -- the moments of a signing
-  pub signs_header : (hash : List ℕ → List ℕ) (parts : Parts) (s : Settings) (header : Header) (text : List ℕ) (slot : SlotId) → HasHeader hash sha256 parts s header → text ≡ header_text header
-      → AtEachMoment g old new (λ d i. OutsideSlot slot d i × SignsAtMost slot text d i) → SignsHeader g old new hash parts s
-  signs_header hash parts s header text slot has is each =
-      record { slot = slot; header = header; of_book = has; each = subst (λ t. AtEachMoment g old new (λ d i. OutsideSlot slot d i × SignsAtMost slot t d i)) is each }
+  pub signs_header : (hash : List ℕ → List ℕ) (parts : Parts) (s : Settings) (header : Header) (text : List ℕ) (desk : Desk) (q : ℕ) → HasHeader hash sha256 parts s header → text ≡ header_text header
+      → EachImage g old (HasAreas desk) → q + 1 < slots_of desk.key.kind
+      → AtEachMoment g old new (λ d i. OutsideSlot (slot_here desk q) d i × SignsAtMost (slot_here desk q) text d i) → SignsHeader g old new hash parts s
+  signs_header hash parts s header text desk q has is areas early each = record {
+    slot = slot_here desk q;
+    header = header;
+    of_book = has;
+    each = weaker g old new _ _ each (λ d i now h. inr (in_slot desk q header text d i is early (areas d now) h));
+  }
 
   -- what stands after one, in the current area of the desk
-  pub sealed_so : (p : Publication) (desk : Desk) (area q : ℕ) (text : List ℕ) → number_at p.signature 0 ≡ q → text ≡ header_text p.header → EachImage g new (HasAreas desk) → length desk.earlier ≡ area
+  pub sealed_so : (p : Publication) (desk : Desk) (area q : ℕ) (text : List ℕ) → number_at p.signature 0 ≡ q → text ≡ header_text p.header → EachImage g new (HasAreas desk) → length desk.earlier ≡ area → q + 1 < slots_of desk.key.kind
       → EachImage g old (λ i. gate_of i (record { area = area; number = q }) ≡ 0) → EachImage g new (λ i. IsSigned i (record { area = area; number = q }) text) → IsSealed g old new area p
-  sealed_so p desk area q text number is areas here free stands = record {
+  sealed_so p desk area q text number is areas here below free stands = record {
     current = λ i now. let h = areas i now in subst (IsCurrent i) here h.current;
+    early = λ i now.
+        let there : slots_at i (base_of i area) ≡ slots_of desk.key.kind = ap (λ (a : ℕ). slots_at i (base_of i a)) (sym here) ∙ slots_on desk i (areas i now) in
+        omega (arith, number, below, there);
     was_free = subst (λ (n : ℕ). EachImage g old (λ i. gate_of i (record { area = area; number = n }) ≡ 0)) (sym number) free;
     stands = subst (λ t. EachImage g new (λ i. IsSigned i (record { area = area; number = number_at p.signature 0 }) t)) is
         (subst (λ (n : ℕ). EachImage g new (λ i. IsSigned i (record { area = area; number = n }) text)) (sym number) stands);

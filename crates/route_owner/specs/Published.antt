@@ -1,7 +1,7 @@
 -- What publishing promises.
 -- Source: Yiu, Lin and Mouratidis, ICDE 2010: the data owner signs the roots of the trees and hands
 -- them out with the map.
-use Rattle.std.specs.Prelude.{◌≡◌, ◌≢◌, ◌≤◌, ◌+◌, ◌<◌, ◌^◌, ℕ, true, List, ◌++◌, All, length, take, drop}
+use Rattle.std.specs.Prelude.{◌≡◌, ◌≢◌, ◌⊎◌, ◌≤◌, ◌+◌, ◌<◌, ◌^◌, ℕ, true, List, ◌++◌, All, length, take, drop}
 use Rattle.std.specs.declared.result.Result.{Result}
 use Rattle.std.specs.declared.result.Result.TheVariants.{Ok, Err}
 use Rattle.sha2.specs.Sha256.{sha256}
@@ -12,7 +12,7 @@ use Rattle.book_model.specs.declared.settings.Settings.{Settings}
 use Rattle.lms_tree.specs.Signatures.{KeyOf, number_at}
 use Rattle.key_desk.specs.Desk.{IsSignature, IsUsedUp as HasNoFree}
 use Rattle.key_desk.specs.declared.desk.Desk.{Desk as View}
-use Rattle.desk_areas.specs.Layout.{SlotId, slots_of, gate_of, IsCurrent, IsSigned, OutsideSlot, SignsAtMost}
+use Rattle.desk_areas.specs.Layout.{SlotId, slots_of, slots_at, base_of, gate_of, IsCurrent, IsSigned, OutsideSlot, SignsAtMost}
 use Rattle.proof_octets.specs.declared.header.Header.{Header}
 use Rattle.proof_octets.specs.declared.publication.Publication.{Publication}
 use Rattle.proof_octets.specs.Headers.{header_text}
@@ -44,10 +44,11 @@ pub record IsPublication (hash : List ℕ → List ℕ) (key : KeyOf) (parts : P
   pub fits : publication.Fits p
 
 -- the header stands in every image, in its slot of this area, the last open one, where no text was
--- signed before
+-- signed before; it is not the area's last slot, which is kept for the next key
 pub record IsSealed {D : Type 0} (g : Ghosts D) (old new : D) (area : ℕ)
     (p : Publication) : Type 0 where
   pub current : EachImage g new (λ i. IsCurrent i area)
+  pub early : EachImage g new (λ i. slot_of p + 1 < slots_at i (base_of i area))
   pub was_free : EachImage g old (λ i. gate_of i (slot_in area p) ≡ 0)
   pub stands : EachImage g new (λ i. IsSigned i (slot_in area p) (header_text p.header))
 
@@ -65,15 +66,23 @@ OnNoSigning (Err (Build e)) P = P
 OnNoSigning (Err (Desk e)) P = Unit {0}
 OnNoSigning (Err Memory) P = P
 
--- at each moment the images are those at entry, or have one pair more, of the header and a slot,
--- and nothing outside that slot changes
+-- nothing changes outside this slot, which is one of the last open area and not its last, and the
+-- same pairs are signed, or that of the slot and this text besides
+pub record SignsInSlot (slot : SlotId) (text d i : List ℕ) : Type 0 where
+  pub current : IsCurrent d slot.area
+  pub early : slot.number + 1 < slots_at d (base_of d slot.area)
+  pub outside : OutsideSlot slot d i
+  pub signs : SignsAtMost slot text d i
+
+-- at each moment each image is one from entry, or such a one with the pair of one slot and the
+-- header at most besides
 pub record SignsHeader {D : Type 0} (g : Ghosts D) (old new : D) (hash : List ℕ → List ℕ)
     (parts : Parts) (s : Settings) : Type 0 where
   pub slot : SlotId
   pub header : Header
   pub of_book : HasHeader hash sha256 parts s header
   pub each : AtEachMoment g old new
-      (λ d i. OutsideSlot slot d i × SignsAtMost slot (header_text header) d i)
+      (λ d i. (i ≡ d) ⊎ SignsInSlot slot (header_text header) d i)
 
 -- why there was no book
 abbrev pub IsNoBook : (List ℕ → List ℕ) → Parts → Settings → BuildError → Type 0

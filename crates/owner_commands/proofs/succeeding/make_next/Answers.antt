@@ -2,6 +2,7 @@ use Rattle.std.proofs.Common.{ap, ◌∙◌}
 use Rattle.std.specs.declared.result.Result.TheVariants.{Err}
 use Rattle.desk_areas.specs.Keys.{key_from}
 use Rattle.owner_commands.proofs.SuccessionLemmas.{not_followed, next_line, next_on, links_kind}
+use Rattle.owner_commands.proofs.StandingLemmas.{key_follows}
 use Rattle.owner_commands.proofs.succeeding.make_next.Goals as goal
 
 pub returns-in-Ok-clause-line : goal.returns-in-Ok-clause-line
@@ -22,3 +23,7 @@ pub returns-in-Err-clause-refused : goal.returns-in-Err-clause-refused
 returns-in-Err-clause-refused g c =
     rw c.not_followed.ensures
     (not_followed _ _ _ _ c.in-Err.e c.in-Err.ensures.refused (λ is. c.in-Err.ensures.fault (ap (λ x. Err x) is)))
+
+pub returns-in-Ok-clause-follows : goal.returns-in-Ok-clause-follows
+returns-in-Ok-clause-follows g c =
+    key_follows g.D.Disk c.in-Ok.desk c.succeed.new.disk c.in-Ok.ensures.fits _ c.in-Ok.ensures.follows (c.in-Ok.ensures.key ∙ ap (λ n. key_from n c.args.secret.now) c.number.ensures.is)

@@ -6,6 +6,9 @@ use Rattle.road_command.specs.View.{type_of}
 use Rattle.command_desks.specs.Opening.{IsKeyOn}
 use Rattle.command_desks.proofs.Disks.{no_moment, no_step}
 use Rattle.owner_commands.proofs.OwnerLemmas.{made_of, on_any}
+use Rattle.road_io.specs.Causes.{Rose}
+use Rattle.owner_commands.specs.NextKey.{EndsSuccession}
+use Rattle.owner_commands.proofs.StandingLemmas.{no_keys, on_writing, none_written, files_written}
 use Rattle.owner_commands.proofs.SuccessionLemmas.{next_refused, next_told, links_file}
 use Rattle.owner_commands.proofs.succeeding.succeed.Goals as goal
 
@@ -15,7 +18,13 @@ returns-in_err-secret-clause-stands g c = no_step g.D.Disk c.args.disk.now
 pub returns-in_err-secret-clause-adds : goal.returns-in_err-secret-clause-adds
 returns-in_err-secret-clause-adds g c =
     let p = err_from_is_err_and c.from_residual.result c.from_residual.ensures.1 in
-    rw p.1 (record { made = tt; links = inl (no_moment g.D.Disk c.args.disk.now) })
+    rw (p.1, p.2)
+    (record {
+      made = tt;
+      links = inl (no_moment g.D.Disk c.args.disk.now);
+      keys = no_keys g.D.Disk c.args.disk.now;
+      follows = files_written c.in_err-secret.field-0.0 _ c.in_err-secret.ensures.loads.others;
+    })
 
 pub returns-in_err-line-clause-promised : goal.returns-in_err-line-clause-promised
 returns-in_err-line-clause-promised g c =
@@ -26,7 +35,13 @@ returns-in_err-line-clause-promised g c =
 pub returns-in_err-line-clause-adds : goal.returns-in_err-line-clause-adds
 returns-in_err-line-clause-adds g c =
     let p = err_from_is_err_and c.from_residual-in_err-line.result c.from_residual-in_err-line.ensures.1 in
-    rw p.1 (record { made = tt; links = inr (links_file _ _ _ (g.D.Disk.content c.args.disk.now) _ (Unit {0}) 0 0 0 0 c.in_ok-secret.ensures.loads.read (g.D.Disk.content c.args.disk.now) g.D.Disk c.args.disk.now c.make_next.new.disk c.make_next.ensures.links) })
+    rw (p.1, p.2)
+    (record {
+      made = tt;
+      links = inr (links_file _ _ _ (g.D.Disk.content c.args.disk.now) _ (Unit {0}) 0 0 0 0 c.in_ok-secret.ensures.loads.read (g.D.Disk.content c.args.disk.now) g.D.Disk c.args.disk.now c.make_next.new.disk c.make_next.ensures.links);
+      keys = c.make_next.ensures.keys;
+      follows = none_written (Rose (g.D.Disk.faults c.args.disk.now) (g.D.Disk.faults c.make_next.new.disk)) (EndsSuccession (g.D.Disk.content c.args.disk.now) (type_of c.args.kind) c.in_ok-secret.secret) c.in_err-line.field-0.0 _ c.in_err-line.ensures.refused;
+    })
 
 pub returns-clause-promised : goal.returns-clause-promised
 returns-clause-promised g c =
@@ -36,4 +51,6 @@ pub returns-clause-adds : goal.returns-clause-adds
 returns-clause-adds g c = record {
   made = on_any _ _ (made_of _ _ _ (λ s. EachImage g.D.Disk c.make_next.new.disk (λ i. IsKeyOn i (key_from (type_of c.args.kind) s))) c.in_ok-secret.ensures.loads.read c.in_ok-line.ensures.made);
   links = inr (links_file _ _ _ (g.D.Disk.content c.args.disk.now) _ (Unit {0}) 0 0 0 0 c.in_ok-secret.ensures.loads.read (g.D.Disk.content c.args.disk.now) g.D.Disk c.args.disk.now c.make_next.new.disk c.make_next.ensures.links);
+  keys = c.make_next.ensures.keys;
+  follows = on_writing c.write_text.result _ (record { secret = c.in_ok-secret.secret; of_file = c.in_ok-secret.ensures.loads.read; follows = c.in_ok-line.ensures.follows });
 }

@@ -39,7 +39,7 @@ returns-in-Some-Succeed-clause-promised g c =
 
 pub returns-in-Some-Links-clause-promised : goal.returns-in-Some-Links-clause-promised
 returns-in-Some-Links-clause-promised g c =
-    run_stays g.D.Disk c.args.disk.now c.links.new.disk _ _ _ _ _ _ _ _ _ _ (rw c.in-Some-Links.field-0-is at c.in-Some-Links.ensures) (c.links.ensures.promised _ _) c.links.ensures.stays c.links.ensures.stays
+    run_stays g.D.Disk c.args.disk.now c.links.new.disk _ _ _ _ _ _ _ _ _ _ (rw c.in-Some-Links.field-0-is at c.in-Some-Links.ensures) (c.links.ensures.promised _ _) (c.links.ensures.stays, c.links.ensures.sealed) c.links.ensures.stays
 
 pub returns-in-Some-Publish-clause-promised : goal.returns-in-Some-Publish-clause-promised
 returns-in-Some-Publish-clause-promised g c =

@@ -1,5 +1,6 @@
-use Rattle.std.proofs.Common.{◌≡◌, ◌≤◌, ℕ, List, length, ◌∙◌, ap, subst, sym, arith}
-use Rattle.lms_tree.specs.Signatures.{number_at}
+use Rattle.std.proofs.Common.{◌≡◌, ◌≤◌, ◌+◌, ◌<◌, ℕ, List, length, ◌∙◌, ap, subst, sym, arith}
+use Rattle.lms_tree.specs.Signatures.{KeyOf, number_at}
+use Rattle.desk_areas.specs.Layout.{slots_of}
 use Rattle.route_owner.proofs.Sealing.{all_written, fits_with, no_link, signed_so, signs_header, sealed_so, published_so, seal_short}
 use Rattle.route_owner.proofs.publishing.publish.Goals as goal
 
@@ -18,12 +19,13 @@ returns-in-Ok-sign-clause-published g c =
 pub returns-in-Ok-sign-clause-sealed : goal.returns-in-Ok-sign-clause-sealed
 returns-in-Ok-sign-clause-sealed g c =
     sealed_so _ _ _ _ c.sign.new.self _ c.in-Ok-sign.field-0 _ (ap (λ x. number_at x 0) (signature_is g c) ∙ c.in-Ok-sign.ensures.signature.number_is) c.write.ensures
-    c.in-Ok-sign.ensures.fits.areas (ap length c.in-Ok-sign.ensures.same.earlier) c.in-Ok-sign.ensures.was_free c.in-Ok-sign.ensures.signed.signed
+    c.in-Ok-sign.ensures.fits.areas (ap length c.in-Ok-sign.ensures.same.earlier)
+    (subst (λ (k : KeyOf). c.in-Ok-sign.field-0 + 1 < slots_of k.kind) (sym c.in-Ok-sign.ensures.same.key) c.in-Ok-sign.ensures.early) c.in-Ok-sign.ensures.was_free c.in-Ok-sign.ensures.signed.signed
 
 pub returns-in-Ok-sign-clause-moments : goal.returns-in-Ok-sign-clause-moments
 returns-in-Ok-sign-clause-moments g c =
-    signs_header _ _ _ _ _ _ c.in-Ok.signable.header _ _ c.in-Ok.ensures.signable.has c.write.ensures c.in-Ok-sign.ensures.moments.2
+    signs_header _ _ _ _ _ _ c.in-Ok.signable.header _ c.args.desk.now c.in-Ok-sign.ensures.moments.0 c.in-Ok.ensures.signable.has c.write.ensures c.requires.areas c.in-Ok-sign.ensures.moments.2 c.in-Ok-sign.ensures.moments.3
 
 pub returns-in-Err-sign-clause-moments : goal.returns-in-Err-sign-clause-moments
 returns-in-Err-sign-clause-moments g c =
-    signs_header _ _ _ _ _ _ c.in-Ok.signable.header _ _ c.in-Ok.ensures.signable.has c.write.ensures c.in-Err-sign.ensures.moments.2
+    signs_header _ _ _ _ _ _ c.in-Ok.signable.header _ c.args.desk.now c.in-Err-sign.ensures.moments.0 c.in-Ok.ensures.signable.has c.write.ensures c.requires.areas c.in-Err-sign.ensures.moments.2 c.in-Err-sign.ensures.moments.3

@@ -34,3 +34,6 @@ returns-in-Ok-clause-refused g c = only_called c.args.self _ c.add_area.result c
 
 pub returns-in-Ok-clause-refused_else : goal.returns-in-Ok-clause-refused_else
 returns-in-Ok-clause-refused_else g c f h = absurd (none_refused c.args.self c.array_at-name.result c.in-Ok.ensures.follows f (subst (λ (n : List ℕ). DeskRefuses c.args.self n f) (sym c.array_at-name.ensures) h))
+
+pub returns-in-Err-clause-keys : goal.returns-in-Err-clause-keys
+returns-in-Err-clause-keys g c = nothing g.D.Disk c.args.disk.now _ (λ d now. let areas = c.requires.fits.areas d now in areas.keys)

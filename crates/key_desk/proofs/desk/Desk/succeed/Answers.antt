@@ -13,10 +13,11 @@ use Rattle.desk_areas.specs.declared.errors.StartError.TheVariants as start
 use Rattle.desk_areas.specs.Faults.{IsBadBlock, IsUsable}
 use Rattle.desk_areas.specs.Layout.{SlotId, slots_of, slots_at, base_of, last_slot, IsCurrent, IsOpen, IsSigned, SignsAtMost}
 use Rattle.desk_areas.specs.Keys.{key_from}
-use Rattle.key_desk.specs.Stands.{KeepsStanding}
+use Rattle.key_desk.specs.Stands.{KeepsStanding, SameKeys}
 use Rattle.key_desk.specs.Desk.{slot_here, HasAreas, Fits}
-use Rattle.key_desk.specs.Succession.{last_number, next_desk, SignsLink, Refuses, IsCalledFor, IsDeskCalledFor}
+use Rattle.key_desk.specs.Succession.{last_number, next_desk, HasKeys, SignsLink, Refuses, IsCalledFor, IsDeskCalledFor}
 use Rattle.key_desk.proofs.Standing.{standing}
+use Rattle.key_desk.proofs.KeptKeys.{stays_keys, desk_keys}
 use Rattle.key_desk.proofs.Counts.{key_here}
 use Rattle.key_desk.proofs.Refusals.{called_on, to_image, from_image, start_called, start_called_else, start_fault, same_error}
 use Rattle.key_desk.proofs.Successors.{last_on, one_more, key_before}
@@ -125,3 +126,23 @@ returns-in-Ok-clause-signed g c = signed_now g.D.Disk c.in-Ok.desk (key_from c.a
 pub returns-in-Ok-clause-untouched : goal.returns-in-Ok-clause-untouched
 returns-in-Ok-clause-untouched g c refused other =
     subst (λ d. AtEachMoment g.D.Disk c.args.disk.now d Stays) (sym (c.pass_on.ensures.untouched refused other)) c.reopen.ensures.moments
+
+-- the keys of the areas that are open stay
+keys_stay : {D : Type 0} (g : Ghosts D) (desk : Desk) (old mid new : D) → Fits g desk mid → AtEachMoment g old mid Stays → AtEachMoment g mid new (λ d i. HasKeys desk i) → AtEachMoment g old new SameKeys
+keys_stay g desk old mid new fits read kept = continued g old mid new Stays _ SameKeys read kept
+    (λ d i now is. stays_keys d i is)
+    (λ d e i now_d now_e is h. subst (λ (x : List ℕ). SameKeys x i) is (desk_keys desk e i (fits.areas e now_e) h))
+
+pub returns-in-Ok-clause-keys : goal.returns-in-Ok-clause-keys
+returns-in-Ok-clause-keys g c = keys_stay g.D.Disk c.in-Ok.desk c.args.disk.now c.reopen.new.disk c.pass_on.new.disk c.in-Ok.ensures.fits c.reopen.ensures.moments c.pass_on.ensures.keys
+
+pub returns-in-Err-clause-keys : goal.returns-in-Err-clause-keys
+returns-in-Err-clause-keys g c = weaker g.D.Disk c.args.disk.now c.reopen.new.disk Stays SameKeys c.reopen.ensures.moments (λ d i now is. stays_keys d i is)
+
+-- the key that was added follows another
+follows : (desk : Desk) (key : KeyOf) (r : Result Desk SucceedError) → IfOk r (λ v. v ≡ next_desk desk key) → IfOk r (λ v. 0 < length v.earlier)
+follows desk key (Ok v) is = omega (arith, ap (λ (w : Desk). length w.earlier) is, one_more desk key)
+follows desk key (Err e) is = tt
+
+pub returns-in-Ok-clause-follows : goal.returns-in-Ok-clause-follows
+returns-in-Ok-clause-follows g c = follows c.in-Ok.desk (key_from c.args.kind c.args.secret.now) c.pass_on.result c.pass_on.ensures.next

@@ -1,0 +1,104 @@
+-- What the words of the owner's promises say at some ends, so that a weaker word is seen.
+use Rattle.std.proofs.Common.{◌≡◌, ◌≢◌, ◌⊎◌, inl, inr, ℕ, ◌+◌, ◌<◌, List, length, refl}
+use Rattle.std.specs.declared.option.Option.{Option}
+use Rattle.std.specs.declared.result.Result.{Result}
+use Rattle.std.specs.declared.result.Result.TheVariants.{Ok, Err}
+use Rattle.std.specs.Io.KnownBytes.{Appends, Keeps}
+use Rattle.road_io.specs.declared.disk.Disk.{Ghosts}
+use Rattle.road_io.specs.Disk.{Stays}
+use Rattle.road_io.specs.Moments.{AtEachMoment}
+use Rattle.road_io.specs.Contents.{AppendsFront}
+use Rattle.proof_octets.specs.Publications.{publication_text}
+use Rattle.publication_out.specs.Sent.{pieces_in}
+use Rattle.mirror_out.specs.Mirrors.{Mirrors}
+use Rattle.road_map.specs.declared.error.MapError.{MapError}
+use Rattle.road_reader.specs.declared.error.RoadError.{RoadError}
+use Rattle.book_model.specs.declared.settings.PlanError.{PlanError}
+use Rattle.command_files.specs.Endings.{IsSilent}
+use Rattle.command_files.specs.declared.fault.Fault.{Fault}
+use Rattle.command_files.specs.declared.fault.Fault.TheVariants.{Words, Missing, Road, Map, Plan, KeysUsedUp, Memory, NoKey, BadBlock, Disk, Sink, MirrorLost}
+use Rattle.command_files.specs.declared.ended.Conclusion.{Conclusion}
+use Rattle.command_files.specs.declared.ended.Conclusion.TheVariants.{Done}
+use Rattle.owner_commands.specs.Publishing.{TellsLost}
+use Rattle.owner_commands.specs.Signing.{StaysRefused, Wrote, WroteSealed, SealsWhatItWrites, SealsWhatItMirrors, SpreadSealed}
+use Rattle.owner_commands.specs.StandingKeys.{WroteChain, ChainsWhatItWrites}
+
+-- ---- a publication that was refused changes no image
+
+module _ {D : Type 0} (g : Ghosts D) (old new : D) where
+  at_no_file : StaysRefused g old new Missing → AtEachMoment g old new Stays
+  at_no_file h = h
+
+  at_road_fault : (e : RoadError) → StaysRefused g old new (Road e) → AtEachMoment g old new Stays
+  at_road_fault e h = h
+
+  at_map_fault : (e : MapError) → StaysRefused g old new (Map e) → AtEachMoment g old new Stays
+  at_map_fault e h = h
+
+  at_no_book : (e : PlanError) → StaysRefused g old new (Plan e) → AtEachMoment g old new Stays
+  at_no_book e h = h
+
+  at_used_up : StaysRefused g old new KeysUsedUp → AtEachMoment g old new Stays
+  at_used_up h = h
+
+  at_short_memory : StaysRefused g old new Memory → AtEachMoment g old new Stays
+  at_short_memory h = h
+
+  at_no_key : StaysRefused g old new NoKey → AtEachMoment g old new Stays
+  at_no_key h = h
+
+  at_bad_block : StaysRefused g old new BadBlock → AtEachMoment g old new Stays
+  at_bad_block h = h
+
+-- ---- what was written
+
+module _ {D : Type 0} (g : Ghosts D) (old new : D) (taken_before taken_now : Option (List ℕ)) where
+  -- all of a publication, also where a mirror was lost, and a front where the sink failed
+  whole : (w : WroteSealed g old new taken_before taken_now (Ok Done)) → Appends taken_before taken_now (publication_text w.publication)
+  whole w = w.written
+
+  whole_but_for_mirrors : (w : WroteSealed g old new taken_before taken_now (Err MirrorLost)) → Appends taken_before taken_now (publication_text w.publication)
+  whole_but_for_mirrors w = w.written
+
+  front : (w : WroteSealed g old new taken_before taken_now (Err Sink)) → AppendsFront taken_before taken_now (publication_text w.publication)
+  front w = w.written
+
+  sealed_when_done : SealsWhatItWrites g old new taken_before taken_now (Ok Done) → WroteSealed g old new taken_before taken_now (Ok Done)
+  sealed_when_done h = h
+
+  sealed_when_cut : SealsWhatItWrites g old new taken_before taken_now (Err Sink) → WroteSealed g old new taken_before taken_now (Err Sink)
+  sealed_when_cut h = h
+
+  -- all of a chain, and a front where the sink failed
+  whole_chain : (w : WroteChain g new taken_before taken_now (Ok Done)) → Appends taken_before taken_now w.text
+  whole_chain w = w.written
+
+  chain_when_cut : ChainsWhatItWrites g new taken_before taken_now (Err Sink) → WroteChain g new taken_before taken_now (Err Sink)
+  chain_when_cut h = h
+
+  -- nothing where the disk failed, memory was short or all keys were used
+  silent_at : (f : Fault) → f ≢ Sink → (TellsLost f → ⊥) → IsSilent TellsLost taken_before taken_now (Err f) → Keeps taken_before taken_now
+  silent_at f other untold silent = silent f refl other untold
+
+  silent_at_disk : IsSilent TellsLost taken_before taken_now (Err Disk) → Keeps taken_before taken_now
+  silent_at_disk = silent_at Disk (λ is. cc) (λ told. told)
+
+  silent_at_memory : IsSilent TellsLost taken_before taken_now (Err Memory) → Keeps taken_before taken_now
+  silent_at_memory = silent_at Memory (λ is. cc) (λ told. told)
+
+  silent_at_used_up : IsSilent TellsLost taken_before taken_now (Err KeysUsedUp) → Keeps taken_before taken_now
+  silent_at_used_up = silent_at KeysUsedUp (λ is. cc) (λ told. told)
+
+module _ {M : Type 0} (octets : M → Option (List ℕ)) (label puts room : M → ℕ) {D : Type 0} (g : Ghosts D) (old new : D) (taken_before taken_now : Option (List ℕ)) (before now : List M) where
+  -- the mirrors took all and stay where the work was done, and fewer stay where one is said to be lost
+  mirrors_whole : (w : SpreadSealed octets label puts room g old new taken_before taken_now before now (Ok Done))
+      → Mirrors octets label puts room (pieces_in (publication_text w.publication)) (publication_text w.publication) before now × (length now ≡ length before)
+  mirrors_whole w = w.mirrored
+
+  mirrors_lost : (w : SpreadSealed octets label puts room g old new taken_before taken_now before now (Err MirrorLost))
+      → Mirrors octets label puts room (pieces_in (publication_text w.publication)) (publication_text w.publication) before now × (length now < length before)
+  mirrors_lost w = w.mirrored
+
+  -- and they are as they were where nothing was written
+  mirrors_still : SealsWhatItMirrors octets label puts room g old new taken_before taken_now before now (Err Disk) → now ≡ before
+  mirrors_still h = h.still

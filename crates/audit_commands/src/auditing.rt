@@ -11,7 +11,7 @@ ghost use Rattle.route_audit.specs.Routes.{routes};
 ghost use Rattle.audit_commands.specs.Auditing.{EndsAudit, ends_audit};
 ghost use Rattle.audit_commands.specs.Headline.{AuditsFiles, IsBrought, RestsOn, WritesFindings};
 
-use crate::telling::{ToldReplies, tell};
+use crate::telling::{RouteTelling, Telling, tell};
 use book_model::Query;
 use command_desks::open_desk;
 use command_files::{
@@ -21,7 +21,7 @@ use lms_tree::Link;
 use octet_text::Sha;
 use proof_octets::Publication;
 use road_io::{Disk, Library, Sink};
-use route_audit::{Routes, audit_reply};
+use route_audit::{Replies, audit_reply};
 use route_server::server_laws;
 use std::alloc::Global;
 
@@ -43,7 +43,7 @@ pub fn audit<L: Library, K: Sink, D: Disk>(
         (L.files library.old) (L.faults library.old) (L.faults library.new)
         (K.taken sink.old) (K.taken sink.new) (K.faults sink.old) (K.faults sink.new) result }
 {
-    audit_files::<Routes, L, K, D>(
+    audit_files::<RouteTelling, L, K, D>(
         alloc,
         library,
         sink,
@@ -57,7 +57,7 @@ pub fn audit<L: Library, K: Sink, D: Disk>(
 }
 
 /// The same of a reply of any kind.
-pub fn audit_files<R: ToldReplies, L: Library, K: Sink, D: Disk>(
+pub fn audit_files<T: Telling, L: Library, K: Sink, D: Disk>(
     alloc: Global,
     library: &mut L,
     sink: &mut K,
@@ -65,17 +65,17 @@ pub fn audit_files<R: ToldReplies, L: Library, K: Sink, D: Disk>(
     key: &str,
     publication: &str,
     reply: &str,
-    query: R::Query,
+    query: <T::Kind as Replies>::Query,
     chain: Option<&str>,
 ) -> Result<Conclusion, Fault>
-    ensures { AuditsFiles R.kind R.refused D.Disk disk.old disk.new
+    ensures { AuditsFiles T.Kind.kind T.refused D.Disk disk.old disk.new
         key.now publication.now reply.now query (option_map (λ name. name.now) chain)
         (L.files library.old) (L.faults library.old) (L.faults library.new)
         (K.taken sink.old) (K.taken sink.new) (K.faults sink.old) (K.faults sink.new) result }
 {
-    R::laws();
+    <T::Kind as Replies>::laws();
     server_laws();
-    write_findings::<R, L, K, D>(
+    write_findings::<T, L, K, D>(
         alloc,
         library,
         sink,
@@ -89,7 +89,7 @@ pub fn audit_files<R: ToldReplies, L: Library, K: Sink, D: Disk>(
 }
 
 // The same without what is concluded from it of accepted replies.
-fn write_findings<R: ToldReplies, L: Library, K: Sink, D: Disk>(
+fn write_findings<T: Telling, L: Library, K: Sink, D: Disk>(
     alloc: Global,
     library: &mut L,
     sink: &mut K,
@@ -97,15 +97,15 @@ fn write_findings<R: ToldReplies, L: Library, K: Sink, D: Disk>(
     key: &str,
     publication: &str,
     reply: &str,
-    query: R::Query,
+    query: <T::Kind as Replies>::Query,
     chain: Option<&str>,
 ) -> Result<Conclusion, Fault>
-    ensures promised { Promises (ends_audit R.kind R.refused (D.content disk.old)
+    ensures promised { Promises (ends_audit T.Kind.kind T.refused (D.content disk.old)
         key.now publication.now reply.now query (option_map (λ name. name.now) chain)) TellsNone
         (Rose (D.faults disk.old) (D.faults disk.new))
         (L.files library.old) (L.faults library.old) (L.faults library.new)
         (K.taken sink.old) (K.taken sink.new) (K.faults sink.old) (K.faults sink.new) result }
-    ensures finds { WritesFindings D.Disk disk.new (IsBrought R.kind) key.now reply.now
+    ensures finds { WritesFindings D.Disk disk.new (IsBrought T.Kind.kind) key.now reply.now
         (option_map (λ name. name.now) chain) (L.files library.old)
         (K.taken sink.old) (K.taken sink.new) result }
     ensures stays { AtEachMoment D.Disk disk.old disk.new Stays }
@@ -114,7 +114,7 @@ fn write_findings<R: ToldReplies, L: Library, K: Sink, D: Disk>(
     let publication = load_publication(alloc, library, publication)?;
     let reply = load_file(alloc, library, reply)?;
     let links = load_chain(alloc, library, chain)?;
-    let told = find::<R, D>(
+    let told = find::<T, D>(
         alloc,
         disk,
         &key,
@@ -127,34 +127,34 @@ fn write_findings<R: ToldReplies, L: Library, K: Sink, D: Disk>(
 }
 
 // What a reply is evidence of, by the keys on the disk.
-fn find<R: ToldReplies, D: Disk>(
+fn find<T: Telling, D: Disk>(
     alloc: Global,
     disk: &mut D,
     key: &[u8; 56],
     links: &[Link],
     publication: Publication,
     reply: &[u8],
-    query: R::Query,
+    query: <T::Kind as Replies>::Query,
 ) -> Result<Told, Fault>
     requires short { length reply.now < 2 ^ 32 }
     requires few { length links.now ≤ 7 }
     ensures told { IfOk result (λ told.
-        EndsAudit R.kind R.refused (D.content disk.old) key.now links.now publication reply.now query
+        EndsAudit T.Kind.kind T.refused (D.content disk.old) key.now links.now publication reply.now query
         told.end told.text.items) }
     ensures verdict { IfOk result (λ told. MayEnd TellsNone told.end) }
     ensures rests { IfOk result (λ told.
-        RestsOn D.Disk disk.new (IsBrought R.kind reply.now) key.now links.now told.end
+        RestsOn D.Disk disk.new (IsBrought T.Kind.kind reply.now) key.now links.now told.end
         told.text.items) }
     ensures others { IfErr result (λ fault.
-        RestsOn D.Disk disk.new (IsBrought R.kind reply.now) key.now links.now (Err fault) []) }
+        RestsOn D.Disk disk.new (IsBrought T.Kind.kind reply.now) key.now links.now (Err fault) []) }
     ensures refused { IfErr result (WhyNot (Rose (D.faults disk.old) (D.faults disk.new))
-        (EndsAudit R.kind R.refused
+        (EndsAudit T.Kind.kind T.refused
         (D.content disk.old) key.now links.now publication reply.now query)) }
     ensures stays { AtEachMoment D.Disk disk.old disk.new Stays }
 {
-    R::laws();
+    <T::Kind as Replies>::laws();
     let mut desk = open_desk(alloc, disk)?;
-    let answer = audit_reply::<R, Sha, D>(
+    let answer = audit_reply::<T::Kind, Sha, D>(
         alloc,
         key,
         links,
@@ -164,5 +164,5 @@ fn find<R: ToldReplies, D: Disk>(
         &mut desk,
         disk,
     );
-    tell::<R>(alloc, answer)
+    tell::<T>(alloc, answer)
 }

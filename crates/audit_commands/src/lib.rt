@@ -2,7 +2,7 @@
 #![tactic(auto)]
 
 pub use auditing::{audit, audit_files};
-pub use telling::ToldReplies;
+pub use telling::{RouteTelling, Telling};
 
 mod auditing;
 mod telling;

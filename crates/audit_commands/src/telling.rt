@@ -1,7 +1,6 @@
 //! What an audit's answer is told as.
 
 ghost use Rattle.std.specs.Prelude.{◌≡◌, ℕ, List, Err, IfOk, IfErr};
-ghost use Rattle.road_line.specs.VerdictLine.{refused_line as route_line};
 ghost use Rattle.command_files.specs.Endings.{TellsNone, MayEnd, WhyNot};
 ghost use Rattle.audit_commands.specs.Auditing.{TellsFinding, Tells, LookFailed};
 
@@ -14,18 +13,29 @@ use route_client::CheckError;
 use route_server::InstallError;
 use std::alloc::Global;
 
-/// A kind of replies whose refusals have a line.
-pub trait ToldReplies: Replies {
-    // The line.
-    ghost refused: { Self.Refusal → List ℕ };
+/// How a command tells what an audit of one kind of replies finds: the kind, and the line of its refusals.
+pub trait Telling {
+    /// The kind.
+    type Kind: Replies;
+
+    // The line of a refused reply.
+    ghost refused: { Self.Kind.Refusal → List ℕ };
 
     /// The line of a refused reply.
-    fn line_of_refused(alloc: Global, why: Self::Refusal) -> Result<Vec<u8>, NoMemory>
+    fn line_of_refused(
+        alloc: Global,
+        why: <Self::Kind as Replies>::Refusal,
+    ) -> Result<Vec<u8>, NoMemory>
         ensures { IfOk result (λ line. line.items ≡ refused why) };
 }
 
-impl ToldReplies for Routes {
+/// How `audit` tells of routes.
+pub struct RouteTelling;
+
+impl Telling for RouteTelling {
     ghost use Rattle.road_line.specs.VerdictLine.{refused_line};
+
+    type Kind = Routes;
 
     ghost refused = { refused_line };
 
@@ -35,20 +45,20 @@ impl ToldReplies for Routes {
 }
 
 /// What an audit's answer is told as.
-pub(crate) fn tell<R: ToldReplies>(
+pub(crate) fn tell<T: Telling>(
     alloc: Global,
-    answer: Result<Finding, AuditError<R::Refusal>>,
+    answer: Result<Finding, AuditError<<T::Kind as Replies>::Refusal>>,
 ) -> Result<Told, Fault>
-    ensures told { IfOk result (λ told. Tells R.refused answer told.end told.text.items) }
+    ensures told { IfOk result (λ told. Tells T.refused answer told.end told.text.items) }
     ensures verdict { IfOk result (λ told. MayEnd TellsNone told.end) }
-    ensures refused { IfErr result (WhyNot (LookFailed answer) (Tells R.refused answer)) }
+    ensures refused { IfErr result (WhyNot (LookFailed answer) (Tells T.refused answer)) }
 {
     match answer {
         Ok(finding) => match line_of(alloc, &finding) {
             Ok(told) => Ok(told),
             Err(NoMemory) => Err(Fault::Memory),
         },
-        Err(AuditError::Refused(why)) => match refusal::<R>(alloc, why) {
+        Err(AuditError::Refused(why)) => match refusal::<T>(alloc, why) {
             Ok(told) => Ok(told),
             Err(NoMemory) => Err(Fault::Memory),
         },
@@ -87,13 +97,13 @@ fn line_of(alloc: Global, finding: &Finding) -> Result<Told, NoMemory>
 }
 
 // The line of a refused reply.
-fn refusal<R: ToldReplies>(alloc: Global, why: R::Refusal) -> Result<Told, NoMemory>
+fn refusal<T: Telling>(alloc: Global, why: <T::Kind as Replies>::Refusal) -> Result<Told, NoMemory>
     ensures told { IfOk result (λ told.
-        Tells R.refused (Err (AuditError.Refused why)) told.end told.text.items) }
+        Tells T.refused (Err (AuditError.Refused why)) told.end told.text.items) }
     ensures verdict { IfOk result (λ told. MayEnd TellsNone told.end) }
 {
     Ok(Told {
-        text: R::line_of_refused(alloc, why)?,
+        text: T::line_of_refused(alloc, why)?,
         end: Ok(Conclusion::Refused),
     })
 }

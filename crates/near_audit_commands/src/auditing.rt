@@ -6,7 +6,7 @@ ghost use Rattle.near_line.specs.WithinLine.{refused_near_line};
 ghost use Rattle.near_audit.specs.Radii.{radii};
 ghost use Rattle.audit_commands.specs.Headline.{AuditsFiles};
 
-use audit_commands::{ToldReplies, audit_files};
+use audit_commands::{Telling, audit_files};
 use command_files::{Conclusion, Fault};
 use near_audit::Radii;
 use near_client::NearError;
@@ -16,9 +16,13 @@ use octet_text::NoMemory;
 use road_io::{Disk, Library, Sink};
 use std::alloc::Global;
 
-/// Replies on radii, as the command tells them.
-impl ToldReplies for Radii {
+// How `audit-reach` tells of radii.
+struct RadiusTelling;
+
+impl Telling for RadiusTelling {
     ghost use Rattle.near_line.specs.WithinLine.{refused_near_line};
+
+    type Kind = Radii;
 
     ghost refused = { refused_near_line };
 
@@ -45,7 +49,7 @@ pub fn audit_reach<L: Library, K: Sink, D: Disk>(
         (L.files library.old) (L.faults library.old) (L.faults library.new)
         (K.taken sink.old) (K.taken sink.new) (K.faults sink.old) (K.faults sink.new) result }
 {
-    audit_files::<Radii, L, K, D>(
+    audit_files::<RadiusTelling, L, K, D>(
         alloc,
         library,
         sink,

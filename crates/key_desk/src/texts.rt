@@ -3,7 +3,7 @@ ghost use Rattle.std.specs.Prelude.{◌≡◌, ◌≢◌, ◌^◌, ◌<◌, ◌�
 ghost use Rattle.road_io.specs.Causes.{Rose};
 ghost use Rattle.road_io.specs.Disk.{Stays};
 ghost use Rattle.road_io.specs.Moments.{AtEachMoment};
-ghost use Rattle.desk_areas.specs.Layout.{SlotId, place_of};
+ghost use Rattle.desk_areas.specs.Layout.{SlotId, place_of, slots_of};
 ghost use Rattle.key_desk.specs.Stands.{KeepsStanding};
 
 use crate::desk::{Desk, DeskError};
@@ -11,13 +11,14 @@ use desk_areas::{Count, base_of, place_in, read_text};
 use road_io::{Disk, Failed};
 
 impl Desk {
-    ghost use Rattle.key_desk.specs.Desk.{count_of, counts_of, HasAreas, IsSlotOf, IsSound, Fits, KeepsAllKnown};
+    ghost use Rattle.key_desk.specs.Desk.{count_of, counts_of, key_of, HasAreas, IsSlotOf, IsSound, Fits, KeepsAllKnown};
     ghost use Rattle.key_desk.specs.SlotTexts.{HasInSlot};
 
     // How the slots of an open area are counted.
     fn counts_in(&self, area: u32) -> &[Count]
         requires { area ≤ length self.now.earlier }
-        ensures { result.now ≡ counts_of self.now area }
+        ensures counts { result.now ≡ counts_of self.now area }
+        ensures sized { length result.now ≡ slots_of (key_of self.now area).kind }
     {
         let earlier = self.earlier();
         if (area as usize) < earlier.len() {
@@ -29,8 +30,7 @@ impl Desk {
 
     // Whether a slot of an open area counts as spent.
     fn is_spent(&self, area: u32, slot: u32) -> bool
-        requires sound { IsSound self.now }
-        requires slot { IsSlotOf self.now (record { area = area; number = slot }) }
+        requires { IsSlotOf self.now (record { area = area; number = slot }) }
         ensures { (result ≡ true) ↔
             (count_of self.now (record { area = area; number = slot }) ≡ Count.Spent) }
     {

@@ -11,5 +11,5 @@ bad_hex : (digits : List ℕ) (why : FromHexError) → (why ≡ OutOfMemory) ⊎
 bad_hex digits why (inl is) other = absurd (other is)
 bad_hex digits why (inr is) other = sym (ap as_octets is)
 
-pub returns-in-Err : goal.returns-in-Err
-returns-in-Err c = bad_hex _ c.in-Err.why c.in-Err.ensures.err c.in_ok-not_memory.ensures
+pub returns-in_ok-not_memory-in-Err : goal.returns-in_ok-not_memory-in-Err
+returns-in_ok-not_memory-in-Err c = bad_hex _ c.in-Err.why c.in-Err.ensures.err c.in_ok-not_memory-in-Err.ensures

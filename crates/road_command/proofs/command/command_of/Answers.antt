@@ -17,7 +17,7 @@ not_word verb word other = by_not (bytes_eq verb word) (bytes_eq-Decides verb wo
 no_command : (words : List (List ℕ)) (verb : List ℕ) → verb ≡ get_or words 0 [] → verb ≢ codes "route" → verb ≢ codes "root" → verb ≢ codes "dimacs" → verb ≢ codes "key" → verb ≢ codes "succeed" → verb ≢ codes "links" → verb ≢ codes "desk" → verb ≢ codes "publish" → verb ≢ codes "prove" → verb ≢ codes "serve" → verb ≢ codes "check" → verb ≢ codes "audit" → verb ≢ codes "survey" → verb ≢ codes "reach" → verb ≢ codes "check-reach" → verb ≢ codes "audit-reach" → verb ≢ codes "reduce"
     → None ≡ request_of words
 no_command [] verb is a b c d e f g h i j k l m n o p q = refl
-no_command (first ∷ words) verb is a b c d e f g h i j k l m n o p =
+no_command (first ∷ words) verb is a b c d e f g h i j k l m n o p q =
     subst (λ v. None ≡ request_of (v ∷ words)) is (rw (not_word verb (codes "route") a, not_word verb (codes "root") b, not_word verb (codes "dimacs") c, not_word verb (codes "key") d, not_word verb (codes "succeed") e, not_word verb (codes "links") f, not_word verb (codes "desk") g, not_word verb (codes "publish") h, not_word verb (codes "prove") i, not_word verb (codes "serve") j, not_word verb (codes "check") k, not_word verb (codes "audit") l, not_word verb (codes "survey") m, not_word verb (codes "reach") n, not_word verb (codes "check-reach") o, not_word verb (codes "audit-reach") p, not_word verb (codes "reduce") q) refl)
 
 pub returns-in_default : goal.returns-in_default

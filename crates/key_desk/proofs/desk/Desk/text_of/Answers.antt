@@ -1,6 +1,6 @@
 use Rattle.std.proofs.Common.{◌≡◌, ◌+◌, ◌≤◌, Bool, true, false, length, arith, sym, ◌∙◌}
 use Rattle.key_desk.proofs.SlotTexts.{slot_within, spent_text, unspent}
-use Rattle.key_desk.proofs.texts.Desk.text_of.Goals as goal
+use Rattle.key_desk.proofs.desk.Desk.text_of.Goals as goal
 
 -- what is both
 no_spent : (b : Bool) → b ≡ true → b ≡ false → ⊥

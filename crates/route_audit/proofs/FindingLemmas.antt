@@ -4,7 +4,12 @@ use Rattle.road_map.specs.declared.parts.Parts.{Parts}
 use Rattle.book_model.specs.declared.settings.Settings.{Settings}
 use Rattle.lms_tree.specs.declared.links.Link.{Link}
 use Rattle.key_desk.specs.declared.desk.DeskError.{DeskError}
-use Rattle.desk_look.specs.Looks.{Look}
+use Rattle.road_io.specs.declared.disk.Disk.{Ghosts}
+use Rattle.key_desk.specs.declared.desk.Desk.{Desk as TheDesk}
+use Rattle.key_desk.specs.Desk.{Fits}
+use Rattle.desk_look.specs.Left.{IsLeft}
+use Rattle.desk_look.specs.Looks.{Look, look_at}
+use Rattle.desk_look.proofs.LeftLemmas.{left_alone, works}
 use Rattle.proof_octets.specs.declared.header.Header.{Header}
 use Rattle.proof_octets.specs.declared.publication.Publication.{Publication}
 use Rattle.route_server.specs.declared.errors.BuildError.{BuildError}
@@ -18,7 +23,7 @@ use Rattle.route_server.proofs.KeepLemmas.{has_header}
 use Rattle.sha2.specs.Sha256.{sha256}
 use Rattle.route_audit.specs.Kinds.{AreReplies, ReplyKind}
 use Rattle.route_audit.specs.Steps.{FindsIn, IsAnswerTo, IsRefused, IsNotInstalled}
-use Rattle.route_audit.specs.Findings.{Audited, IsAccepted, IsInstalled, IsAuditable, Finds, Comes, BeforeLook}
+use Rattle.route_audit.specs.Findings.{Audited, Audits, IsAccepted, IsInstalled, IsAuditable, Finds, Comes, BeforeLook}
 use Rattle.route_audit.specs.declared.errors.AuditError.{AuditError}
 use Rattle.route_audit.specs.declared.errors.AuditError.TheVariants.{OtherKey, Refused, Install, Desk, OtherPublication, Memory}
 use Rattle.route_audit.specs.declared.finding.Finding.{Finding}
@@ -113,3 +118,32 @@ found_late kind hash sha look key links k q a (Err (Install e)) P found = absurd
 found_late kind hash sha look key links k q a (Err (Desk e)) P found = tt
 found_late kind hash sha look key links k q a (Err OtherPublication) P found = tt
 found_late kind hash sha look key links k q a (Err Memory) P found = tt
+
+-- what holds, holds before the look
+before_any : {E : Type 0} (r : Result Finding (AuditError E)) (P : Type 0) → P → BeforeLook r P
+before_any (Ok finding) P h = tt
+before_any (Err OtherKey) P h = h
+before_any (Err (Refused e)) P h = h
+before_any (Err (Install e)) P h = h
+before_any (Err (Desk e)) P h = tt
+before_any (Err OtherPublication) P h = tt
+before_any (Err Memory) P h = tt
+
+module _ {Q A X E : Type 0} (kind : ReplyKind Q A X E) (laws : AreReplies kind) (hash : List ℕ → List ℕ) (made : OneMade hash sha256) {D : Type 0} (g : Ghosts D) (desk : TheDesk) (disk : D) (fits : Fits g desk disk) (u : Audited Q) where
+  -- an audit that ends before the look
+  pub audits_before : (r : Result Finding (AuditError E)) → Finds kind hash sha256 (look_at g desk disk disk) u r → Audits kind hash sha256 g desk disk desk disk u r
+  audits_before r found = record {
+    finds = found;
+    comes = λ c opened steady. comes kind laws hash sha256 (look_at g desk disk disk) u made (works g desk disk disk opened steady) r c found;
+    untouched = before_any r ((desk ≡ desk) × (disk ≡ disk)) (refl, refl);
+    left = left_alone g desk disk fits;
+  }
+
+  -- an audit that looked
+  pub audits_after : (new_desk : TheDesk) (new : D) (r : Result Finding (AuditError E)) → Finds kind hash sha256 (look_at g desk disk new) u r → BeforeLook r ((new_desk ≡ desk) × (new ≡ disk)) → IsLeft g desk disk new_desk new → Audits kind hash sha256 g desk disk new_desk new u r
+  audits_after new_desk new r found late left = record {
+    finds = found;
+    comes = λ c opened steady. comes kind laws hash sha256 (look_at g desk disk new) u made (works g desk disk new opened steady) r c found;
+    untouched = late;
+    left = left;
+  }

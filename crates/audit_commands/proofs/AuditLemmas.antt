@@ -9,27 +9,30 @@ use Rattle.road_io.specs.Causes.{Rose}
 use Rattle.sha2.specs.Sha256.{sha256}
 use Rattle.road_io.specs.declared.disk.Disk.{Ghosts}
 use Rattle.road_io.specs.Disk.{Stays}
-use Rattle.road_io.specs.Moments.{Image, AtEachMoment}
+use Rattle.road_io.specs.Moments.{Image, EachImage, AtEachMoment}
 use Rattle.road_io.specs.Contents.{Folder}
-use Rattle.book_model.specs.declared.items.Query.{Query}
-use Rattle.lms_tree.specs.Signatures.{KeyOf, public_key, verified}
+use Rattle.lms_tree.specs.declared.links.Link.{Link}
+use Rattle.desk_areas.specs.Faults.{IsUsable}
 use Rattle.desk_areas.specs.Layout.{SlotId, IsSigned}
-use Rattle.key_desk.specs.Desk.{IsSound}
+use Rattle.key_desk.specs.Desk.{Fits}
 use Rattle.key_desk.specs.declared.desk.Desk.{Desk}
 use Rattle.key_desk.specs.declared.desk.DeskError.{DeskError}
 use Rattle.key_desk.specs.declared.desk.DeskError.TheVariants.{KeysUsedUp, DiskFault, Closed}
+use Rattle.desk_look.specs.Forgeries.{AreSigned, Forges, forgery}
+use Rattle.desk_look.specs.Looks.{IsKeyFrom, LookFails, look_at}
+use Rattle.desk_look.specs.declared.forgery.Forgery.{Forgery}
 use Rattle.proof_octets.specs.declared.publication.Publication.{Publication}
 use Rattle.proof_octets.specs.Headers.{header_text}
 use Rattle.route_server.specs.declared.errors.BuildError.TheVariants as build
 use Rattle.route_server.specs.declared.errors.InstallError.TheVariants as install
-use Rattle.route_audit.specs.Looks.{LookFails, look_at}
-use Rattle.route_audit.specs.Findings.{Audited, Finds, answer_of}
+use Rattle.route_audit.specs.Kinds.{AreReplies, ReplyKind}
+use Rattle.route_audit.specs.Findings.{Audited, Finds, IsInstalled}
+use Rattle.route_audit.proofs.FindingLemmas.{at}
 use Rattle.route_audit.specs.declared.errors.AuditError.{AuditError}
 use Rattle.route_audit.specs.declared.errors.AuditError.TheVariants as audit
 use Rattle.route_audit.specs.declared.finding.Finding.{Finding}
 use Rattle.route_audit.specs.declared.finding.Finding.TheVariants.{Right, Collision, Forged}
-use Rattle.road_line.specs.EvidenceLine.{forged_line}
-use Rattle.command_files.specs.Reading.{octets_at, publication_at}
+use Rattle.command_files.specs.Reading.{octets_at, publication_at, chain_at}
 use Rattle.command_files.specs.HexFiles.{public_key_at}
 use Rattle.command_files.specs.Endings.{Ending, EndsReading, NoEnd, Promises, TellsNone, MayEnd, WhyNot, Writes}
 use Rattle.command_files.specs.declared.fault.Fault.{Fault}
@@ -37,183 +40,223 @@ use Rattle.command_files.specs.declared.fault.Fault.TheVariants.{OtherPublicatio
 use Rattle.command_files.specs.declared.ended.Conclusion.{Conclusion}
 use Rattle.command_files.specs.declared.ended.Conclusion.TheVariants.{Done, Refused, Evidence}
 use Rattle.command_files.proofs.Written.{CallsFor, reads, refused, written, why_map}
-use Rattle.desk_areas.specs.Faults.{IsUsable}
 use Rattle.command_desks.specs.Opening.{HasBlocks, EndsOpening}
 use Rattle.command_desks.proofs.Openings.{shut}
 use Rattle.command_books.specs.Installing.{EndsInstalling}
 use Rattle.audit_commands.specs.Auditing.{EndsOwnersKey, EndsClient, EndsSigned, EndsSameHeader, EndsComparing, EndsAudit, Tells, LookFailed, ends_audit}
-use Rattle.audit_commands.specs.Headline.{IsBrought, RestsOn}
-use Rattle.audit_commands.proofs.Steps.{own, not_own, signed, unsigned, later}
+use Rattle.audit_commands.specs.Owners.{IsOwnersKey, look_in, look_everywhere}
+use Rattle.audit_commands.specs.Headline.{AreAllSigned, IsBrought, RestsOn}
+use Rattle.audit_commands.proofs.Steps.{own, own_in, not_own, signed_more, forges_more, later}
 
--- what was asked of the audit
-abbrev pub audited : KeyOf → List ℕ → List ℕ → Query → Publication → Audited
-audited owner key octets q p = record { desk_key = public_key owner; public = key; reply = octets; query = q; publication = p }
+-- the steps behind the owner's key
+abbrev pub Behind : {Q A X E : Type 0} → ReplyKind Q A X E → (E → List ℕ) → Option (List ℕ) → List ℕ → List Link → List ℕ → Q → Publication → Ending
+Behind kind line content key links octets q p =
+    EndsClient kind line key links octets q (λ x a. EndsInstalling p (EndsSigned content key links (kind.header a) (kind.signature a) (EndsSameHeader p (kind.header a) (EndsComparing kind p q x a))))
 
--- the steps behind the client's
-abbrev pub Behind : Option (List ℕ) → List ℕ → List ℕ → Query → Publication → Ending
-Behind content key octets q p = EndsClient key octets q (λ x a. EndsInstalling p (EndsSigned content key a.header a.signature (EndsSameHeader p a.header (EndsComparing p q x a))))
+module _ {D : Type 0} (g : Ghosts D) (old mid new : D) (desk : Desk) (seen : (c : List ℕ) → g.content mid ≡ Some c → Image g mid c) (same : g.content mid ≡ g.content old) (blocks : HasBlocks (g.content old) desk) (fits : Fits g desk mid) where
+  -- ---- what the desk says, of what the disk reads
 
-module _ {D : Type 0} (g : Ghosts D) (old mid new : D) (desk : Desk) (key octets : List ℕ) (q : Query) (p : Publication)
-    (seen : (c : List ℕ) → g.content mid ≡ Some c → Image g mid c) (same : g.content mid ≡ g.content old) (blocks : HasBlocks (g.content old) desk) (sound : IsSound desk) where
-  -- behind the owner's key
-  behind : (e : key ≡ public_key desk.key) (o : Result Conclusion Fault) (t : List ℕ) → Behind (g.content old) (public_key desk.key) octets q p o t
-      → EndsOwnersKey (g.content old) key (Behind (g.content old) key octets q p) o t
-  behind e o t h = inr (own (g.content old) desk key blocks sound e, subst (λ k. Behind (g.content old) k octets q p o t) (sym e) h)
+  module _ (c : List ℕ) (is : g.content old ≡ Some c) where
+    owns_in : (key : List ℕ) → (look_at g desk mid new).Owns key → (look_in c).Owns key
+    owns_in key h = own_in desk c fits.sound (blocks c is).1 key h
 
-  by_answer : (r : Result Finding AuditError) (o : Result Conclusion Fault) (t : List ℕ) → Finds sha256 sha256 (look_at g desk mid new) (audited desk.key key octets q p) r → Tells r o t
-      → EndsOwnersKey (g.content old) key (Behind (g.content old) key octets q p) o t
-  by_answer (Err audit.OtherKey) o t f tells = inl (tells.0, not_own (g.content old) desk key blocks sound f, tells.1)
-  by_answer (Err (audit.Refused e)) o t f tells = behind f.0 o t (inl (e, f.2, f.1, tells.0, tells.1))
-  by_answer (Err (audit.Install (install.Build (build.Map e)))) o t f tells =
-      behind f.0.key o t (inr (f.0.accepted, f.0.accepts, record { made = Err (build.Map e); makes = f.1.0; follows = tells }))
-  by_answer (Err (audit.Install (install.Build (build.Plan e)))) o t f tells =
-      behind f.0.key o t (inr (f.0.accepted, f.0.accepts, record { made = Err (build.Plan e); makes = f.1.0; follows = tells }))
-  by_answer (Err (audit.Install (install.Build build.Memory))) o t f tells = absurd tells
-  by_answer (Err (audit.Install install.HeaderWrong)) o t f tells =
-      behind f.0.key o t (inr (f.0.accepted, f.0.accepts, record { made = Ok f.1.0; makes = f.1.1; follows = inr (f.1.2, tells.0, tells.1) }))
-  by_answer (Err (audit.Install install.Memory)) o t f tells = absurd tells
-  by_answer (Err (audit.Desk e)) o t f tells = absurd tells
-  by_answer (Err audit.Memory) o t f tells = absurd tells
-  by_answer (Ok (Forged header signature)) o t f tells =
-      let i = f.installed in
-      let a = i.reply.accepts.answer in
-      let un : ForSome (g.content old) (λ c. (slot : SlotId) → ¬ IsSigned c slot (header_text a.header)) =
-      subst (λ x. ForSome (g.content old) (λ c. (slot : SlotId) → ¬ IsSigned c slot x)) f.brings.header_is (unsigned g old mid seen same header f.unsigned.1) in
-      let good : verified (public_key desk.key) (header_text a.header) a.signature ≡ Ok tt =
-      subst (λ x. verified (public_key desk.key) x a.signature ≡ Ok tt) f.brings.header_is (subst (λ x. verified (public_key desk.key) header x ≡ Ok tt) f.brings.signature_is f.brings.good) in
-      let line : t ≡ forged_line (header_text a.header) a.signature =
-      tells.1 ∙ ap (λ x. forged_line x signature) f.brings.header_is ∙ ap (λ x. forged_line (header_text a.header) x) f.brings.signature_is in
-      behind i.reply.key o t (inr (i.reply.accepted, i.reply.accepts, record { made = Ok p.header; makes = i.header; follows = inl (refl, inl (tells.0, un, good, line)) }))
-  by_answer (Err audit.OtherPublication) o t f tells =
-      let i = f.installed in
-      behind i.reply.key o t (inr (i.reply.accepted, i.reply.accepts, record { made = Ok p.header; makes = i.header; follows = inl (refl, inr (signed g old mid seen same _ f.signed.1, inl (tells.0, f.other, tells.1))) }))
-  by_answer (Ok (Collision two)) o t f tells =
-      let i = f.0.installed in
-      behind i.reply.key o t (inr (i.reply.accepted, i.reply.accepts, record { made = Ok p.header; makes = i.header; follows = inl (refl, inr (signed g old mid seen same _ f.0.signed.1, inr (f.0.same, inr (tells.0, two, f.1, tells.1)))) }))
-  by_answer (Ok Right) o t f tells =
-      let i = f.0.installed in
-      behind i.reply.key o t (inr (i.reply.accepted, i.reply.accepts, record { made = Ok p.header; makes = i.header; follows = inl (refl, inr (signed g old mid seen same _ f.0.signed.1, inr (f.0.same, inl (tells.0, f.1, tells.1)))) }))
+    signs_in : (text : List ℕ) → (look_at g desk mid new).Signed text → (look_in c).Signed text
+    signs_in text h = (h.1.0, h.1.1 c (seen c (same ∙ is)))
 
-  -- behind the opened desk
-  pub ends_of : ForSome (g.content old) IsUsable → (r : Result Finding AuditError) (o : Result Conclusion Fault) (t : List ℕ) → Finds sha256 sha256 (look_at g desk mid new) (audited desk.key key octets q p) r → Tells r o t
-      → EndsAudit (g.content old) key p octets q o t
-  ends_of usable r o t f tells = inr (inr (usable, by_answer r o t f tells))
+    lacks_in : (text : List ℕ) → (look_at g desk mid new).Unsigned text → (look_in c).Unsigned text
+    lacks_in text h = h.1 c (seen c (same ∙ is))
 
-  -- why nothing was written
-  pub why_not : (DiskFailed : Type 0) → ForSome (g.content old) IsUsable → (r : Result Finding AuditError) → (LookFailed r → DiskFailed) → (f : Fault) → Finds sha256 sha256 (look_at g desk mid new) (audited desk.key key octets q p) r
-      → WhyNot (LookFailed r) (Tells r) f → WhyNot DiskFailed (EndsAudit (g.content old) key p octets q) f
-  why_not DiskFailed usable r failed f finds =
-      why_map (LookFailed r) DiskFailed (Tells r) (EndsAudit (g.content old) key p octets q) failed (λ o t tells. ends_of usable r o t finds tells) f
+  signed_read : (links : List Link) (header : List ℕ) → AreSigned (look_at g desk mid new) links header → ForSome (g.content old) (λ c. AreSigned (look_in c) links header)
+  signed_read links header h c is = signed_more (look_at g desk mid new) (look_in c) (owns_in c is) (signs_in c is) (lacks_in c is) links header h
 
-  -- a look fails only where the disk's count of faults rose
-  pub look_failed : desk.is_open ≡ true → g.faults old ≤ g.faults mid → (r : Result Finding AuditError) → Finds sha256 sha256 (look_at g desk mid new) (audited desk.key key octets q p) r → LookFailed r → Rose (g.faults old) (g.faults new)
-  look_failed opened later r f why = by why.0 (subst (λ (x : Result Finding AuditError). Finds sha256 sha256 (look_at g desk mid new) (audited desk.key key octets q p) x) why.1 f).1
-    where
-      by : (e : DeskError) → LookFails g desk mid new e → Rose (g.faults old) (g.faults new)
-      by KeysUsedUp h = absurd h
-      by DiskFault h = grind (arith, h.1, later)
-      by Closed h = absurd (cc)
+  forges_read : (key : List ℕ) (links : List Link) (header signature : List ℕ) (f : Forgery) → Forges (look_at g desk mid new) key links header signature f → ForSome (g.content old) (λ c. Forges (look_in c) key links header signature f)
+  forges_read key links header signature f h c is = forges_more (look_at g desk mid new) (look_in c) (owns_in c is) (signs_in c is) (lacks_in c is) key links header signature f h
 
-  -- what a line rests on
-  pub rests_on : AtEachMoment g mid new Stays → (r : Result Finding AuditError) (o : Result Conclusion Fault) (t : List ℕ) → Finds sha256 sha256 (look_at g desk mid new) (audited desk.key key octets q p) r → Tells r o t
-      → RestsOn g new (IsBrought octets) key o t
-  rests_on m r (Ok Refused) t f tells = tt
-  rests_on m (Err audit.OtherPublication) (Err OtherPublication) t f tells =
-      let a = f.installed.reply.accepts in
-      record { header = _; signature = a.answer.signature; brought = record { answer = a.answer; spelled = a.spelled; header_is = refl; signature_is = refl }; slot = f.signed.1.0; signed = later g mid new (λ i. IsSigned i f.signed.1.0 (header_text a.answer.header)) m f.signed.1.1 }
-  rests_on m (Ok Right) (Err OtherPublication) t f tells = absurd (cc)
-  rests_on m (Ok (Collision two)) (Err OtherPublication) t f tells = absurd (cc)
-  rests_on m (Ok (Forged header signature)) (Err OtherPublication) t f tells = absurd (cc)
-  rests_on m (Err (audit.Refused e)) (Err OtherPublication) t f tells = absurd (cc)
-  rests_on m (Err audit.OtherKey) (Err OtherPublication) t f tells = absurd (cc)
-  rests_on m (Err audit.Memory) (Err OtherPublication) t f tells = absurd tells
-  rests_on m (Err (audit.Desk e)) (Err OtherPublication) t f tells = absurd tells
-  rests_on m (Err (audit.Install (install.Build (build.Map e)))) (Err OtherPublication) t f tells = absurd (cc)
-  rests_on m (Err (audit.Install (install.Build (build.Plan e)))) (Err OtherPublication) t f tells = absurd (cc)
-  rests_on m (Err (audit.Install (install.Build build.Memory))) (Err OtherPublication) t f tells = absurd tells
-  rests_on m (Err (audit.Install install.HeaderWrong)) (Err OtherPublication) t f tells = absurd (cc)
-  rests_on m (Err (audit.Install install.Memory)) (Err OtherPublication) t f tells = absurd tells
-  rests_on m r (Err e) t f tells = tt
-  rests_on m (Ok Right) (Ok Done) t f tells =
-      let a = f.0.installed.reply.accepts in
-      record { header = _; signature = a.answer.signature; brought = record { answer = a.answer; spelled = a.spelled; header_is = refl; signature_is = refl }; slot = f.0.signed.1.0; signed = later g mid new (λ i. IsSigned i f.0.signed.1.0 (header_text a.answer.header)) m f.0.signed.1.1 }
-  rests_on m (Ok (Collision two)) (Ok Done) t f tells = absurd (cc)
-  rests_on m (Ok (Forged header signature)) (Ok Done) t f tells = absurd (cc)
-  rests_on m (Ok Right) (Ok Evidence) t f tells = absurd (cc)
-  rests_on m (Ok (Collision two)) (Ok Evidence) t f tells = inl (record { left = two.left; right = two.right; differ = f.1.collision.differ; one_digest = f.1.collision.one_digest; line = tells.1 })
-  rests_on m (Ok (Forged header signature)) (Ok Evidence) t f tells = inr (record {
-    header = header;
-    signature = signature;
-    brought = record { answer = answer_of f.installed; spelled = f.installed.reply.accepts.spelled; header_is = f.brings.header_is; signature_is = f.brings.signature_is };
-    good = subst (λ k. verified k header signature ≡ Ok tt) (sym f.installed.reply.key) f.brings.good;
-    unsigned = later g mid new (λ i. (slot : SlotId) → ¬ IsSigned i slot header) m f.unsigned.1;
-    line = tells.1;
-  })
-  rests_on m (Err (audit.Refused e)) (Ok Done) t f tells = absurd (cc)
-  rests_on m (Err (audit.Refused e)) (Ok Evidence) t f tells = absurd (cc)
-  rests_on m (Err audit.OtherKey) (Ok Done) t f tells = absurd (cc)
-  rests_on m (Err audit.OtherKey) (Ok Evidence) t f tells = absurd (cc)
-  rests_on m (Err audit.OtherPublication) (Ok Done) t f tells = absurd (cc)
-  rests_on m (Err audit.OtherPublication) (Ok Evidence) t f tells = absurd (cc)
-  rests_on m (Err audit.Memory) (Ok Done) t f tells = absurd tells
-  rests_on m (Err audit.Memory) (Ok Evidence) t f tells = absurd tells
-  rests_on m (Err (audit.Desk e)) (Ok Done) t f tells = absurd tells
-  rests_on m (Err (audit.Desk e)) (Ok Evidence) t f tells = absurd tells
-  rests_on m (Err (audit.Install (install.Build (build.Map e)))) (Ok Done) t f tells = absurd (cc)
-  rests_on m (Err (audit.Install (install.Build (build.Map e)))) (Ok Evidence) t f tells = absurd (cc)
-  rests_on m (Err (audit.Install (install.Build (build.Plan e)))) (Ok Done) t f tells = absurd (cc)
-  rests_on m (Err (audit.Install (install.Build (build.Plan e)))) (Ok Evidence) t f tells = absurd (cc)
-  rests_on m (Err (audit.Install (install.Build build.Memory))) (Ok Done) t f tells = absurd tells
-  rests_on m (Err (audit.Install (install.Build build.Memory))) (Ok Evidence) t f tells = absurd tells
-  rests_on m (Err (audit.Install install.HeaderWrong)) (Ok Done) t f tells = absurd (cc)
-  rests_on m (Err (audit.Install install.HeaderWrong)) (Ok Evidence) t f tells = absurd (cc)
-  rests_on m (Err (audit.Install install.Memory)) (Ok Done) t f tells = absurd tells
-  rests_on m (Err (audit.Install install.Memory)) (Ok Evidence) t f tells = absurd tells
+  -- ---- and of every image
 
-  -- and a fault
-  pub rests_otherwise : AtEachMoment g mid new Stays → (r : Result Finding AuditError) (f : Fault) → Finds sha256 sha256 (look_at g desk mid new) (audited desk.key key octets q p) r → WhyNot (LookFailed r) (Tells r) f
-      → RestsOn g new (IsBrought octets) key (Err f) []
-  rests_otherwise m r OtherPublication finds why = rests_on m r (Err OtherPublication) [] finds why
-  rests_otherwise m r f finds why = tt
+  module _ (m : AtEachMoment g mid new Stays) where
+    owns_all : (key : List ℕ) → (look_at g desk mid new).Owns key → (look_everywhere g new).Owns key
+    owns_all key h = later g mid new (λ i. IsOwnersKey i key) m (λ i now. own_in desk i fits.sound (fits.areas i now) key h)
+
+    signs_all : (text : List ℕ) → (look_at g desk mid new).Signed text → (look_everywhere g new).Signed text
+    signs_all text h = (h.1.0, later g mid new (λ i. IsSigned i h.1.0 text) m h.1.1)
+
+    lacks_all : (text : List ℕ) → (look_at g desk mid new).Unsigned text → (look_everywhere g new).Unsigned text
+    lacks_all text h = later g mid new (λ i. (slot : SlotId) → ¬ IsSigned i slot text) m h.1
+
+    signed_all : (links : List Link) (header : List ℕ) → AreSigned (look_at g desk mid new) links header → AreSigned (look_everywhere g new) links header
+    signed_all links header h = signed_more (look_at g desk mid new) (look_everywhere g new) owns_all signs_all lacks_all links header h
+
+    forges_all : (key : List ℕ) (links : List Link) (header signature : List ℕ) (f : Forgery) → Forges (look_at g desk mid new) key links header signature f → Forges (look_everywhere g new) key links header signature f
+    forges_all key links header signature f h = forges_more (look_at g desk mid new) (look_everywhere g new) owns_all signs_all lacks_all key links header signature f h
+
+  -- ---- what an answer is told as
+
+  module _ {Q A X E : Type 0} (kind : ReplyKind Q A X E) (line : E → List ℕ) (laws : AreReplies kind) (key : List ℕ) (links : List Link) (octets : List ℕ) (q : Q) (p : Publication) where
+    -- what is found
+    abbrev IsFound : Result Finding (AuditError E) → Type 0
+    IsFound r = Finds kind sha256 sha256 (look_at g desk mid new) (at key links octets q p) r
+
+    -- behind the owner's key
+    behind : IsKeyFrom desk 0 key → (o : Result Conclusion Fault) (t : List ℕ) → Behind kind line (g.content old) key links octets q p o t
+        → EndsOwnersKey (g.content old) key (Behind kind line (g.content old) key links octets q p) o t
+    behind own_key o t h = inr (own (g.content old) desk key blocks fits.sound own_key, h)
+
+    -- behind the installing
+    behind_installed : (i : IsInstalled kind sha256 sha256 (look_at g desk mid new) (at key links octets q p)) → (o : Result Conclusion Fault) (t : List ℕ)
+        → EndsSigned (g.content old) key links (kind.header i.reply.answer) (kind.signature i.reply.answer) (EndsSameHeader p (kind.header i.reply.answer) (EndsComparing kind p q i.reply.taken i.reply.answer)) o t
+        → EndsOwnersKey (g.content old) key (Behind kind line (g.content old) key links octets q p) o t
+    behind_installed i o t h = behind i.reply.own o t (inr (i.reply.taken, i.reply.answer, i.reply.accepts, record { made = Ok p.header; makes = i.header; follows = inl (refl, h) }))
+
+    by_answer : (r : Result Finding (AuditError E)) (o : Result Conclusion Fault) (t : List ℕ) → IsFound r → Tells line r o t → EndsOwnersKey (g.content old) key (Behind kind line (g.content old) key links octets q p) o t
+    by_answer (Err audit.OtherKey) o t f tells = inl (tells.0, not_own (g.content old) desk key blocks fits.sound f, tells.1)
+    by_answer (Err (audit.Refused e)) o t f tells = behind f.0 o t (inl (e, f.1, tells.0, tells.1))
+    by_answer (Err (audit.Install (install.Build (build.Map e)))) o t f tells =
+        behind f.0.own o t (inr (f.0.taken, f.0.answer, f.0.accepts, record { made = Err (build.Map e); makes = f.1.0; follows = tells }))
+    by_answer (Err (audit.Install (install.Build (build.Plan e)))) o t f tells =
+        behind f.0.own o t (inr (f.0.taken, f.0.answer, f.0.accepts, record { made = Err (build.Plan e); makes = f.1.0; follows = tells }))
+    by_answer (Err (audit.Install (install.Build build.Memory))) o t f tells = absurd tells
+    by_answer (Err (audit.Install install.HeaderWrong)) o t f tells =
+        behind f.0.own o t (inr (f.0.taken, f.0.answer, f.0.accepts, record { made = Ok f.1.0; makes = f.1.1; follows = inr (f.1.2, tells.0, tells.1) }))
+    by_answer (Err (audit.Install install.Memory)) o t f tells = absurd tells
+    by_answer (Err (audit.Desk e)) o t f tells = absurd tells
+    by_answer (Err audit.Memory) o t f tells = absurd tells
+    by_answer (Ok (Forged own_key text signature)) o t f tells =
+        behind_installed f.installed o t (inl (tells.0, forgery own_key text signature, forges_read key links (header_text (kind.header f.installed.reply.answer)) (kind.signature f.installed.reply.answer) (forgery own_key text signature) f.forges, tells.1))
+    by_answer (Err audit.OtherPublication) o t f tells = behind_installed f.installed o t (inr (signed_read links _ f.signed, inl (tells.0, f.other, tells.1)))
+    by_answer (Ok (Collision left right)) o t f tells = behind_installed f.0.installed o t (inr (signed_read links _ f.0.signed, inr (f.0.same, inr (tells.0, record { left = left; right = right }, f.1, tells.1))))
+    by_answer (Ok Right) o t f tells = behind_installed f.0.installed o t (inr (signed_read links _ f.0.signed, inr (f.0.same, inl (tells.0, f.1, tells.1))))
+
+    -- behind the opened desk
+    pub ends_of : ForSome (g.content old) IsUsable → (r : Result Finding (AuditError E)) (o : Result Conclusion Fault) (t : List ℕ) → IsFound r → Tells line r o t → EndsAudit kind line (g.content old) key links p octets q o t
+    ends_of usable r o t f tells = inr (inr (usable, by_answer r o t f tells))
+
+    -- why nothing was written
+    pub why_not : (DiskFailed : Type 0) → ForSome (g.content old) IsUsable → (r : Result Finding (AuditError E)) → (LookFailed r → DiskFailed) → (f : Fault) → IsFound r
+        → WhyNot (LookFailed r) (Tells line r) f → WhyNot DiskFailed (EndsAudit kind line (g.content old) key links p octets q) f
+    why_not DiskFailed usable r failed f finds =
+        why_map (LookFailed r) DiskFailed (Tells line r) (EndsAudit kind line (g.content old) key links p octets q) failed (λ o t tells. ends_of usable r o t finds tells) f
+
+    -- a look fails only where the disk's count of faults rose
+    pub look_failed : desk.is_open ≡ true → g.faults old ≤ g.faults mid → (r : Result Finding (AuditError E)) → IsFound r → LookFailed r → Rose (g.faults old) (g.faults new)
+    look_failed opened later r f why = by why.0 (subst IsFound why.1 f).1
+      where
+        by : (e : DeskError) → LookFails g desk mid new e → Rose (g.faults old) (g.faults new)
+        by KeysUsedUp h = absurd h
+        by DiskFault h = grind (arith, h.1, later)
+        by Closed h = absurd (cc)
+
+    -- the accepted answer brings its header
+    all_signed : AtEachMoment g mid new Stays → (i : IsInstalled kind sha256 sha256 (look_at g desk mid new) (at key links octets q p)) → AreSigned (look_at g desk mid new) links (header_text (kind.header i.reply.answer))
+        → AreAllSigned g new (IsBrought kind octets) links
+    all_signed m i signed = record {
+      header = header_text (kind.header i.reply.answer);
+      signature = kind.signature i.reply.answer;
+      brought = record { answer = i.reply.answer; spelled = laws.spelled sha256 key links octets q 0 i.reply.taken i.reply.answer i.reply.accepts; header_is = refl; signature_is = refl };
+      signed = signed_all m links (header_text (kind.header i.reply.answer)) signed;
+    }
+
+    -- what a line rests on
+    pub rests_on : AtEachMoment g mid new Stays → (r : Result Finding (AuditError E)) (o : Result Conclusion Fault) (t : List ℕ) → IsFound r → Tells line r o t → RestsOn g new (IsBrought kind octets) key links o t
+    rests_on m r (Ok Refused) t f tells = tt
+    rests_on m (Err audit.OtherPublication) (Err OtherPublication) t f tells = all_signed m f.installed f.signed
+    rests_on m (Ok Right) (Err OtherPublication) t f tells = absurd (cc)
+    rests_on m (Ok (Collision left right)) (Err OtherPublication) t f tells = absurd (cc)
+    rests_on m (Ok (Forged own_key text signature)) (Err OtherPublication) t f tells = absurd (cc)
+    rests_on m (Err (audit.Refused e)) (Err OtherPublication) t f tells = absurd (cc)
+    rests_on m (Err audit.OtherKey) (Err OtherPublication) t f tells = absurd (cc)
+    rests_on m (Err audit.Memory) (Err OtherPublication) t f tells = absurd tells
+    rests_on m (Err (audit.Desk e)) (Err OtherPublication) t f tells = absurd tells
+    rests_on m (Err (audit.Install (install.Build (build.Map e)))) (Err OtherPublication) t f tells = absurd (cc)
+    rests_on m (Err (audit.Install (install.Build (build.Plan e)))) (Err OtherPublication) t f tells = absurd (cc)
+    rests_on m (Err (audit.Install (install.Build build.Memory))) (Err OtherPublication) t f tells = absurd tells
+    rests_on m (Err (audit.Install install.HeaderWrong)) (Err OtherPublication) t f tells = absurd (cc)
+    rests_on m (Err (audit.Install install.Memory)) (Err OtherPublication) t f tells = absurd tells
+    rests_on m r (Err e) t f tells = tt
+    rests_on m (Ok Right) (Ok Done) t f tells = all_signed m f.0.installed f.0.signed
+    rests_on m (Ok (Collision left right)) (Ok Done) t f tells = absurd (cc)
+    rests_on m (Ok (Forged own_key text signature)) (Ok Done) t f tells = absurd (cc)
+    rests_on m (Ok Right) (Ok Evidence) t f tells = absurd (cc)
+    rests_on m (Ok (Collision left right)) (Ok Evidence) t f tells =
+        let collision = laws.collision sha256 sha256 p f.0.installed.reply.answer (record { left = left; right = right }) f.1 in
+        inl (record { left = left; right = right; differ = collision.0; one_digest = collision.1; line = tells.1 })
+    rests_on m (Ok (Forged own_key text signature)) (Ok Evidence) t f tells =
+        let i = f.installed in
+        inr (record {
+          header = header_text (kind.header i.reply.answer);
+          signature = kind.signature i.reply.answer;
+          brought = record { answer = i.reply.answer; spelled = laws.spelled sha256 key links octets q 0 i.reply.taken i.reply.answer i.reply.accepts; header_is = refl; signature_is = refl };
+          forgery = forgery own_key text signature;
+          forges = forges_all m key links (header_text (kind.header i.reply.answer)) (kind.signature i.reply.answer) (forgery own_key text signature) f.forges;
+          line = tells.1;
+        })
+    rests_on m (Err (audit.Refused e)) (Ok Done) t f tells = absurd (cc)
+    rests_on m (Err (audit.Refused e)) (Ok Evidence) t f tells = absurd (cc)
+    rests_on m (Err audit.OtherKey) (Ok Done) t f tells = absurd (cc)
+    rests_on m (Err audit.OtherKey) (Ok Evidence) t f tells = absurd (cc)
+    rests_on m (Err audit.OtherPublication) (Ok Done) t f tells = absurd (cc)
+    rests_on m (Err audit.OtherPublication) (Ok Evidence) t f tells = absurd (cc)
+    rests_on m (Err audit.Memory) (Ok Done) t f tells = absurd tells
+    rests_on m (Err audit.Memory) (Ok Evidence) t f tells = absurd tells
+    rests_on m (Err (audit.Desk e)) (Ok Done) t f tells = absurd tells
+    rests_on m (Err (audit.Desk e)) (Ok Evidence) t f tells = absurd tells
+    rests_on m (Err (audit.Install (install.Build (build.Map e)))) (Ok Done) t f tells = absurd (cc)
+    rests_on m (Err (audit.Install (install.Build (build.Map e)))) (Ok Evidence) t f tells = absurd (cc)
+    rests_on m (Err (audit.Install (install.Build (build.Plan e)))) (Ok Done) t f tells = absurd (cc)
+    rests_on m (Err (audit.Install (install.Build (build.Plan e)))) (Ok Evidence) t f tells = absurd (cc)
+    rests_on m (Err (audit.Install (install.Build build.Memory))) (Ok Done) t f tells = absurd tells
+    rests_on m (Err (audit.Install (install.Build build.Memory))) (Ok Evidence) t f tells = absurd tells
+    rests_on m (Err (audit.Install install.HeaderWrong)) (Ok Done) t f tells = absurd (cc)
+    rests_on m (Err (audit.Install install.HeaderWrong)) (Ok Evidence) t f tells = absurd (cc)
+    rests_on m (Err (audit.Install install.Memory)) (Ok Done) t f tells = absurd tells
+    rests_on m (Err (audit.Install install.Memory)) (Ok Evidence) t f tells = absurd tells
+
+    -- and a fault
+    pub rests_otherwise : AtEachMoment g mid new Stays → (r : Result Finding (AuditError E)) (f : Fault) → IsFound r → WhyNot (LookFailed r) (Tells line r) f → RestsOn g new (IsBrought kind octets) key links (Err f) []
+    rests_otherwise m r OtherPublication finds why = rests_on m r (Err OtherPublication) [] finds why
+    rests_otherwise m r f finds why = tt
 
 -- nothing rests on a desk that doesn't open
-pub not_opened_rests : {D : Type 0} (g : Ghosts D) (disk : D) (Brings : List ℕ → List ℕ → Type 0) (DiskFailed : Type 0) (content : Option (List ℕ)) (key : List ℕ) (f : Fault) → WhyNot DiskFailed (EndsOpening content NoEnd) f → RestsOn g disk Brings key (Err f) []
-not_opened_rests g disk Brings DiskFailed content key OtherPublication (inl h) = absurd (cc)
-not_opened_rests g disk Brings DiskFailed content key OtherPublication (inr (inl h)) = absurd (cc)
-not_opened_rests g disk Brings DiskFailed content key OtherPublication (inr (inr h)) = absurd h.1
-not_opened_rests g disk Brings DiskFailed content key f h = tt
+pub not_opened_rests : {D : Type 0} (g : Ghosts D) (disk : D) (Brings : List ℕ → List ℕ → Type 0) (DiskFailed : Type 0) (content : Option (List ℕ)) (key : List ℕ) (links : List Link) (f : Fault) → WhyNot DiskFailed (EndsOpening content NoEnd) f → RestsOn g disk Brings key links (Err f) []
+not_opened_rests g disk Brings DiskFailed content key links OtherPublication (inl h) = absurd (cc)
+not_opened_rests g disk Brings DiskFailed content key links OtherPublication (inr (inl h)) = absurd (cc)
+not_opened_rests g disk Brings DiskFailed content key links OtherPublication (inr (inr h)) = absurd h.1
+not_opened_rests g disk Brings DiskFailed content key links f h = tt
 
--- a desk that doesn't open
-pub not_opened : (DiskFailed : Type 0) (content : Option (List ℕ)) (key : List ℕ) (p : Publication) (octets : List ℕ) (q : Query) (f : Fault) → WhyNot DiskFailed (EndsOpening content NoEnd) f → WhyNot DiskFailed (EndsAudit content key p octets q) f
-not_opened DiskFailed content key p octets q =
-    why_map DiskFailed DiskFailed (EndsOpening content NoEnd) (EndsAudit content key p octets q) (λ x. x) (shut content (EndsOwnersKey content key (Behind content key octets q p)))
+module _ {Q A X E : Type 0} (kind : ReplyKind Q A X E) (line : E → List ℕ) where
+  -- a desk that doesn't open
+  pub not_opened : (DiskFailed : Type 0) (content : Option (List ℕ)) (key : List ℕ) (links : List Link) (p : Publication) (octets : List ℕ) (q : Q) (f : Fault) → WhyNot DiskFailed (EndsOpening content NoEnd) f → WhyNot DiskFailed (EndsAudit kind line content key links p octets q) f
+  not_opened DiskFailed content key links p octets q =
+      why_map DiskFailed DiskFailed (EndsOpening content NoEnd) (EndsAudit kind line content key links p octets q) (λ x. x) (shut content (EndsOwnersKey content key (Behind kind line content key links octets q p)))
 
--- ---- the command
+  -- ---- the command
 
--- what three files make of an end
-module _ (files : Option Folder) (content : Option (List ℕ)) (key_name publication_name reply_name key octets : List ℕ) (p : Publication) (q : Query)
-    (key_read : IfSome files (λ folder. public_key_at folder key_name ≡ Ok key)) (publication_read : IfSome files (λ folder. publication_at folder publication_name ≡ Ok p)) (reply_read : IfSome files (λ folder. octets_at folder reply_name ≡ Ok octets)) where
-  by_shelf : (folder : Folder) → public_key_at folder key_name ≡ Ok key → publication_at folder publication_name ≡ Ok p → octets_at folder reply_name ≡ Ok octets
-      → (o : Result Conclusion Fault) (t : List ℕ) → EndsAudit content key p octets q o t → ends_audit content key_name publication_name reply_name q folder o t
-  by_shelf folder is_key is_publication is_reply o t h =
-      reads (public_key_at folder key_name) key (λ k. EndsReading (publication_at folder publication_name) (λ b. EndsReading (octets_at folder reply_name) (λ xs. EndsAudit content k b xs q))) o t is_key
-      (reads (publication_at folder publication_name) p (λ b. EndsReading (octets_at folder reply_name) (λ xs. EndsAudit content key b xs q)) o t is_publication
-      (reads (octets_at folder reply_name) octets (λ xs. EndsAudit content key p xs q) o t is_reply h))
+  -- what four files make of an end
+  module _ (files : Option Folder) (content : Option (List ℕ)) (key_name publication_name reply_name : List ℕ) (chain_name : Option (List ℕ)) (key octets : List ℕ) (links : List Link) (p : Publication) (q : Q)
+      (key_read : IfSome files (λ folder. public_key_at folder key_name ≡ Ok key)) (publication_read : IfSome files (λ folder. publication_at folder publication_name ≡ Ok p)) (reply_read : IfSome files (λ folder. octets_at folder reply_name ≡ Ok octets))
+      (chain_read : IfSome files (λ folder. chain_at folder chain_name ≡ Ok links)) where
+    by_shelf : (folder : Folder) → public_key_at folder key_name ≡ Ok key → publication_at folder publication_name ≡ Ok p → octets_at folder reply_name ≡ Ok octets → chain_at folder chain_name ≡ Ok links
+        → (o : Result Conclusion Fault) (t : List ℕ) → EndsAudit kind line content key links p octets q o t → ends_audit kind line content key_name publication_name reply_name q chain_name folder o t
+    by_shelf folder is_key is_publication is_reply is_chain o t h =
+        reads (public_key_at folder key_name) key (λ k. EndsReading (publication_at folder publication_name) (λ b. EndsReading (octets_at folder reply_name) (λ xs. EndsReading (chain_at folder chain_name) (λ ls. EndsAudit kind line content k ls b xs q)))) o t is_key
+        (reads (publication_at folder publication_name) p (λ b. EndsReading (octets_at folder reply_name) (λ xs. EndsReading (chain_at folder chain_name) (λ ls. EndsAudit kind line content key ls b xs q))) o t is_publication
+        (reads (octets_at folder reply_name) octets (λ xs. EndsReading (chain_at folder chain_name) (λ ls. EndsAudit kind line content key ls p xs q)) o t is_reply
+        (reads (chain_at folder chain_name) links (λ ls. EndsAudit kind line content key ls p octets q) o t is_chain h)))
 
-  calls : (o : Result Conclusion Fault) (t : List ℕ) → EndsAudit content key p octets q o t → CallsFor (ends_audit content key_name publication_name reply_name q) files o t
-  calls o t h = by files key_read publication_read reply_read
-    where
-      by : (files : Option Folder) → IfSome files (λ folder. public_key_at folder key_name ≡ Ok key) → IfSome files (λ folder. publication_at folder publication_name ≡ Ok p) → IfSome files (λ folder. octets_at folder reply_name ≡ Ok octets)
-          → IfSome files (λ folder. ends_audit content key_name publication_name reply_name q folder o t)
-      by None a b c = tt
-      by (Some folder) a b c = by_shelf folder a b c o t h
+    calls : (o : Result Conclusion Fault) (t : List ℕ) → EndsAudit kind line content key links p octets q o t → CallsFor (ends_audit kind line content key_name publication_name reply_name q chain_name) files o t
+    calls o t h = by files key_read publication_read reply_read chain_read
+      where
+        by : (files : Option Folder) → IfSome files (λ folder. public_key_at folder key_name ≡ Ok key) → IfSome files (λ folder. publication_at folder publication_name ≡ Ok p) → IfSome files (λ folder. octets_at folder reply_name ≡ Ok octets) → IfSome files (λ folder. chain_at folder chain_name ≡ Ok links)
+            → IfSome files (λ folder. ends_audit kind line content key_name publication_name reply_name q chain_name folder o t)
+        by None a b c d = tt
+        by (Some folder) a b c d = by_shelf folder a b c d o t h
 
-  module _ (DiskFailed : Type 0) (l l' k k' : ℕ) (old : Option (List ℕ)) where
-    -- an audit that wrote nothing
-    pub audit_refused : (f : Fault) → WhyNot DiskFailed (EndsAudit content key p octets q) f → Promises (ends_audit content key_name publication_name reply_name q) TellsNone DiskFailed files l l' old old k k' (Err f)
-    audit_refused f h = refused (ends_audit content key_name publication_name reply_name q) TellsNone DiskFailed files l l' k k' old (EndsAudit content key p octets q) calls f h
+    module _ (DiskFailed : Type 0) (l l' k k' : ℕ) (old : Option (List ℕ)) where
+      -- an audit that wrote nothing
+      pub audit_refused : (f : Fault) → WhyNot DiskFailed (EndsAudit kind line content key links p octets q) f → Promises (ends_audit kind line content key_name publication_name reply_name q chain_name) TellsNone DiskFailed files l l' old old k k' (Err f)
+      audit_refused f h = refused (ends_audit kind line content key_name publication_name reply_name q chain_name) TellsNone DiskFailed files l l' k k' old (EndsAudit kind line content key links p octets q) calls f h
 
-    -- a line that was told
-    pub audit_told : (new : Option (List ℕ)) (end o : Result Conclusion Fault) (text : List ℕ) → MayEnd TellsNone end → EndsAudit content key p octets q end text → Writes end text old new k k' o
-        → Promises (ends_audit content key_name publication_name reply_name q) TellsNone DiskFailed files l l' old new k k' o
-    audit_told new end o text may h w = written (ends_audit content key_name publication_name reply_name q) TellsNone DiskFailed files l l' k k' old (EndsAudit content key p octets q) calls new end o text may h w
+      -- a line that was told
+      pub audit_told : (new : Option (List ℕ)) (end o : Result Conclusion Fault) (text : List ℕ) → MayEnd TellsNone end → EndsAudit kind line content key links p octets q end text → Writes end text old new k k' o
+          → Promises (ends_audit kind line content key_name publication_name reply_name q chain_name) TellsNone DiskFailed files l l' old new k k' o
+      audit_told new end o text may h w = written (ends_audit kind line content key_name publication_name reply_name q chain_name) TellsNone DiskFailed files l l' k k' old (EndsAudit kind line content key links p octets q) calls new end o text may h w

@@ -6,60 +6,36 @@ use Rattle.std.specs.declared.result.Result.{Result}
 use Rattle.std.specs.declared.result.Result.TheVariants.{Ok, Err}
 use Rattle.std.specs.Io.KnownBytes.{Appends}
 use Rattle.sha2.specs.Sha256.{sha256}
-use Rattle.octet_text.specs.Format.{whole}
 use Rattle.road_io.specs.declared.disk.Disk.{Ghosts}
-use Rattle.road_io.specs.Moments.{EachImage}
 use Rattle.road_io.specs.Contents.{Folder}
-use Rattle.road_map.specs.Routes.{IsShortest}
-use Rattle.book_model.specs.declared.items.Query.{Query}
-use Rattle.lms_tree.specs.Signatures.{verified}
-use Rattle.desk_areas.specs.Layout.{IsSigned}
+use Rattle.lms_tree.specs.declared.links.Link.{Link}
+use Rattle.desk_look.specs.Forgeries.{Forges}
 use Rattle.proof_octets.specs.declared.header.Header.{Header}
 use Rattle.proof_octets.specs.declared.publication.Publication.{Publication}
-use Rattle.proof_octets.specs.declared.reply.Answer as answers
-use Rattle.proof_octets.specs.Replies as formats
 use Rattle.proof_octets.specs.Headers.{header_text}
-use Rattle.route_client.specs.declared.accepted.Accepted.{Accepted}
-use Rattle.route_client.specs.Verdicts.{Accepts}
 use Rattle.route_server.specs.Headers.{HasHeader}
 use Rattle.route_server.specs.declared.errors.BuildError.{BuildError}
+use Rattle.route_audit.specs.Kinds.{AreReplies, ReplyKind}
 use Rattle.road_line.specs.EvidenceLine.{right_line}
-use Rattle.command_files.specs.Reading.{octets_at, publication_at}
+use Rattle.command_files.specs.Reading.{octets_at, publication_at, chain_at}
 use Rattle.command_files.specs.HexFiles.{public_key_at}
 use Rattle.command_books.specs.Installing.{AfterBuild, IfInstalled, EndsInstalling}
 use Rattle.command_files.specs.Endings.{Ending, Answered, EndsReading}
 use Rattle.audit_commands.specs.Auditing.{EndsOwnersKey, EndsClient, EndsSigned, EndsSameHeader, EndsComparing, EndsAudit, ends_audit}
+use Rattle.audit_commands.specs.Owners.{look_everywhere}
 use Rattle.audit_commands.specs.Headline.{IsBrought, IsAcceptedHeader, IsEvidence, WritesFindings, IsTrue, IsOthers, FindsTruth, IsAcceptedFile, AuditsAccepted}
 use Rattle.audit_commands.proofs.Steps.{RestsOnNone}
+use Rattle.audit_commands.proofs.AuditLemmas.{Behind}
 use Rattle.command_files.specs.declared.fault.Fault.{Fault}
 use Rattle.command_files.specs.declared.fault.Fault.TheVariants.{TruncatedFrame, FrameTooLong, Library, Source, Sink, Disk, Memory, UnknownNode, NoRoute, TooManyFrames, OtherPublication, MirrorLost}
 use Rattle.command_files.specs.declared.ended.Conclusion.{Conclusion}
 use Rattle.command_files.specs.declared.ended.Conclusion.TheVariants.{Done, Refused, Evidence}
 use Rattle.command_books.proofs.OneBuilding.{OneMaking}
-use Rattle.client_commands.proofs.OneCheck.{OneVerdict}
-use Rattle.audit_commands.proofs.OneAudit.{AcceptanceIsVerdict, one_accepted, one_answer, not_refused, same_answer}
 use Rattle.command_files.proofs.Written.{failed, read_as}
 
 -- a run with a verdict
 abbrev pub ended : Conclusion → Result Conclusion Fault
 ended v = Ok v
-
--- acceptance with any least version is acceptance
-any_least : (key octets : List ℕ) (q : Query) (least : ℕ) (x : Accepted) → Accepts sha256 key octets q least x → Accepts sha256 key octets q 0 x
-any_least key octets q least x a = record {
-  answer = a.answer;
-  spelled = a.spelled;
-  fresh = omega arith;
-  signed = a.signed;
-  nodes = a.nodes;
-  pairs = a.pairs;
-  kind = a.kind;
-  method = a.method;
-  judged = a.judged;
-  route = a.route;
-  version = a.version;
-  header = a.header;
-}
 
 -- what follows the installing of a publication that can be installed
 pub installed : OneMaking → (p : Publication) (Next : Ending) (o : Result Conclusion Fault) (t : List ℕ) → HasHeader sha256 sha256 p.parts p.settings p.header → EndsInstalling p Next o t → Next o t
@@ -73,14 +49,15 @@ installed makings p Next o t has h = by (subst (λ (m : Result Header BuildError
     by (inr k) = absurd (k.0 refl)
 
 -- evidence by what one relation brings is evidence by what another brings
-pub evidence_by : {D : Type 0} (g : Ghosts D) (disk : D) (One Other : List ℕ → List ℕ → Type 0) (k key text : List ℕ) → ((header signature : List ℕ) → One header signature → Other header signature) → k ≡ key → IsEvidence g disk One k text → IsEvidence g disk Other key text
-evidence_by g disk One Other k key text by same (inl e) = inl e
-evidence_by g disk One Other k key text by same (inr e) = inr (record {
+pub evidence_by : {D : Type 0} (g : Ghosts D) (disk : D) (One Other : List ℕ → List ℕ → Type 0) (k key : List ℕ) (ls links : List Link) (text : List ℕ) → ((header signature : List ℕ) → One header signature → Other header signature) → k ≡ key → ls ≡ links
+    → IsEvidence g disk One k ls text → IsEvidence g disk Other key links text
+evidence_by g disk One Other k key ls links text by same same_links (inl e) = inl e
+evidence_by g disk One Other k key ls links text by same same_links (inr e) = inr (record {
   header = e.header;
   signature = e.signature;
   brought = by e.header e.signature e.brought;
-  good = subst (λ k. verified k e.header e.signature ≡ Ok tt) same e.good;
-  unsigned = e.unsigned;
+  forgery = e.forgery;
+  forges = subst (λ (x : List ℕ). Forges (look_everywhere g disk) x links e.header e.signature e.forgery) same (subst (λ (x : List Link). Forges (look_everywhere g disk) k x e.header e.signature e.forgery) same_links e.forges);
   line = e.line;
 })
 
@@ -89,113 +66,120 @@ pub record IsOtherEnd (p : Publication) (accepted : Header) (o : Result Conclusi
   pub outcome : o ≡ Err OtherPublication
   pub other : accepted ≢ p.header
 
--- how an audit of accepted octets ends: with the right line, and the route is a shortest one, or with evidence, or
+-- how an audit of accepted octets ends: with the right line, and what is taken is true, or with evidence, or
 -- otherwise as above
-pub record IsRightEnd (p : Publication) (q : Query) (x : Accepted) (o : Result Conclusion Fault) (t : List ℕ) : Type 0 where
+pub record IsRightEnd (p : Publication) (accepted : Header) (Truth : Type 0) (o : Result Conclusion Fault) (t : List ℕ) : Type 0 where
   pub outcome : o ≡ Ok Done
   pub line : t ≡ right_line
-  pub same : x.header ≡ p.header
-  pub shortest : IsShortest p.parts q.from q.to x.route x.length
+  pub same : accepted ≡ p.header
+  pub truth : Truth
 
-abbrev pub IsEnd : Publication → Query → Accepted → Ending
-IsEnd p q x o t = IsRightEnd p q x o t ⊎ ((o ≡ Ok Evidence) ⊎ IsOtherEnd p x.header o)
+abbrev pub IsEnd : Publication → Header → Type 0 → Ending
+IsEnd p accepted Truth o t = IsRightEnd p accepted Truth o t ⊎ ((o ≡ Ok Evidence) ⊎ IsOtherEnd p accepted o)
 
-module _ (makings : OneMaking) (one : OneVerdict) (verdict : AcceptanceIsVerdict) (content : Option (List ℕ)) (folder : Folder) (key_name publication_name reply_name : List ℕ) (q : Query) (key : List ℕ) (p : Publication) (x : Accepted)
-    (f : IsAcceptedFile content folder key_name publication_name reply_name q key p x) where
-  accepts : Accepts sha256 key f.octets q 0 x
-  accepts = any_least key f.octets q f.least x f.accepts
+module _ {Q A X E : Type 0} (kind : ReplyKind Q A X E) (line : E → List ℕ) (laws : AreReplies kind) (makings : OneMaking) (content : Option (List ℕ)) (folder : Folder) (key_name publication_name reply_name : List ℕ) (q : Q) (chain_name : Option (List ℕ)) (key : List ℕ) (links : List Link) (p : Publication) (x : X)
+    (f : IsAcceptedFile kind content folder key_name publication_name reply_name q chain_name key links p x) where
+  abbrev Truth : Type 0
+  Truth = kind.IsTrue p q x
 
-  comparing : x.header ≡ p.header → (o : Result Conclusion Fault) (t : List ℕ) → EndsComparing p q x accepts.answer o t → IsEnd p q x o t
-  comparing same o t (inl h) = inl (record { outcome = h.0; line = h.2; same = same; shortest = h.1.shortest })
+  accepts : kind.Accepts sha256 key links f.octets q 0 x f.answer
+  accepts = laws.any_least sha256 key links f.octets q f.least x f.answer f.accepts
+
+  header_is : kind.taken_header x ≡ kind.header f.answer
+  header_is = laws.same_header sha256 key links f.octets q 0 x f.answer accepts
+
+  comparing : kind.taken_header x ≡ p.header → (o : Result Conclusion Fault) (t : List ℕ) → EndsComparing kind p q x f.answer o t → IsEnd p (kind.taken_header x) Truth o t
+  comparing same o t (inl h) = inl (record { outcome = h.0; line = h.2; same = same; truth = laws.truth sha256 sha256 p q x f.answer h.1 })
   comparing same o t (inr h) = inr (inl h.0)
 
-  same_header : (o : Result Conclusion Fault) (t : List ℕ) → EndsSameHeader p accepts.answer.header (EndsComparing p q x accepts.answer) o t → IsEnd p q x o t
-  same_header o t (inl h) = inr (inr (record { outcome = h.0; other = λ e. h.1 (sym accepts.header ∙ e) }))
-  same_header o t (inr h) = comparing (accepts.header ∙ h.0) o t h.1
+  same_header : (o : Result Conclusion Fault) (t : List ℕ) → EndsSameHeader p (kind.header f.answer) (EndsComparing kind p q x f.answer) o t → IsEnd p (kind.taken_header x) Truth o t
+  same_header o t (inl h) = inr (inr (record { outcome = h.0; other = λ e. h.1 (sym header_is ∙ e) }))
+  same_header o t (inr h) = comparing (header_is ∙ h.0) o t h.1
 
-  signed : (o : Result Conclusion Fault) (t : List ℕ) → EndsSigned content key accepts.answer.header accepts.answer.signature (EndsSameHeader p accepts.answer.header (EndsComparing p q x accepts.answer)) o t → IsEnd p q x o t
+  signed : (o : Result Conclusion Fault) (t : List ℕ) → EndsSigned content key links (kind.header f.answer) (kind.signature f.answer) (EndsSameHeader p (kind.header f.answer) (EndsComparing kind p q x f.answer)) o t → IsEnd p (kind.taken_header x) Truth o t
   signed o t (inl h) = inr (inl h.0)
   signed o t (inr h) = same_header o t h.1
 
-  client : (o : Result Conclusion Fault) (t : List ℕ) → EndsClient key f.octets q (λ y a. EndsInstalling p (EndsSigned content key a.header a.signature (EndsSameHeader p a.header (EndsComparing p q y a)))) o t → IsEnd p q x o t
-  client o t (inl h) = absurd (not_refused one verdict key f.octets q 0 x h.0 accepts h.2)
+  client : (o : Result Conclusion Fault) (t : List ℕ) → Behind kind line content key links f.octets q p o t → IsEnd p (kind.taken_header x) Truth o t
+  client o t (inl h) = absurd (laws.not_refused sha256 key links f.octets q x f.answer h.0 accepts h.1)
   client o t (inr h) =
-      let of_x = subst (λ (y : Accepted). EndsInstalling p (EndsSigned content key h.1.answer.header h.1.answer.signature (EndsSameHeader p h.1.answer.header (EndsComparing p q y h.1.answer))) o t) (one_accepted one verdict key f.octets q 0 h.0 x h.1 accepts) h.2 in
-      let of_a = subst (λ (a : answers.Answer). EndsInstalling p (EndsSigned content key a.header a.signature (EndsSameHeader p a.header (EndsComparing p q x a))) o t) (one_answer one verdict key f.octets q 0 h.0 x h.1 accepts) of_x in
-      signed o t (installed makings p (EndsSigned content key accepts.answer.header accepts.answer.signature (EndsSameHeader p accepts.answer.header (EndsComparing p q x accepts.answer))) o t f.header of_a)
+      let taken : h.0 ≡ x = laws.one_taken sha256 key links f.octets q h.0 x h.1 f.answer h.2 accepts in
+      let answer : h.1 ≡ f.answer = laws.one_answer f.octets h.1 f.answer (laws.spelled sha256 key links f.octets q 0 h.0 h.1 h.2) (laws.spelled sha256 key links f.octets q 0 x f.answer accepts) in
+      let of_x = subst (λ (y : X). EndsInstalling p (EndsSigned content key links (kind.header h.1) (kind.signature h.1) (EndsSameHeader p (kind.header h.1) (EndsComparing kind p q y h.1))) o t) taken h.3 in
+      let of_a = subst (λ (a : A). EndsInstalling p (EndsSigned content key links (kind.header a) (kind.signature a) (EndsSameHeader p (kind.header a) (EndsComparing kind p q x a))) o t) answer of_x in
+      signed o t (installed makings p (EndsSigned content key links (kind.header f.answer) (kind.signature f.answer) (EndsSameHeader p (kind.header f.answer) (EndsComparing kind p q x f.answer))) o t f.header of_a)
 
-  owners : (o : Result Conclusion Fault) (t : List ℕ) → EndsOwnersKey content key (EndsClient key f.octets q (λ y a. EndsInstalling p (EndsSigned content key a.header a.signature (EndsSameHeader p a.header (EndsComparing p q y a))))) o t
-      → IsEnd p q x o t
+  owners : (o : Result Conclusion Fault) (t : List ℕ) → EndsOwnersKey content key (Behind kind line content key links f.octets q p) o t → IsEnd p (kind.taken_header x) Truth o t
   owners o t (inl h) = absurd (h.1 f.image f.told f.owners)
   owners o t (inr h) = client o t h.1
 
-  opening : (o : Result Conclusion Fault) (t : List ℕ) → EndsAudit content key p f.octets q o t → IsEnd p q x o t
+  opening : (o : Result Conclusion Fault) (t : List ℕ) → EndsAudit kind line content key links p f.octets q o t → IsEnd p (kind.taken_header x) Truth o t
   opening o t (inl h) = absurd (h.1 f.image f.told f.usable.open_gate)
   opening o t (inr (inl h)) = absurd (f.usable.good_block (h.1 f.image f.told).1)
   opening o t (inr (inr h)) = owners o t h.1
 
   -- over what the files spell
-  over_files : (o : Result Conclusion Fault) (t : List ℕ) → ends_audit content key_name publication_name reply_name q folder o t → IsEnd p q x o t
+  over_files : (o : Result Conclusion Fault) (t : List ℕ) → ends_audit kind line content key_name publication_name reply_name q chain_name folder o t → IsEnd p (kind.taken_header x) Truth o t
   over_files o t h =
-      let by_key = read_as (public_key_at folder key_name) key (λ k. EndsReading (publication_at folder publication_name) (λ b. EndsReading (octets_at folder reply_name) (λ octets. EndsAudit content k b octets q))) o t f.key_read h in
-      let by_publication = read_as (publication_at folder publication_name) p (λ b. EndsReading (octets_at folder reply_name) (λ octets. EndsAudit content key b octets q)) o t f.publication_read by_key in
-      opening o t (read_as (octets_at folder reply_name) f.octets (λ octets. EndsAudit content key p octets q) o t f.reply_read by_publication)
+      let by_key = read_as (public_key_at folder key_name) key (λ k. EndsReading (publication_at folder publication_name) (λ b. EndsReading (octets_at folder reply_name) (λ octets. EndsReading (chain_at folder chain_name) (λ ls. EndsAudit kind line content k ls b octets q)))) o t f.key_read h in
+      let by_publication = read_as (publication_at folder publication_name) p (λ b. EndsReading (octets_at folder reply_name) (λ octets. EndsReading (chain_at folder chain_name) (λ ls. EndsAudit kind line content key ls b octets q))) o t f.publication_read by_key in
+      let by_reply = read_as (octets_at folder reply_name) f.octets (λ octets. EndsReading (chain_at folder chain_name) (λ ls. EndsAudit kind line content key ls p octets q)) o t f.reply_read by_publication in
+      opening o t (read_as (chain_at folder chain_name) links (λ ls. EndsAudit kind line content key ls p f.octets q) o t f.chain_read by_reply)
 
-  same_octets : (a b : List ℕ) (r : Result (List ℕ) Fault) → r ≡ Ok a → r ≡ Ok b → a ≡ b
-  same_octets a b r is other = cc
+  same_read : {Y : Type 0} (a b : Y) (r : Result Y Fault) → r ≡ Ok a → r ≡ Ok b → a ≡ b
+  same_read a b r is other = cc
 
-  no_fault : (f : Fault) (t : List ℕ) → IsEnd p q x (Err f) t → RestsOnNone f → ⊥
+  no_fault : (f : Fault) (t : List ℕ) → IsEnd p (kind.taken_header x) Truth (Err f) t → RestsOnNone f → ⊥
   no_fault f t (inl r) none = let e : failed f ≡ Ok Done = r.outcome in cc
   no_fault f t (inr (inl e)) none = let same : failed f ≡ Ok Evidence = e in cc
   no_fault f t (inr (inr r)) none = let e : failed f ≡ failed OtherPublication = r.outcome in let same : f ≡ OtherPublication = cc in subst RestsOnNone same none
 
   -- what the accepted octets bring is the accepted header
-  brings : (octets header signature : List ℕ) → octets ≡ f.octets → IsBrought octets header signature → IsAcceptedHeader x.header (IsBrought f.octets) header signature
+  brings : (octets header signature : List ℕ) → octets ≡ f.octets → IsBrought kind octets header signature → IsAcceptedHeader (kind.taken_header x) (IsBrought kind f.octets) header signature
   brings octets header signature same b =
-      let moved : IsBrought f.octets header signature = subst (λ (xs : List ℕ). IsBrought xs header signature) same b in
-      let answer : moved.answer ≡ accepts.answer = same_answer moved.answer accepts.answer (whole formats.reply f.octets) moved.spelled accepts.spelled in
-      (moved.header_is ∙ ap (λ (a : answers.Answer). header_text a.header) answer ∙ ap (λ (h : Header). header_text h) (sym accepts.header), moved)
+      let moved : IsBrought kind f.octets header signature = subst (λ (xs : List ℕ). IsBrought kind xs header signature) same b in
+      let answer : moved.answer ≡ f.answer = laws.one_answer f.octets moved.answer f.answer moved.spelled (laws.spelled sha256 key links f.octets q 0 x f.answer accepts) in
+      (moved.header_is ∙ ap (λ (a : A). header_text (kind.header a)) answer ∙ ap (λ (h : Header). header_text h) (sym header_is), moved)
 
-  finds : {D : Type 0} (g : Ghosts D) (disk : D) (old new : Option (List ℕ)) (o : Result Conclusion Fault) → (o ≡ Err MirrorLost → ⊥) → Answered (ends_audit content key_name publication_name reply_name q folder) old new o
-      → WritesFindings g disk IsBrought key_name reply_name (Some folder) old new o → FindsTruth g disk (IsBrought f.octets) key p x.header (IsTrue g disk p q x) old new o
+  finds : {D : Type 0} (g : Ghosts D) (disk : D) (old new : Option (List ℕ)) (o : Result Conclusion Fault) → (o ≡ Err MirrorLost → ⊥) → Answered (ends_audit kind line content key_name publication_name reply_name q chain_name folder) old new o
+      → WritesFindings g disk (IsBrought kind) key_name reply_name chain_name (Some folder) old new o → FindsTruth g disk (IsBrought kind f.octets) key links p (kind.taken_header x) (IsTrue kind g disk p q x) old new o
   finds g disk old new (Ok Done) lost a w = right (over_files (Ok Done) a.0 a.1)
     where
-      right : IsEnd p q x (Ok Done) a.0 → FindsTruth g disk (IsBrought f.octets) key p x.header (IsTrue g disk p q x) old new (Ok Done)
+      right : IsEnd p (kind.taken_header x) Truth (Ok Done) a.0 → FindsTruth g disk (IsBrought kind f.octets) key links p (kind.taken_header x) (IsTrue kind g disk p q x) old new (Ok Done)
       right (inr (inl e)) = let other : ended Done ≡ ended Evidence = e in absurd (cc)
       right (inr (inr r)) = let other : ended Done ≡ failed OtherPublication = r.outcome in absurd (cc)
       right (inl r) =
-          let octets : w.octets ≡ f.octets = same_octets w.octets f.octets (octets_at folder reply_name) w.reply_read f.reply_read in
+          let octets : w.octets ≡ f.octets = same_read w.octets f.octets (octets_at folder reply_name) w.reply_read f.reply_read in
           let header : w.rests.header ≡ header_text p.header = (brings w.octets w.rests.header w.rests.signature octets w.rests.brought).0 ∙ ap (λ (h : Header). header_text h) r.same in (
             record {
               of_map = f.header;
               same = r.same;
-              slot = w.rests.slot;
-              signed = subst (λ h. EachImage g disk (λ i. IsSigned i w.rests.slot h)) header w.rests.signed;
-              shortest = r.shortest;
+              signed = subst (look_everywhere g disk).Signed header w.rests.signed.sealed;
+              truth = r.truth;
             },
             subst (λ t. Appends old new t) r.line a.2,
           )
   finds g disk old new (Ok Evidence) lost a w =
-      let same : w.key ≡ key = same_octets w.key key (public_key_at folder key_name) w.key_read f.key_read in
-      let octets : w.octets ≡ f.octets = same_octets w.octets f.octets (octets_at folder reply_name) w.reply_read f.reply_read in
-      (w.text, evidence_by g disk (IsBrought w.octets) (IsAcceptedHeader x.header (IsBrought f.octets)) w.key key w.text (λ header signature. brings w.octets header signature octets) same w.rests, w.written)
+      let same : w.key ≡ key = same_read w.key key (public_key_at folder key_name) w.key_read f.key_read in
+      let octets : w.octets ≡ f.octets = same_read w.octets f.octets (octets_at folder reply_name) w.reply_read f.reply_read in
+      let chain : w.links ≡ links = same_read w.links links (chain_at folder chain_name) w.chain_read f.chain_read in
+      (w.text, evidence_by g disk (IsBrought kind w.octets) (IsAcceptedHeader (kind.taken_header x) (IsBrought kind f.octets)) w.key key w.links links w.text (λ header signature. brings w.octets header signature octets) same chain w.rests, w.written)
   finds g disk old new (Ok Refused) lost a w = refused (over_files (Ok Refused) a.0 a.1)
     where
-      refused : IsEnd p q x (Ok Refused) a.0 → ⊥
+      refused : IsEnd p (kind.taken_header x) Truth (Ok Refused) a.0 → ⊥
       refused (inl r) = let e : ended Refused ≡ ended Done = r.outcome in cc
       refused (inr (inl e)) = let other : ended Refused ≡ ended Evidence = e in cc
       refused (inr (inr r)) = let other : ended Refused ≡ failed OtherPublication = r.outcome in cc
   finds g disk old new (Err OtherPublication) lost a w = other (over_files (Err OtherPublication) [] a)
     where
-      other : IsEnd p q x (Err OtherPublication) [] → IsOthers g disk p x.header
+      other : IsEnd p (kind.taken_header x) Truth (Err OtherPublication) [] → IsOthers g disk p (kind.taken_header x)
       other (inl r) = let e : failed OtherPublication ≡ ended Done = r.outcome in absurd (cc)
       other (inr (inl e)) = let same : failed OtherPublication ≡ ended Evidence = e in absurd (cc)
       other (inr (inr r)) =
-          let octets : w.octets ≡ f.octets = same_octets w.octets f.octets (octets_at folder reply_name) w.reply_read f.reply_read in
+          let octets : w.octets ≡ f.octets = same_read w.octets f.octets (octets_at folder reply_name) w.reply_read f.reply_read in
           record {
             other = r.other;
-            slot = w.rests.slot;
-            signed = subst (λ h. EachImage g disk (λ i. IsSigned i w.rests.slot h)) (brings w.octets w.rests.header w.rests.signature octets w.rests.brought).0 w.rests.signed;
+            signed = subst (look_everywhere g disk).Signed (brings w.octets w.rests.header w.rests.signature octets w.rests.brought).0 w.rests.signed.sealed;
           }
   finds g disk old new (Err MirrorLost) lost a w = absurd (lost refl)
   finds g disk old new (Err Memory) lost a w = tt
@@ -211,8 +195,8 @@ module _ (makings : OneMaking) (one : OneVerdict) (verdict : AcceptanceIsVerdict
   finds g disk old new (Err fault) lost a w = absurd (no_fault fault [] (over_files (Err fault) [] a) tt)
 
 -- the same where the library may tell its files
-pub audits_accepted : OneMaking → OneVerdict → AcceptanceIsVerdict → {D : Type 0} (g : Ghosts D) (disk : D) (files : Option Folder) (content : Option (List ℕ)) (key publication reply : List ℕ) (q : Query) (old new : Option (List ℕ)) (o : Result Conclusion Fault)
-    → (o ≡ Err MirrorLost → ⊥) → IfSome files (λ folder. Answered (ends_audit content key publication reply q folder) old new o) → WritesFindings g disk IsBrought key reply files old new o → AuditsAccepted g content disk key publication reply q files old new o
-audits_accepted makings one verdict g disk (Some folder) content key publication reply q old new o lost a w =
-    λ k p x f. finds makings one verdict content folder key publication reply q k p x f g disk old new o lost a w
-audits_accepted makings one verdict g disk None content key publication reply q old new o lost a w = tt
+pub audits_accepted : {Q A X E : Type 0} (kind : ReplyKind Q A X E) (line : E → List ℕ) → AreReplies kind → OneMaking → {D : Type 0} (g : Ghosts D) (disk : D) (files : Option Folder) (content : Option (List ℕ)) (key publication reply : List ℕ) (q : Q) (chain : Option (List ℕ)) (old new : Option (List ℕ)) (o : Result Conclusion Fault)
+    → (o ≡ Err MirrorLost → ⊥) → IfSome files (λ folder. Answered (ends_audit kind line content key publication reply q chain folder) old new o) → WritesFindings g disk (IsBrought kind) key reply chain files old new o → AuditsAccepted kind g content disk key publication reply q chain files old new o
+audits_accepted kind line laws makings g disk (Some folder) content key publication reply q chain old new o lost a w =
+    λ k links p x f. finds kind line laws makings content folder key publication reply q chain k links p x f g disk old new o lost a w
+audits_accepted kind line laws makings g disk None content key publication reply q chain old new o lost a w = tt

@@ -1,5 +1,5 @@
 -- What the steps of an audit and their files give, whatever was asked for.
-use Rattle.std.proofs.Common.{◌≡◌, ◌≢◌, inl, inr, ℕ, List, [], Some, length, sym, ap, subst, ◌∙◌, IfSome, IfOk, IfErr, arith}
+use Rattle.std.proofs.Common.{◌≡◌, ◌≤◌, ◌⊎◌, inl, inr, ℕ, List, [], Some, length, sym, ap, subst, ◌∙◌, IfSome, IfOk, IfErr, arith}
 use Rattle.std.specs.declared.option.Option.{Option}
 use Rattle.std.specs.declared.option.Option.TheVariants.{None}
 use Rattle.std.specs.declared.result.Result.{Result}
@@ -7,13 +7,20 @@ use Rattle.std.specs.declared.result.Result.TheVariants.{Ok, Err}
 use Rattle.std.specs.Option.{ForSome}
 use Rattle.road_io.specs.declared.disk.Disk.{Ghosts}
 use Rattle.road_io.specs.Disk.{Stays}
-use Rattle.road_io.specs.Moments.{Image, EachImage, AtEachMoment}
+use Rattle.road_io.specs.Moments.{EachImage, AtEachMoment}
 use Rattle.road_io.specs.Contents.{Folder}
 use Rattle.lms_tree.specs.Signatures.{public_key}
-use Rattle.desk_areas.specs.Layout.{SlotId, IsSigned}
-use Rattle.key_desk.specs.Desk.{IsSound}
+use Rattle.lms_tree.specs.declared.links.Link.{Link}
+use Rattle.desk_areas.specs.Layout.{base_of}
+use Rattle.desk_areas.proofs.Areas.{open_down}
+use Rattle.desk_areas.proofs.Growth.{open_upto}
+use Rattle.key_desk.specs.Desk.{key_of, IsSound, HasAreas}
+use Rattle.key_desk.proofs.ReadGood.{key_is}
+use Rattle.desk_look.specs.Forgeries.{AreSigned, Forges, IsForgedLink, IsForgedHeader}
+use Rattle.desk_look.specs.Looks.{IsKeyFrom, Look}
+use Rattle.desk_look.specs.declared.forgery.Forgery.{Forgery}
 use Rattle.key_desk.specs.declared.desk.Desk.{Desk}
-use Rattle.command_files.specs.Reading.{octets_at, IsOfFiles}
+use Rattle.command_files.specs.Reading.{octets_at, chain_at, IsOfFiles}
 use Rattle.command_files.specs.HexFiles.{public_key_at}
 use Rattle.std.specs.Io.KnownBytes.{Appends}
 use Rattle.std.proofs.lemmas.List.{append-nil}
@@ -21,31 +28,50 @@ use Rattle.command_files.specs.Endings.{Writes, MayEnd, TellsNone}
 use Rattle.command_files.specs.declared.fault.Fault.{Fault}
 use Rattle.command_files.specs.declared.fault.Fault.TheVariants.{Sink, OtherPublication}
 use Rattle.command_files.specs.declared.ended.Conclusion.{Conclusion}
-use Rattle.command_desks.specs.Opening.{IsKeyOn, HasBlocks}
-use Rattle.command_desks.proofs.Openings.{key_on, same_owner}
-use Rattle.audit_commands.specs.Auditing.{IsOwnersKey}
+use Rattle.command_desks.specs.Opening.{HasBlocks}
+use Rattle.audit_commands.specs.Owners.{IsOwnersKey}
 use Rattle.audit_commands.specs.Headline.{RestsOn, WritesFindings}
 
--- ---- the desk's key
+-- ---- the desk's keys
+
+-- a desk's key is one of those on each image that has its areas
+pub own_in : (desk : Desk) (c : List ℕ) → IsSound desk → HasAreas desk c → (key : List ℕ) → IsKeyFrom desk 0 key → IsOwnersKey c key
+own_in desk c sound areas key from = record {
+  area = from.area;
+  is_open = open_down c from.area (length desk.earlier) from.upto areas.current.is_open;
+  is = from.is ∙ ap public_key (sym (key_is (key_of desk from.area) (base_of c from.area) c (areas.keys from.area from.upto) (sound.named from.area from.upto)));
+}
+
+-- and the other way round
+owned_by : (desk : Desk) (c : List ℕ) → IsSound desk → HasAreas desk c → (key : List ℕ) → IsOwnersKey c key → IsKeyFrom desk 0 key
+owned_by desk c sound areas key h =
+    let upto = open_upto c (length desk.earlier) h.area areas.current h.is_open in
+    record { area = h.area; from = omega arith; upto = upto; is = h.is ∙ ap public_key (key_is (key_of desk h.area) (base_of c h.area) c (areas.keys h.area upto) (sound.named h.area upto)) }
 
 module _ (content : Option (List ℕ)) (desk : Desk) (key : List ℕ) (blocks : HasBlocks content desk) (sound : IsSound desk) where
-  on_disk : (c : List ℕ) → content ≡ Some c → IsKeyOn c desk.key
-  on_disk c is = key_on desk c sound (blocks c is).1
+  pub own : IsKeyFrom desk 0 key → ForSome content (λ c. IsOwnersKey c key)
+  own from c is = own_in desk c sound (blocks c is).1 key from
 
-  pub own : key ≡ public_key desk.key → ForSome content (λ c. IsOwnersKey c key)
-  own e c is = record { owner = desk.key; on_disk = on_disk c is; is = e }
+  pub not_own : ¬ IsKeyFrom desk 0 key → ForSome content (λ c. ¬ IsOwnersKey c key)
+  not_own n c is h = n (owned_by desk c sound (blocks c is).1 key h)
 
-  pub not_own : key ≢ public_key desk.key → ForSome content (λ c. ¬ IsOwnersKey c key)
-  not_own n c is h = n (h.is ∙ ap public_key (same_owner c h.owner desk.key h.on_disk (on_disk c is)))
+-- ---- looks
 
--- ---- the slots, in every image and in what the disk reads
+-- what one look says, another that says as much says too
+module _ (look more : Look) (owns : (key : List ℕ) → look.Owns key → more.Owns key) (signs : (text : List ℕ) → look.Signed text → more.Signed text) (lacks : (text : List ℕ) → look.Unsigned text → more.Unsigned text) where
+  pub signed_more : (links : List Link) (header : List ℕ) → AreSigned look links header → AreSigned more links header
+  signed_more links header h = record { linked = λ n lt. signs _ (h.linked n lt); sealed = signs _ h.sealed }
 
-module _ {D : Type 0} (g : Ghosts D) (old mid : D) (seen : (c : List ℕ) → g.content mid ≡ Some c → Image g mid c) (same : g.content mid ≡ g.content old) where
-  pub signed : (text : List ℕ) → ((slot : SlotId) × EachImage g mid (λ i. IsSigned i slot text)) → ForSome (g.content old) (λ c. (slot : SlotId) × IsSigned c slot text)
-  signed text h c is = (h.0, h.1 c (seen c (same ∙ is)))
+  first_more : (key : List ℕ) (links : List Link) (header signature : List ℕ) (f : Forgery) → IsForgedLink look key links f ⊎ IsForgedHeader look key links header signature f
+      → IsForgedLink more key links f ⊎ IsForgedHeader more key links header signature f
+  first_more key links header signature f (inl h) = inl (record { number = h.number; known = h.known; before = λ n lt. signs _ (h.before n lt); unsigned = lacks _ h.unsigned; is = h.is })
+  first_more key links header signature f (inr h) = inr (record { linked = λ n lt. signs _ (h.linked n lt); unsigned = lacks _ h.unsigned; reached = h.reached; upto = h.upto; is = h.is })
 
-  pub unsigned : (text : List ℕ) → EachImage g mid (λ i. (slot : SlotId) → ¬ IsSigned i slot text) → ForSome (g.content old) (λ c. (slot : SlotId) → ¬ IsSigned c slot text)
-  unsigned text h c is = h c (seen c (same ∙ is))
+  pub forges_more : (key : List ℕ) (links : List Link) (header signature : List ℕ) (f : Forgery) → Forges look key links header signature f → Forges more key links header signature f
+  forges_more key links header signature f h = record {
+    first = first_more key links header signature f h.first;
+    forgery = record { own = owns _ h.forgery.own; good = h.forgery.good; unsigned = lacks _ h.forgery.unsigned };
+  }
 
 -- what holds of each image holds of each image afterwards, since none changes
 pub later : {D : Type 0} (g : Ghosts D) (mid new : D) (P : List ℕ → Type 0) → AtEachMoment g mid new Stays → EachImage g mid P → EachImage g new P
@@ -73,6 +99,11 @@ pub reply_as : (files mid later : Option Folder) (name a b : List ℕ) → later
 reply_as files mid later name a b first second same h =
     subst (λ (f : Option Folder). IfSome f (λ folder. octets_at folder name ≡ Ok a)) (first ∙ second) (subst (λ xs. IfSome later (λ folder. octets_at folder name ≡ Ok xs)) (sym same) h)
 
+-- the links of a chain, as they are read again
+pub chain_as : (files later : Option Folder) (name : Option (List ℕ)) (a b : List Link) → later ≡ files → a ≡ b → IfSome later (λ folder. chain_at folder name ≡ Ok b) → IfSome files (λ folder. chain_at folder name ≡ Ok a)
+chain_as files later name a b same is h =
+    subst (λ (f : Option Folder). IfSome f (λ folder. chain_at folder name ≡ Ok a)) same (subst (λ (xs : List Link). IfSome later (λ folder. chain_at folder name ≡ Ok xs)) (sym is) h)
+
 -- nothing that is appended is nothing that is written
 appends_none : (old : Option (List ℕ)) → Appends old old []
 appends_none None = tt
@@ -83,10 +114,11 @@ abbrev pub RestsOnNone : Fault → Type 0
 RestsOnNone OtherPublication = ⊥
 RestsOnNone fault = Unit {0}
 
-pub nothing_found : {D : Type 0} (g : Ghosts D) (disk : D) (Brings : List ℕ → List ℕ → List ℕ → Type 0) (key_name reply_name : List ℕ) (files : Option Folder) (old new : Option (List ℕ)) (f : Fault) → RestsOnNone f → WritesFindings g disk Brings key_name reply_name files old new (Err f)
-nothing_found g disk Brings key_name reply_name None old new f none = tt
-nothing_found g disk Brings key_name reply_name (Some folder) old new OtherPublication none = absurd none
-nothing_found g disk Brings key_name reply_name (Some folder) old new f none = tt
+pub nothing_found : {D : Type 0} (g : Ghosts D) (disk : D) (Brings : List ℕ → List ℕ → List ℕ → Type 0) (key_name reply_name : List ℕ) (chain_name : Option (List ℕ)) (files : Option Folder) (old new : Option (List ℕ)) (f : Fault)
+    → RestsOnNone f → WritesFindings g disk Brings key_name reply_name chain_name files old new (Err f)
+nothing_found g disk Brings key_name reply_name chain_name None old new f none = tt
+nothing_found g disk Brings key_name reply_name chain_name (Some folder) old new OtherPublication none = absurd none
+nothing_found g disk Brings key_name reply_name chain_name (Some folder) old new f none = tt
 
 -- a fault of a file that was loaded is such an end
 pub files_rest_on_none : (f : Fault) → IsOfFiles f → RestsOnNone f
@@ -94,25 +126,25 @@ files_rest_on_none OtherPublication h = absurd h
 files_rest_on_none f h = tt
 
 -- what the line rests on
-module _ (files : Option Folder) (key_name reply_name key octets : List ℕ)
-    (key_read : IfSome files (λ folder. public_key_at folder key_name ≡ Ok key)) (reply_read : IfSome files (λ folder. octets_at folder reply_name ≡ Ok octets)) where
-  pub found : {D : Type 0} (g : Ghosts D) (disk : D) (Brings : List ℕ → List ℕ → List ℕ → Type 0) (old new : Option (List ℕ)) (k k' : ℕ) (end o : Result Conclusion Fault) (t : List ℕ) → RestsOn g disk (Brings octets) key end t → MayEnd TellsNone end → Writes end t old new k k' o
-      → WritesFindings g disk Brings key_name reply_name files old new o
-  found g disk Brings old new k k' end o t rests may (inr w) = subst (λ (x : Result Conclusion Fault). WritesFindings g disk Brings key_name reply_name files old new x) (sym w.0) (nothing_found g disk Brings key_name reply_name files old new Sink tt)
-  found g disk Brings old new k k' end o t rests may (inl w) = subst (λ (x : Result Conclusion Fault). WritesFindings g disk Brings key_name reply_name files old new x) (sym w.0) (by end may rests files key_read reply_read)
+module _ (files : Option Folder) (key_name reply_name : List ℕ) (chain_name : Option (List ℕ)) (key octets : List ℕ) (links : List Link)
+    (key_read : IfSome files (λ folder. public_key_at folder key_name ≡ Ok key)) (reply_read : IfSome files (λ folder. octets_at folder reply_name ≡ Ok octets)) (chain_read : IfSome files (λ folder. chain_at folder chain_name ≡ Ok links)) where
+  pub found : {D : Type 0} (g : Ghosts D) (disk : D) (Brings : List ℕ → List ℕ → List ℕ → Type 0) (old new : Option (List ℕ)) (k k' : ℕ) (end o : Result Conclusion Fault) (t : List ℕ) → RestsOn g disk (Brings octets) key links end t → MayEnd TellsNone end → Writes end t old new k k' o
+      → WritesFindings g disk Brings key_name reply_name chain_name files old new o
+  found g disk Brings old new k k' end o t rests may (inr w) = subst (λ (x : Result Conclusion Fault). WritesFindings g disk Brings key_name reply_name chain_name files old new x) (sym w.0) (nothing_found g disk Brings key_name reply_name chain_name files old new Sink tt)
+  found g disk Brings old new k k' end o t rests may (inl w) = subst (λ (x : Result Conclusion Fault). WritesFindings g disk Brings key_name reply_name chain_name files old new x) (sym w.0) (by end may rests files key_read reply_read chain_read)
     where
-      by : (end : Result Conclusion Fault) → MayEnd TellsNone end → RestsOn g disk (Brings octets) key end t → (files : Option Folder) → IfSome files (λ folder. public_key_at folder key_name ≡ Ok key) → IfSome files (λ folder. octets_at folder reply_name ≡ Ok octets)
-          → WritesFindings g disk Brings key_name reply_name files old new end
-      by end may rests None a c = tt
-      by (Err OtherPublication) may rests (Some folder) a c = absurd may
-      by (Err e) may rests (Some folder) a c = tt
-      by (Ok v) may rests (Some folder) a c = record { key = key; octets = octets; text = t; key_read = a; reply_read = c; written = w.1; rests = rests }
+      by : (end : Result Conclusion Fault) → MayEnd TellsNone end → RestsOn g disk (Brings octets) key links end t → (files : Option Folder) → IfSome files (λ folder. public_key_at folder key_name ≡ Ok key) → IfSome files (λ folder. octets_at folder reply_name ≡ Ok octets) → IfSome files (λ folder. chain_at folder chain_name ≡ Ok links)
+          → WritesFindings g disk Brings key_name reply_name chain_name files old new end
+      by end may rests None a c d = tt
+      by (Err OtherPublication) may rests (Some folder) a c d = absurd may
+      by (Err e) may rests (Some folder) a c d = tt
+      by (Ok v) may rests (Some folder) a c d = record { key = key; octets = octets; links = links; text = t; key_read = a; reply_read = c; chain_read = d; written = w.1; rests = rests }
 
-  pub found_other : {D : Type 0} (g : Ghosts D) (disk : D) (Brings : List ℕ → List ℕ → List ℕ → Type 0) (old : Option (List ℕ)) (f : Fault) → RestsOn g disk (Brings octets) key (Err f) [] → WritesFindings g disk Brings key_name reply_name files old old (Err f)
-  found_other g disk Brings old f rests = by f rests files key_read reply_read
+  pub found_other : {D : Type 0} (g : Ghosts D) (disk : D) (Brings : List ℕ → List ℕ → List ℕ → Type 0) (old : Option (List ℕ)) (f : Fault) → RestsOn g disk (Brings octets) key links (Err f) [] → WritesFindings g disk Brings key_name reply_name chain_name files old old (Err f)
+  found_other g disk Brings old f rests = by f rests files key_read reply_read chain_read
     where
-      by : (f : Fault) → RestsOn g disk (Brings octets) key (Err f) [] → (files : Option Folder) → IfSome files (λ folder. public_key_at folder key_name ≡ Ok key) → IfSome files (λ folder. octets_at folder reply_name ≡ Ok octets)
-          → WritesFindings g disk Brings key_name reply_name files old old (Err f)
-      by f rests None a c = tt
-      by OtherPublication rests (Some folder) a c = record { key = key; octets = octets; text = []; key_read = a; reply_read = c; written = appends_none old; rests = rests }
-      by f rests (Some folder) a c = tt
+      by : (f : Fault) → RestsOn g disk (Brings octets) key links (Err f) [] → (files : Option Folder) → IfSome files (λ folder. public_key_at folder key_name ≡ Ok key) → IfSome files (λ folder. octets_at folder reply_name ≡ Ok octets) → IfSome files (λ folder. chain_at folder chain_name ≡ Ok links)
+          → WritesFindings g disk Brings key_name reply_name chain_name files old old (Err f)
+      by f rests None a c d = tt
+      by OtherPublication rests (Some folder) a c d = record { key = key; octets = octets; links = links; text = []; key_read = a; reply_read = c; chain_read = d; written = appends_none old; rests = rests }
+      by f rests (Some folder) a c d = tt

@@ -7,7 +7,7 @@ ghost use Rattle.key_desk.specs.Desk.{Fits};
 use crate::octets::spliced;
 use book_model::{Query, Settings};
 use key_desk::Desk;
-use lms_tree::Key;
+use lms_tree::{Key, Link};
 use mem_io::MemDisk;
 use octet_text::{NoMemory, Octets, Toy};
 use proof_judge::Refusal;
@@ -70,7 +70,7 @@ fn answer(alloc: Global, held: &Held<Toy>) -> Result<Vec<u8>, NoMemory> {
 }
 
 /// The octets of the reply over the publication of a version with this signature.
-fn reply(alloc: Global, version: u64, signature: Vec<u8>) -> Result<Vec<u8>, Fail> {
+pub fn reply(alloc: Global, version: u64, signature: Vec<u8>) -> Result<Vec<u8>, Fail> {
     let held = installed(alloc, version, signature)?;
     match answer(alloc, &held) {
         Ok(octets) => Ok(octets),
@@ -79,7 +79,7 @@ fn reply(alloc: Global, version: u64, signature: Vec<u8>) -> Result<Vec<u8>, Fai
 }
 
 /// The same, signed by the desk.
-fn signed_reply<D: Disk>(
+pub fn signed_reply<D: Disk>(
     alloc: Global,
     desk: &mut Desk,
     disk: &mut D,
@@ -94,23 +94,39 @@ fn signed_reply<D: Disk>(
     reply(alloc, version, signature)
 }
 
-/// The audit of octets under the desk's key, against the publication of a version.
+/// The audit of octets under a key and a chain, against the publication of a version.
+pub fn audited_along<D: Disk>(
+    alloc: Global,
+    desk: &mut Desk,
+    disk: &mut D,
+    key: &[u8; 56],
+    chain: &[Link],
+    octets: &[u8],
+    version: u64,
+) -> Result<Result<Finding, AuditError<CheckError>>, Fail>
+    requires { Fits D.Disk desk.old disk.old }
+    ensures { Fits D.Disk desk.new disk.new }
+{
+    if octets.len() > 10_000 || chain.len() > 7 {
+        return Ok(Err(AuditError::Memory));
+    }
+    let publication = publication(alloc, version, Vec::new(alloc))?;
+    Ok(audit::<Toy, D>(alloc, key, chain, octets, ASKED, publication, desk, disk))
+}
+
+/// The audit of octets under the desk's current key alone.
 fn audited<D: Disk>(
     alloc: Global,
     desk: &mut Desk,
     disk: &mut D,
     octets: &[u8],
     version: u64,
-) -> Result<Result<Finding, AuditError>, Fail>
+) -> Result<Result<Finding, AuditError<CheckError>>, Fail>
     requires { Fits D.Disk desk.old disk.old }
     ensures { Fits D.Disk desk.new disk.new }
 {
-    if octets.len() > 10_000 {
-        return Ok(Err(AuditError::Memory));
-    }
-    let public = desk.public();
-    let publication = publication(alloc, version, Vec::new(alloc))?;
-    Ok(audit::<Toy, D>(alloc, &public, octets, ASKED, publication, desk, disk))
+    let key = desk.public();
+    audited_along(alloc, desk, disk, &key, &[], octets, version)
 }
 
 /// The reply without the leaf of node 4, whose digest stands in the cover.
@@ -137,16 +153,7 @@ fn a_reply_is_right_or_refused_or_of_another_publication(rt: HostRuntime) -> Res
     let refused = audited(alloc, &mut desk, &mut disk, &fewer, 3)?;
     let missing = CheckError::Judged(Refusal::MissingTuple(4));
     assert_eq!(rt; refused.err(), Some(AuditError::Refused(missing)));
-    let unsigned = publication(alloc, 3, Vec::new(alloc))?;
-    let other_key = audit::<Toy, MemDisk>(
-        alloc,
-        &[0; 56],
-        &[],
-        ASKED,
-        unsigned,
-        &mut desk,
-        &mut disk,
-    );
+    let other_key = audited_along(alloc, &mut desk, &mut disk, &[0; 56], &[], &octets, 3)?;
     assert_eq!(rt; other_key.err(), Some(AuditError::OtherKey));
     Ok(())
 }
@@ -163,9 +170,9 @@ fn a_moved_node_with_the_same_digest_is_a_collision(rt: HostRuntime) -> Result<(
     }
     let found = audited(alloc, &mut desk, &mut disk, &octets, 3)?;
     match &found {
-        Ok(Finding::Collision(two)) => {
-            assert_eq!(rt; two.left.as_slice(), SECOND.as_slice());
-            assert_eq!(rt; two.right.as_slice(), SECOND_MOVED.as_slice());
+        Ok(Finding::Collision { left, right }) => {
+            assert_eq!(rt; left.as_slice(), SECOND.as_slice());
+            assert_eq!(rt; right.as_slice(), SECOND_MOVED.as_slice());
         }
         _ => assert!(rt; false),
     }
@@ -188,11 +195,13 @@ fn a_header_that_the_desk_never_signed_is_forged(rt: HostRuntime) -> Result<(), 
     match &found {
         Ok(
             Finding::Forged {
-                header: forged,
+                key: own,
+                text,
                 signature: seal,
             },
         ) => {
-            assert_eq!(rt; forged.as_slice(), header.write().as_slice());
+            assert_eq!(rt; *own, desk.public());
+            assert_eq!(rt; text.as_slice(), header.write().as_slice());
             assert_eq!(rt; seal.as_slice(), signature.as_slice());
         }
         _ => assert!(rt; false),

@@ -1,16 +1,13 @@
-//! What no clause says: a reply on a radius over a map of five nodes is right, of another publication, refused,
-//! forged, or shows two leaves with one digest. The hash sums octets, so that two leaves have one digest where
+//! What no clause says: a reply on a radius over a map of five nodes is right, of another publication, refused, or
+//! shows two leaves with one digest. The hash sums octets, so that two leaves have one digest where
 //! their octets are in another order.
 ghost use Rattle.std.specs.Prelude.{◌≤◌, length};
 ghost use Rattle.key_desk.specs.Desk.{Fits};
 
 use crate::audit::{SECOND, SECOND_MOVED, header_of, installed, publication};
 use key_desk::Desk;
-use lms_tree::Key;
 use mem_io::MemDisk;
-use near_proof::{
-    NearAuditError, NearError, NearFinding, NearQuery, NearRefusal, answer_near, audit_near,
-};
+use near_proof::{AuditError, Finding, NearError, NearQuery, NearRefusal, answer_near, audit_near};
 use octet_text::Toy;
 use road_io::Disk;
 use route_server::Held;
@@ -60,16 +57,16 @@ fn audited<D: Disk>(
     octets: &[u8],
     query: NearQuery,
     version: u64,
-) -> Result<Result<NearFinding, NearAuditError>, Fail>
+) -> Result<Result<Finding, AuditError<NearError>>, Fail>
     requires { Fits D.Disk desk.old disk.old }
     ensures { Fits D.Disk desk.new disk.new }
 {
     if octets.len() > 10_000 {
-        return Ok(Err(NearAuditError::Memory));
+        return Ok(Err(AuditError::Memory));
     }
     let public = desk.public();
     let publication = publication(alloc, version, Vec::new(alloc))?;
-    Ok(audit_near::<Toy, D>(alloc, &public, octets, query, publication, desk, disk))
+    Ok(audit_near::<Toy, D>(alloc, &public, &[], octets, query, publication, desk, disk))
 }
 
 #[test]
@@ -79,24 +76,13 @@ fn a_reply_is_right_or_refused_or_of_another_publication(rt: HostRuntime) -> Res
     let mut desk = Desk::create(alloc, &mut disk, 5, &[0; 48])?;
     let octets = signed_reply(alloc, &mut desk, &mut disk, 3)?;
     let right = audited(alloc, &mut desk, &mut disk, &octets, ASKED, 3)?;
-    assert!(rt; matches!(&right, Ok(NearFinding::Right)));
+    assert!(rt; matches!(&right, Ok(Finding::Right)));
     let other = audited(alloc, &mut desk, &mut disk, &octets, ASKED, 4)?;
-    assert_eq!(rt; other.err(), Some(NearAuditError::OtherPublication));
+    assert_eq!(rt; other.err(), Some(AuditError::OtherPublication));
     let farther = NearQuery { from: 1, radius: 9 };
     let refused = audited(alloc, &mut desk, &mut disk, &octets, farther, 3)?;
     let missing = NearError::MissingTuple(3);
-    assert_eq!(rt; refused.err(), Some(NearAuditError::Refused(missing)));
-    let unsigned = publication(alloc, 3, Vec::new(alloc))?;
-    let other_key = audit_near::<Toy, MemDisk>(
-        alloc,
-        &[0; 56],
-        &[],
-        ASKED,
-        unsigned,
-        &mut desk,
-        &mut disk,
-    );
-    assert_eq!(rt; other_key.err(), Some(NearAuditError::OtherKey));
+    assert_eq!(rt; refused.err(), Some(AuditError::Refused(missing)));
     Ok(())
 }
 
@@ -112,37 +98,9 @@ fn a_moved_node_with_the_same_digest_is_a_collision(rt: HostRuntime) -> Result<(
     }
     let found = audited(alloc, &mut desk, &mut disk, &octets, ASKED, 3)?;
     match &found {
-        Ok(NearFinding::Collision(two)) => {
-            assert_eq!(rt; two.left.as_slice(), SECOND.as_slice());
-            assert_eq!(rt; two.right.as_slice(), SECOND_MOVED.as_slice());
-        }
-        _ => assert!(rt; false),
-    }
-    Ok(())
-}
-
-#[test]
-fn a_header_that_the_desk_never_signed_is_forged(rt: HostRuntime) -> Result<(), Fail> {
-    let alloc = rt.alloc();
-    let mut disk = MemDisk::new(alloc, 4160, 100_000, Vec::new(alloc), None)?;
-    let mut desk = Desk::create(alloc, &mut disk, 5, &[0; 48])?;
-    let key = Key::build(alloc, 5, &[0; 16], &[0; 32])?;
-    let header = header_of(alloc, 9)?;
-    let mut signature = Vec::from_elem(alloc, 0u8, 1292)?;
-    key.sign_into(31, &header.write(), &mut signature);
-    let mut copy = Vec::new(alloc);
-    copy.extend_from_slice(&signature)?;
-    let octets = reply(alloc, 9, copy)?;
-    let found = audited(alloc, &mut desk, &mut disk, &octets, ASKED, 3)?;
-    match &found {
-        Ok(
-            NearFinding::Forged {
-                header: forged,
-                signature: seal,
-            },
-        ) => {
-            assert_eq!(rt; forged.as_slice(), header.write().as_slice());
-            assert_eq!(rt; seal.as_slice(), signature.as_slice());
+        Ok(Finding::Collision { left, right }) => {
+            assert_eq!(rt; left.as_slice(), SECOND.as_slice());
+            assert_eq!(rt; right.as_slice(), SECOND_MOVED.as_slice());
         }
         _ => assert!(rt; false),
     }

@@ -28,7 +28,7 @@ fn checked<H: Hasher>(
     if octets.len() > 10_000 {
         return Err(CheckError::Memory);
     }
-    check::<H>(alloc, public, octets, query, least)
+    check::<H>(alloc, public, &[], octets, query, least)
 }
 
 // Why octets are no answer to a query, where they are none.

@@ -5,7 +5,11 @@
 #[cfg(test)]
 mod audit;
 #[cfg(test)]
+mod audit_chains;
+#[cfg(test)]
 mod audit_reach;
+#[cfg(test)]
+mod chains;
 #[cfg(test)]
 mod client;
 #[cfg(test)]

@@ -1,5 +1,6 @@
 -- Over their files, `check` has one end.
 use Rattle.std.proofs.Common.{◌≡◌, List, ℕ, refl}
+use Rattle.std.specs.declared.option.Option.{Option}
 use Rattle.std.specs.declared.result.Result.{Result}
 use Rattle.std.specs.declared.result.Result.TheVariants.{Ok, Err}
 use Rattle.sha2.specs.Sha256.{sha256}
@@ -8,7 +9,8 @@ use Rattle.book_model.specs.declared.items.Query.{Query}
 use Rattle.route_client.specs.declared.accepted.Accepted.{Accepted}
 use Rattle.route_client.specs.declared.errors.CheckError.{CheckError}
 use Rattle.route_client.specs.Verdicts.{IsVerdict}
-use Rattle.command_files.specs.Reading.{octets_at}
+use Rattle.lms_tree.specs.declared.links.Link.{Link}
+use Rattle.command_files.specs.Reading.{octets_at, chain_at}
 use Rattle.command_files.specs.HexFiles.{public_key_at}
 use Rattle.command_files.specs.Endings.{EndsReading}
 use Rattle.command_files.specs.Exact.{HasOneEnd}
@@ -20,24 +22,25 @@ use Rattle.client_commands.specs.Checking.{EndsCheck, ends_check}
 
 -- octets have one verdict at most
 abbrev pub OneVerdict : Type 0
-OneVerdict = (hash : List ℕ → List ℕ) (key octets : List ℕ) (q : Query) (least : ℕ) (v w : Result Accepted CheckError)
-    → IsVerdict hash key octets q least v → IsVerdict hash key octets q least w → v ≡ w
+OneVerdict = (hash : List ℕ → List ℕ) (key : List ℕ) (links : List Link) (octets : List ℕ) (q : Query) (least : ℕ) (v w : Result Accepted CheckError)
+    → IsVerdict hash key links octets q least v → IsVerdict hash key links octets q least w → v ≡ w
 
 differ : (x : Accepted) (e : CheckError) → Ok x ≡ Err e → ⊥
 differ x e is = cc
 
 -- over a key and octets, `check` has one end
-one_check : OneVerdict → (key octets : List ℕ) (q : Query) (least : ℕ) (o e : Result Conclusion Fault) (s t : List ℕ) → EndsCheck key octets q least o s → EndsCheck key octets q least e t → o ≡ e
-one_check one key octets q least (Ok Done) (Ok Done) s t h k = refl
-one_check one key octets q least (Ok Done) (Ok Refused) s t h k = absurd (differ h.0 k.0 (one sha256 key octets q least (Ok h.0) (Err k.0) h.1 k.2))
-one_check one key octets q least (Ok Done) e s t h k = absurd k
-one_check one key octets q least (Ok Refused) (Ok Done) s t h k = absurd (differ k.0 h.0 (one sha256 key octets q least (Ok k.0) (Err h.0) k.1 h.2))
-one_check one key octets q least (Ok Refused) (Ok Refused) s t h k = refl
-one_check one key octets q least (Ok Refused) e s t h k = absurd k
-one_check one key octets q least o e s t h k = absurd h
+one_check : OneVerdict → (key : List ℕ) (links : List Link) (octets : List ℕ) (q : Query) (least : ℕ) (o e : Result Conclusion Fault) (s t : List ℕ) → EndsCheck key links octets q least o s → EndsCheck key links octets q least e t → o ≡ e
+one_check one key links octets q least (Ok Done) (Ok Done) s t h k = refl
+one_check one key links octets q least (Ok Done) (Ok Refused) s t h k = absurd (differ h.0 k.0 (one sha256 key links octets q least (Ok h.0) (Err k.0) h.1 k.2))
+one_check one key links octets q least (Ok Done) e s t h k = absurd k
+one_check one key links octets q least (Ok Refused) (Ok Done) s t h k = absurd (differ k.0 h.0 (one sha256 key links octets q least (Ok k.0) (Err h.0) k.1 h.2))
+one_check one key links octets q least (Ok Refused) (Ok Refused) s t h k = refl
+one_check one key links octets q least (Ok Refused) e s t h k = absurd k
+one_check one key links octets q least o e s t h k = absurd h
 
 -- and so over its files
-pub only_check : OneVerdict → (key reply : List ℕ) (q : Query) (least : ℕ) (folder : Folder) → HasOneEnd (ends_check key reply q least folder)
-only_check one key reply q least folder =
-    one_reading (public_key_at folder key) (λ k. EndsReading (octets_at folder reply) (λ octets. EndsCheck k octets q least))
-    (λ k. one_reading (octets_at folder reply) (λ octets. EndsCheck k octets q least) (λ octets. one_check one k octets q least))
+pub only_check : OneVerdict → (key reply : List ℕ) (q : Query) (least : ℕ) (chain : Option (List ℕ)) (folder : Folder) → HasOneEnd (ends_check key reply q least chain folder)
+only_check one key reply q least chain folder =
+    one_reading (public_key_at folder key) (λ k. EndsReading (octets_at folder reply) (λ octets. EndsReading (chain_at folder chain) (λ links. EndsCheck k links octets q least)))
+    (λ k. one_reading (octets_at folder reply) (λ octets. EndsReading (chain_at folder chain) (λ links. EndsCheck k links octets q least))
+    (λ octets. one_reading (chain_at folder chain) (λ links. EndsCheck k links octets q least) (λ links. one_check one k links octets q least)))

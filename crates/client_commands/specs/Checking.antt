@@ -3,6 +3,8 @@ use Rattle.std.specs.Prelude.{◌≡◌, ◌≢◌, ℕ, List}
 use Rattle.road_io.specs.Contents.{Folder}
 use Rattle.std.specs.declared.result.Result.{Result}
 use Rattle.std.specs.declared.result.Result.TheVariants.{Ok, Err}
+use Rattle.std.specs.declared.option.Option.{Option}
+use Rattle.lms_tree.specs.declared.links.Link.{Link}
 use Rattle.sha2.specs.Sha256.{sha256}
 use Rattle.book_model.specs.declared.items.Query.{Query}
 use Rattle.road_line.specs.VerdictLine.{accepted_line, refused_line}
@@ -10,23 +12,25 @@ use Rattle.route_client.specs.declared.accepted.Accepted.{Accepted}
 use Rattle.route_client.specs.declared.errors.CheckError.{CheckError}
 use Rattle.route_client.specs.declared.errors.CheckError.TheVariants as errors
 use Rattle.route_client.specs.Verdicts.{IsVerdict}
-use Rattle.command_files.specs.Reading.{octets_at}
+use Rattle.command_files.specs.Reading.{octets_at, chain_at}
 use Rattle.command_files.specs.HexFiles.{public_key_at}
 use Rattle.command_files.specs.Endings.{Ending, EndsReading}
 use Rattle.command_files.specs.declared.fault.Fault.{Fault}
 use Rattle.command_files.specs.declared.ended.Conclusion.{Conclusion}
 use Rattle.command_files.specs.declared.ended.Conclusion.TheVariants.{Done, Refused}
 
--- `check` over a public key and the octets of a reply: the line of the client's verdict
-abbrev pub EndsCheck : List ℕ → List ℕ → Query → ℕ → Ending
-EndsCheck key octets q least (Ok Done) text = (x : Accepted) ×
-    IsVerdict sha256 key octets q least (Ok x) × (text ≡ accepted_line x.length x.route)
-EndsCheck key octets q least (Ok Refused) text = (e : CheckError) × (e ≢ errors.Memory) ×
-    IsVerdict sha256 key octets q least (Err e) × (text ≡ refused_line e)
-EndsCheck key octets q least outcome text = ⊥
+-- `check` over a public key, a chain from it, and the octets of a reply: the line of the client's
+-- verdict
+abbrev pub EndsCheck : List ℕ → List Link → List ℕ → Query → ℕ → Ending
+EndsCheck key links octets q least (Ok Done) text = (x : Accepted) ×
+    IsVerdict sha256 key links octets q least (Ok x) × (text ≡ accepted_line x.length x.route)
+EndsCheck key links octets q least (Ok Refused) text = (e : CheckError) × (e ≢ errors.Memory) ×
+    IsVerdict sha256 key links octets q least (Err e) × (text ≡ refused_line e)
+EndsCheck key links octets q least outcome text = ⊥
 
--- the same over the files of these names
-abbrev pub ends_check : List ℕ → List ℕ → Query → ℕ → Folder → Ending
-ends_check key reply q least folder =
+-- the same over the files of these names, where a chain's may be named or not
+abbrev pub ends_check : List ℕ → List ℕ → Query → ℕ → Option (List ℕ) → Folder → Ending
+ends_check key reply q least chain folder =
     EndsReading (public_key_at folder key)
-    (λ k. EndsReading (octets_at folder reply) (λ octets. EndsCheck k octets q least))
+    (λ k. EndsReading (octets_at folder reply)
+    (λ octets. EndsReading (chain_at folder chain) (λ links. EndsCheck k links octets q least)))

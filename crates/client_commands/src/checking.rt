@@ -1,18 +1,21 @@
 //! The command `check`.
 
-ghost use Rattle.std.specs.Prelude.{IfOk, length, ◌<◌, ◌^◌};
+ghost use Rattle.std.specs.Prelude.{IfOk, length, ◌<◌, ◌≤◌, ◌^◌};
+ghost use Rattle.std.specs.Option.{option_map};
 ghost use Rattle.command_files.specs.Endings.{Promises, TellsNone, NoDisk};
 ghost use Rattle.client_commands.specs.Checking.{EndsCheck, ends_check};
 
 use book_model::Query;
-use command_files::{Conclusion, Fault, Told, load_file, load_hex, write_told};
+use command_files::{Conclusion, Fault, Told, load_chain, load_file, load_hex, write_told};
+use lms_tree::Link;
 use octet_text::{NoMemory, Sha};
 use road_io::{Library, Sink};
 use road_line::{line_of_accepted, line_of_refused};
 use route_client::{CheckError, check as check_reply};
 use std::alloc::Global;
 
-/// Writes what a client says of a reply to a query, under a public key.
+/// Writes what a client says of a reply to a query, under a public key,
+/// and along the chain of a file where one is named.
 pub fn check<L: Library, K: Sink>(
     alloc: Global,
     library: &mut L,
@@ -21,14 +24,17 @@ pub fn check<L: Library, K: Sink>(
     reply: &str,
     query: Query,
     least: u64,
+    chain: Option<&str>,
 ) -> Result<Conclusion, Fault>
-    ensures { Promises (ends_check key.now reply.now query least) TellsNone NoDisk
+    ensures { Promises (ends_check key.now reply.now query least
+        (option_map (λ word. word.now) chain.entry)) TellsNone NoDisk
         (L.files library.old) (L.faults library.old) (L.faults library.new)
         (K.taken sink.old) (K.taken sink.new) (K.faults sink.old) (K.faults sink.new) result }
 {
     let key: [u8; 56] = load_hex(alloc, library, key)?;
     let reply = load_file(alloc, library, reply)?;
-    match verdict_on(alloc, &key, &reply, query, least) {
+    let chain = load_chain(alloc, library, chain)?;
+    match verdict_on(alloc, &key, chain.as_slice(), &reply, query, least) {
         Ok(told) => write_told(sink, &told),
         Err(NoMemory) => Err(Fault::Memory),
     }
@@ -38,15 +44,17 @@ pub fn check<L: Library, K: Sink>(
 fn verdict_on(
     alloc: Global,
     key: &[u8],
+    chain: &[Link],
     reply: &[u8],
     query: Query,
     least: u64,
 ) -> Result<Told, NoMemory>
-    requires { length reply.now < 2 ^ 32 }
+    requires short { length reply.now < 2 ^ 32 }
+    requires few { length chain.now ≤ 7 }
     ensures { IfOk result (λ told.
-        EndsCheck key.now reply.now query least told.end told.text.items) }
+        EndsCheck key.now chain.now reply.now query least told.end told.text.items) }
 {
-    match check_reply::<Sha>(alloc, key, reply, query, least) {
+    match check_reply::<Sha>(alloc, key, chain, reply, query, least) {
         Ok(accepted) => Ok(Told {
             text: line_of_accepted(alloc, accepted.length, accepted.route.as_slice())?,
             end: Ok(Conclusion::Done),

@@ -1,12 +1,14 @@
 -- Files, and what they say: a value, or the first fault.
-use Rattle.std.specs.Prelude.{◌≡◌, ◌≢◌, ◌≤◌, ℕ, nat_lt, List, length, IfSome, IfNone, IfErr, if◌then◌else◌}
+use Rattle.std.specs.Prelude.{◌≡◌, ◌≢◌, ◌≤◌, ℕ, nat_lt, List, [], length, IfSome, IfNone, IfErr, if◌then◌else◌}
 use Rattle.std.specs.declared.option.Option.{Option}
 use Rattle.std.specs.declared.option.Option.TheVariants.{None, Some}
 use Rattle.std.specs.declared.result.Result.{Result}
 use Rattle.std.specs.declared.result.Result.TheVariants.{Ok, Err}
 use Rattle.road_io.specs.Causes.{Rose}
 use Rattle.road_io.specs.Contents.{Folder}
-use Rattle.octet_text.specs.Format.{whole}
+use Rattle.octet_text.specs.Format.{Format, whole}
+use Rattle.lms_tree.specs.declared.links.Link.{Link}
+use Rattle.lms_tree.specs.ChainFiles.{chain_file}
 use Rattle.proof_octets.specs.declared.publication.Publication.{Publication}
 use Rattle.proof_octets.specs.Publications.{publication}
 use Rattle.road_map.specs.Maps.{IsMap, Charted, Fault as FaultOf}
@@ -41,17 +43,23 @@ parts_in (Err fault) = Err fault
 abbrev pub parts_at : Folder → List ℕ → Result Parts Fault
 parts_at folder name = parts_in (octets_at folder name)
 
-abbrev pub as_publication : Result Publication ℕ → Result Publication Fault
-as_publication (Ok p) = Ok p
-as_publication (Err at) = Err (Malformed at)
+-- what octets spell, or the place of the first field that can't be read
+abbrev pub as_spelled : {X : Type 0} → Result X ℕ → Result X Fault
+as_spelled (Ok x) = Ok x
+as_spelled (Err at) = Err (Malformed at)
 
-abbrev pub publication_in : Result (List ℕ) Fault → Result Publication Fault
-publication_in (Ok text) = as_publication (whole publication text)
-publication_in (Err fault) = Err fault
+abbrev pub spelled_in : {X : Type 0} → Format X → Result (List ℕ) Fault → Result X Fault
+spelled_in format (Ok text) = as_spelled (whole format text)
+spelled_in format (Err fault) = Err fault
 
 -- the publication that the file of this name spells
 abbrev pub publication_at : Folder → List ℕ → Result Publication Fault
-publication_at folder name = publication_in (octets_at folder name)
+publication_at folder name = spelled_in publication (octets_at folder name)
+
+-- the links of the chain file of this name; where none is named, there are no links
+abbrev pub chain_at : Folder → Option (List ℕ) → Result (List Link) Fault
+chain_at folder None = Ok []
+chain_at folder (Some name) = spelled_in chain_file (octets_at folder name)
 
 -- the first reason why parts make no map
 abbrev pub IsMapFault : Parts → MapError → Type 0

@@ -30,8 +30,8 @@ pub enum Fault {
     /// The first reason why settings and a map have no book.
     #[error("{0}")]
     Plan(PlanError),
-    /// A publication file spells none: the place of its first field that can't be read.
-    #[error("The publication can't be read from place {0} on.")]
+    /// A publication file or a chain file spells none: the place of its first field that can't be read.
+    #[error("The file can't be read from place {0} on.")]
     Malformed(u32),
     /// A publication's header is not that of its map and settings.
     #[error("The publication's header is not that of its map and settings.")]

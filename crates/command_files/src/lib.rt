@@ -4,7 +4,9 @@
 
 pub use ended::{Conclusion, Ended};
 pub use fault::Fault;
-pub use files::{load_file, load_hex, load_map, load_parts, load_publication};
+pub use files::{
+    load_chain, load_file, load_hex, load_hex_text, load_map, load_parts, load_publication,
+};
 pub use told::{Told, write_text, write_told};
 
 mod ended;

@@ -8,6 +8,8 @@ mod map;
 #[cfg(test)]
 mod owner;
 #[cfg(test)]
+mod reduce;
+#[cfg(test)]
 mod serving;
 #[cfg(test)]
 mod survey;

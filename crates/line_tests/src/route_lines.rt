@@ -20,6 +20,10 @@ fn routes_and_verdicts_are_printed(rt: HostRuntime) -> Result<(), Fail> {
         (CheckError::Malformed(1611), "refused Malformed 1611\n"),
         (CheckError::Stale(3), "refused Stale 3\n"),
         (
+            CheckError::BadChain(0, SealError::NoMatch),
+            "refused BadChain 0 NoMatch\n",
+        ),
+        (
             CheckError::BadSignature(SealError::NoMatch),
             "refused BadSignature NoMatch\n",
         ),

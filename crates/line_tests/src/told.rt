@@ -164,21 +164,37 @@ fn a_road_file_is_told_by_line_and_id(rt: HostRuntime) -> Result<(), Fail> {
 #[test]
 fn hex_is_told_by_its_digits(rt: HostRuntime) -> Result<(), Fail> {
     let alloc = rt.alloc();
-    for (text, message) in [
-        ("0aF\r\n", "There are 3 hex digits, and 4 are wanted."),
-        ("", "There are 0 hex digits, and 4 are wanted."),
+    for (text, wanted, message) in [
+        (
+            "0aF\r\n",
+            Some(4),
+            "There are 3 hex digits, and 4 are wanted.",
+        ),
+        ("", Some(4), "There are 0 hex digits, and 4 are wanted."),
         (
             "0a0g",
+            Some(4),
             "The octet at place 3 is no hex digit, and the file must be 4 of them and at most one line end.",
         ),
         (
             "0a0b\n\n",
+            Some(4),
             "The octet at place 4 is no hex digit, and the file must be 4 of them and at most one line end.",
+        ),
+        (
+            "0aF\r\n",
+            None,
+            "There are 3 hex digits, and an even number of them is wanted.",
+        ),
+        (
+            "0a 0",
+            None,
+            "The octet at place 2 is no hex digit, and the file must be an even number of them and at most one line end.",
         ),
     ] {
         let wrong = WrongHex {
             text: text.as_bytes(),
-            wanted: 4,
+            wanted,
         };
         let told = format!(in alloc; "{wrong}")?;
         assert_eq!(rt; told.as_str(), message);
@@ -229,8 +245,12 @@ fn refusals_are_sentences_for_planners(rt: HostRuntime) -> Result<(), Fail> {
             "the reply is of version 3 of the map, which is older than LEAST asks for.",
         ),
         (
+            CheckError::BadChain(0, SealError::NoMatch),
+            "link 0 of the chain, counted from 0 on, is not signed by the key before it.",
+        ),
+        (
             CheckError::BadSignature(SealError::NoMatch),
-            "the reply is not signed under this public key.",
+            "the reply is not signed under this public key, nor under a key of the chain where one is named.",
         ),
         (
             CheckError::Judged(Refusal::Shorter(9)),

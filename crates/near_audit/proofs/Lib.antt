@@ -1,4 +1,4 @@
 pub mod NearSigned
 pub mod NearSound
 pub mod NearJudged
-pub mod NearFindingLemmas
+pub mod RadiusLemmas

@@ -1,3 +1,3 @@
 pub mod NearComparing
 pub mod NearEvidence
-pub mod NearFindings
+pub mod Radii

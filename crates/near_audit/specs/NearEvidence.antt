@@ -2,13 +2,11 @@
 -- Source: Merkle, CRYPTO 1987 (what folds to a tree's root and is not the tree's own shows two
 -- texts with one digest), and Papadias, Zhang, Mamoulis and Tao, VLDB 2003 (range search in a road
 -- network).
-use Rattle.std.specs.Prelude.{◌≡◌, ◌≢◌, ℕ, Some, List, Contains, Ok}
+use Rattle.std.specs.Prelude.{◌≡◌, ◌≢◌, ℕ, Some, List, Contains}
 use Rattle.book_model.specs.Books.{Kind, Book, leaf, leaves_of, leaf_order}
 use Rattle.merkle_cover.specs.declared.clashes.TwoTexts.{TwoTexts}
 use Rattle.road_leaf.specs.declared.leaf.NodeLeaf.{NodeLeaf}
-use Rattle.lms_tree.specs.Signatures.{verified}
 use Rattle.proof_octets.specs.declared.publication.Publication.{Publication}
-use Rattle.proof_octets.specs.Headers.{header_text}
 use Rattle.route_server.specs.Headers.{node_texts, IsBook}
 use Rattle.route_audit.specs.Evidence.{Part, IsTreesOwn, Clashes, AreCollision}
 use Rattle.near_model.specs.declared.query.NearQuery.{NearQuery}
@@ -51,10 +49,3 @@ pub record Collides (hash sha : List ℕ → List ℕ) (p : Publication) (a : Ne
   pub book : Book
   pub is_book : IsBook sha p.parts p.settings kind book
   pub clash : Clashes hash (near_part sha p book a) two
-
--- the header of a reply and the signature that it brings, which is verified on the header under the
--- key
-pub record BringsHeader (key : List ℕ) (a : NearReply) (header signature : List ℕ) : Type 0 where
-  pub header_is : header ≡ header_text a.header
-  pub signature_is : signature ≡ a.signature
-  pub good : verified key header signature ≡ Ok tt

@@ -38,7 +38,7 @@ pub(crate) fn compare<H: Hasher>(
         reply.cover.as_slice(),
     )?;
     match clash {
-        Some(two) => Ok(Finding::Collision(two)),
+        Some(two) => Ok(Finding::collision(two)),
         None => Ok(Finding::Right),
     }
 }

@@ -1,12 +1,11 @@
 //! The audit where the nodes within a radius were wanted: what a reply that a client accepted is
-//! evidence of. Its steps and its findings are those of the audit of a route.
+//! evidence of. Its steps and its findings are those of every kind of replies.
 #![tactic(auto)]
 
 pub use auditing::audit_near;
-pub use errors::NearAuditError;
-pub use route_audit::Finding;
+pub use radii::Radii;
+pub use route_audit::{AuditError, Finding};
 
 mod auditing;
 mod comparing;
-mod errors;
-mod steps;
+mod radii;

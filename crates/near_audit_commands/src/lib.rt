@@ -1,4 +1,4 @@
-//! The auditor's command on nodes within a radius: what a reply is evidence of.
+//! The auditor's command on nodes within a radius: what a reply is evidence of. It does what `audit` does.
 #![tactic(auto)]
 
 pub use auditing::audit_reach;

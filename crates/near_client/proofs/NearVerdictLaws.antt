@@ -4,16 +4,15 @@ use Rattle.octet_text.specs.Format.{whole}
 use Rattle.road_map.specs.Least.{IsLeast}
 use Rattle.road_map.proofs.LeastLaws.{IsLeast-unique}
 use Rattle.road_leaf.specs.declared.leaf.NodeLeaf.{NodeLeaf}
-use Rattle.lms_tree.specs.Signatures.{verified}
+use Rattle.lms_tree.specs.declared.links.Link.{Link}
 use Rattle.proof_judge.specs.declared.refusal.Refusal.{Refusal}
 use Rattle.proof_judge.specs.declared.refusal.Refusal.TheVariants as refusals
 use Rattle.proof_judge.specs.ItemWalks.{StandsTwice}
 use Rattle.proof_octets.specs.declared.header.Header.{Header}
-use Rattle.proof_octets.specs.Headers.{header_text}
 use Rattle.route_client.specs.declared.errors.CheckError.{CheckError}
 use Rattle.route_client.specs.declared.errors.CheckError.TheVariants as tests
-use Rattle.route_client.specs.Verdicts.{◌>>=◌, fresh, signed, Meets as MeetsTest}
-use Rattle.route_client.proofs.VerdictLaws.{fresh_least, is_fresh, signed_ok}
+use Rattle.route_client.specs.Verdicts.{◌>>=◌, header_tested, Meets as MeetsTest}
+use Rattle.route_client.proofs.VerdictLaws.{header_passes, passes_header}
 use Rattle.near_model.specs.declared.marks.Mark.{Mark}
 use Rattle.near_model.specs.declared.query.NearQuery.{NearQuery}
 use Rattle.near_model.specs.declared.reply.NearReply.{NearReply}
@@ -50,6 +49,7 @@ in_turn nodes q (Err (errors.MissingTuple id)) h = record { twice = None; least 
 in_turn nodes q (Err (errors.RepeatedNode id)) h = record { twice = Some id; least = h; after = refl }
 in_turn nodes q (Err (errors.Malformed at)) h = absurd h.1
 in_turn nodes q (Err (errors.Stale version)) h = absurd h.1
+in_turn nodes q (Err (errors.BadChain link why)) h = absurd h.1
 in_turn nodes q (Err (errors.BadSignature why)) h = absurd h.1
 in_turn nodes q (Err (errors.BadCover why)) h = absurd h.1
 in_turn nodes q (Err errors.Memory) h = absurd h.1
@@ -77,34 +77,32 @@ one_within : (p : Result NearReply NearError) (q : NearQuery) (v w : Result With
 one_within (Err e) q v w is so = is ∙ sym so
 one_within (Ok a) q v w is so = is.2 ∙ ap (as_within a) (one_walked a.nodes q is.0 so.0 is.1 so.1) ∙ sym so.2
 
-pub one_verdict : (hash : List ℕ → List ℕ) (key octets : List ℕ) (q : NearQuery) (least : ℕ) (v w : Result Within NearError) → IsNearVerdict hash key octets q least v → IsNearVerdict hash key octets q least w → v ≡ w
+pub one_verdict : (hash : List ℕ → List ℕ) (key : List ℕ) (links : List Link) (octets : List ℕ) (q : NearQuery) (least : ℕ) (v w : Result Within NearError) → IsNearVerdict hash key links octets q least v → IsNearVerdict hash key links octets q least w → v ≡ w
 unfolding IsNearVerdict
-one_verdict hash key octets q least v w = one_within (near_passed hash key octets least) q v w
+one_verdict hash key links octets q least v w = one_within (near_passed hash key links octets least) q v w
 
 -- ---- what is accepted passes each test
 
-record PassesAll (f s n : Result (Unit {0}) CheckError) : Type 0 where
-  pub fresh : f ≡ Ok tt
-  pub signed : s ≡ Ok tt
+record PassesBoth (h n : Result (Unit {0}) CheckError) : Type 0 where
+  pub header : h ≡ Ok tt
   pub covered : n ≡ Ok tt
 
-all_pass : (f s n : Result (Unit {0}) CheckError) → (f >>= λ _. s >>= λ _. n) ≡ Ok tt → PassesAll f s n
-all_pass (Ok u) (Ok v) n e = record { fresh = refl; signed = refl; covered = e }
-all_pass (Ok u) (Err d) n e = absurd cc
-all_pass (Err d) s n e = absurd cc
+both_pass : (h n : Result (Unit {0}) CheckError) → (h >>= λ _. n) ≡ Ok tt → PassesBoth h n
+both_pass (Ok u) n e = record { header = refl; covered = e }
+both_pass (Err d) n e = absurd cc
 
-record Passes (hash : List ℕ → List ℕ) (key : List ℕ) (least : ℕ) (r : Result NearReply ℕ) (a : NearReply) : Type 0 where
+record Passes (hash : List ℕ → List ℕ) (key : List ℕ) (links : List Link) (least : ℕ) (r : Result NearReply ℕ) (a : NearReply) : Type 0 where
   pub spelled : r ≡ Ok a
-  pub passes : header_and_cover hash key least a ≡ Ok tt
+  pub passes : header_and_cover hash key links least a ≡ Ok tt
 
-passes_of : (hash : List ℕ → List ℕ) (key : List ℕ) (least : ℕ) (r : Result NearReply ℕ) (a : NearReply) → tested hash key least (spelled r) ≡ Ok a → Passes hash key least r a
-passes_of hash key least (Err at) a e = absurd cc
-passes_of hash key least (Ok b) a e = by_tests (header_and_cover hash key least b) refl e
+passes_of : (hash : List ℕ → List ℕ) (key : List ℕ) (links : List Link) (least : ℕ) (r : Result NearReply ℕ) (a : NearReply) → tested hash key links least (spelled r) ≡ Ok a → Passes hash key links least r a
+passes_of hash key links least (Err at) a e = absurd cc
+passes_of hash key links least (Ok b) a e = by_tests (header_and_cover hash key links least b) refl e
   where
-    by_tests : (t : Result (Unit {0}) CheckError) → header_and_cover hash key least b ≡ t → after_tests b t ≡ Ok a → Passes hash key least (Ok b) a
+    by_tests : (t : Result (Unit {0}) CheckError) → header_and_cover hash key links least b ≡ t → after_tests b t ≡ Ok a → Passes hash key links least (Ok b) a
     by_tests (Ok u) is h =
         let same : b ≡ a = cc in
-        record { spelled = ap (λ (x : NearReply). Ok x) same; passes = subst (λ (x : NearReply). header_and_cover hash key least x ≡ Ok tt) same is }
+        record { spelled = ap (λ (x : NearReply). Ok x) same; passes = subst (λ (x : NearReply). header_and_cover hash key links least x ≡ Ok tt) same is }
     by_tests (Err d) is h = absurd cc
 
 record Brought (p : Result NearReply NearError) (q : NearQuery) (x : Within) : Type 0 where
@@ -134,19 +132,21 @@ brought : (p : Result NearReply NearError) (q : NearQuery) (x : Within) → Walk
 brought (Err e) q x is = absurd cc
 brought (Ok a) q x is = ok_brought a q x is.0 is.1 is.2
 
-pub accepts_of : (hash : List ℕ → List ℕ) (key octets : List ℕ) (q : NearQuery) (least : ℕ) (x : Within) → IsNearVerdict hash key octets q least (Ok x) → NearAccepts hash key octets q least x
+pub accepts_of : (hash : List ℕ → List ℕ) (key : List ℕ) (links : List Link) (octets : List ℕ) (q : NearQuery) (least : ℕ) (x : Within) → IsNearVerdict hash key links octets q least (Ok x) → NearAccepts hash key links octets q least x
 unfolding IsNearVerdict near_passed header_and_cover
-accepts_of hash key octets q least x is =
-    let all = brought (near_passed hash key octets least) q x is in
+accepts_of hash key links octets q least x is =
+    let all = brought (near_passed hash key links octets least) q x is in
     let a = all.reply in
-    let front = passes_of hash key least (whole near_reply octets) a all.passed in
-    let each = all_pass (fresh least a.header) (signed (verified key (header_text a.header) a.signature)) (items_covered hash a) front.passes in
+    let front = passes_of hash key links least (whole near_reply octets) a all.passed in
+    let both = both_pass (header_tested key links least a.header a.signature) (items_covered hash a) front.passes in
+    let header = header_passes key links least a.header a.signature both.header in
     record {
       reply = a;
       spelled = front.spelled;
-      fresh = fresh_least least a.header each.fresh;
-      signed = signed_ok (verified key (header_text a.header) a.signature) each.signed;
-      covered = each.covered;
+      fresh = header.fresh;
+      chain = header.chain;
+      signed = header.signed;
+      covered = both.covered;
       distinct = all.distinct;
       complete = all.complete;
       nodes = all.nodes;
@@ -156,11 +156,11 @@ accepts_of hash key octets q least x is =
 
 -- ---- and back
 
-passed_is : (hash : List ℕ → List ℕ) (key octets : List ℕ) (least : ℕ) (a : NearReply) → whole near_reply octets ≡ Ok a → fresh least a.header ≡ Ok tt → verified key (header_text a.header) a.signature ≡ Ok tt → items_covered hash a ≡ Ok tt
-    → near_passed hash key octets least ≡ Ok a
+passed_is : (hash : List ℕ → List ℕ) (key : List ℕ) (links : List Link) (octets : List ℕ) (least : ℕ) (a : NearReply) → whole near_reply octets ≡ Ok a → header_tested key links least a.header a.signature ≡ Ok tt → items_covered hash a ≡ Ok tt
+    → near_passed hash key links octets least ≡ Ok a
 unfolding near_passed header_and_cover
-passed_is hash key octets least a read new sealed covers =
-    let test : header_and_cover hash key least a ≡ Ok tt = rw (new, sealed, covers) refl in
+passed_is hash key links octets least a read header covers =
+    let test : header_and_cover hash key links least a ≡ Ok tt = rw (header, covers) refl in
     rw (read, test) refl
 
 same_within : (x : Within) (a : NearReply) → x.version ≡ a.header.version → x.header ≡ a.header → Ok x ≡ as_within a (Ok x.nodes)
@@ -168,11 +168,12 @@ same_within x a version header =
     ap (λ (v : ℕ). let y : Within = record { nodes = x.nodes; version = v; header = x.header } in Ok y) version
     ∙ ap (λ (h : Header). let y : Within = record { nodes = x.nodes; version = a.header.version; header = h } in Ok y) header
 
-pub verdict_of : (hash : List ℕ → List ℕ) (key octets : List ℕ) (q : NearQuery) (least : ℕ) (x : Within) → NearAccepts hash key octets q least x → IsNearVerdict hash key octets q least (Ok x)
+pub verdict_of : (hash : List ℕ → List ℕ) (key : List ℕ) (links : List Link) (octets : List ℕ) (q : NearQuery) (least : ℕ) (x : Within) → NearAccepts hash key links octets q least x → IsNearVerdict hash key links octets q least (Ok x)
 unfolding IsNearVerdict
-verdict_of hash key octets q least x is =
+verdict_of hash key links octets q least x is =
     let a = is.reply in
-    let front = passed_is hash key octets least a is.spelled (is_fresh least a.header is.fresh) is.signed is.covered in
+    let header = passes_header key links least a.header a.signature (record { fresh = is.fresh; chain = is.chain; signed = is.signed }) in
+    let front = passed_is hash key links octets least a is.spelled header is.covered in
     subst (λ (p : Result NearReply NearError). WalkedAfter p q (Ok x)) (sym front) (Ok x.nodes, (is.distinct, (is.complete, is.nodes)), same_within x a is.version is.header)
 
 -- ---- what functions answer
@@ -182,38 +183,41 @@ pub weaker : {A : Type 0} (P Q : Result A NearError → Type 0) (r : Result A Ne
 weaker P Q (Ok x) f h = f (Ok x) h
 weaker P Q (Err (errors.Malformed at)) f h = f (Err (errors.Malformed at)) h
 weaker P Q (Err (errors.Stale version)) f h = f (Err (errors.Stale version)) h
+weaker P Q (Err (errors.BadChain link why)) f h = f (Err (errors.BadChain link why)) h
 weaker P Q (Err (errors.BadSignature why)) f h = f (Err (errors.BadSignature why)) h
 weaker P Q (Err (errors.BadCover why)) f h = f (Err (errors.BadCover why)) h
 weaker P Q (Err (errors.RepeatedNode id)) f h = f (Err (errors.RepeatedNode id)) h
 weaker P Q (Err (errors.MissingTuple id)) f h = f (Err (errors.MissingTuple id)) h
 weaker P Q (Err errors.Memory) f h = tt
 
-pub only_accepted : (hash : List ℕ → List ℕ) (key octets : List ℕ) (q : NearQuery) (least : ℕ) (r : Result Within NearError) → UnlessMemory (IsNearVerdict hash key octets q least) r
-    → (x : Within) → NearAccepts hash key octets q least x → UnlessMemory (λ v. v ≡ Ok x) r
-only_accepted hash key octets q least r is x accepts =
-    weaker (IsNearVerdict hash key octets q least) (λ v. v ≡ Ok x) r (λ v h. one_verdict hash key octets q least v (Ok x) h (verdict_of hash key octets q least x accepts)) is
+pub only_accepted : (hash : List ℕ → List ℕ) (key : List ℕ) (links : List Link) (octets : List ℕ) (q : NearQuery) (least : ℕ) (r : Result Within NearError) → UnlessMemory (IsNearVerdict hash key links octets q least) r
+    → (x : Within) → NearAccepts hash key links octets q least x → UnlessMemory (λ v. v ≡ Ok x) r
+only_accepted hash key links octets q least r is x accepts =
+    weaker (IsNearVerdict hash key links octets q least) (λ v. v ≡ Ok x) r (λ v h. one_verdict hash key links octets q least v (Ok x) h (verdict_of hash key links octets q least x accepts)) is
 
-pub refused : (hash : List ℕ → List ℕ) (key octets : List ℕ) (q : NearQuery) (least : ℕ) (e : NearError)
-    → Meets {A = NearReply} (Err e) (near_passed hash key octets least) → UnlessMemory (IsNearVerdict hash key octets q least) (Err e)
+pub refused : (hash : List ℕ → List ℕ) (key : List ℕ) (links : List Link) (octets : List ℕ) (q : NearQuery) (least : ℕ) (e : NearError)
+    → Meets {A = NearReply} (Err e) (near_passed hash key links octets least) → UnlessMemory (IsNearVerdict hash key links octets q least) (Err e)
 unfolding IsNearVerdict
-refused hash key octets q least errors.Memory is = tt
-refused hash key octets q least (errors.Malformed at) is = rw is refl
-refused hash key octets q least (errors.Stale version) is = rw is refl
-refused hash key octets q least (errors.BadSignature why) is = rw is refl
-refused hash key octets q least (errors.BadCover why) is = rw is refl
-refused hash key octets q least (errors.RepeatedNode id) is = rw is refl
-refused hash key octets q least (errors.MissingTuple id) is = rw is refl
+refused hash key links octets q least errors.Memory is = tt
+refused hash key links octets q least (errors.Malformed at) is = rw is refl
+refused hash key links octets q least (errors.Stale version) is = rw is refl
+refused hash key links octets q least (errors.BadChain link why) is = rw is refl
+refused hash key links octets q least (errors.BadSignature why) is = rw is refl
+refused hash key links octets q least (errors.BadCover why) is = rw is refl
+refused hash key links octets q least (errors.RepeatedNode id) is = rw is refl
+refused hash key links octets q least (errors.MissingTuple id) is = rw is refl
 
-pub walked : (hash : List ℕ → List ℕ) (key octets : List ℕ) (q : NearQuery) (least : ℕ) (a : NearReply) (r : Result Within NearError) → near_passed hash key octets least ≡ Ok a
-    → UnlessMemory (WalkedAfter (Ok a) q) r → UnlessMemory (IsNearVerdict hash key octets q least) r
+pub walked : (hash : List ℕ → List ℕ) (key : List ℕ) (links : List Link) (octets : List ℕ) (q : NearQuery) (least : ℕ) (a : NearReply) (r : Result Within NearError) → near_passed hash key links octets least ≡ Ok a
+    → UnlessMemory (WalkedAfter (Ok a) q) r → UnlessMemory (IsNearVerdict hash key links octets q least) r
 unfolding IsNearVerdict
-walked hash key octets q least a r is h = subst (λ (p : Result NearReply NearError). UnlessMemory (WalkedAfter p q) r) (sym is) h
+walked hash key links octets q least a r is h = subst (λ (p : Result NearReply NearError). UnlessMemory (WalkedAfter p q) r) (sym is) h
 
 -- ---- the tests before the items are walked
 
 -- a test that fails is the refusal
 pub failed : (a : NearReply) (t : Result (Unit {0}) CheckError) (e : CheckError) → MeetsTest {A = Unit {0}} (Err e) t → Meets {A = NearReply} (Err (near_error e)) (after_tests a t)
 failed a t (tests.Stale version) is = rw is refl
+failed a t (tests.BadChain link why) is = rw is refl
 failed a t (tests.BadSignature why) is = rw is refl
 failed a t (tests.BadCover tree why) is = rw is refl
 failed a t (tests.NotAnswer kind) is = tt
@@ -222,20 +226,21 @@ failed a t (tests.Judged why) is = tt
 failed a t tests.Memory is = tt
 
 -- octets that spell no reply are refused
-pub unread : (hash : List ℕ → List ℕ) (key octets : List ℕ) (least : ℕ) (e : NearError) → Meets {A = NearReply} (Err e) (spelled (whole near_reply octets)) → Meets {A = NearReply} (Err e) (near_passed hash key octets least)
+pub unread : (hash : List ℕ → List ℕ) (key : List ℕ) (links : List Link) (octets : List ℕ) (least : ℕ) (e : NearError) → Meets {A = NearReply} (Err e) (spelled (whole near_reply octets)) → Meets {A = NearReply} (Err e) (near_passed hash key links octets least)
 unfolding near_passed
-unread hash key octets least errors.Memory is = tt
-unread hash key octets least (errors.Malformed at) is = rw is refl
-unread hash key octets least (errors.Stale version) is = rw is refl
-unread hash key octets least (errors.BadSignature why) is = rw is refl
-unread hash key octets least (errors.BadCover why) is = rw is refl
-unread hash key octets least (errors.RepeatedNode id) is = rw is refl
-unread hash key octets least (errors.MissingTuple id) is = rw is refl
+unread hash key links octets least errors.Memory is = tt
+unread hash key links octets least (errors.Malformed at) is = rw is refl
+unread hash key links octets least (errors.Stale version) is = rw is refl
+unread hash key links octets least (errors.BadChain link why) is = rw is refl
+unread hash key links octets least (errors.BadSignature why) is = rw is refl
+unread hash key links octets least (errors.BadCover why) is = rw is refl
+unread hash key links octets least (errors.RepeatedNode id) is = rw is refl
+unread hash key links octets least (errors.MissingTuple id) is = rw is refl
 
 -- and a reply that was read meets the tests
-pub read_tested : (hash : List ℕ → List ℕ) (key octets : List ℕ) (least : ℕ) (a : NearReply) (r : Result NearReply NearError) → spelled (whole near_reply octets) ≡ Ok a → Meets r (after_tests a (header_and_cover hash key least a)) → Meets r (near_passed hash key octets least)
+pub read_tested : (hash : List ℕ → List ℕ) (key : List ℕ) (links : List Link) (octets : List ℕ) (least : ℕ) (a : NearReply) (r : Result NearReply NearError) → spelled (whole near_reply octets) ≡ Ok a → Meets r (after_tests a (header_and_cover hash key links least a)) → Meets r (near_passed hash key links octets least)
 unfolding near_passed
-read_tested hash key octets least a r is meets = subst (λ (p : Result NearReply NearError). Meets r (tested hash key least p)) (sym is) meets
+read_tested hash key links octets least a r is meets = subst (λ (p : Result NearReply NearError). Meets r (tested hash key links least p)) (sym is) meets
 
 -- ---- the walks
 
@@ -245,6 +250,7 @@ walked_of nodes q (Err (errors.MissingTuple id)) distinct h = (distinct, h)
 walked_of nodes q (Err (errors.RepeatedNode id)) distinct h = absurd h
 walked_of nodes q (Err (errors.Malformed at)) distinct h = absurd h
 walked_of nodes q (Err (errors.Stale version)) distinct h = absurd h
+walked_of nodes q (Err (errors.BadChain link why)) distinct h = absurd h
 walked_of nodes q (Err (errors.BadSignature why)) distinct h = absurd h
 walked_of nodes q (Err (errors.BadCover why)) distinct h = absurd h
 walked_of nodes q (Err errors.Memory) distinct h = tt
@@ -253,6 +259,7 @@ pub refused_walk : (a : NearReply) (q : NearQuery) (e : NearError) → UnlessMem
 refused_walk a q errors.Memory h = tt
 refused_walk a q (errors.Malformed at) h = (Err (errors.Malformed at), h, refl)
 refused_walk a q (errors.Stale version) h = (Err (errors.Stale version), h, refl)
+refused_walk a q (errors.BadChain link why) h = (Err (errors.BadChain link why), h, refl)
 refused_walk a q (errors.BadSignature why) h = (Err (errors.BadSignature why), h, refl)
 refused_walk a q (errors.BadCover why) h = (Err (errors.BadCover why), h, refl)
 refused_walk a q (errors.RepeatedNode id) h = (Err (errors.RepeatedNode id), h, refl)

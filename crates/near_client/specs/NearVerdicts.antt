@@ -10,12 +10,13 @@ use Rattle.road_map.specs.Least.{IsLeast}
 use Rattle.road_search.specs.Passing.{IsLeastPassing}
 use Rattle.road_leaf.specs.declared.leaf.NodeLeaf.{NodeLeaf}
 use Rattle.road_leaf.specs.Leaves.{node_leaf_text}
-use Rattle.lms_tree.specs.Signatures.{verified}
+use Rattle.lms_tree.specs.declared.links.Link.{Link}
+use Rattle.lms_tree.specs.Chains.{chained, verified_along}
 use Rattle.proof_judge.specs.ItemWalks.{item_at, StandsTwice, any_ways, Lacks}
 use Rattle.proof_octets.specs.Headers.{header_text}
 use Rattle.route_client.specs.declared.errors.CheckError.{CheckError}
 use Rattle.route_client.specs.declared.errors.CheckError.TheVariants as tests
-use Rattle.route_client.specs.Verdicts.{◌>>=◌, fresh, signed, covered}
+use Rattle.route_client.specs.Verdicts.{◌>>=◌, header_tested, covered}
 use Rattle.near_model.specs.declared.marks.Mark.{Mark}
 use Rattle.near_model.specs.declared.query.NearQuery.{NearQuery}
 use Rattle.near_model.specs.declared.reply.NearReply.{NearReply}
@@ -37,17 +38,17 @@ abbrev pub items_covered : (List ℕ → List ℕ) → NearReply → Result (Uni
 items_covered hash a = covered hash 1 a.header.nodes a.header.fan a.places
     (map node_leaf_text a.nodes) a.cover a.header.node_root
 
--- the tests that stand for routes too: the version, the signature of the header, and the cover
-unfoldable pub header_and_cover : (List ℕ → List ℕ) → List ℕ → ℕ → NearReply →
+-- the tests that stand for routes too: those of the header, and the cover
+unfoldable pub header_and_cover : (List ℕ → List ℕ) → List ℕ → List Link → ℕ → NearReply →
     Result (Unit {0}) CheckError
-header_and_cover hash key least a = do
-  _ ← fresh least a.header
-  _ ← signed (verified key (header_text a.header) a.signature)
+header_and_cover hash key links least a = do
+  _ ← header_tested key links least a.header a.signature
   items_covered hash a
 
 -- a test that fails; no other errors come from these tests
 abbrev pub near_error : CheckError → NearError
 near_error (tests.Stale version) = errors.Stale version
+near_error (tests.BadChain link why) = errors.BadChain link why
 near_error (tests.BadSignature why) = errors.BadSignature why
 near_error (tests.BadCover tree why) = errors.BadCover why
 near_error _ = errors.Memory
@@ -56,14 +57,16 @@ abbrev pub after_tests : NearReply → Result (Unit {0}) CheckError → Result N
 after_tests a (Ok _) = Ok a
 after_tests a (Err e) = Err (near_error e)
 
-abbrev pub tested : (List ℕ → List ℕ) → List ℕ → ℕ → Result NearReply NearError →
+abbrev pub tested : (List ℕ → List ℕ) → List ℕ → List Link → ℕ → Result NearReply NearError →
     Result NearReply NearError
-tested hash key least (Ok a) = after_tests a (header_and_cover hash key least a)
-tested hash key least (Err e) = Err e
+tested hash key links least (Ok a) = after_tests a (header_and_cover hash key links least a)
+tested hash key links least (Err e) = Err e
 
 -- the reply that passes all tests before its items are walked, or the first that fails
-unfoldable pub near_passed : (List ℕ → List ℕ) → List ℕ → List ℕ → ℕ → Result NearReply NearError
-near_passed hash key octets least = tested hash key least (spelled (whole near_reply octets))
+unfoldable pub near_passed : (List ℕ → List ℕ) → List ℕ → List Link → List ℕ → ℕ →
+    Result NearReply NearError
+near_passed hash key links octets least =
+    tested hash key links least (spelled (whole near_reply octets))
 
 -- ---- the walks over the items
 
@@ -105,18 +108,21 @@ WalkedAfter (Err e) q v = v ≡ Err e
 WalkedAfter (Ok a) q v = (r : Result (List Mark) NearError) × Walked a.nodes q r ×
     (v ≡ as_within a r)
 
--- the verdict on octets, for a query and a least version, under a public key
-unfoldable pub IsNearVerdict : (List ℕ → List ℕ) → List ℕ → List ℕ → NearQuery → ℕ →
+-- the verdict on octets, for a query and a least version, under a public key and a chain of links
+-- from it
+unfoldable pub IsNearVerdict : (List ℕ → List ℕ) → List ℕ → List Link → List ℕ → NearQuery → ℕ →
     Result Within NearError → Type 0
-IsNearVerdict hash key octets q least v = WalkedAfter (near_passed hash key octets least) q v
+IsNearVerdict hash key links octets q least v =
+    WalkedAfter (near_passed hash key links octets least) q v
 
 -- the octets spell a reply that passes each test, and this is what it says
-pub record NearAccepts (hash : List ℕ → List ℕ) (key octets : List ℕ) (q : NearQuery) (least : ℕ)
-    (x : Within) : Type 0 where
+pub record NearAccepts (hash : List ℕ → List ℕ) (key : List ℕ) (links : List Link)
+    (octets : List ℕ) (q : NearQuery) (least : ℕ) (x : Within) : Type 0 where
   pub reply : NearReply
   pub spelled : whole near_reply octets ≡ Ok reply
   pub fresh : least ≤ reply.header.version
-  pub signed : verified key (header_text reply.header) reply.signature ≡ Ok tt
+  pub chain : chained key links ≡ Ok tt
+  pub signed : verified_along key links (header_text reply.header) reply.signature ≡ Ok tt
   pub covered : items_covered hash reply ≡ Ok tt
   pub distinct : (id : ℕ) → ¬ StandsTwice reply.nodes id
   pub complete : (id : ℕ) → ¬ LacksItem reply.nodes q id

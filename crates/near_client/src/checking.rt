@@ -1,5 +1,5 @@
 //! The check of a reply.
-ghost use Rattle.std.specs.Prelude.{◌≡◌, ◌<◌, ◌^◌, length, Ok};
+ghost use Rattle.std.specs.Prelude.{◌≡◌, ◌<◌, ◌≤◌, ◌^◌, length, Ok};
 ghost use Rattle.near_model.specs.NearReplies.{IsGoodNear};
 ghost use Rattle.near_client.specs.declared.within.Within.{Within};
 ghost use Rattle.near_client.specs.NearVerdicts.{UnlessMemory, IsNearVerdict, NearAccepts, WalkedAfter};
@@ -7,6 +7,7 @@ ghost use Rattle.near_client.specs.NearVerdicts.{UnlessMemory, IsNearVerdict, Ne
 use crate::passing::pass;
 use crate::walking::walk;
 use crate::{NearError, Within};
+use lms_tree::Link;
 use near_model::{NearQuery, NearReply};
 use octet_text::Hasher;
 use std::alloc::Global;
@@ -30,38 +31,44 @@ fn accept(alloc: Global, reply: NearReply, query: NearQuery) -> Result<Within, N
 fn decide<H: Hasher>(
     alloc: Global,
     public: &[u8],
+    chain: &[Link],
     reply: &[u8],
     query: NearQuery,
     least: u64,
 ) -> Result<Within, NearError>
-    requires { length reply.now < 2 ^ 32 }
-    ensures { UnlessMemory (IsNearVerdict H.hash public.now reply.now query least) result }
+    requires short { length reply.now < 2 ^ 32 }
+    requires few { length chain.now ≤ 7 }
+    ensures { UnlessMemory (IsNearVerdict H.hash public.now chain.now reply.now query least) result }
 {
-    match pass::<H>(alloc, public, reply, least) {
+    match pass::<H>(alloc, public, chain, reply, least) {
         Ok(reply) => accept(alloc, reply, query),
         Err(error) => Err(error),
     }
 }
 
 /// Checks a reply to a query for what lies within a radius under the owner's public key, where `least`
-/// is the least version that the client takes. The tests are made in this order: the octets spell a
-/// reply, it is of that version or a later one, its header is signed, the items stand under the node
-/// root, no two carry one id, and each walk over them that is no longer than the radius ends at an
-/// item. The first that fails is answered.
+/// is the least version that the client takes, and `chain` leads from that key to the owner's later
+/// ones, by at most seven links. The tests are made in this order: the octets spell a reply, it is of
+/// that version or a later one, each link is signed under the key before it, the header is signed under
+/// one of the keys, the items stand under the node root, no two carry one id, and each walk over them
+/// that is no longer than the radius ends at an item. The first that fails is answered.
 ///
 /// An item that no such walk comes to is allowed, and not listed. No memory is reserved by a count
 /// that the octets don't bear out.
 pub fn check_near<H: Hasher>(
     alloc: Global,
     public: &[u8],
+    chain: &[Link],
     reply: &[u8],
     query: NearQuery,
     least: u64,
 ) -> Result<Within, NearError>
-    requires { length reply.now < 2 ^ 32 }
-    ensures verdict { UnlessMemory (IsNearVerdict H.hash public.now reply.now query least) result }
-    ensures accepts { (x : Within) → NearAccepts H.hash public.now reply.now query least x
+    requires short { length reply.now < 2 ^ 32 }
+    requires few { length chain.now ≤ 7 }
+    ensures verdict { UnlessMemory
+        (IsNearVerdict H.hash public.now chain.now reply.now query least) result }
+    ensures accepts { (x : Within) → NearAccepts H.hash public.now chain.now reply.now query least x
         → UnlessMemory (λ r. r ≡ Ok x) result }
 {
-    decide::<H>(alloc, public, reply, query, least)
+    decide::<H>(alloc, public, chain, reply, query, least)
 }

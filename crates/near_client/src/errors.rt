@@ -18,7 +18,12 @@ pub enum NearError {
     /// The reply is of this version, which is older than the one asked for.
     #[error("The reply is of version {0}, which is too old.")]
     Stale(u64),
-    /// The header is not signed under the public key.
+    /// The link of this number, counted from 0 on, is the first that is not signed under the key before
+    /// it.
+    #[error("The link {0} of the chain is not signed: {1}")]
+    BadChain(u8, SealError),
+    /// The header is not signed under the public key, nor under a key of the chain; this is said of the
+    /// last of them.
     #[error("The header is not signed: {0}")]
     BadSignature(SealError),
     /// The items are not those under the root of the node tree.

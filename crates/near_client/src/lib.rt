@@ -1,5 +1,5 @@
 //! The client's part where the nodes within a radius are wanted: it checks a reply with nothing but
-//! the owner's public key. It stands on no code of those who made the reply.
+//! the owner's public key, and a chain of links from it where the owner has later keys. It stands on no code of those who made the reply.
 #![tactic(auto)]
 
 pub use checking::check_near;

@@ -1,15 +1,16 @@
 // The tests before the items are walked. Those of the header and of the cover stand for routes too.
-ghost use Rattle.std.specs.Prelude.{◌≡◌, ◌<◌, ◌^◌, length, IfOk};
+ghost use Rattle.std.specs.Prelude.{◌≡◌, ◌<◌, ◌≤◌, ◌^◌, length, IfOk};
 ghost use Rattle.octet_text.specs.Format.{whole};
 ghost use Rattle.route_client.specs.Verdicts.{Meets as MeetsTest};
 ghost use Rattle.near_model.specs.NearReplies.{near_reply, IsGoodNear};
 ghost use Rattle.near_client.specs.NearVerdicts.{Meets, near_error, items_covered, header_and_cover, after_tests, spelled, near_passed};
 
 use crate::{NearError, reply_cuts};
+use lms_tree::Link;
 use merkle_cover::CutTexts;
 use near_model::NearReply;
 use octet_text::{Hasher, ReadError};
-use route_client::{CheckError, test_cover, test_signature, test_version};
+use route_client::{CheckError, test_cover, test_header};
 use std::alloc::Global;
 
 // The reply that octets spell.
@@ -52,6 +53,7 @@ fn test_items<H: Hasher>(alloc: Global, octets: &[u8], reply: &NearReply) -> Res
 fn test_reply<H: Hasher>(
     alloc: Global,
     public: &[u8],
+    chain: &[Link],
     octets: &[u8],
     reply: &NearReply,
     least: u64,
@@ -59,10 +61,11 @@ fn test_reply<H: Hasher>(
     requires good { IsGoodNear reply.now }
     requires spelled { octets.now ≡ near_reply.spell reply.now }
     requires short { length octets.now < 2 ^ 32 }
-    ensures { MeetsTest result (header_and_cover H.hash public.now least reply.now) }
+    requires few { length chain.now ≤ 7 }
+    ensures { MeetsTest result (header_and_cover H.hash public.now chain.now least reply.now) }
 {
-    test_version(&reply.header, least)?;
-    test_signature(public, &reply.header, reply.signature.as_slice())?;
+    let signature = reply.signature.as_slice();
+    test_header(public, chain, &reply.header, signature, least)?;
     test_items::<H>(alloc, octets, reply)
 }
 
@@ -72,6 +75,7 @@ fn near_error(error: CheckError) -> NearError
 {
     match error {
         CheckError::Stale(version) => NearError::Stale(version),
+        CheckError::BadChain(link, why) => NearError::BadChain(link, why),
         CheckError::BadSignature(why) => NearError::BadSignature(why),
         CheckError::BadCover(_, why) => NearError::BadCover(why),
         _ => NearError::Memory,
@@ -82,6 +86,7 @@ fn near_error(error: CheckError) -> NearError
 fn test<H: Hasher>(
     alloc: Global,
     public: &[u8],
+    chain: &[Link],
     octets: &[u8],
     reply: NearReply,
     least: u64,
@@ -89,10 +94,12 @@ fn test<H: Hasher>(
     requires good { IsGoodNear reply }
     requires spelled { octets.now ≡ near_reply.spell reply }
     requires short { length octets.now < 2 ^ 32 }
-    ensures is { Meets result (after_tests reply (header_and_cover H.hash public.now least reply)) }
+    requires few { length chain.now ≤ 7 }
+    ensures is { Meets result
+        (after_tests reply (header_and_cover H.hash public.now chain.now least reply)) }
     ensures good { IfOk result IsGoodNear }
 {
-    match test_reply::<H>(alloc, public, octets, &reply, least) {
+    match test_reply::<H>(alloc, public, chain, octets, &reply, least) {
         Ok(()) => Ok(reply),
         Err(error) => Err(near_error(error)),
     }
@@ -102,15 +109,17 @@ fn test<H: Hasher>(
 pub(crate) fn pass<H: Hasher>(
     alloc: Global,
     public: &[u8],
+    chain: &[Link],
     octets: &[u8],
     least: u64,
 ) -> Result<NearReply, NearError>
-    requires { length octets.now < 2 ^ 32 }
-    ensures is { Meets result (near_passed H.hash public.now octets.now least) }
+    requires short { length octets.now < 2 ^ 32 }
+    requires few { length chain.now ≤ 7 }
+    ensures is { Meets result (near_passed H.hash public.now chain.now octets.now least) }
     ensures good { IfOk result IsGoodNear }
 {
     match read_reply(alloc, octets) {
-        Ok(reply) => test::<H>(alloc, public, octets, reply, least),
+        Ok(reply) => test::<H>(alloc, public, chain, octets, reply, least),
         Err(error) => Err(error),
     }
 }

@@ -31,7 +31,7 @@ fn refusal(alloc: Global, octets: &[u8], query: NearQuery, least: u64) -> Option
     if octets.len() > 10_000 {
         return None;
     }
-    check_near::<Sha>(alloc, &PUBLIC, octets, query, least).err()
+    check_near::<Sha>(alloc, &PUBLIC, &[], octets, query, least).err()
 }
 
 // Whether a reply is accepted with these nodes.
@@ -45,7 +45,14 @@ fn is_accepted(
     if octets.len() > 10_000 {
         return Ok(false);
     }
-    match check_near::<Sha>(alloc, &PUBLIC, &octets, NearQuery { from: 1, radius }, 3) {
+    match check_near::<Sha>(
+        alloc,
+        &PUBLIC,
+        &[],
+        &octets,
+        NearQuery { from: 1, radius },
+        3,
+    ) {
         Ok(within) => Ok(within.version == 3 && within.nodes.as_slice() == nodes),
         Err(_) => Ok(false),
     }
@@ -99,12 +106,12 @@ fn other_keys_versions_and_octets_are_refused(rt: HostRuntime) -> Result<(), All
         Some(NearError::Stale(3))
     );
     if octets.len() < 10_000 {
-        let other_hash = check_near::<Toy>(alloc, &PUBLIC, &octets, WITHIN_FOUR, 0);
+        let other_hash = check_near::<Toy>(alloc, &PUBLIC, &[], &octets, WITHIN_FOUR, 0);
         assert_eq!(rt;
             other_hash.err(),
             Some(NearError::BadCover(CoverFault::Differs))
         );
-        let other_key = check_near::<Sha>(alloc, &PUBLIC[..55], &octets, WITHIN_FOUR, 0);
+        let other_key = check_near::<Sha>(alloc, &PUBLIC[..55], &[], &octets, WITHIN_FOUR, 0);
         assert_eq!(rt;
             other_key.err(),
             Some(NearError::BadSignature(SealError::BadKey))

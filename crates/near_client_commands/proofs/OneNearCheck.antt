@@ -1,5 +1,6 @@
 -- Over their files, `check-reach` has one end.
 use Rattle.std.proofs.Common.{◌≡◌, List, ℕ, refl}
+use Rattle.std.specs.declared.option.Option.{Option}
 use Rattle.std.specs.declared.result.Result.{Result}
 use Rattle.std.specs.declared.result.Result.TheVariants.{Ok, Err}
 use Rattle.sha2.specs.Sha256.{sha256}
@@ -8,7 +9,8 @@ use Rattle.near_model.specs.declared.query.NearQuery.{NearQuery}
 use Rattle.near_client.specs.declared.within.Within.{Within}
 use Rattle.near_client.specs.declared.errors.NearError.{NearError}
 use Rattle.near_client.specs.NearVerdicts.{IsNearVerdict}
-use Rattle.command_files.specs.Reading.{octets_at}
+use Rattle.lms_tree.specs.declared.links.Link.{Link}
+use Rattle.command_files.specs.Reading.{octets_at, chain_at}
 use Rattle.command_files.specs.HexFiles.{public_key_at}
 use Rattle.command_files.specs.Endings.{EndsReading}
 use Rattle.command_files.specs.Exact.{HasOneEnd}
@@ -20,24 +22,25 @@ use Rattle.near_client_commands.specs.NearChecking.{EndsCheckReach, ends_check_r
 
 -- octets have one verdict at most
 abbrev pub OneNearVerdict : Type 0
-OneNearVerdict = (hash : List ℕ → List ℕ) (key octets : List ℕ) (q : NearQuery) (least : ℕ) (v w : Result Within NearError)
-    → IsNearVerdict hash key octets q least v → IsNearVerdict hash key octets q least w → v ≡ w
+OneNearVerdict = (hash : List ℕ → List ℕ) (key : List ℕ) (links : List Link) (octets : List ℕ) (q : NearQuery) (least : ℕ) (v w : Result Within NearError)
+    → IsNearVerdict hash key links octets q least v → IsNearVerdict hash key links octets q least w → v ≡ w
 
 differ : (x : Within) (e : NearError) → Ok x ≡ Err e → ⊥
 differ x e is = cc
 
 -- over a key and octets, `check-reach` has one end
-one_check_reach : OneNearVerdict → (key octets : List ℕ) (q : NearQuery) (least : ℕ) (o e : Result Conclusion Fault) (s t : List ℕ) → EndsCheckReach key octets q least o s → EndsCheckReach key octets q least e t → o ≡ e
-one_check_reach one key octets q least (Ok Done) (Ok Done) s t h k = refl
-one_check_reach one key octets q least (Ok Done) (Ok Refused) s t h k = absurd (differ h.0 k.0 (one sha256 key octets q least (Ok h.0) (Err k.0) h.1 k.2))
-one_check_reach one key octets q least (Ok Done) e s t h k = absurd k
-one_check_reach one key octets q least (Ok Refused) (Ok Done) s t h k = absurd (differ k.0 h.0 (one sha256 key octets q least (Ok k.0) (Err h.0) k.1 h.2))
-one_check_reach one key octets q least (Ok Refused) (Ok Refused) s t h k = refl
-one_check_reach one key octets q least (Ok Refused) e s t h k = absurd k
-one_check_reach one key octets q least o e s t h k = absurd h
+one_check_reach : OneNearVerdict → (key : List ℕ) (links : List Link) (octets : List ℕ) (q : NearQuery) (least : ℕ) (o e : Result Conclusion Fault) (s t : List ℕ) → EndsCheckReach key links octets q least o s → EndsCheckReach key links octets q least e t → o ≡ e
+one_check_reach one key links octets q least (Ok Done) (Ok Done) s t h k = refl
+one_check_reach one key links octets q least (Ok Done) (Ok Refused) s t h k = absurd (differ h.0 k.0 (one sha256 key links octets q least (Ok h.0) (Err k.0) h.1 k.2))
+one_check_reach one key links octets q least (Ok Done) e s t h k = absurd k
+one_check_reach one key links octets q least (Ok Refused) (Ok Done) s t h k = absurd (differ k.0 h.0 (one sha256 key links octets q least (Ok k.0) (Err h.0) k.1 h.2))
+one_check_reach one key links octets q least (Ok Refused) (Ok Refused) s t h k = refl
+one_check_reach one key links octets q least (Ok Refused) e s t h k = absurd k
+one_check_reach one key links octets q least o e s t h k = absurd h
 
 -- and so over its files
-pub only_check_reach : OneNearVerdict → (key reply : List ℕ) (q : NearQuery) (least : ℕ) (folder : Folder) → HasOneEnd (ends_check_reach key reply q least folder)
-only_check_reach one key reply q least folder =
-    one_reading (public_key_at folder key) (λ k. EndsReading (octets_at folder reply) (λ octets. EndsCheckReach k octets q least))
-    (λ k. one_reading (octets_at folder reply) (λ octets. EndsCheckReach k octets q least) (λ octets. one_check_reach one k octets q least))
+pub only_check_reach : OneNearVerdict → (key reply : List ℕ) (q : NearQuery) (least : ℕ) (chain : Option (List ℕ)) (folder : Folder) → HasOneEnd (ends_check_reach key reply q least chain folder)
+only_check_reach one key reply q least chain folder =
+    one_reading (public_key_at folder key) (λ k. EndsReading (octets_at folder reply) (λ octets. EndsReading (chain_at folder chain) (λ links. EndsCheckReach k links octets q least)))
+    (λ k. one_reading (octets_at folder reply) (λ octets. EndsReading (chain_at folder chain) (λ links. EndsCheckReach k links octets q least))
+    (λ octets. one_reading (chain_at folder chain) (λ links. EndsCheckReach k links octets q least) (λ links. one_check_reach one k links octets q least)))

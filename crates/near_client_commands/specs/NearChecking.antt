@@ -1,6 +1,8 @@
 -- What `check-reach` writes.
 use Rattle.std.specs.Prelude.{◌≡◌, ◌≢◌, ℕ, List}
 use Rattle.std.specs.declared.result.Result.TheVariants.{Ok, Err}
+use Rattle.std.specs.declared.option.Option.{Option}
+use Rattle.lms_tree.specs.declared.links.Link.{Link}
 use Rattle.sha2.specs.Sha256.{sha256}
 use Rattle.road_io.specs.Contents.{Folder}
 use Rattle.near_model.specs.declared.query.NearQuery.{NearQuery}
@@ -9,21 +11,23 @@ use Rattle.near_client.specs.declared.errors.NearError.TheVariants as errors
 use Rattle.near_client.specs.declared.within.Within.{Within}
 use Rattle.near_client.specs.NearVerdicts.{IsNearVerdict}
 use Rattle.near_line.specs.WithinLine.{within_line, refused_near_line}
-use Rattle.command_files.specs.Reading.{octets_at}
+use Rattle.command_files.specs.Reading.{octets_at, chain_at}
 use Rattle.command_files.specs.HexFiles.{public_key_at}
 use Rattle.command_files.specs.Endings.{Ending, EndsReading}
 use Rattle.command_files.specs.declared.ended.Conclusion.TheVariants.{Done, Refused}
 
--- `check-reach` over a public key and the octets of a reply: the line of the client's verdict
-abbrev pub EndsCheckReach : List ℕ → List ℕ → NearQuery → ℕ → Ending
-EndsCheckReach key octets q least (Ok Done) text = (x : Within) ×
-    IsNearVerdict sha256 key octets q least (Ok x) × (text ≡ within_line x.nodes)
-EndsCheckReach key octets q least (Ok Refused) text = (e : NearError) × (e ≢ errors.Memory) ×
-    IsNearVerdict sha256 key octets q least (Err e) × (text ≡ refused_near_line e)
-EndsCheckReach key octets q least outcome text = ⊥
+-- `check-reach` over a public key, a chain from it, and the octets of a reply: the line of the client's
+-- verdict
+abbrev pub EndsCheckReach : List ℕ → List Link → List ℕ → NearQuery → ℕ → Ending
+EndsCheckReach key links octets q least (Ok Done) text = (x : Within) ×
+    IsNearVerdict sha256 key links octets q least (Ok x) × (text ≡ within_line x.nodes)
+EndsCheckReach key links octets q least (Ok Refused) text = (e : NearError) × (e ≢ errors.Memory) ×
+    IsNearVerdict sha256 key links octets q least (Err e) × (text ≡ refused_near_line e)
+EndsCheckReach key links octets q least outcome text = ⊥
 
--- the same over the files of these names
-abbrev pub ends_check_reach : List ℕ → List ℕ → NearQuery → ℕ → Folder → Ending
-ends_check_reach key reply q least folder =
+-- the same over the files of these names, where a chain's may be named or not
+abbrev pub ends_check_reach : List ℕ → List ℕ → NearQuery → ℕ → Option (List ℕ) → Folder → Ending
+ends_check_reach key reply q least chain folder =
     EndsReading (public_key_at folder key)
-    (λ k. EndsReading (octets_at folder reply) (λ octets. EndsCheckReach k octets q least))
+    (λ k. EndsReading (octets_at folder reply)
+    (λ octets. EndsReading (chain_at folder chain) (λ links. EndsCheckReach k links octets q least)))

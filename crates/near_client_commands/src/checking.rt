@@ -1,10 +1,12 @@
 //! The command `check-reach`.
 
-ghost use Rattle.std.specs.Prelude.{IfOk, length, ◌<◌, ◌^◌};
+ghost use Rattle.std.specs.Prelude.{IfOk, length, ◌<◌, ◌≤◌, ◌^◌};
+ghost use Rattle.std.specs.Option.{option_map};
 ghost use Rattle.command_files.specs.Endings.{Promises, TellsNone, NoDisk};
 ghost use Rattle.near_client_commands.specs.NearChecking.{EndsCheckReach, ends_check_reach};
 
-use command_files::{Conclusion, Fault, Told, load_file, load_hex, write_told};
+use command_files::{Conclusion, Fault, Told, load_chain, load_file, load_hex, write_told};
+use lms_tree::Link;
 use near_client::{NearError, check_near};
 use near_line::{line_of_refused_near, line_of_within};
 use near_model::NearQuery;
@@ -12,7 +14,8 @@ use octet_text::{NoMemory, Sha};
 use road_io::{Library, Sink};
 use std::alloc::Global;
 
-/// Writes what a client says of a reply to a query on a radius, under a public key.
+/// Writes what a client says of a reply to a query on a radius, under a public key,
+/// and along the chain of a file where one is named.
 pub fn check_reach<L: Library, K: Sink>(
     alloc: Global,
     library: &mut L,
@@ -21,14 +24,17 @@ pub fn check_reach<L: Library, K: Sink>(
     reply: &str,
     query: NearQuery,
     least: u64,
+    chain: Option<&str>,
 ) -> Result<Conclusion, Fault>
-    ensures { Promises (ends_check_reach key.now reply.now query least) TellsNone NoDisk
+    ensures { Promises (ends_check_reach key.now reply.now query least
+        (option_map (λ word. word.now) chain.entry)) TellsNone NoDisk
         (L.files library.old) (L.faults library.old) (L.faults library.new)
         (K.taken sink.old) (K.taken sink.new) (K.faults sink.old) (K.faults sink.new) result }
 {
     let key: [u8; 56] = load_hex(alloc, library, key)?;
     let reply = load_file(alloc, library, reply)?;
-    match verdict_on(alloc, &key, &reply, query, least) {
+    let chain = load_chain(alloc, library, chain)?;
+    match verdict_on(alloc, &key, chain.as_slice(), &reply, query, least) {
         Ok(told) => write_told(sink, &told),
         Err(NoMemory) => Err(Fault::Memory),
     }
@@ -38,15 +44,17 @@ pub fn check_reach<L: Library, K: Sink>(
 fn verdict_on(
     alloc: Global,
     key: &[u8],
+    chain: &[Link],
     reply: &[u8],
     query: NearQuery,
     least: u64,
 ) -> Result<Told, NoMemory>
-    requires { length reply.now < 2 ^ 32 }
+    requires short { length reply.now < 2 ^ 32 }
+    requires few { length chain.now ≤ 7 }
     ensures { IfOk result (λ told.
-        EndsCheckReach key.now reply.now query least told.end told.text.items) }
+        EndsCheckReach key.now chain.now reply.now query least told.end told.text.items) }
 {
-    match check_near::<Sha>(alloc, key, reply, query, least) {
+    match check_near::<Sha>(alloc, key, chain, reply, query, least) {
         Ok(within) => Ok(Told {
             text: line_of_within(alloc, within.nodes.as_slice())?,
             end: Ok(Conclusion::Done),

@@ -6,7 +6,7 @@ use Rattle.road_line.specs.RouteLine.{spaced}
 use Rattle.road_line.specs.VerdictLine.{seal_name, cover_name}
 use Rattle.near_model.specs.declared.marks.Mark.{Mark}
 use Rattle.near_client.specs.declared.errors.NearError.{NearError}
-use Rattle.near_client.specs.declared.errors.NearError.TheVariants.{Malformed, Stale, BadSignature, BadCover, RepeatedNode, MissingTuple, Memory}
+use Rattle.near_client.specs.declared.errors.NearError.TheVariants.{Malformed, Stale, BadChain, BadSignature, BadCover, RepeatedNode, MissingTuple, Memory}
 
 -- the id of a node after a space
 abbrev pub spaced_id : Mark → List ℕ
@@ -21,6 +21,8 @@ within_line marks = codes "within " ++ decimal
 abbrev pub refused_near_words : NearError → List ℕ
 refused_near_words (Malformed at) = codes "Malformed " ++ decimal at
 refused_near_words (Stale version) = codes "Stale " ++ decimal version
+refused_near_words (BadChain link why) = codes "BadChain " ++ decimal link ++ codes " " ++ seal_name
+    why
 refused_near_words (BadSignature why) = codes "BadSignature " ++ seal_name why
 refused_near_words (BadCover why) = codes "BadCover " ++ cover_name why
 refused_near_words (RepeatedNode id) = codes "RepeatedNode " ++ decimal id

@@ -34,6 +34,10 @@ fn print_refusal(text: &mut String, why: NearError) -> Result<(), AllocError>
     match why {
         NearError::Malformed(at) => write!(text, "Malformed {at}"),
         NearError::Stale(version) => write!(text, "Stale {version}"),
+        NearError::BadChain(link, why) => {
+            let name = name_of_seal(why);
+            write!(text, "BadChain {link} {name}")
+        }
         NearError::BadSignature(why) => {
             let name = name_of_seal(why);
             print_named(text, "BadSignature ", name)

@@ -5,7 +5,7 @@
 #![tactic(auto)]
 
 pub use laws::near_laws;
-pub use near_audit::{Finding as NearFinding, NearAuditError, audit_near};
+pub use near_audit::{AuditError, Finding, audit_near};
 pub use near_client::{NearError, Within, check_near, near_verdict_laws};
 pub use near_model::{Mark, Marks, NearQuery, NearReply};
 pub use near_server::{NearRefusal, answer_near};

@@ -8,7 +8,7 @@ use Rattle.proof_judge.specs.declared.refusal.Refusal.TheVariants as judged
 use Rattle.route_client.specs.declared.errors.CoverFault.{CoverFault}
 use Rattle.route_client.specs.declared.errors.CoverFault.TheVariants.{Place, Short, Long, Differs}
 use Rattle.route_client.specs.declared.errors.CheckError.{CheckError}
-use Rattle.route_client.specs.declared.errors.CheckError.TheVariants.{NotAnswer, Malformed, Stale, BadSignature, BadCover, Judged, Memory}
+use Rattle.route_client.specs.declared.errors.CheckError.TheVariants.{NotAnswer, Malformed, Stale, BadChain, BadSignature, BadCover, Judged, Memory}
 use Rattle.road_line.specs.RouteLine.{route_line}
 
 -- an accepted route and its length
@@ -43,6 +43,7 @@ abbrev pub refused_words : CheckError → List ℕ
 refused_words (NotAnswer kind) = codes "NotAnswer " ++ decimal kind
 refused_words (Malformed at) = codes "Malformed " ++ decimal at
 refused_words (Stale version) = codes "Stale " ++ decimal version
+refused_words (BadChain link why) = codes "BadChain " ++ decimal link ++ codes " " ++ seal_name why
 refused_words (BadSignature why) = codes "BadSignature " ++ seal_name why
 refused_words (BadCover tree why) = codes "BadCover " ++ decimal tree ++ codes " " ++ cover_name why
 refused_words (Judged why) = judged_words why

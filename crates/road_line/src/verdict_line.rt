@@ -55,6 +55,10 @@ fn print_refusal(text: &mut String, why: CheckError) -> Result<(), AllocError>
         CheckError::NotAnswer(kind) => write!(text, "NotAnswer {kind}"),
         CheckError::Malformed(at) => write!(text, "Malformed {at}"),
         CheckError::Stale(version) => write!(text, "Stale {version}"),
+        CheckError::BadChain(link, why) => {
+            let name = name_of_seal(why);
+            write!(text, "BadChain {link} {name}")
+        }
         CheckError::BadSignature(why) => {
             let name = name_of_seal(why);
             print_bad_signature(text, name)

@@ -13,9 +13,9 @@ use Rattle.route_client.specs.declared.accepted.Accepted.{Accepted}
 use Rattle.route_client.specs.declared.errors.CheckError.{CheckError}
 use Rattle.route_client.specs.Verdicts.{IsVerdict}
 use Rattle.route_laws.specs.Honest.{AnswersAreAccepted, AreAccepted}
-use Rattle.road_command.specs.Requests.{Request, Route, Root, Dimacs, Key, Succeed, Links, Desk, Publish, Prove, Serve, Check, Audit, Survey, Reach, CheckReach, AuditReach}
+use Rattle.road_command.specs.Requests.{Request, Route, Root, Dimacs, Key, Succeed, Links, Desk, Publish, Prove, Serve, Check, Audit, Survey, Reach, CheckReach, AuditReach, Reduce}
 use Rattle.command_files.specs.HexFiles.{public_key_at}
-use Rattle.command_files.specs.Reading.{octets_at}
+use Rattle.command_files.specs.Reading.{octets_at, chain_at}
 use Rattle.command_files.specs.Endings.{EndsReading, Answered}
 use Rattle.command_files.proofs.Written.{read_as}
 use Rattle.client_commands.specs.Checking.{EndsCheck, ends_check}
@@ -26,7 +26,7 @@ use Rattle.command_files.specs.declared.fault.Fault.TheVariants.{TruncatedFrame,
 use Rattle.command_files.specs.declared.ended.Conclusion.{Conclusion}
 use Rattle.command_files.specs.declared.ended.Conclusion.TheVariants.{Done, Refused, Evidence}
 use Rattle.client_commands.proofs.OneCheck.{OneVerdict}
-use Rattle.audit_commands.proofs.OneAudit.{AcceptanceIsVerdict}
+use Rattle.route_audit.proofs.RouteLemmas.{AcceptsVerdict}
 use Rattle.near_model.specs.declared.query.NearQuery.{NearQuery}
 use Rattle.near_model.specs.Radius.{AreWithin}
 use Rattle.near_client.specs.declared.within.Within.{Within}
@@ -36,46 +36,47 @@ use Rattle.near_proof.specs.NearLaws.{NearRepliesAreAccepted}
 use Rattle.near_proof.specs.NearLaws as near
 use Rattle.near_client_commands.specs.NearChecking.{EndsCheckReach, ends_check_reach}
 use Rattle.near_client_commands.proofs.OneNearCheck.{OneNearVerdict}
-use Rattle.near_audit_commands.proofs.OneNearAudit.{NearAcceptanceIsVerdict}
+use Rattle.near_audit.proofs.RadiusLemmas.{AcceptsVerdict as NearAcceptsVerdict}
 
 -- octets have one verdict at most, and what is accepted has it, for routes and for radii
 pub record Verdicts : Type 0 where
   pub one : OneVerdict
-  pub accepted : AcceptanceIsVerdict
+  pub accepted : AcceptsVerdict
   pub near_one : OneNearVerdict
-  pub near_accepted : NearAcceptanceIsVerdict
+  pub near_accepted : NearAcceptsVerdict
 
 -- honest replies are accepted, on routes and on radii
 pub record AcceptedLaws : Type 0 where
   pub answers : AnswersAreAccepted
   pub near_replies : NearRepliesAreAccepted
 
-module _ (one : OneVerdict) (verdict : AcceptanceIsVerdict) (laws : AnswersAreAccepted) (folder : Folder) (key reply : List ℕ) (q : Query) (least : ℕ) (p : Publication) (file : IsHonestFile folder key reply q least p) where
-  accepted : AreAccepted sha256 file.key file.octets q least p.parts
-  accepted = laws sha256 sha256 file.key file.octets p q least file.signed file.fresh file.joined file.honest
+module _ (one : OneVerdict) (verdict : AcceptsVerdict) (laws : AnswersAreAccepted) (folder : Folder) (key reply : List ℕ) (q : Query) (least : ℕ) (chain : Option (List ℕ)) (p : Publication) (file : IsHonestFile folder key reply q least chain p) where
+  accepted : AreAccepted sha256 file.key file.links file.octets q least p.parts
+  accepted = laws sha256 sha256 file.signer file.key file.links file.octets p q least file.signed file.leads file.fresh file.joined file.honest
 
-  says : IsVerdict sha256 file.key file.octets q least (Ok accepted.accepted)
-  says = verdict sha256 file.key file.octets q least accepted.accepted accepted.accepts
+  says : IsVerdict sha256 file.key file.links file.octets q least (Ok accepted.accepted)
+  says = verdict sha256 file.key file.links file.octets q least accepted.accepted accepted.accepts
 
   -- the end over what the files spell
-  ends : (o : Result Conclusion Fault) (text : List ℕ) → ends_check key reply q least folder o text → EndsCheck file.key file.octets q least o text
+  ends : (o : Result Conclusion Fault) (text : List ℕ) → ends_check key reply q least chain folder o text → EndsCheck file.key file.links file.octets q least o text
   ends o text h =
-      let by_key = read_as (public_key_at folder key) file.key (λ k. EndsReading (octets_at folder reply) (λ octets. EndsCheck k octets q least)) o text file.key_read h in
-      read_as (octets_at folder reply) file.octets (λ octets. EndsCheck file.key octets q least) o text file.reply_read by_key
+      let by_key = read_as (public_key_at folder key) file.key (λ k. EndsReading (octets_at folder reply) (λ octets. EndsReading (chain_at folder chain) (λ links. EndsCheck k links octets q least))) o text file.key_read h in
+      let by_reply = read_as (octets_at folder reply) file.octets (λ octets. EndsReading (chain_at folder chain) (λ links. EndsCheck file.key links octets q least)) o text file.reply_read by_key in
+      read_as (chain_at folder chain) file.links (λ links. EndsCheck file.key links file.octets q least) o text file.chain_read by_reply
 
   differ : (x : Accepted) (e : CheckError) → Ok x ≡ Err e → ⊥
   differ x e is = cc
 
-  writes : (old new : Option (List ℕ)) (o : Result Conclusion Fault) → Answered (ends_check key reply q least folder) old new o → (o ≡ Err MirrorLost → ⊥) → WritesAccepted (IsAcceptedLine p.parts q) old new o
+  writes : (old new : Option (List ℕ)) (o : Result Conclusion Fault) → Answered (ends_check key reply q least chain folder) old new o → (o ≡ Err MirrorLost → ⊥) → WritesAccepted (IsAcceptedLine p.parts q) old new o
   writes old new (Ok Done) a lost =
       let e = ends (Ok Done) a.0 a.1 in
-      let same : Ok accepted.accepted ≡ Ok e.0 = one sha256 file.key file.octets q least (Ok accepted.accepted) (Ok e.0) says e.1 in
+      let same : Ok accepted.accepted ≡ Ok e.0 = one sha256 file.key file.links file.octets q least (Ok accepted.accepted) (Ok e.0) says e.1 in
       let is : accepted.accepted ≡ e.0 = cc in
       let short : IsShortest p.parts q.from q.to e.0.route e.0.length = subst (λ (x : Accepted). IsShortest p.parts q.from q.to x.route x.length) is accepted.shortest in
       (a.0, record { route = e.0.route; length = e.0.length; shortest = short; line = e.2 }, a.2)
   writes old new (Ok Refused) a lost =
       let e = ends (Ok Refused) a.0 a.1 in
-      absurd (differ accepted.accepted e.0 (one sha256 file.key file.octets q least (Ok accepted.accepted) (Err e.0) says e.2))
+      absurd (differ accepted.accepted e.0 (one sha256 file.key file.links file.octets q least (Ok accepted.accepted) (Err e.0) says e.2))
   writes old new (Ok Evidence) a lost = absurd (ends (Ok Evidence) a.0 a.1)
   writes old new (Err MirrorLost) a lost = absurd (lost refl)
   writes old new (Err Memory) a lost = tt
@@ -90,31 +91,32 @@ module _ (one : OneVerdict) (verdict : AcceptanceIsVerdict) (laws : AnswersAreAc
   writes old new (Err Source) a lost = absurd (ends (Err Source) a.0 a.1)
   writes old new (Err fault) a lost = absurd (ends (Err fault) [] a)
 
-module _ (one : OneNearVerdict) (verdict : NearAcceptanceIsVerdict) (laws : NearRepliesAreAccepted) (folder : Folder) (key reply : List ℕ) (q : NearQuery) (least : ℕ) (p : Publication) (file : IsHonestReach folder key reply q least p) where
-  near_accepted : near.AreAccepted sha256 file.key file.octets q least p.parts
-  near_accepted = laws sha256 sha256 file.key file.octets p q least file.signed file.fresh file.honest
+module _ (one : OneNearVerdict) (verdict : NearAcceptsVerdict) (laws : NearRepliesAreAccepted) (folder : Folder) (key reply : List ℕ) (q : NearQuery) (least : ℕ) (chain : Option (List ℕ)) (p : Publication) (file : IsHonestReach folder key reply q least chain p) where
+  near_accepted : near.AreAccepted sha256 file.key file.links file.octets q least p.parts
+  near_accepted = laws sha256 sha256 file.signer file.key file.links file.octets p q least file.signed file.leads file.fresh file.honest
 
-  near_says : IsNearVerdict sha256 file.key file.octets q least (Ok near_accepted.accepted)
-  near_says = verdict sha256 file.key file.octets q least near_accepted.accepted near_accepted.accepts
+  near_says : IsNearVerdict sha256 file.key file.links file.octets q least (Ok near_accepted.accepted)
+  near_says = verdict sha256 file.key file.links file.octets q least near_accepted.accepted near_accepted.accepts
 
   -- the end over what the files spell
-  near_ends : (o : Result Conclusion Fault) (text : List ℕ) → ends_check_reach key reply q least folder o text → EndsCheckReach file.key file.octets q least o text
+  near_ends : (o : Result Conclusion Fault) (text : List ℕ) → ends_check_reach key reply q least chain folder o text → EndsCheckReach file.key file.links file.octets q least o text
   near_ends o text h =
-      let by_key = read_as (public_key_at folder key) file.key (λ k. EndsReading (octets_at folder reply) (λ octets. EndsCheckReach k octets q least)) o text file.key_read h in
-      read_as (octets_at folder reply) file.octets (λ octets. EndsCheckReach file.key octets q least) o text file.reply_read by_key
+      let by_key = read_as (public_key_at folder key) file.key (λ k. EndsReading (octets_at folder reply) (λ octets. EndsReading (chain_at folder chain) (λ links. EndsCheckReach k links octets q least))) o text file.key_read h in
+      let by_reply = read_as (octets_at folder reply) file.octets (λ octets. EndsReading (chain_at folder chain) (λ links. EndsCheckReach file.key links octets q least)) o text file.reply_read by_key in
+      read_as (chain_at folder chain) file.links (λ links. EndsCheckReach file.key links file.octets q least) o text file.chain_read by_reply
 
   near_differ : (x : Within) (e : NearError) → Ok x ≡ Err e → ⊥
   near_differ x e is = cc
 
-  near_writes : (old new : Option (List ℕ)) (o : Result Conclusion Fault) → Answered (ends_check_reach key reply q least folder) old new o → (o ≡ Err MirrorLost → ⊥) → WritesAccepted (IsWithinLine p.parts q) old new o
+  near_writes : (old new : Option (List ℕ)) (o : Result Conclusion Fault) → Answered (ends_check_reach key reply q least chain folder) old new o → (o ≡ Err MirrorLost → ⊥) → WritesAccepted (IsWithinLine p.parts q) old new o
   near_writes old new (Ok Done) a lost =
       let e = near_ends (Ok Done) a.0 a.1 in
-      let same : Ok near_accepted.accepted ≡ Ok e.0 = one sha256 file.key file.octets q least (Ok near_accepted.accepted) (Ok e.0) near_says e.1 in
+      let same : Ok near_accepted.accepted ≡ Ok e.0 = one sha256 file.key file.links file.octets q least (Ok near_accepted.accepted) (Ok e.0) near_says e.1 in
       let is : near_accepted.accepted ≡ e.0 = cc in
       (a.0, record { nodes = e.0.nodes; within = subst (λ (x : Within). AreWithin p.parts q x.nodes) is near_accepted.within; line = e.2 }, a.2)
   near_writes old new (Ok Refused) a lost =
       let e = near_ends (Ok Refused) a.0 a.1 in
-      absurd (near_differ near_accepted.accepted e.0 (one sha256 file.key file.octets q least (Ok near_accepted.accepted) (Err e.0) near_says e.2))
+      absurd (near_differ near_accepted.accepted e.0 (one sha256 file.key file.links file.octets q least (Ok near_accepted.accepted) (Err e.0) near_says e.2))
   near_writes old new (Ok Evidence) a lost = absurd (near_ends (Ok Evidence) a.0 a.1)
   near_writes old new (Err MirrorLost) a lost = absurd (lost refl)
   near_writes old new (Err Memory) a lost = tt
@@ -132,8 +134,8 @@ module _ (one : OneNearVerdict) (verdict : NearAcceptanceIsVerdict) (laws : Near
 -- the same for a request and the library of a run
 pub accepts_honest : Verdicts → AcceptedLaws → (request : Request) (files : Option Folder) (content : Option (List ℕ)) (old new : Option (List ℕ)) (o : Result Conclusion Fault)
     → IfSome files (λ folder. Answered (Ends content request folder) old new o) → (o ≡ Err MirrorLost → TellsClient request MirrorLost) → AcceptsHonest request files old new o
-accepts_honest verdicts laws (Check key reply q least) (Some folder) content old new o a lost = λ p file. writes verdicts.one verdicts.accepted laws.answers folder key reply q least p file old new o a lost
-accepts_honest verdicts laws (Check key reply q least) None content old new o a lost = tt
+accepts_honest verdicts laws (Check key reply q least chain) (Some folder) content old new o a lost = λ p file. writes verdicts.one verdicts.accepted laws.answers folder key reply q least chain p file old new o a lost
+accepts_honest verdicts laws (Check key reply q least chain) None content old new o a lost = tt
 accepts_honest verdicts laws (Route roads from to) files content old new o a lost = tt
 accepts_honest verdicts laws (Root roads fan) files content old new o a lost = tt
 accepts_honest verdicts laws (Dimacs graph places) files content old new o a lost = tt
@@ -144,9 +146,10 @@ accepts_honest verdicts laws Desk files content old new o a lost = tt
 accepts_honest verdicts laws (Publish roads settings) files content old new o a lost = tt
 accepts_honest verdicts laws (Prove publication q) files content old new o a lost = tt
 accepts_honest verdicts laws (Serve publication) files content old new o a lost = tt
-accepts_honest verdicts laws (Audit key publication reply q) files content old new o a lost = tt
+accepts_honest verdicts laws (Audit key publication reply q chain) files content old new o a lost = tt
 accepts_honest verdicts laws (Survey width seed method queries) files content old new o a lost = tt
 accepts_honest verdicts laws (Reach publication q) files content old new o a lost = tt
-accepts_honest verdicts laws (CheckReach key reply q least) (Some folder) content old new o a lost = λ p file. near_writes verdicts.near_one verdicts.near_accepted laws.near_replies folder key reply q least p file old new o a lost
-accepts_honest verdicts laws (CheckReach key reply q least) None content old new o a lost = tt
-accepts_honest verdicts laws (AuditReach key publication reply q) files content old new o a lost = tt
+accepts_honest verdicts laws (CheckReach key reply q least chain) (Some folder) content old new o a lost = λ p file. near_writes verdicts.near_one verdicts.near_accepted laws.near_replies folder key reply q least chain p file old new o a lost
+accepts_honest verdicts laws (CheckReach key reply q least chain) None content old new o a lost = tt
+accepts_honest verdicts laws (AuditReach key publication reply q chain) files content old new o a lost = tt
+accepts_honest verdicts laws (Reduce key text signature) files content old new o a lost = tt

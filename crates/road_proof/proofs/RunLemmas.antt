@@ -13,7 +13,7 @@ use Rattle.road_map.specs.Laws.{ArcLaws}
 use Rattle.road_map.specs.declared.parts.Parts.{Parts}
 use Rattle.key_desk.specs.Stands.{KeepsStanding}
 use Rattle.key_desk.proofs.Standing.{standing_same}
-use Rattle.road_command.specs.Requests.{Request, Route, Root, Dimacs, Key, Succeed, Links, Desk, Publish, Prove, Serve, Check, Audit, Survey, Reach, CheckReach, AuditReach}
+use Rattle.road_command.specs.Requests.{Request, Route, Root, Dimacs, Key, Succeed, Links, Desk, Publish, Prove, Serve, Check, Audit, Survey, Reach, CheckReach, AuditReach, Reduce}
 use Rattle.command_files.specs.Endings.{Answered, Ending, NoDisk, Promises}
 use Rattle.command_files.specs.Exact.{NoneFailed, IsExact, HasOneEnd}
 use Rattle.command_files.specs.declared.fault.Fault.{Fault}
@@ -33,10 +33,16 @@ use Rattle.server_commands.specs.Serving.{ServesFrames}
 use Rattle.owner_commands.proofs.OneOwner.{only_key, only_desk, only_publish}
 use Rattle.owner_commands.proofs.SuccessionLemmas.{only_succession, only_links}
 use Rattle.audit_commands.proofs.OneAudit.{only_audit}
+use Rattle.reduce_commands.proofs.OneReduce.{only_reduce}
 use Rattle.survey_commands.proofs.SurveyLemmas.{only_survey}
 use Rattle.near_client_commands.proofs.OneNearCheck.{only_check_reach}
 use Rattle.near_server_commands.proofs.OneNearReach.{only_reach}
-use Rattle.near_audit_commands.proofs.OneNearAudit.{only_audit_reach}
+use Rattle.near_audit.specs.Radii.{radii}
+use Rattle.near_audit.proofs.RadiusLemmas as radius
+use Rattle.near_line.specs.WithinLine.{refused_near_line}
+use Rattle.road_line.specs.VerdictLine.{refused_line}
+use Rattle.route_audit.specs.Routes.{routes}
+use Rattle.route_audit.proofs.RouteLemmas as route
 use Rattle.road_proof.specs.Accepting.{AcceptsHonest, RepliesAreTaken}
 use Rattle.road_proof.specs.Commands.{Ends, IsTold, TellsClient, OnDisk, OnMirrors, RunPromises, but_for_mirrors}
 use Rattle.road_proof.specs.Sources.{IfServe, UnlessServe, RunTakes, IsExactServing}
@@ -98,14 +104,16 @@ one_end faults arcs makings verdicts (Some content) (Publish roads settings) tol
 one_end faults arcs makings verdicts None (Publish roads settings) told folder o p s t = absurd (told refl)
 one_end faults arcs makings verdicts content (Prove file q) told folder o p s t = only_prove makings file q folder o p s t
 one_end faults arcs makings verdicts content (Serve publication) told folder o p s t = absurd told
-one_end faults arcs makings verdicts content (Check key reply q least) told folder o p s t = only_check verdicts.one key reply q least folder o p s t
-one_end faults arcs makings verdicts (Some content) (Audit key publication reply q) told folder o p s t = only_audit makings verdicts.one verdicts.accepted content key publication reply q folder o p s t
-one_end faults arcs makings verdicts None (Audit key publication reply q) told folder o p s t = absurd (told refl)
+one_end faults arcs makings verdicts content (Check key reply q least chain) told folder o p s t = only_check verdicts.one key reply q least chain folder o p s t
+one_end faults arcs makings verdicts (Some content) (Audit key publication reply q chain) told folder o p s t = only_audit routes refused_line (route.are_replies verdicts.one verdicts.accepted) makings content key publication reply q chain folder o p s t
+one_end faults arcs makings verdicts None (Audit key publication reply q chain) told folder o p s t = absurd (told refl)
 one_end faults arcs makings verdicts content (Survey width seed method queries) told folder o p s t = only_survey width seed method queries o p s t
 one_end faults arcs makings verdicts content (Reach file q) told folder o p s t = only_reach makings file q folder o p s t
-one_end faults arcs makings verdicts content (CheckReach key reply q least) told folder o p s t = only_check_reach verdicts.near_one key reply q least folder o p s t
-one_end faults arcs makings verdicts (Some content) (AuditReach key publication reply q) told folder o p s t = only_audit_reach makings verdicts.near_one verdicts.near_accepted content key publication reply q folder o p s t
-one_end faults arcs makings verdicts None (AuditReach key publication reply q) told folder o p s t = absurd (told refl)
+one_end faults arcs makings verdicts content (CheckReach key reply q least chain) told folder o p s t = only_check_reach verdicts.near_one key reply q least chain folder o p s t
+one_end faults arcs makings verdicts (Some content) (AuditReach key publication reply q chain) told folder o p s t = only_audit radii refused_near_line (radius.are_replies verdicts.near_one verdicts.near_accepted) makings content key publication reply q chain folder o p s t
+one_end faults arcs makings verdicts None (AuditReach key publication reply q chain) told folder o p s t = absurd (told refl)
+one_end faults arcs makings verdicts (Some content) (Reduce key text signature) told folder o p s t = only_reduce content key text signature folder o p s t
+one_end faults arcs makings verdicts None (Reduce key text signature) told folder o p s t = absurd (told refl)
 
 -- an answer is exact but for the mirrors, where no other object outside failed
 exact_but : (E : Ending) → HasOneEnd E → (before now : Option (List ℕ)) (o : Result Conclusion Fault) → Answered E before now o → (o ≡ Err Library → ⊥) → (o ≡ Err Sink → ⊥) → (o ≡ Err Disk → ⊥) → IsExact E (but_for_mirrors o)
@@ -182,12 +190,13 @@ exact_serving g old new makings asked files left rest l l' s s' taken_before tak
     by (Some Desk) p a = tt
     by (Some (Publish roads settings)) p a = tt
     by (Some (Prove publication q)) p a = tt
-    by (Some (Check key reply q least)) p a = tt
-    by (Some (Audit key publication reply q)) p a = tt
+    by (Some (Check key reply q least chain)) p a = tt
+    by (Some (Audit key publication reply q chain)) p a = tt
     by (Some (Survey width seed method queries)) p a = tt
     by (Some (Reach publication q)) p a = tt
-    by (Some (CheckReach key reply q least)) p a = tt
-    by (Some (AuditReach key publication reply q)) p a = tt
+    by (Some (CheckReach key reply q least chain)) p a = tt
+    by (Some (AuditReach key publication reply q chain)) p a = tt
+    by (Some (Reduce key text signature)) p a = tt
     by None p a = tt
 
 -- what a command does to the mirrors is done under the words that ask for it

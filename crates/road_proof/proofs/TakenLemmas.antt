@@ -14,7 +14,7 @@ use Rattle.proof_octets.specs.declared.publication.Publication.{Publication}
 use Rattle.route_server.specs.declared.errors.BuildError.{BuildError}
 use Rattle.route_server.specs.declared.errors.BuildError.TheVariants as build
 use Rattle.route_laws.specs.Honest.{UnknownNodesAreTold, NoRoutesAreTold}
-use Rattle.road_command.specs.Requests.{Request, Route, Root, Dimacs, Key, Succeed, Links, Desk, Publish, Prove, Serve, Check, Audit, Survey, Reach, CheckReach, AuditReach}
+use Rattle.road_command.specs.Requests.{Request, Route, Root, Dimacs, Key, Succeed, Links, Desk, Publish, Prove, Serve, Check, Audit, Survey, Reach, CheckReach, AuditReach, Reduce}
 use Rattle.command_files.specs.Reading.{publication_at}
 use Rattle.command_files.specs.TwoEnds.{IsFirstUnknown}
 use Rattle.command_files.specs.Endings.{Ending, Answered}
@@ -71,15 +71,15 @@ module _ (laws : AcceptedLaws) (refused : RefusedLaws) (folder : Folder) (file :
   writes : (old new : Option (List ℕ)) (o : Result Conclusion Fault) → Answered (ends_prove file q folder) old new o → WritesReply p q old new o
   writes old new (Ok Done) a =
       let e = ends (Ok Done) a.0 tt a.1 in
-      (a.0, (λ key least signed fresh. laws.answers sha256 sha256 key a.0 p q least signed fresh (record { from = e.0.walk.known; to = e.0.end; length = e.0.length; joins = e.0.walk }) e.1), a.2)
+      (a.0, (λ signer key links least signed leads fresh. laws.answers sha256 sha256 signer key links a.0 p q least signed leads fresh (record { from = e.0.walk.known; to = e.0.end; length = e.0.length; joins = e.0.walk }) e.1), a.2)
   writes old new (Ok Refused) a = absurd (ends (Ok Refused) a.0 tt a.1)
   writes old new (Ok Evidence) a = absurd (ends (Ok Evidence) a.0 tt a.1)
   writes old new (Err (UnknownNode id)) a =
       let e = ends (Err (UnknownNode id)) a.0 tt a.1 in
-      (a.0, (λ key least. refused.unknown sha256 sha256 key a.0 p q least (unknown id e.0) e.1), a.2)
+      (a.0, (λ key links least. refused.unknown sha256 sha256 key links a.0 p q least (unknown id e.0) e.1), a.2)
   writes old new (Err NoRoute) a =
       let e = ends (Err NoRoute) a.0 tt a.1 in
-      (a.0, (λ key least. refused.apart sha256 sha256 key a.0 p q least e.0.start e.0.end e.0.apart e.1), a.2)
+      (a.0, (λ key links least. refused.apart sha256 sha256 key links a.0 p q least e.0.start e.0.end e.0.apart e.1), a.2)
   writes old new (Err fault) a = tt
 
 module _ (laws : AcceptedLaws) (folder : Folder) (file : List ℕ) (q : NearQuery) (p : Publication) (read : publication_at folder file ≡ Ok p) where
@@ -89,7 +89,7 @@ module _ (laws : AcceptedLaws) (folder : Folder) (file : List ℕ) (q : NearQuer
   near_writes : (old new : Option (List ℕ)) (o : Result Conclusion Fault) → Answered (ends_reach file q folder) old new o → WritesNearReply p q old new o
   near_writes old new (Ok Done) a =
       let e = near_ends (Ok Done) a.0 tt a.1 in
-      (a.0, (λ key least signed fresh. laws.near_replies sha256 sha256 key a.0 p q least signed fresh e), a.2)
+      (a.0, (λ signer key links least signed leads fresh. laws.near_replies sha256 sha256 signer key links a.0 p q least signed leads fresh e), a.2)
   near_writes old new (Ok Refused) a = absurd (near_ends (Ok Refused) a.0 tt a.1)
   near_writes old new (Ok Evidence) a = absurd (near_ends (Ok Evidence) a.0 tt a.1)
   near_writes old new (Err fault) a = tt
@@ -110,8 +110,9 @@ replies_taken laws refused Links files content old new o a = tt
 replies_taken laws refused Desk files content old new o a = tt
 replies_taken laws refused (Publish roads settings) files content old new o a = tt
 replies_taken laws refused (Serve publication) files content old new o a = tt
-replies_taken laws refused (Check key reply q least) files content old new o a = tt
-replies_taken laws refused (Audit key publication reply q) files content old new o a = tt
+replies_taken laws refused (Check key reply q least chain) files content old new o a = tt
+replies_taken laws refused (Audit key publication reply q chain) files content old new o a = tt
 replies_taken laws refused (Survey width seed method queries) files content old new o a = tt
-replies_taken laws refused (CheckReach key reply q least) files content old new o a = tt
-replies_taken laws refused (AuditReach key publication reply q) files content old new o a = tt
+replies_taken laws refused (CheckReach key reply q least chain) files content old new o a = tt
+replies_taken laws refused (AuditReach key publication reply q chain) files content old new o a = tt
+replies_taken laws refused (Reduce key text signature) files content old new o a = tt

@@ -11,7 +11,7 @@ use Rattle.road_io.specs.Contents.{Folder}
 use Rattle.road_io.specs.Disk.{Stays}
 use Rattle.road_io.specs.Moments.{AtEachMoment}
 use Rattle.key_desk.specs.Stands.{KeepsStanding}
-use Rattle.road_command.specs.Requests.{Request, Route, Root, Dimacs, Key, Succeed, Links, Desk, Publish, Prove, Serve, Check, Audit, Survey, Reach, CheckReach, AuditReach}
+use Rattle.road_command.specs.Requests.{Request, Route, Root, Dimacs, Key, Succeed, Links, Desk, Publish, Prove, Serve, Check, Audit, Survey, Reach, CheckReach, AuditReach, Reduce}
 use Rattle.command_files.specs.Endings.{Ending, Promises, TellsNone}
 use Rattle.command_files.specs.declared.fault.Fault.{Fault}
 use Rattle.command_files.specs.declared.fault.Fault.TheVariants.{Words, MirrorLost}
@@ -32,11 +32,15 @@ use Rattle.owner_commands.specs.Publishing.{TellsLost, ends_publish}
 use Rattle.owner_commands.specs.Signing.{SealsWhatItWrites, SealsWhatItMirrors, SignsAtMostOne, StaysRefused}
 use Rattle.audit_commands.specs.Auditing.{ends_audit}
 use Rattle.audit_commands.specs.Headline.{IsBrought, WritesFindings, AuditsAccepted}
+use Rattle.reduce_commands.specs.Reducing.{ends_reduce}
+use Rattle.reduce_commands.specs.Unreleased.{WritesReduced}
 use Rattle.survey_commands.specs.Surveying.{EndsSurvey}
 use Rattle.near_server_commands.specs.NearReaching.{ends_reach}
 use Rattle.near_client_commands.specs.NearChecking.{ends_check_reach}
-use Rattle.near_audit_commands.specs.NearAuditing.{ends_audit_reach}
-use Rattle.near_audit_commands.specs.NearHeadline.{IsNearBrought, AuditsAcceptedReach}
+use Rattle.near_audit.specs.Radii.{radii}
+use Rattle.near_line.specs.WithinLine.{refused_near_line}
+use Rattle.road_line.specs.VerdictLine.{refused_line}
+use Rattle.route_audit.specs.Routes.{routes}
 
 -- With which outcome the files, and what the disk holds, let a command end, and which text it then
 -- writes. Under `serve` the end also rests on the source's input, of which `ServesFrames` speaks.
@@ -51,14 +55,16 @@ Ends content Desk folder = EndsDesk content
 Ends content (Publish roads settings) folder = ends_publish content roads settings folder
 Ends content (Prove publication q) folder = ends_prove publication q folder
 Ends content (Serve publication) folder = ends_serve publication folder
-Ends content (Check key reply q least) folder = ends_check key reply q least folder
-Ends content (Audit key publication reply q) folder = ends_audit content key publication reply q
-    folder
+Ends content (Check key reply q least chain) folder = ends_check key reply q least chain folder
+Ends content (Audit key publication reply q chain) folder =
+    ends_audit routes refused_line content key publication reply q chain folder
 Ends content (Survey width seed method queries) folder = EndsSurvey width seed method queries
 Ends content (Reach publication q) folder = ends_reach publication q folder
-Ends content (CheckReach key reply q least) folder = ends_check_reach key reply q least folder
-Ends content (AuditReach key publication reply q) folder = ends_audit_reach content key publication
-    reply q folder
+Ends content (CheckReach key reply q least chain) folder = ends_check_reach key reply q least
+    chain folder
+Ends content (AuditReach key publication reply q chain) folder =
+    ends_audit radii refused_near_line content key publication reply q chain folder
+Ends content (Reduce key text signature) folder = ends_reduce content key text signature folder
 
 -- of which faults a command tells its client by a text
 abbrev pub TellsClient : Request → Fault → Type 0
@@ -79,16 +85,18 @@ OnDisk g old new Links files taken_before taken_now outcome = AtEachMoment g old
 OnDisk g old new (Publish roads settings) files taken_before taken_now outcome =
     SealsWhatItWrites g old new taken_before taken_now outcome ×
     SignsAtMostOne g old new files roads settings × IfErr outcome (StaysRefused g old new)
-OnDisk g old new (Audit key publication reply q) files taken_before taken_now outcome =
+OnDisk g old new (Audit key publication reply q chain) files taken_before taken_now outcome =
     AtEachMoment g old new Stays ×
-    WritesFindings g new IsBrought key reply files taken_before taken_now outcome
-    × AuditsAccepted g (g.content old) new key publication reply q files taken_before taken_now
-    outcome
-OnDisk g old new (AuditReach key publication reply q) files taken_before taken_now outcome =
+    WritesFindings g new (IsBrought routes) key reply chain files taken_before taken_now outcome
+    × AuditsAccepted routes g (g.content old) new key publication reply q chain files taken_before
+    taken_now outcome
+OnDisk g old new (AuditReach key publication reply q chain) files taken_before taken_now outcome =
     AtEachMoment g old new Stays ×
-    WritesFindings g new IsNearBrought key reply files taken_before taken_now outcome
-    × AuditsAcceptedReach g (g.content old) new key publication reply q files taken_before taken_now
-    outcome
+    WritesFindings g new (IsBrought radii) key reply chain files taken_before taken_now outcome
+    × AuditsAccepted radii g (g.content old) new key publication reply q chain files taken_before
+    taken_now outcome
+OnDisk g old new (Reduce key text signature) files taken_before taken_now outcome =
+    AtEachMoment g old new Stays × WritesReduced g new taken_before taken_now outcome
 OnDisk g old new request files taken_before taken_now outcome = AtEachMoment g old new Stays
 
 -- M is a mirror, of which octets, label, puts and room tell what it holds, its label, and what it
@@ -130,8 +138,9 @@ IsTold (Succeed file kind) content = content ≢ None
 IsTold Links content = content ≢ None
 IsTold Desk content = content ≢ None
 IsTold (Publish roads settings) content = content ≢ None
-IsTold (Audit key publication reply q) content = content ≢ None
-IsTold (AuditReach key publication reply q) content = content ≢ None
+IsTold (Audit key publication reply q chain) content = content ≢ None
+IsTold (AuditReach key publication reply q chain) content = content ≢ None
+IsTold (Reduce key text signature) content = content ≢ None
 IsTold (Serve publication) content = ⊥
 IsTold request content = Unit {0}
 

@@ -3,7 +3,8 @@
 ghost use Rattle.std.specs.Prelude.{◌≤◌, length, vec_len};
 
 use book_model::Query;
-use command_files::{Ended, Fault};
+use command_files::{Ended, Fault, load_chain};
+use lms_tree::Link;
 use near_client::check_near;
 use near_model::NearQuery;
 use octet_text::Sha;
@@ -52,9 +53,8 @@ pub fn look_again<L: Library>(
         }
         (None, Some(command)) if ended.status == 1 => {
             if let Some(refused) = refused_by(command) {
-                let key = key_in(&load(alloc, library, refused.key));
                 found.text = load(alloc, library, refused.reply);
-                found.refusal = refused.why(alloc, &key, &found.text);
+                found.refusal = refused.again(alloc, library, &found.text);
             }
         }
         _ => {}
@@ -77,20 +77,34 @@ struct Refused<'a> {
     asked: Asked,
     /// The least version that is taken.
     least: u64,
+    /// The chain file, where one is named.
+    chain: Option<&'a str>,
 }
 
 impl Refused<'_> {
-    /// Why the client refuses the reply.
-    fn why(&self, alloc: Global, key: &[u8], reply: &[u8]) -> Option<Unusable>
+    /// Why the client refuses the reply, under the key and along the chain of their files.
+    fn again<L: Library>(&self, alloc: Global, library: &mut L, reply: &[u8]) -> Option<Unusable>
         requires { length reply.now ≤ 268435456 }
+    {
+        let key = key_in(&load(alloc, library, self.key));
+        let Ok(chain) = load_chain(alloc, library, self.chain) else {
+            return None;
+        };
+        self.why(alloc, &key, chain.as_slice(), reply)
+    }
+
+    /// Why the client refuses the reply.
+    fn why(&self, alloc: Global, key: &[u8], chain: &[Link], reply: &[u8]) -> Option<Unusable>
+        requires short { length reply.now ≤ 268435456 }
+        requires few { length chain.now ≤ 7 }
     {
         match self.asked {
             Asked::Route(query) => {
-                let why = check::<Sha>(alloc, key, reply, query, self.least).err()?;
+                let why = check::<Sha>(alloc, key, chain, reply, query, self.least).err()?;
                 Some(Unusable::Route(why))
             }
             Asked::Nodes(query) => {
-                let why = check_near::<Sha>(alloc, key, reply, query, self.least).err()?;
+                let why = check_near::<Sha>(alloc, key, chain, reply, query, self.least).err()?;
                 Some(Unusable::Nodes(why))
             }
         }
@@ -99,31 +113,35 @@ impl Refused<'_> {
 
 /// The reply that a command refuses, if it may refuse one.
 fn refused_by(command: Command<'_>) -> Option<Refused<'_>> {
-    let (key, reply, asked, least) = match command {
+    let (key, reply, asked, least, chain) = match command {
         Command::Check {
             key,
             reply,
             query,
             least,
-        } => (key, reply, Asked::Route(query), least),
+            chain,
+        } => (key, reply, Asked::Route(query), least, chain),
         Command::Audit {
             key,
             reply,
             query,
+            chain,
             ..
-        } => (key, reply, Asked::Route(query), 0),
+        } => (key, reply, Asked::Route(query), 0, chain),
         Command::CheckReach {
             key,
             reply,
             query,
             least,
-        } => (key, reply, Asked::Nodes(query), least),
+            chain,
+        } => (key, reply, Asked::Nodes(query), least, chain),
         Command::AuditReach {
             key,
             reply,
             query,
+            chain,
             ..
-        } => (key, reply, Asked::Nodes(query), 0),
+        } => (key, reply, Asked::Nodes(query), 0, chain),
         _ => return None,
     };
     Some(Refused {
@@ -131,6 +149,7 @@ fn refused_by(command: Command<'_>) -> Option<Refused<'_>> {
         reply,
         asked,
         least,
+        chain,
     })
 }
 

@@ -205,6 +205,14 @@ fn a_route_is_published_proved_checked_and_audited(rt: HostRuntime) -> Result<()
         ("audit key pub pub 1 3", "refused Malformed 0\n", 1, None),
         ("audit other pub reply 1 3", "", 3, Some(Fault::OtherKey)),
         (
+            "reduce key key key",
+            "refused BadSignature BadForm\n",
+            1,
+            None,
+        ),
+        ("reduce other key key", "", 3, Some(Fault::OtherKey)),
+        ("reduce other pub key", "", 3, Some(Fault::BadHex)),
+        (
             "audit key later reply 1 3",
             "",
             14,

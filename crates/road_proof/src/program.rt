@@ -21,6 +21,7 @@ use near_client_commands::check_reach;
 use near_proof::near_laws;
 use near_server_commands::reach;
 use owner_commands::{desk, key, links, publish, succeed};
+use reduce_commands::reduce;
 use road_command::{Command, Words, command_of};
 use road_io::{Disk, Library, Sink, Source};
 use road_map::map_laws;
@@ -125,16 +126,18 @@ fn work<L: Library, S: Source, K: Sink, D: Disk, M: Mirror>(
                 reply,
                 query,
                 least,
+                chain,
             },
-        ) => check(alloc, library, sink, key, reply, query, least),
+        ) => check(alloc, library, sink, key, reply, query, least, chain),
         Some(
             Command::Audit {
                 key,
-                publication,
+                publication: file,
                 reply,
                 query,
+                chain,
             },
-        ) => audit(alloc, library, sink, disk, key, publication, reply, query),
+        ) => audit(alloc, library, sink, disk, key, file, reply, query, chain),
         Some(Command::Survey(asked)) => survey(alloc, sink, asked),
         Some(Command::Reach { publication, query }) => {
             reach(alloc, library, sink, publication, query)
@@ -145,15 +148,24 @@ fn work<L: Library, S: Source, K: Sink, D: Disk, M: Mirror>(
                 reply,
                 query,
                 least,
+                chain,
             },
-        ) => check_reach(alloc, library, sink, key, reply, query, least),
+        ) => check_reach(alloc, library, sink, key, reply, query, least, chain),
         Some(
             Command::AuditReach {
                 key,
-                publication,
+                publication: file,
                 reply,
                 query,
+                chain,
             },
-        ) => audit_reach(alloc, library, sink, disk, key, publication, reply, query),
+        ) => audit_reach(alloc, library, sink, disk, key, file, reply, query, chain),
+        Some(
+            Command::Reduce {
+                key,
+                text,
+                signature,
+            },
+        ) => reduce(alloc, library, sink, disk, key, text, signature),
     }
 }

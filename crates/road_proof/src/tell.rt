@@ -84,6 +84,9 @@ impl Display for Message<'_> {
 impl<'a> Message<'a> {
     /// What is said where no fault was met.
     fn verdict<W: fmt::Write>(&self, f: &mut Formatter<W>) -> fmt::Result {
+        if let Some(Command::Reduce { signature, .. }) = self.command {
+            return self.reduced(f, signature);
+        }
         let reply = reply_of(self.command);
         match (self.ended.status, self.facts.refusal) {
             (0, _) => self.few_left(f),
@@ -98,9 +101,24 @@ impl<'a> Message<'a> {
             ),
             _ => write!(
                 f,
-                "road_proof: {reply}: {} not to be used: the reply rests on a header that the owner never signed, or on two texts of one digest, as the line that was written says. Keep that line with the three files.",
+                "road_proof: {reply}: {} not to be used: the reply rests on a text that the owner never signed, or on two texts of one digest, as the line that was written says. Keep that line with the three files.",
                 brought(self.command)
             ),
+        }
+    }
+
+    /// What is said of a signature on a text that the desk did not sign.
+    fn reduced<W: fmt::Write>(&self, f: &mut Formatter<W>, signature: &str) -> fmt::Result {
+        if self.ended.status == 1 {
+            write!(
+                f,
+                "road_proof: {signature}: It is no signature of this key on the text, for the reason in the line that was written."
+            )
+        } else {
+            write!(
+                f,
+                "road_proof: {signature}: It rests on two texts of one digest, or on a value that the desk never released, as the line that was written says. Keep that line with the three files."
+            )
         }
     }
 
@@ -172,7 +190,7 @@ impl<'a> Message<'a> {
             Fault::UnknownNode(id) => write!(f, "It has no node {id}."),
             Fault::NoRoute => f.write_str("No route joins the two nodes."),
             Fault::HeaderWrong => f.write_str("Its header is not that of its map and settings."),
-            Fault::OtherKey => f.write_str("This public key is not that of the key in owner.desk."),
+            Fault::OtherKey => f.write_str("This public key is none of those in owner.desk."),
             Fault::OtherPublication => write!(
                 f,
                 "{} not to be used before the reply is audited with its own publication, which is another one of the owner's.",
@@ -216,14 +234,15 @@ impl<'a> Message<'a> {
                 }
             }
             Fault::Malformed(place) => {
+                let (kind, wanted) = self.malformed();
                 write!(
                     f,
-                    "It is no publication, and can't be read from place {place} on."
+                    "It is no {kind}, and can't be read from place {place} on."
                 )?;
-                self.look(f, Look::Publication)
+                self.look(f, wanted)
             }
             Fault::BadHex => {
-                let wanted = digits_of(self.command);
+                let wanted = digits_of(self.command, self.facts.name);
                 let text = self.facts.text;
                 write!(f, "{}", WrongHex { text, wanted })?;
                 self.look(f, Look::Empty)
@@ -232,6 +251,14 @@ impl<'a> Message<'a> {
                 f.write_str("It can't be read")?;
                 reason(f, self.facts.file_error)
             }
+        }
+    }
+
+    /// What the file that was asked for last should be, where it could not be read.
+    fn malformed(&self) -> (&'static str, Look) {
+        match chain_of(self.command) {
+            Some(chain) if chain == self.facts.name => ("chain file", Look::Chain),
+            _ => ("publication", Look::Publication),
         }
     }
 
@@ -375,9 +402,23 @@ fn key_of(command: Option<Command<'_>>) -> &str {
             Command::Check { key, .. }
             | Command::Audit { key, .. }
             | Command::CheckReach { key, .. }
-            | Command::AuditReach { key, .. },
+            | Command::AuditReach { key, .. }
+            | Command::Reduce { key, .. },
         ) => key,
         _ => "key",
+    }
+}
+
+/// The name of a command's chain file, where one is named.
+fn chain_of(command: Option<Command<'_>>) -> Option<&str> {
+    match command {
+        Some(
+            Command::Check { chain, .. }
+            | Command::Audit { chain, .. }
+            | Command::CheckReach { chain, .. }
+            | Command::AuditReach { chain, .. },
+        ) => chain,
+        _ => None,
     }
 }
 
@@ -417,10 +458,11 @@ fn settings_of(command: Option<Command<'_>>) -> Option<u8> {
     }
 }
 
-/// How many hex digits a command's file must have.
-fn digits_of(command: Option<Command<'_>>) -> usize {
+/// How many hex digits a command's file of this name must have, unless any even number will do.
+fn digits_of(command: Option<Command<'_>>, name: &str) -> Option<usize> {
     match command {
-        Some(Command::Key { .. } | Command::Succeed { .. }) => 96,
-        _ => 112,
+        Some(Command::Key { .. } | Command::Succeed { .. }) => Some(96),
+        Some(Command::Reduce { key, .. }) if key != name => None,
+        _ => Some(112),
     }
 }

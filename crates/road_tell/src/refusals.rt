@@ -54,6 +54,10 @@ impl Unusable {
                 f,
                 "the reply is of version {version} of the map, which is older than LEAST asks for."
             ),
+            CheckError::BadChain(link, _) => write!(
+                f,
+                "the link {link} of the chain is not signed by the key before it, so that no key behind it is the owner's."
+            ),
             CheckError::BadSignature(why) => Unusable::seal(f, why),
             CheckError::BadCover(_, _) => f.write_str(COVER),
             CheckError::Judged(why) => Unusable::judged(f, why),
@@ -89,7 +93,8 @@ impl Unusable {
             SealError::BadKey => {
                 "the public key is of no kind that is known here, so that nothing is signed under it."
             }
-            _ => "the reply is not signed under this public key.",
+            _ =>
+                "the reply is not signed under this public key, or a later one that a chain leads to.",
         })
     }
 

@@ -15,7 +15,7 @@ pub struct Usage {
 }
 
 /// The commands.
-pub const USAGES: [Usage; 16] = [
+pub const USAGES: [Usage; 17] = [
     Usage {
         words: "route ROADS S T",
         does: "writes the length and the nodes of a shortest route from S to T",
@@ -75,6 +75,10 @@ pub const USAGES: [Usage; 16] = [
     Usage {
         words: "audit-reach PUBKEY PUB REPLY S RADIUS",
         does: "writes what such a reply is evidence of, by owner.desk and a publication",
+    },
+    Usage {
+        words: "reduce PUBKEY TEXT SIGNATURE",
+        does: "writes what a signature on a text that the desk never signed comes down to, by\n      owner.desk: a collision of SHA-256, or a value that the desk never released",
     },
     Usage {
         words: "survey WIDTH SEED METHOD QUERIES",

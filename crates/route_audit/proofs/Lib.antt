@@ -1,6 +1,6 @@
 pub mod Folded
 pub mod Authentic
 pub mod Judged
-pub mod LeftLemmas
 pub mod Signed
 pub mod FindingLemmas
+pub mod RouteLemmas

@@ -1,18 +1,16 @@
 -- What an answer shows over a publication's own trees.
 -- Source: Merkle, A Digital Signature Based on a Conventional Encryption Function, CRYPTO 1987:
 -- what folds to a tree's root and is not the tree's own shows two texts with one digest.
-use Rattle.std.specs.Prelude.{◌≡◌, ◌≢◌, ◌⊎◌, ℕ, List, length, Ok}
+use Rattle.std.specs.Prelude.{◌≡◌, ◌≢◌, ◌⊎◌, ℕ, List, length}
 use Rattle.road_map.specs.Routes.{IsShortest}
 use Rattle.book_model.specs.declared.items.Query.{Query}
 use Rattle.book_model.specs.Books.{Kind, Book, leaves_of, leaf_order}
 use Rattle.merkle_cover.specs.Clashes.{AreHashed}
 use Rattle.merkle_cover.specs.Covers.{IsRising, chosen_texts, cover_of}
 use Rattle.merkle_cover.specs.declared.clashes.TwoTexts.{TwoTexts}
-use Rattle.lms_tree.specs.Signatures.{verified}
 use Rattle.proof_method.specs.Gathering.{IsAuthentic}
 use Rattle.proof_octets.specs.declared.publication.Publication.{Publication}
 use Rattle.proof_octets.specs.declared.reply.Answer as answers
-use Rattle.proof_octets.specs.Headers.{header_text}
 use Rattle.route_client.specs.declared.accepted.Accepted.{Accepted}
 use Rattle.route_server.specs.Headers.{node_texts, pair_texts, IsBook}
 
@@ -72,6 +70,11 @@ pub record IsRight (hash sha : List ℕ → List ℕ) (p : Publication) (q : Que
   pub authentic : IsAuthentic own.book a.items
   pub shortest : IsShortest p.parts q.from q.to x.route x.length
 
+-- ---- the parts of findings
+
+abbrev pub two_texts : List ℕ → List ℕ → TwoTexts
+two_texts left right = record { left = left; right = right }
+
 -- ---- collisions
 
 -- what is brought is not the tree's own, and at one place the tree hashes the left text, and the
@@ -101,13 +104,3 @@ pub record Collides (hash sha : List ℕ → List ℕ) (p : Publication) (a : an
   pub book : Book
   pub is_book : IsBook sha p.parts p.settings kind book
   pub clash : ClashesFirst hash (node_part sha p book a) (pair_part p book a) two
-
--- ---- forged headers
-
--- the header of an answer and the signature that it brings, which is verified on the header under
--- the key
-pub record BringsHeader (key : List ℕ) (a : answers.Answer)
-    (header signature : List ℕ) : Type 0 where
-  pub header_is : header ≡ header_text a.header
-  pub signature_is : signature ≡ a.signature
-  pub good : verified key header signature ≡ Ok tt

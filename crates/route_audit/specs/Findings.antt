@@ -1,111 +1,134 @@
 -- The order of findings, and what each of them means.
-use Rattle.std.specs.Prelude.{◌≡◌, ◌≢◌, ℕ, List, Result, Ok, Err}
-use Rattle.book_model.specs.declared.items.Query.{Query}
+use Rattle.std.specs.Prelude.{◌≡◌, ◌≢◌, ℕ, List, Result, Ok, Err, true}
+use Rattle.lms_tree.specs.declared.links.Link.{Link}
+use Rattle.road_io.specs.declared.disk.Disk.{Ghosts}
+use Rattle.road_io.specs.Causes.{Rose}
+use Rattle.key_desk.specs.declared.desk.Desk.{Desk as TheDesk}
+use Rattle.desk_look.specs.Forgeries.{AreSigned, Forges, forgery}
+use Rattle.desk_look.specs.Left.{IsLeft}
+use Rattle.desk_look.specs.Looks.{Look, look_at}
+use Rattle.desk_look.specs.declared.forgery.Forgery.{Forgery}
+use Rattle.proof_octets.specs.declared.header.Header.{Header}
 use Rattle.proof_octets.specs.declared.publication.Publication.{Publication}
-use Rattle.proof_octets.specs.declared.reply.Answer as answers
 use Rattle.proof_octets.specs.Headers.{header_text}
-use Rattle.route_client.specs.declared.accepted.Accepted.{Accepted}
-use Rattle.route_client.specs.declared.errors.CheckError.TheVariants as checks
-use Rattle.route_client.specs.Verdicts.{IsVerdict, Accepts}
 use Rattle.route_server.specs.Headers.{HasHeader}
 use Rattle.route_server.specs.Installing.{Installs}
 use Rattle.route_server.specs.declared.errors.InstallError.TheVariants as installs
-use Rattle.route_audit.specs.Evidence.{IsRight, Collides, BringsHeader}
-use Rattle.route_audit.specs.Looks.{Look}
+use Rattle.route_audit.specs.Evidence.{two_texts}
+use Rattle.route_audit.specs.Kinds.{ReplyKind}
 use Rattle.route_audit.specs.declared.errors.AuditError.{AuditError}
 use Rattle.route_audit.specs.declared.errors.AuditError.TheVariants.{OtherKey, Refused, Install, Desk, OtherPublication, Memory}
 use Rattle.route_audit.specs.declared.finding.Finding.{Finding}
 use Rattle.route_audit.specs.declared.finding.Finding.TheVariants.{Right, Collision, Forged}
 
--- what is audited: octets as a reply to a query, under a public key and against a publication, at a
--- desk with this public key
-pub record Audited : Type 0 where
-  pub desk_key : List ℕ
+-- what is audited: octets as a reply to a query, under a public key and a chain of links from it,
+-- and against a publication
+pub record Audited (Query : Type 0) : Type 0 where
   pub public : List ℕ
+  pub chain : List Link
   pub reply : List ℕ
   pub query : Query
   pub publication : Publication
 
 -- ---- the steps
 
--- the key is the desk's, and the client accepts the reply under it
-pub record IsAccepted (hash : List ℕ → List ℕ) (u : Audited) : Type 0 where
-  pub key : u.public ≡ u.desk_key
-  pub accepted : Accepted
-  pub accepts : Accepts hash u.desk_key u.reply u.query 0 accepted
+-- the key is one of the owner's, and the client accepts the reply under it and the chain
+pub record IsAccepted {Q A X E : Type 0} (kind : ReplyKind Q A X E) (hash : List ℕ → List ℕ)
+    (look : Look) (u : Audited Q) : Type 0 where
+  pub own : look.Owns u.public
+  pub taken : X
+  pub answer : A
+  pub accepts : kind.Accepts hash u.public u.chain u.reply u.query 0 taken answer
 
 -- and the publication has the header of its parts and settings
-pub record IsInstalled (hash sha : List ℕ → List ℕ) (u : Audited) : Type 0 where
-  pub reply : IsAccepted hash u
+pub record IsInstalled {Q A X E : Type 0} (kind : ReplyKind Q A X E) (hash sha : List ℕ → List ℕ)
+    (look : Look) (u : Audited Q) : Type 0 where
+  pub reply : IsAccepted kind hash look u
   pub header : HasHeader hash sha u.publication.parts u.publication.settings u.publication.header
 
--- the accepted answer
-abbrev pub answer_of : {hash sha : List ℕ → List ℕ} {u : Audited} → IsInstalled hash sha u →
-    answers.Answer
-answer_of i = i.reply.accepts.answer
-
--- and its header was signed, and is the publication's
-pub record IsPublished (hash sha : List ℕ → List ℕ) (look : Look) (u : Audited) : Type 0 where
-  pub installed : IsInstalled hash sha u
-  pub signed : look.Signed (header_text (answer_of installed).header)
-  pub same : (answer_of installed).header ≡ u.publication.header
+-- and the links and the header of the accepted answer were signed, and it is the publication's
+pub record IsPublished {Q A X E : Type 0} (kind : ReplyKind Q A X E) (hash sha : List ℕ → List ℕ)
+    (look : Look) (u : Audited Q) : Type 0 where
+  pub installed : IsInstalled kind hash sha look u
+  pub signed : AreSigned look u.chain (header_text (kind.header installed.reply.answer))
+  pub same : kind.header installed.reply.answer ≡ u.publication.header
 
 -- ---- the findings
 
--- a header that is not signed, with a signature that is verified on it
-pub record IsForged (hash sha : List ℕ → List ℕ) (look : Look) (u : Audited)
-    (header signature : List ℕ) : Type 0 where
-  pub installed : IsInstalled hash sha u
-  pub brings : BringsHeader u.desk_key (answer_of installed) header signature
-  pub unsigned : look.Unsigned header
+-- a link text or a header that is not signed, with a signature that is verified on it
+pub record IsForged {Q A X E : Type 0} (kind : ReplyKind Q A X E) (hash sha : List ℕ → List ℕ)
+    (look : Look) (u : Audited Q) (f : Forgery) : Type 0 where
+  pub installed : IsInstalled kind hash sha look u
+  pub forges : Forges look u.public u.chain (header_text (kind.header installed.reply.answer))
+      (kind.signature installed.reply.answer) f
 
--- a header that is signed, and not the publication's
-pub record IsOther (hash sha : List ℕ → List ℕ) (look : Look) (u : Audited) : Type 0 where
-  pub installed : IsInstalled hash sha u
-  pub signed : look.Signed (header_text (answer_of installed).header)
-  pub other : (answer_of installed).header ≢ u.publication.header
+-- a header that is signed, as are the links, and not the publication's
+pub record IsOther {Q A X E : Type 0} (kind : ReplyKind Q A X E) (hash sha : List ℕ → List ℕ)
+    (look : Look) (u : Audited Q) : Type 0 where
+  pub installed : IsInstalled kind hash sha look u
+  pub signed : AreSigned look u.chain (header_text (kind.header installed.reply.answer))
+  pub other : kind.header installed.reply.answer ≢ u.publication.header
 
 -- What an audit answers: the first of these that holds. Each asks that the earlier steps were
 -- passed. Want of memory may come at any time.
-abbrev pub Finds : (List ℕ → List ℕ) → (List ℕ → List ℕ) → Look → Audited →
-    Result Finding AuditError → Type 0
-Finds hash sha look u (Err OtherKey) = u.public ≢ u.desk_key
-Finds hash sha look u (Err (Refused e)) = (u.public ≡ u.desk_key) ×
-    IsVerdict hash u.desk_key u.reply u.query 0 (Err e) × (e ≢ checks.Memory)
-Finds hash sha look u (Err (Install e)) = IsAccepted hash u ×
+abbrev pub Finds : {Q A X E : Type 0} → ReplyKind Q A X E → (List ℕ → List ℕ) →
+    (List ℕ → List ℕ) → Look → Audited Q → Result Finding (AuditError E) → Type 0
+Finds kind hash sha look u (Err OtherKey) = ¬ look.Owns u.public
+Finds kind hash sha look u (Err (Refused e)) = look.Owns u.public ×
+    kind.Refuses hash u.public u.chain u.reply u.query e
+Finds kind hash sha look u (Err (Install e)) = IsAccepted kind hash look u ×
     Installs hash sha u.publication (Err e) × (e ≢ installs.Memory)
-Finds hash sha look u (Err (Desk e)) = IsInstalled hash sha u × look.Fails e
-Finds hash sha look u (Ok (Forged header signature)) = IsForged hash sha look u header signature
-Finds hash sha look u (Err OtherPublication) = IsOther hash sha look u
-Finds hash sha look u (Ok (Collision two)) = (p : IsPublished hash sha look u) ×
-    Collides hash sha u.publication (answer_of p.installed) two
-Finds hash sha look u (Ok Right) = (p : IsPublished hash sha look u) ×
-    IsRight hash sha u.publication u.query p.installed.reply.accepted (answer_of p.installed)
-Finds hash sha look u (Err Memory) = Unit {0}
+Finds kind hash sha look u (Err (Desk e)) = IsInstalled kind hash sha look u × look.Fails e
+Finds kind hash sha look u (Ok (Forged key text signature)) =
+    IsForged kind hash sha look u (forgery key text signature)
+Finds kind hash sha look u (Err OtherPublication) = IsOther kind hash sha look u
+Finds kind hash sha look u (Ok (Collision left right)) = (p : IsPublished kind hash sha look u) ×
+    kind.Collides hash sha u.publication p.installed.reply.answer (two_texts left right)
+Finds kind hash sha look u (Ok Right) = (p : IsPublished kind hash sha look u) ×
+    kind.IsRight hash sha u.publication u.query p.installed.reply.taken p.installed.reply.answer
+Finds kind hash sha look u (Err Memory) = Unit {0}
 
 -- ---- one always comes
 
--- octets that the client accepts under the desk's key, with any least version, and the publication
--- whose header they carry
-pub record IsAuditable (hash sha : List ℕ → List ℕ) (u : Audited) : Type 0 where
-  pub key : u.public ≡ u.desk_key
+-- octets that the client accepts under one of the owner's keys and a chain, with any least version,
+-- and a publication that can be installed, of whatever header
+pub record IsAuditable {Q A X E : Type 0} (kind : ReplyKind Q A X E) (hash sha : List ℕ → List ℕ)
+    (look : Look) (u : Audited Q) : Type 0 where
+  pub own : look.Owns u.public
   pub least : ℕ
-  pub accepted : Accepted
-  pub accepts : Accepts hash u.desk_key u.reply u.query least accepted
+  pub taken : X
+  pub answer : A
+  pub accepts : kind.Accepts hash u.public u.chain u.reply u.query least taken answer
   pub header : HasHeader hash sha u.publication.parts u.publication.settings u.publication.header
-  pub same : accepted.header ≡ u.publication.header
 
--- there is a finding, unless memory ran out
-abbrev pub Comes : Result Finding AuditError → Type 0
-Comes (Ok finding) = Unit {0}
-Comes (Err Memory) = Unit {0}
-Comes (Err e) = ⊥
+-- there is a finding, or the accepted header is not the publication's, unless memory ran out
+abbrev pub Comes : {E : Type 0} → Header → Header → Result Finding (AuditError E) → Type 0
+Comes accepted published (Ok finding) = Unit {0}
+Comes accepted published (Err OtherPublication) = accepted ≢ published
+Comes accepted published (Err Memory) = Unit {0}
+Comes accepted published (Err e) = ⊥
 
 -- ---- before the look
 
 -- this holds where the answer came before the look at the slots
-abbrev pub BeforeLook : Result Finding AuditError → Type 0 → Type 0
+abbrev pub BeforeLook : {E : Type 0} → Result Finding (AuditError E) → Type 0 → Type 0
 BeforeLook (Err OtherKey) P = P
 BeforeLook (Err (Refused e)) P = P
 BeforeLook (Err (Install e)) P = P
 BeforeLook r P = Unit {0}
+
+-- ---- an audit
+
+-- What an audit of octets by a desk answers, and what it leaves: the first step that holds is
+-- answered; what is auditable comes to a finding where the desk is open and its disk doesn't fail;
+-- before the look at the slots nothing is touched, and afterwards the desk and the disk are left as
+-- they were.
+pub record Audits {Q A X E : Type 0} (kind : ReplyKind Q A X E) (hash sha : List ℕ → List ℕ)
+    {D : Type 0} (g : Ghosts D) (old_desk : TheDesk) (old : D) (new_desk : TheDesk) (new : D)
+    (u : Audited Q) (answer : Result Finding (AuditError E)) : Type 0 where
+  pub finds : Finds kind hash sha (look_at g old_desk old new) u answer
+  pub comes : (auditable : IsAuditable kind hash sha (look_at g old_desk old new) u)
+      → old_desk.is_open ≡ true → ¬ Rose (g.faults old) (g.faults new)
+      → Comes (kind.header auditable.answer) u.publication.header answer
+  pub untouched : BeforeLook answer ((new_desk ≡ old_desk) × (new ≡ old))
+  pub left : IsLeft g old_desk old new_desk new

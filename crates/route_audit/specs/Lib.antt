@@ -1,5 +1,6 @@
 pub mod Comparing
 pub mod Evidence
 pub mod Findings
-pub mod Left
-pub mod Looks
+pub mod Kinds
+pub mod Routes
+pub mod Steps

@@ -1,121 +1,139 @@
 //! The audit of a reply.
-ghost use Rattle.std.specs.Prelude.{◌≡◌, ◌<◌, ◌^◌, length, true, Ok};
+ghost use Rattle.std.specs.Prelude.{◌≡◌, ◌<◌, ◌≤◌, ◌^◌, length};
 ghost use Rattle.sha2.specs.Sha256.{sha256};
-ghost use Rattle.road_io.specs.Causes.{Rose};
-ghost use Rattle.lms_tree.specs.Signatures.{public_key};
 ghost use Rattle.key_desk.specs.Desk.{Fits};
-ghost use Rattle.proof_octets.specs.Good.{IsGood};
-ghost use Rattle.proof_octets.specs.Headers.{header_text};
-ghost use Rattle.proof_octets.specs.Replies.{reply_text};
-ghost use Rattle.proof_octets.specs.declared.reply.Reply.TheVariants.{Answer as spelled_answer};
-ghost use Rattle.route_client.specs.Verdicts.{nodes_covered, pairs_covered};
-ghost use Rattle.route_audit.specs.Comparing.{FindsIn};
-ghost use Rattle.route_audit.specs.Findings.{BeforeLook, Comes, Finds, IsAuditable};
-ghost use Rattle.route_audit.specs.Left.{IsLeft};
-ghost use Rattle.route_audit.specs.Looks.{Says, look_at};
+ghost use Rattle.desk_look.specs.Left.{IsLeft};
+ghost use Rattle.desk_look.specs.Looks.{IsKeyFrom, look_at};
+ghost use Rattle.route_server.specs.Keeping.{HasSpellings, IsKept};
+ghost use Rattle.route_audit.specs.Findings.{Audits};
+ghost use Rattle.route_audit.specs.Routes.{routes};
+ghost use Rattle.route_audit.specs.Steps.{FindsIn, IsAnswerTo};
 
-use crate::comparing::compare;
-use crate::steps::{accepted_answer, install, is_key_of, is_same_header};
-use crate::{AuditError, Finding};
+use crate::routes::Routes;
+use crate::steps::{install, is_same_header};
+use crate::{AuditError, Finding, Replies};
 use book_model::Query;
-use key_desk::{Desk, DeskError};
+use desk_look::{LookError, look, own_key};
+use key_desk::Desk;
+use lms_tree::Link;
 use octet_text::{Hasher, NoMemory};
-use proof_method::method_laws;
-use proof_octets::{Answer, Header, Publication};
+use proof_octets::Publication;
 use road_io::Disk;
-use route_client::verdict_laws;
+use route_client::CheckError;
 use route_server::{Held, server_laws};
 use std::alloc::Global;
 
-/// Whether a header is signed in a slot.
-pub fn is_signed<D: Disk>(desk: &mut Desk, disk: &mut D, header: &Header) -> Result<bool, DeskError>
-    requires { Fits D.Disk desk.old disk.old }
-    ensures says { Says (look_at D.Disk desk.old disk.old disk.new)
-        (header_text header.now) result }
-    ensures left { IsLeft D.Disk desk.old disk.old desk.new disk.new }
-{
-    desk.signed(disk, &header.write())
-}
-
 // What an accepted answer is evidence of, by the desk and the book of a publication.
-fn find_in<H: Hasher, D: Disk>(
+fn find_in<R: Replies, H: Hasher, D: Disk>(
     alloc: Global,
     held: &Held<H>,
-    reply: &[u8],
-    answer: Answer,
+    public: &[u8; 56],
+    chain: &[Link],
+    octets: &[u8],
+    query: R::Query,
+    answer: &R::Answer,
     desk: &mut Desk,
     disk: &mut D,
-) -> Result<Finding, AuditError>
+) -> Result<Finding, AuditError<R::Refusal>>
     requires fits { Fits D.Disk desk.old disk.old }
-    requires good { IsGood answer }
-    requires spelled { reply.now ≡ reply_text (spelled_answer answer) }
-    requires short { length reply.now < 2 ^ 32 }
-    requires nodes { nodes_covered H.hash answer ≡ Ok tt }
-    requires pairs { pairs_covered H.hash answer ≡ Ok tt }
-    ensures finds { FindsIn H.hash
-        (look_at D.Disk desk.old disk.old disk.new) held.now answer result }
+    requires own { IsKeyFrom desk.old 0 public.now }
+    requires short { length octets.now < 2 ^ 32 }
+    requires accepted { IsAnswerTo R.kind H.hash public.now chain.now octets.now query answer.now }
+    requires good { R.kind.IsGood answer.now }
+    requires kept { IsKept held.now }
+    requires spelled { HasSpellings held.now }
+    ensures finds { FindsIn R.kind H.hash sha256 (look_at D.Disk desk.old disk.old disk.new)
+        public.now chain.now held.now query answer.now result }
     ensures left { IsLeft D.Disk desk.old disk.old desk.new disk.new }
 {
-    match is_signed(desk, disk, &answer.header) {
-        Ok(true) => {}
-        Ok(false) => return Ok(Finding::forged(answer)),
-        Err(failure) => return Err(AuditError::Desk(failure)),
+    R::laws();
+    let header = R::header(answer);
+    match look(
+        alloc,
+        desk,
+        disk,
+        public,
+        chain,
+        &header.write(),
+        R::signature(answer),
+    ) {
+        Ok(None) => {}
+        Ok(Some(forgery)) => return Ok(Finding::forged(forgery)),
+        Err(LookError::Desk(failure)) => return Err(AuditError::Desk(failure)),
+        Err(LookError::Memory) => return Err(AuditError::Memory),
     }
-    if !is_same_header(&answer.header, &held.header()) {
+    if !is_same_header(header, &held.header()) {
         return Err(AuditError::OtherPublication);
     }
-    match compare::<H>(alloc, held, reply, &answer) {
+    match R::compare::<H>(alloc, held, public, chain, octets, query, answer) {
         Ok(finding) => Ok(finding),
         Err(NoMemory) => Err(AuditError::Memory),
     }
 }
 
-/// What a reply that a client accepted is evidence of, by the owner's desk and a publication. The first of
-/// these is answered:
+/// What a reply that a client accepted under a public key and a chain of links is evidence of, by the owner's
+/// desk and a publication. The first of these is answered:
 ///
-/// `OtherKey` where the public key is not the desk's; `Refused` where the client does not accept the reply,
+/// `OtherKey` where the public key is none of the desk's; `Refused` where the client does not accept the reply,
 /// whatever its version; `Install` where the publication's header is not that of its parts and settings;
-/// `Desk` where the desk is closed, or its disk fails; `Forged` where the accepted header stands in no spent
-/// slot; `OtherPublication` where it is not the publication's; `Collision` where what the reply brings is not
-/// of the publication's trees, the node tree first; and else `Right`.
+/// `Desk` where the desk is closed, or its disk fails; `Forged` of the first link whose text stands in no spent
+/// slot; `Forged` of the accepted header where it stands in none; `OtherPublication` where it is not the
+/// publication's; `Collision` where what the reply brings is not of the publication's trees; and else `Right`.
+pub fn audit_reply<R: Replies, H: Hasher, D: Disk>(
+    alloc: Global,
+    public: &[u8],
+    chain: &[Link],
+    reply: &[u8],
+    query: R::Query,
+    publication: Publication,
+    desk: &mut Desk,
+    disk: &mut D,
+) -> Result<Finding, AuditError<R::Refusal>>
+    requires fits { Fits D.Disk desk.old disk.old }
+    requires short { length reply.now < 2 ^ 32 }
+    requires few { length chain.now ≤ 7 }
+    ensures { Audits R.kind H.hash sha256 D.Disk desk.old disk.old desk.new disk.new
+        (record {
+          public = public.now;
+          chain = chain.now;
+          reply = reply.now;
+          query = query;
+          publication = publication;
+        }) result }
+{
+    R::laws();
+    server_laws();
+    let Some(key) = own_key(desk, public) else {
+        return Err(AuditError::OtherKey);
+    };
+    let answer = R::accepted::<H>(alloc, public, chain, reply, query)?;
+    let held = install::<H, R::Refusal>(alloc, publication)?;
+    find_in::<R, H, D>(alloc, &held, &key, chain, reply, query, &answer, desk, disk)
+}
+
+/// The audit of a reply on a route, as `audit_reply` says: what is right is a shortest route in the publication's
+/// map, and what collides does so in the node tree first.
 pub fn audit<H: Hasher, D: Disk>(
     alloc: Global,
     public: &[u8],
+    chain: &[Link],
     reply: &[u8],
     query: Query,
     publication: Publication,
     desk: &mut Desk,
     disk: &mut D,
-) -> Result<Finding, AuditError>
+) -> Result<Finding, AuditError<CheckError>>
     requires fits { Fits D.Disk desk.old disk.old }
     requires short { length reply.now < 2 ^ 32 }
-    ensures finds { Finds H.hash sha256 (look_at D.Disk desk.old disk.old disk.new)
+    requires few { length chain.now ≤ 7 }
+    ensures { Audits routes H.hash sha256 D.Disk desk.old disk.old desk.new disk.new
         (record {
-          desk_key = public_key desk.old.key;
           public = public.now;
+          chain = chain.now;
           reply = reply.now;
           query = query;
           publication = publication;
         }) result }
-    ensures comes { IsAuditable H.hash sha256
-        (record {
-          desk_key = public_key desk.old.key;
-          public = public.now;
-          reply = reply.now;
-          query = query;
-          publication = publication;
-        })
-        → desk.old.is_open ≡ true → ¬ Rose (D.faults disk.old) (D.faults disk.new) → Comes result }
-    ensures untouched { BeforeLook result ((desk.new ≡ desk.old) × (disk.new ≡ disk.old)) }
-    ensures left { IsLeft D.Disk desk.old disk.old desk.new disk.new }
 {
-    verdict_laws();
-    server_laws();
-    method_laws();
-    if !is_key_of(desk, public) {
-        return Err(AuditError::OtherKey);
-    }
-    let answer = accepted_answer::<H>(alloc, public, reply, query)?;
-    let held = install::<H>(alloc, publication)?;
-    find_in::<H, D>(alloc, &held, reply, answer, desk, disk)
+    audit_reply::<Routes, H, D>(alloc, public, chain, reply, query, publication, desk, disk)
 }

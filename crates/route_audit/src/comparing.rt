@@ -121,11 +121,11 @@ pub fn compare<H: Hasher>(
     let cuts = leaf_cuts(alloc, reply, answer)?;
     let nodes = CutTexts::new(reply, cuts.nodes.as_slice());
     if let Some(two) = clash_of_nodes::<H>(alloc, held, &nodes, answer)? {
-        return Ok(Finding::Collision(two));
+        return Ok(Finding::collision(two));
     }
     let pairs = CutTexts::new(reply, cuts.pairs.as_slice());
     if let Some(two) = clash_of_pairs::<H>(alloc, held, &pairs, answer)? {
-        return Ok(Finding::Collision(two));
+        return Ok(Finding::collision(two));
     }
     Ok(Finding::Right)
 }

@@ -1,19 +1,21 @@
 //! Why there is no finding.
 
 use key_desk::DeskError;
-use route_client::CheckError;
 use route_server::InstallError;
+use std::fmt::Display;
 use thiserror::Error;
 
-/// Why there is no finding. Want of memory is `Memory` alone, never inside another.
+/// Why there is no finding, where a client refuses replies of this kind for an `E`. Want of memory is `Memory`
+/// alone, never inside another.
 #[derive(Clone, Copy, Debug, PartialEq, Eq, Error)]
-pub enum AuditError {
-    /// The public key is not the desk's.
-    #[error("The public key is not that of the desk.")]
+#[error_bound(E: Display)]
+pub enum AuditError<E> {
+    /// The public key is none of the desk's.
+    #[error("The public key is none of the desk's.")]
     OtherKey,
     /// The client does not accept the reply, for this reason.
     #[error("The reply is refused. {0}")]
-    Refused(CheckError),
+    Refused(E),
     /// The publication is not held, for this reason.
     #[error("{0}")]
     Install(InstallError),

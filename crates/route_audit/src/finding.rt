@@ -1,12 +1,11 @@
 //! What an accepted reply is evidence of.
 
 ghost use Rattle.std.specs.Prelude.{◌≡◌};
-ghost use Rattle.proof_octets.specs.Headers.{header_text};
-ghost use Rattle.route_audit.specs.declared.finding.Finding.TheVariants.{Forged};
+ghost use Rattle.route_audit.specs.declared.finding.Finding.TheVariants.{Collision, Forged};
 
+use desk_look::Forgery;
 use merkle_cover::TwoTexts;
 use octet_text::Octets;
-use proof_octets::Answer;
 
 /// What an accepted reply is evidence of.
 #[derive(Debug, Drop)]
@@ -16,22 +15,39 @@ pub enum Finding {
     Right,
     /// Two different texts have one digest: the left one of the publication's trees, the right one of what
     /// the reply brings.
-    Collision(TwoTexts),
-    /// A header that the owner never signed has a signature that is verified on it.
+    Collision {
+        left: Octets,
+        right: Octets,
+    },
+    /// A text that the owner never signed, the link text of a chain or a header, has a signature that is
+    /// verified on it under one of the owner's keys.
     Forged {
-        header: [u8; 104],
+        key: [u8; 56],
+        text: Octets,
         signature: Octets,
     },
 }
 
 impl Finding {
-    // The header of an answer, and the signature that it brings.
-    pub(crate) fn forged(answer: Answer) -> Finding
-        ensures { result ≡ Forged (header_text answer.header) answer.signature }
+    /// The finding of two texts with one digest.
+    pub fn collision(two: TwoTexts) -> Finding
+        ensures { result ≡ Collision two.left two.right }
     {
+        Finding::Collision {
+            left: two.left,
+            right: two.right,
+        }
+    }
+
+    /// The finding of a text that the owner never signed.
+    pub fn forged(forgery: Forgery) -> Finding
+        ensures { result ≡ Forged forgery.key forgery.text forgery.signature }
+    {
+        let key = forgery.key;
         Finding::Forged {
-            header: answer.header.write(),
-            signature: answer.signature,
+            key,
+            text: forgery.text,
+            signature: forgery.signature,
         }
     }
 }

@@ -1,14 +1,18 @@
-//! The audit: what a reply that a client accepted is evidence of.
+//! The audit: what a reply that a client accepted is evidence of. Its steps are those of every kind of replies;
+//! those on routes are one.
 #![tactic(auto)]
 
-pub use auditing::{audit, is_signed};
+pub use auditing::{audit, audit_reply};
 pub use comparing::clash_under;
 pub use errors::AuditError;
 pub use finding::Finding;
-pub use steps::{install, is_key_of, is_same_header};
+pub use replies::Replies;
+pub use routes::Routes;
 
 mod auditing;
 mod comparing;
 mod errors;
 mod finding;
+mod replies;
+mod routes;
 mod steps;

@@ -2,8 +2,8 @@ ghost use Rattle.std.specs.Prelude.{◌≡◌, length};
 ghost use Rattle.key_desk.specs.Desk.{Fits};
 ghost use Rattle.lms_tree.specs.Signatures.{height_of, seal_len};
 
-use key_desk::{Desk, DeskError, StartError};
-use lms_tree::verify;
+use key_desk::{Desk, DeskError, StartError, SucceedError};
+use lms_tree::{link_text, verify};
 use mem_io::{MemDisk, Pick};
 use road_io::Disk;
 use std::alloc::Global;
@@ -101,6 +101,37 @@ fn a_ticket_that_was_given_back_is_given_again(rt: HostRuntime) -> Result<(), Fa
 }
 
 #[test]
+fn two_tickets_stand_side_by_side(rt: HostRuntime) -> Result<(), Fail> {
+    let alloc = rt.alloc();
+    let mut disk = MemDisk::new(alloc, 4160, 65_536, Vec::new(alloc), None)?;
+    let mut desk = Desk::create(alloc, &mut disk, 5, &[0; 48])?;
+    let mut out = [0; 1292];
+    let first = desk.ticket().expect(&rt, "a slot is free");
+    let second = desk.ticket().expect(&rt, "a slot is free");
+    assert_eq!(rt; first.slot(), 0);
+    assert_eq!(rt; second.slot(), 1);
+    let first = first
+        .write(&mut desk, &mut disk, b"one")
+        .expect(&rt, "the disk writes");
+    let second = second
+        .write(&mut desk, &mut disk, b"two")
+        .expect(&rt, "the disk writes");
+    let first = first
+        .spend(&mut desk, &mut disk)
+        .expect(&rt, "the disk writes");
+    let second = second
+        .spend(&mut desk, &mut disk)
+        .expect(&rt, "the disk writes");
+    assert_eq!(rt; second.seal(&desk, &disk, &mut out), 1);
+    assert_eq!(rt; first.seal(&desk, &disk, &mut out), 0);
+    let mut disk = disk.crash(Pick::Old);
+    let mut desk = Desk::reopen(alloc, &mut disk)?;
+    assert!(rt; desk.signed(&mut disk, b"one")?);
+    assert!(rt; desk.signed(&mut disk, b"two")?);
+    Ok(())
+}
+
+#[test]
 fn a_key_of_an_unknown_kind_is_not_opened(rt: HostRuntime) -> Result<(), Fail> {
     let alloc = rt.alloc();
     let mut disk = MemDisk::new(alloc, 4160, 65_536, Vec::new(alloc), None)?;
@@ -109,5 +140,31 @@ fn a_key_of_an_unknown_kind_is_not_opened(rt: HostRuntime) -> Result<(), Fail> {
     block[4] = 9;
     disk.write_at(0, &block)?;
     assert!(rt; matches!(&Desk::reopen(alloc, &mut disk), Err(StartError::BadBlock)));
+    Ok(())
+}
+
+#[test]
+fn the_last_slot_signs_the_next_key(rt: HostRuntime) -> Result<(), Fail> {
+    let alloc = rt.alloc();
+    let mut disk = MemDisk::new(alloc, 8320, 65_536, Vec::new(alloc), None)?;
+    let mut desk = Desk::create(alloc, &mut disk, 5, &[0; 48])?;
+    sign_often(&mut desk, &mut disk, &mut [0; 1292], 31)?;
+    let next = Desk::succeed(alloc, &mut disk, 5, &[1; 48])?;
+    let public = next.public();
+    let mut disk = disk.crash(Pick::Old);
+    assert_eq!(rt; disk.len()?, 8320);
+    let mut desk = Desk::reopen(alloc, &mut disk)?;
+    assert_eq!(rt; desk.public(), public);
+    assert!(rt; desk.signed(&mut disk, &link_text(&public))?);
+    Ok(())
+}
+
+#[test]
+fn a_secret_makes_one_key(rt: HostRuntime) -> Result<(), Fail> {
+    let alloc = rt.alloc();
+    let mut disk = MemDisk::new(alloc, 8320, 65_536, Vec::new(alloc), None)?;
+    Desk::create(alloc, &mut disk, 5, &[0; 48])?;
+    let next = Desk::succeed(alloc, &mut disk, 5, &[0; 48]);
+    assert!(rt; matches!(&next, Err(SucceedError::SameSecret)));
     Ok(())
 }

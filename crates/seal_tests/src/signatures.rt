@@ -1,7 +1,11 @@
+ghost use Rattle.std.specs.Prelude.{◌≡◌, length};
+ghost use Rattle.lms_tree.specs.Signatures.{height_of, seal_len};
+
 use lms_tree::{Key, KeyError, SealError, sig_len, verify};
 use sha2::{Digest, Sha256};
 use std::alloc::Global;
 use std::fmt::Write;
+use std::process::Abort;
 use std::test::Fail;
 
 // The octets in hex.
@@ -13,70 +17,112 @@ fn hex(alloc: Global, octets: &[u8]) -> Result<String, Fail> {
     Ok(text)
 }
 
+const PUBLIC_OF_32: &str =
+    "000000050000000400000000000000000000000000000000829887511085dc8b9946d97b20163fe2ab4385e734979f535139cabe33cd694f";
+
+const PUBLIC_OF_1024: &str =
+    "000000060000000400000000000000000000000000000000acb9a5ee322c4643f3e820917a1b3ab7fbd308efd4e3a71e0755ed36f2c3e96b";
+
+const BY_32: [(u32, &str, &str); 8] = [
+    (
+        0,
+        "",
+        "6aebf42ce20168479074dc28a4a703a3abb23cd4c38b5539b46f0251e24b995d",
+    ),
+    (
+        0,
+        "abc",
+        "ef62269057d21d9b4201c84664cf6de95e12e770fd639763353174ee0d298c7a",
+    ),
+    (
+        1,
+        "",
+        "1f2ddb71c9d758a3d153983431e06c55bf0d3289a2de56674e5393839147d35b",
+    ),
+    (
+        1,
+        "abc",
+        "bd4546c22d46e60b67b39e972df9bbc1f753461f2bacb48cbb0cea2431c70e21",
+    ),
+    (
+        17,
+        "",
+        "6f60aafffd1c89af6ec8db3283199fc542cc22daf361d95f618c6396f9aa0812",
+    ),
+    (
+        17,
+        "abc",
+        "045a8799426946bd87674563555ab37aa1f259a4f83e9030ff316058f5a7617a",
+    ),
+    (
+        31,
+        "",
+        "79db7f3aa4c1fa970a2d0c7377aa78ff716815d6c139eb5541099beea00d4f48",
+    ),
+    (
+        31,
+        "abc",
+        "fd79a4a5e44d6d08aee08ba87c5bee3c7340cdeeaa19dac74f568aac04cb8f01",
+    ),
+];
+
+const BY_1024: [(u32, &str, &str); 3] = [
+    (
+        0,
+        "abc",
+        "8f49595fde1b0c4fd36ebe0fb36c6d7cd56d4eb7412452b0b065d308314558ef",
+    ),
+    (
+        512,
+        "",
+        "be1d2bebe0aaedc96912e2396a80a244516690bc095193391c247125002dbfbd",
+    ),
+    (
+        1023,
+        "abc",
+        "1d89c1e3e644c0ff497bc02e6533cab80265ab1db0e489ca21351d03ed1229de",
+    ),
+];
+
+// A slot, a text, and the SHA-256 of the signature.
+type Row = (u32, &'static str, &'static str);
+
+// The signature of a row has this digest, and is verified.
+fn is_signed_as(
+    rt: &impl Abort,
+    alloc: Global,
+    key: &Key,
+    out: &mut [u8],
+    row: Row,
+) -> Result<(), Fail>
+    requires { length out.old ≡ seal_len (height_of key.now.kind) }
+    ensures { length out.new ≡ length out.old }
+{
+    let (slot, text, digest) = row;
+    assert!(rt; slot < key.slots());
+    key.sign_into(slot, text.as_bytes(), out);
+    assert_eq!(rt; verify(&key.public(), text.as_bytes(), out), Ok(()));
+    let found = hex(alloc, &Sha256::digest(out))?;
+    assert_eq!(rt; found.as_str(), digest, "slot {slot}");
+    Ok(())
+}
+
+// The public key in hex.
+fn has_public(rt: &impl Abort, alloc: Global, key: &Key, public: &str) -> Result<(), Fail> {
+    let found = hex(alloc, &key.public())?;
+    assert_eq!(rt; found.as_str(), public);
+    Ok(())
+}
+
 // The public keys, and the SHA-256 of whole signatures, that Bouncy Castle makes of the same I and
 // SEED: `checks/lms/run` prints them.
 #[test]
 fn keys_and_signatures_of_height_5_are_bouncy_castles(rt: HostRuntime) -> Result<(), Fail> {
     let key = Key::build(rt.alloc(), 5, &[0; 16], &[0; 32])?;
-    let public =
-        "000000050000000400000000000000000000000000000000829887511085dc8b9946d97b20163fe2ab4385e734979f535139cabe33cd694f";
-    assert_eq!(rt; hex(rt.alloc(), &key.public())?.as_str(), public);
-    let rows = [
-        (
-            0,
-            "",
-            "6aebf42ce20168479074dc28a4a703a3abb23cd4c38b5539b46f0251e24b995d",
-        ),
-        (
-            0,
-            "abc",
-            "ef62269057d21d9b4201c84664cf6de95e12e770fd639763353174ee0d298c7a",
-        ),
-        (
-            1,
-            "",
-            "1f2ddb71c9d758a3d153983431e06c55bf0d3289a2de56674e5393839147d35b",
-        ),
-        (
-            1,
-            "abc",
-            "bd4546c22d46e60b67b39e972df9bbc1f753461f2bacb48cbb0cea2431c70e21",
-        ),
-        (
-            17,
-            "",
-            "6f60aafffd1c89af6ec8db3283199fc542cc22daf361d95f618c6396f9aa0812",
-        ),
-        (
-            17,
-            "abc",
-            "045a8799426946bd87674563555ab37aa1f259a4f83e9030ff316058f5a7617a",
-        ),
-        (
-            31,
-            "",
-            "79db7f3aa4c1fa970a2d0c7377aa78ff716815d6c139eb5541099beea00d4f48",
-        ),
-        (
-            31,
-            "abc",
-            "fd79a4a5e44d6d08aee08ba87c5bee3c7340cdeeaa19dac74f568aac04cb8f01",
-        ),
-    ];
-    for (slot, text, digest) in rows {
-        assert!(rt; slot < 32);
-        let mut out = [0; 1292];
-        key.sign_into(slot, text.as_bytes(), &mut out);
-        assert_eq!(rt;
-            hex(rt.alloc(), &Sha256::digest(&out))?.as_str(),
-            digest,
-            "slot {slot}"
-        );
-        assert_eq!(rt;
-            verify(&key.public(), text.as_bytes(), &out),
-            Ok(()),
-            "slot {slot}"
-        );
+    has_public(&rt, rt.alloc(), &key, PUBLIC_OF_32)?;
+    let mut out = [0; 1292];
+    for row in BY_32 {
+        is_signed_as(&rt, rt.alloc(), &key, &mut out, row)?;
     }
     Ok(())
 }
@@ -85,40 +131,10 @@ fn keys_and_signatures_of_height_5_are_bouncy_castles(rt: HostRuntime) -> Result
 #[test]
 fn keys_and_signatures_of_height_10_are_bouncy_castles(rt: HostRuntime) -> Result<(), Fail> {
     let key = Key::build(rt.alloc(), 6, &[0; 16], &[0; 32])?;
-    let public =
-        "000000060000000400000000000000000000000000000000acb9a5ee322c4643f3e820917a1b3ab7fbd308efd4e3a71e0755ed36f2c3e96b";
-    assert_eq!(rt; hex(rt.alloc(), &key.public())?.as_str(), public);
-    let rows = [
-        (
-            0,
-            "abc",
-            "8f49595fde1b0c4fd36ebe0fb36c6d7cd56d4eb7412452b0b065d308314558ef",
-        ),
-        (
-            512,
-            "",
-            "be1d2bebe0aaedc96912e2396a80a244516690bc095193391c247125002dbfbd",
-        ),
-        (
-            1023,
-            "abc",
-            "1d89c1e3e644c0ff497bc02e6533cab80265ab1db0e489ca21351d03ed1229de",
-        ),
-    ];
-    for (slot, text, digest) in rows {
-        assert!(rt; slot < 1024);
-        let mut out = [0; 1452];
-        key.sign_into(slot, text.as_bytes(), &mut out);
-        assert_eq!(rt;
-            hex(rt.alloc(), &Sha256::digest(&out))?.as_str(),
-            digest,
-            "slot {slot}"
-        );
-        assert_eq!(rt;
-            verify(&key.public(), text.as_bytes(), &out),
-            Ok(()),
-            "slot {slot}"
-        );
+    has_public(&rt, rt.alloc(), &key, PUBLIC_OF_1024)?;
+    let mut out = [0; 1452];
+    for row in BY_1024 {
+        is_signed_as(&rt, rt.alloc(), &key, &mut out, row)?;
     }
     Ok(())
 }
@@ -132,33 +148,34 @@ fn the_standards_key_is_made(rt: HostRuntime) -> Result<(), Fail> {
     let public =
         "0000000500000004215f83b7ccb9acbcd08db97b0d04dc2ba1cd035833e0e90059603f26e07ad2aad152338e7a5e5984bcd5f7bb4eba40b7";
     let key = Key::build(rt.alloc(), 5, &i, &seed)?;
-    assert_eq!(rt; hex(rt.alloc(), &key.public())?.as_str(), public);
-    Ok(())
+    has_public(&rt, rt.alloc(), &key, public)
+}
+
+// What a client says of "abc" and such a signature under a key.
+fn verdict(public: &[u8], sig: &[u8]) -> Result<(), SealError> {
+    verify(public, b"abc", sig)
 }
 
 #[test]
 fn each_fault_has_its_answer(rt: HostRuntime) -> Result<(), Fail> {
     let key = Key::build(rt.alloc(), 5, &[0; 16], &[0; 32])?;
     let public = key.public();
+    let mut sig = [0; 1292];
+    key.sign_into(31, b"abc", &mut sig);
+    assert_eq!(rt; verdict(&public, &sig), Ok(()));
+    assert_eq!(rt; verify(&public, b"abd", &sig), Err(SealError::NoMatch));
+    assert_eq!(rt; verdict(&public, &[0; 1291]), Err(SealError::BadForm));
+    assert_eq!(rt; verdict(&[0; 55], &sig), Err(SealError::BadKey));
+    // The number 32 of no leaf.
+    sig[3] = 0x20;
+    assert_eq!(rt; verdict(&public, &sig), Err(SealError::BadForm));
+    Ok(())
+}
+
+#[test]
+fn keys_are_of_two_kinds(rt: HostRuntime) -> Result<(), Fail> {
+    let key = Key::build(rt.alloc(), 5, &[0; 16], &[0; 32])?;
     assert_eq!(rt; (key.kind(), key.slots(), sig_len(5)), (5, 32, Some(1292)));
-    let mut good = [0; 1292];
-    key.sign_into(31, b"abc", &mut good);
-    // The number 32 of no leaf, and a key of height 10.
-    let mut beyond = good;
-    beyond[..4].copy_from_slice(&[0, 0, 0, 0x20]);
-    let mut higher = public;
-    higher[3] = 6;
-    let rows: [(&[u8], &[u8], &[u8], Result<(), SealError>); 6] = [
-        (&public, b"abc", &good, Ok(())),
-        (&public, b"abd", &good, Err(SealError::NoMatch)),
-        (&public, b"abc", &good[..1291], Err(SealError::BadForm)),
-        (&public, b"abc", &beyond, Err(SealError::BadForm)),
-        (&public[..55], b"abc", &good, Err(SealError::BadKey)),
-        (&higher, b"abc", &good, Err(SealError::BadForm)),
-    ];
-    for (key, text, sig, answer) in rows {
-        assert_eq!(rt; verify(key, text, sig), answer);
-    }
     assert_eq!(rt; sig_len(7), None);
     let unknown = Key::build(rt.alloc(), 7, &[0; 16], &[0; 32]);
     assert!(rt; matches!(&unknown, Err(KeyError::Kind)));

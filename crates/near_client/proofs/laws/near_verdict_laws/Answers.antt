@@ -5,4 +5,4 @@ pub returns-clause-one : goal.returns-clause-one
 returns-clause-one c = one_verdict
 
 pub returns-clause-accepts : goal.returns-clause-accepts
-returns-clause-accepts c hash key octets q least x = (verdict_of hash key octets q least x, accepts_of hash key octets q least x)
+returns-clause-accepts c hash key links octets q least x = (verdict_of hash key links octets q least x, accepts_of hash key links octets q least x)

@@ -7,5 +7,5 @@ use Rattle.near_client.proofs.passing.test.Goals as goal
 
 pub returns-in-Err-clause-is : goal.returns-in-Err-clause-is
 returns-in-Err-clause-is g c =
-    let t = header_and_cover g.H.Hasher.hash c.args.public.now c.args.least c.args.reply in
+    let t = header_and_cover g.H.Hasher.hash c.args.public.now c.args.chain.now c.args.least c.args.reply in
     subst (λ (e : NearError). Meets {A = NearReply} (Err e) (after_tests c.args.reply t)) (sym c.near_error.ensures) (failed c.args.reply t c.in-Err.error c.in-Err.ensures)

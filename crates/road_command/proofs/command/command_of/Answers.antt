@@ -14,11 +14,11 @@ not_word : (verb word : List ℕ) → verb ≢ word → bytes_eq verb word ≡ f
 not_word verb word other = by_not (bytes_eq verb word) (bytes_eq-Decides verb word) other
 
 -- words whose first is none of the commands' names
-no_command : (words : List (List ℕ)) (verb : List ℕ) → verb ≡ get_or words 0 [] → verb ≢ codes "route" → verb ≢ codes "root" → verb ≢ codes "dimacs" → verb ≢ codes "key" → verb ≢ codes "succeed" → verb ≢ codes "links" → verb ≢ codes "desk" → verb ≢ codes "publish" → verb ≢ codes "prove" → verb ≢ codes "serve" → verb ≢ codes "check" → verb ≢ codes "audit" → verb ≢ codes "survey" → verb ≢ codes "reach" → verb ≢ codes "check-reach" → verb ≢ codes "audit-reach"
+no_command : (words : List (List ℕ)) (verb : List ℕ) → verb ≡ get_or words 0 [] → verb ≢ codes "route" → verb ≢ codes "root" → verb ≢ codes "dimacs" → verb ≢ codes "key" → verb ≢ codes "succeed" → verb ≢ codes "links" → verb ≢ codes "desk" → verb ≢ codes "publish" → verb ≢ codes "prove" → verb ≢ codes "serve" → verb ≢ codes "check" → verb ≢ codes "audit" → verb ≢ codes "survey" → verb ≢ codes "reach" → verb ≢ codes "check-reach" → verb ≢ codes "audit-reach" → verb ≢ codes "reduce"
     → None ≡ request_of words
-no_command [] verb is a b c d e f g h i j k l m n o p = refl
-no_command (first ∷ words) verb is a b c d e f g h i j k l m n o p =
-    subst (λ v. None ≡ request_of (v ∷ words)) is (rw (not_word verb (codes "route") a, not_word verb (codes "root") b, not_word verb (codes "dimacs") c, not_word verb (codes "key") d, not_word verb (codes "succeed") e, not_word verb (codes "links") f, not_word verb (codes "desk") g, not_word verb (codes "publish") h, not_word verb (codes "prove") i, not_word verb (codes "serve") j, not_word verb (codes "check") k, not_word verb (codes "audit") l, not_word verb (codes "survey") m, not_word verb (codes "reach") n, not_word verb (codes "check-reach") o, not_word verb (codes "audit-reach") p) refl)
+no_command [] verb is a b c d e f g h i j k l m n o p q = refl
+no_command (first ∷ words) verb is a b c d e f g h i j k l m n o p q =
+    subst (λ v. None ≡ request_of (v ∷ words)) is (rw (not_word verb (codes "route") a, not_word verb (codes "root") b, not_word verb (codes "dimacs") c, not_word verb (codes "key") d, not_word verb (codes "succeed") e, not_word verb (codes "links") f, not_word verb (codes "desk") g, not_word verb (codes "publish") h, not_word verb (codes "prove") i, not_word verb (codes "serve") j, not_word verb (codes "check") k, not_word verb (codes "audit") l, not_word verb (codes "survey") m, not_word verb (codes "reach") n, not_word verb (codes "check-reach") o, not_word verb (codes "audit-reach") p, not_word verb (codes "reduce") q) refl)
 
 pub returns-in_default : goal.returns-in_default
-returns-in_default c = let h = c.in_default in no_command c.args.words.now c.word.result.now c.word.ensures h.not-route h.not-root h.not-dimacs h.not-key h.not-succeed h.not-links h.not-desk h.not-publish h.not-prove h.not-serve h.not-check h.not-audit h.not-survey h.not-reach h.not-text h.not-text-2
+returns-in_default c = let h = c.in_default in no_command c.args.words.now c.word.result.now c.word.ensures h.not-route h.not-root h.not-dimacs h.not-key h.not-succeed h.not-links h.not-desk h.not-publish h.not-prove h.not-serve h.not-check h.not-audit h.not-survey h.not-reach h.not-text h.not-text-2 h.not-reduce

@@ -132,3 +132,12 @@ returns-in-Some-CheckReach-clause-takes g c =
 pub returns-in-Some-AuditReach-clause-takes : goal.returns-in-Some-AuditReach-clause-takes
 returns-in-Some-AuditReach-clause-takes g c =
     run_takes _ _ _ _ _ _ _ _ _ _ (rw c.in-Some-AuditReach.field-0-is at c.in-Some-AuditReach.ensures) tt refl (λ e. absurd (c.audit_reach.ensures.promised.source e))
+
+pub returns-in-Some-Reduce-clause-promised : goal.returns-in-Some-Reduce-clause-promised
+returns-in-Some-Reduce-clause-promised g c =
+    run_stays g.D.Disk c.args.disk.now c.reduce.new.disk _ _ _ _ _ _ _ _ _ _ (rw c.in-Some-Reduce.field-0-is at c.in-Some-Reduce.ensures) c.reduce.ensures.promised
+    (c.reduce.ensures.stays, c.reduce.ensures.unreleased) c.reduce.ensures.stays
+
+pub returns-in-Some-Reduce-clause-takes : goal.returns-in-Some-Reduce-clause-takes
+returns-in-Some-Reduce-clause-takes g c =
+    run_takes _ _ _ _ _ _ _ _ _ _ (rw c.in-Some-Reduce.field-0-is at c.in-Some-Reduce.ensures) tt refl (λ e. absurd (c.reduce.ensures.promised.source e))

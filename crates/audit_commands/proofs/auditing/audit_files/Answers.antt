@@ -1,0 +1,11 @@
+use Rattle.audit_commands.proofs.HeadlineLemmas.{audits_accepted}
+use Rattle.audit_commands.proofs.auditing.audit_files.Goals as goal
+
+pub returns : goal.returns
+returns g c = record {
+  promised = c.write_findings.ensures.promised;
+  finds = c.write_findings.ensures.finds;
+  headline = audits_accepted _ _ c.laws.ensures c.server_laws.ensures g.D.Disk c.write_findings.new.disk
+      _ _ _ _ _ _ _ _ _ _ c.write_findings.ensures.promised.mirror c.write_findings.ensures.promised.answered c.write_findings.ensures.finds;
+  stays = c.write_findings.ensures.stays;
+}

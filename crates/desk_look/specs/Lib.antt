@@ -1,0 +1,4 @@
+pub mod Forgeries
+pub mod Left
+pub mod Looking
+pub mod Looks

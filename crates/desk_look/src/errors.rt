@@ -1,0 +1,15 @@
+//! Why a desk doesn't say whether texts are signed.
+
+use key_desk::DeskError;
+use thiserror::Error;
+
+/// Why a desk doesn't say whether texts are signed.
+#[derive(Clone, Copy, Debug, PartialEq, Eq, Error)]
+pub enum LookError {
+    /// The desk could not say what it has signed, for this reason.
+    #[error("{0}")]
+    Desk(DeskError),
+    /// No memory was found.
+    #[error("No memory was found.")]
+    Memory,
+}

@@ -1,0 +1,11 @@
+//! A signed text that its owner never signed.
+
+use octet_text::Octets;
+
+/// A text, and a signature that is verified on it under a key.
+#[derive(Debug, Drop)]
+pub struct Forgery {
+    pub key: [u8; 56],
+    pub text: Octets,
+    pub signature: Octets,
+}

@@ -1,0 +1,38 @@
+//! Publications under DIJ, by their octets.
+
+use octet_text::{NoMemory, put_octets, put_u32};
+use std::alloc::Global;
+
+/// What stands before the nodes: the header of this version over so many nodes, the signature, and the
+/// settings.
+pub fn octets_before_nodes(
+    alloc: Global,
+    version: u8,
+    nodes: u16,
+    signature: &[u8; 1292],
+) -> Result<Vec<u8>, NoMemory> {
+    let mut text = Vec::new(alloc);
+    let parts: [&[u8]; 9] = [
+        b"RPP1RPF1",
+        &[1, 0, 2, 0],
+        &[0, 0, 0, 0, 0, 0, 0, version],
+        &[0, 0, (nodes >> 8) as u8, nodes as u8],
+        &[17; 32],
+        &[0; 52],
+        &[0x05, 0x0c],
+        signature,
+        &[0; 32],
+    ];
+    for part in parts {
+        put_octets(&mut text, part)?;
+    }
+    Ok(text)
+}
+
+/// Adds numbers of four octets each.
+pub fn put_numbers(text: &mut Vec<u8>, numbers: &[u32]) -> Result<(), NoMemory> {
+    for number in numbers {
+        put_u32(text, *number)?;
+    }
+    Ok(())
+}

@@ -1,3 +1,0 @@
-pub mod OneNearAudit
-pub mod NearAuditLemmas
-pub mod NearHeadlineLemmas

@@ -1,2 +1,0 @@
-pub mod NearAuditing
-pub mod NearHeadline

@@ -1,0 +1,3 @@
+pub mod ReduceLine
+pub mod Reducing
+pub mod Unreleased

@@ -1,0 +1,74 @@
+-- Kinds of replies: what a client takes of them, and what they show of a publication. Replies on
+-- routes are one kind, those on the nodes within a radius another, and all of them are audited
+-- alike.
+use Rattle.std.specs.Prelude.{◌≡◌, ◌≢◌, ℕ, List, Ok}
+use Rattle.lms_tree.specs.Chains.{chained, verified_along}
+use Rattle.lms_tree.specs.declared.links.Link.{Link}
+use Rattle.merkle_cover.specs.declared.clashes.TwoTexts.{TwoTexts}
+use Rattle.proof_octets.specs.declared.header.Header.{Header}
+use Rattle.proof_octets.specs.declared.publication.Publication.{Publication}
+use Rattle.proof_octets.specs.Headers.{header_text}
+
+-- a kind of replies
+pub record ReplyKind (Query Answer Taken Refusal : Type 0) : Type 1 where
+  -- the octets spell the answer, which has a header and the signature of its octets
+  pub Spells : List ℕ → Answer → Type 0
+  pub header : Answer → Header
+  pub signature : Answer → List ℕ
+  -- over a hash, a client with a key, links from it and a least version accepts octets as a reply
+  -- to a query, and takes this of the answer that they spell
+  pub Accepts : (List ℕ → List ℕ) → List ℕ → List Link → List ℕ → Query → ℕ → Taken → Answer →
+      Type 0
+  -- or it refuses them, whatever their version
+  pub Refuses : (List ℕ → List ℕ) → List ℕ → List Link → List ℕ → Query → Refusal → Type 0
+  -- the answer is within its format's limits
+  pub IsGood : Answer → Type 0
+  -- all that the answer brings is of the trees of the publication's book, and what is taken holds
+  -- in its map; the hashes are that of trees and that of orders
+  pub IsRight : (List ℕ → List ℕ) → (List ℕ → List ℕ) → Publication → Query → Taken → Answer →
+      Type 0
+  -- or two texts have one digest
+  pub Collides : (List ℕ → List ℕ) → (List ℕ → List ℕ) → Publication → Answer → TwoTexts → Type 0
+  -- the header of what is taken, and that it holds in the publication's map
+  pub taken_header : Taken → Header
+  pub IsTrue : Publication → Query → Taken → Type 0
+
+-- what holds of a kind of replies, over every hash
+pub record AreReplies {Query Answer Taken Refusal : Type 0}
+    (kind : ReplyKind Query Answer Taken Refusal) : Type 0 where
+  -- what is accepted stands on links, each signed under the key before it, and on a header that is
+  -- signed along them
+  pub chain : (hash : List ℕ → List ℕ) (key : List ℕ) (links : List Link) (octets : List ℕ)
+      (q : Query) (least : ℕ) (x : Taken) (a : Answer)
+      → kind.Accepts hash key links octets q least x a → chained key links ≡ Ok tt
+  pub signed : (hash : List ℕ → List ℕ) (key : List ℕ) (links : List Link) (octets : List ℕ)
+      (q : Query) (least : ℕ) (x : Taken) (a : Answer)
+      → kind.Accepts hash key links octets q least x a
+      → verified_along key links (header_text (kind.header a)) (kind.signature a) ≡ Ok tt
+  -- it is spelled by its octets, and what is taken has its header
+  pub spelled : (hash : List ℕ → List ℕ) (key : List ℕ) (links : List Link) (octets : List ℕ)
+      (q : Query) (least : ℕ) (x : Taken) (a : Answer)
+      → kind.Accepts hash key links octets q least x a → kind.Spells octets a
+  pub same_header : (hash : List ℕ → List ℕ) (key : List ℕ) (links : List Link) (octets : List ℕ)
+      (q : Query) (least : ℕ) (x : Taken) (a : Answer)
+      → kind.Accepts hash key links octets q least x a → kind.taken_header x ≡ kind.header a
+  -- it is accepted with a lower least version too, it is one, and it is not refused
+  pub any_least : (hash : List ℕ → List ℕ) (key : List ℕ) (links : List Link) (octets : List ℕ)
+      (q : Query) (least : ℕ) (x : Taken) (a : Answer)
+      → kind.Accepts hash key links octets q least x a → kind.Accepts hash key links octets q 0 x a
+  pub one_taken : (hash : List ℕ → List ℕ) (key : List ℕ) (links : List Link) (octets : List ℕ)
+      (q : Query) (x y : Taken) (a b : Answer)
+      → kind.Accepts hash key links octets q 0 x a → kind.Accepts hash key links octets q 0 y b
+      → x ≡ y
+  pub one_answer : (octets : List ℕ) (a b : Answer) → kind.Spells octets a → kind.Spells octets b →
+      a ≡ b
+  pub not_refused : (hash : List ℕ → List ℕ) (key : List ℕ) (links : List Link) (octets : List ℕ)
+      (q : Query) (x : Taken) (a : Answer) (e : Refusal)
+      → kind.Accepts hash key links octets q 0 x a → kind.Refuses hash key links octets q e → ⊥
+  -- a collision is two different texts with one digest; what is right is true, and doesn't collide
+  pub collision : (hash sha : List ℕ → List ℕ) (p : Publication) (a : Answer) (two : TwoTexts)
+      → kind.Collides hash sha p a two → (two.left ≢ two.right) × (hash two.left ≡ hash two.right)
+  pub truth : (hash sha : List ℕ → List ℕ) (p : Publication) (q : Query) (x : Taken) (a : Answer)
+      → kind.IsRight hash sha p q x a → kind.IsTrue p q x
+  pub not_both : (hash sha : List ℕ → List ℕ) (p : Publication) (q : Query) (x : Taken) (a : Answer)
+      (two : TwoTexts) → kind.IsRight hash sha p q x a → kind.Collides hash sha p a two → ⊥

@@ -1,0 +1,90 @@
+-- Verdicts in numbers. Each number is part of the library's interface: none changes its meaning, and
+-- further ones follow the last.
+use Rattle.std.specs.Prelude.{ℕ}
+use Rattle.lms_tree.specs.declared.seals.SealError.{SealError}
+use Rattle.lms_tree.specs.declared.seals.SealError.TheVariants as seals
+use Rattle.proof_judge.specs.declared.refusal.Refusal.{Refusal}
+use Rattle.proof_judge.specs.declared.refusal.Refusal.TheVariants as refusals
+use Rattle.route_client.specs.declared.errors.CheckError.{CheckError}
+use Rattle.route_client.specs.declared.errors.CheckError.TheVariants as errors
+use Rattle.route_client.specs.declared.errors.CoverFault.{CoverFault}
+use Rattle.route_client.specs.declared.errors.CoverFault.TheVariants as faults
+use Rattle.near_client.specs.declared.errors.NearError.{NearError}
+use Rattle.near_client.specs.declared.errors.NearError.TheVariants as near_errors
+use Rattle.route_check_c.specs.declared.reasons.Reason.{Reason}
+use Rattle.route_check_c.specs.declared.verdict.Verdict.{Verdict}
+
+-- a test by its number, and the two numbers that it found
+abbrev pub told : ℕ → ℕ → ℕ → Reason
+told code first second = record { code = code; first = first; second = second }
+
+-- why a signature is not verified
+abbrev pub seal_number : SealError → ℕ
+seal_number seals.BadKey = 1
+seal_number seals.BadForm = 2
+seal_number seals.NoMatch = 3
+
+-- why items and a cover don't give a root
+abbrev pub cover_number : CoverFault → ℕ
+cover_number faults.Place = 1
+cover_number faults.Short = 2
+cover_number faults.Long = 3
+cover_number faults.Differs = 4
+
+-- why the items don't show a shortest route
+abbrev pub judged_reason : Refusal → Reason
+judged_reason (refusals.RepeatedNode id) = told 7 id 0
+judged_reason (refusals.BadRoute hop) = told 8 hop 0
+judged_reason (refusals.MissingTuple id) = told 9 id 0
+judged_reason (refusals.MissingPair a b) = told 10 a b
+judged_reason (refusals.Shorter length) = told 11 length 0
+judged_reason (refusals.Disagrees distance) = told 12 distance 0
+judged_reason refusals.Memory = told 13 0 0
+
+-- the first test that the reply to a query for a route fails
+abbrev pub route_reason : CheckError → Reason
+route_reason (errors.NotAnswer kind) = told 1 kind 0
+route_reason (errors.Malformed at) = told 2 at 0
+route_reason (errors.Stale version) = told 3 version 0
+route_reason (errors.BadChain link why) = told 4 link (seal_number why)
+route_reason (errors.BadSignature why) = told 5 (seal_number why) 0
+route_reason (errors.BadCover tree why) = told 6 tree (cover_number why)
+route_reason (errors.Judged why) = judged_reason why
+route_reason errors.Memory = told 13 0 0
+
+-- the first test that the reply to a query for a radius fails
+abbrev pub reach_reason : NearError → Reason
+reach_reason (near_errors.Malformed at) = told 2 at 0
+reach_reason (near_errors.Stale version) = told 3 version 0
+reach_reason (near_errors.BadChain link why) = told 4 link (seal_number why)
+reach_reason (near_errors.BadSignature why) = told 5 (seal_number why) 0
+reach_reason (near_errors.BadCover why) = told 6 1 (cover_number why)
+reach_reason (near_errors.RepeatedNode id) = told 7 id 0
+reach_reason (near_errors.MissingTuple id) = told 9 id 0
+reach_reason near_errors.Memory = told 13 0 0
+
+-- ---- the verdict
+
+-- so many nodes are accepted, of a route of this length, out of a publication of this version
+abbrev pub accepted_numbers : ℕ → ℕ → ℕ → Verdict
+accepted_numbers count length version = record {
+  code = 0;
+  count = count;
+  length = length;
+  version = version;
+  first = 0;
+  second = 0;
+  line = 0;
+}
+
+-- nothing is accepted, for this reason, and its line has so many octets
+abbrev pub refused_numbers : Reason → ℕ → Verdict
+refused_numbers why line = record {
+  code = why.code;
+  count = 0;
+  length = 0;
+  version = 0;
+  first = why.first;
+  second = why.second;
+  line = line;
+}

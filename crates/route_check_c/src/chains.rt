@@ -1,0 +1,28 @@
+//! The links of a chain, from the octets of a chain file.
+ghost use Rattle.std.specs.Prelude.{◌≡◌, ◌<◌, ◌≤◌, ◌^◌, length, IfOk, Ok};
+ghost use Rattle.octet_text.specs.Format.{whole};
+ghost use Rattle.lms_tree.specs.ChainFiles.{chain_file};
+ghost use Rattle.std.specs.Result.{IfErr};
+ghost use Rattle.route_check_c.specs.Telling.{IsUnread};
+
+use crate::reasons::{Reason, told};
+use lms_tree::{Link, read_links};
+use octet_text::{List, Malformed, ReadError};
+use std::alloc::Global;
+
+/// The links of a chain, where it and the reply are short enough to be read.
+pub(crate) fn links_of(alloc: Global, chain: &[u8], reply: &[u8]) -> Result<List<Link>, Reason>
+    ensures links { IfOk result (λ links. whole chain_file chain.now ≡ Ok links) }
+    ensures few { IfOk result (λ links. length links ≤ 7) }
+    ensures short { IfOk result (λ links. length reply.now < 2 ^ 32) }
+    ensures unread { IfErr result (IsUnread chain.now reply.now) }
+{
+    if chain.len() >= 4_294_967_296 || reply.len() >= 4_294_967_296 {
+        return Err(told(14, 0, 0));
+    }
+    match read_links(alloc, chain) {
+        Ok(links) => Ok(links),
+        Err(ReadError::Malformed(Malformed { at })) => Err(told(15, u64::from(at), 0)),
+        Err(ReadError::Memory) => Err(told(13, 0, 0)),
+    }
+}

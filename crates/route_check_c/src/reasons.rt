@@ -1,0 +1,94 @@
+//! Refusals in numbers.
+ghost use Rattle.std.specs.Prelude.{◌≡◌};
+ghost use Rattle.route_check_c.specs.Codes.{cover_number, judged_reason, reach_reason, told as told_of, route_reason, seal_number};
+
+use lms_tree::SealError;
+use near_client::NearError;
+use proof_judge::Refusal;
+use route_client::{CheckError, CoverFault};
+
+/// Which test failed, and the two numbers that it found; 0 for those that it has not.
+#[derive(Clone, Copy, Debug, PartialEq, Eq)]
+pub struct Reason {
+    pub code: u32,
+    pub first: u64,
+    pub second: u64,
+}
+
+/// A test by its number, with what it found.
+pub(crate) fn told(code: u32, first: u64, second: u64) -> Reason
+    ensures { result ≡ told_of code first second }
+{
+    Reason {
+        code,
+        first,
+        second,
+    }
+}
+
+fn number_of_seal(why: SealError) -> u64
+    ensures { result ≡ seal_number why }
+{
+    match why {
+        SealError::BadKey => 1,
+        SealError::BadForm => 2,
+        SealError::NoMatch => 3,
+    }
+}
+
+fn number_of_cover(why: CoverFault) -> u64
+    ensures { result ≡ cover_number why }
+{
+    match why {
+        CoverFault::Place => 1,
+        CoverFault::Short => 2,
+        CoverFault::Long => 3,
+        CoverFault::Differs => 4,
+    }
+}
+
+fn reason_of_judged(why: Refusal) -> Reason
+    ensures { result ≡ judged_reason why }
+{
+    match why {
+        Refusal::RepeatedNode(id) => told(7, u64::from(id), 0),
+        Refusal::BadRoute(hop) => told(8, u64::from(hop), 0),
+        Refusal::MissingTuple(id) => told(9, u64::from(id), 0),
+        Refusal::MissingPair(a, b) => told(10, u64::from(a), u64::from(b)),
+        Refusal::Shorter(length) => told(11, length, 0),
+        Refusal::Disagrees(distance) => told(12, distance, 0),
+        Refusal::Memory => told(13, 0, 0),
+    }
+}
+
+/// The refusal of a route's reply.
+pub(crate) fn reason_of_route(why: CheckError) -> Reason
+    ensures { result ≡ route_reason why }
+{
+    match why {
+        CheckError::NotAnswer(kind) => told(1, u64::from(kind), 0),
+        CheckError::Malformed(at) => told(2, u64::from(at), 0),
+        CheckError::Stale(version) => told(3, version, 0),
+        CheckError::BadChain(link, why) => told(4, u64::from(link), number_of_seal(why)),
+        CheckError::BadSignature(why) => told(5, number_of_seal(why), 0),
+        CheckError::BadCover(tree, why) => told(6, u64::from(tree), number_of_cover(why)),
+        CheckError::Judged(why) => reason_of_judged(why),
+        CheckError::Memory => told(13, 0, 0),
+    }
+}
+
+/// The refusal of a radius's reply.
+pub(crate) fn reason_of_reach(why: NearError) -> Reason
+    ensures { result ≡ reach_reason why }
+{
+    match why {
+        NearError::Malformed(at) => told(2, u64::from(at), 0),
+        NearError::Stale(version) => told(3, version, 0),
+        NearError::BadChain(link, why) => told(4, u64::from(link), number_of_seal(why)),
+        NearError::BadSignature(why) => told(5, number_of_seal(why), 0),
+        NearError::BadCover(why) => told(6, 1, number_of_cover(why)),
+        NearError::RepeatedNode(id) => told(7, u64::from(id), 0),
+        NearError::MissingTuple(id) => told(9, u64::from(id), 0),
+        NearError::Memory => told(13, 0, 0),
+    }
+}

@@ -50,7 +50,7 @@ signed_isnt q e is = cc
 
 module _ (makings : Makings) (hash : List ℕ → List ℕ) (parts : Parts) (s : Settings) (desk : View) where
   -- where there is a header, there is a book
-  no_reason : (h : Header) (e : BuildError) → HasHeader hash sha256 parts s h → IsNoBook hash parts s e → ⊥
+  pub no_reason : (h : Header) (e : BuildError) → HasHeader hash sha256 parts s h → IsNoBook hash parts s e → ⊥
   no_reason h e has none = made_isnt h e (makings hash sha256 parts s (made h) (unmade e) has none.0 (λ is. made_isnt h build_errors.Memory is) (λ is. none.1 (same_reason e build_errors.Memory is)))
 
   -- nothing refused what was published

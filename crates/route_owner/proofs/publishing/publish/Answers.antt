@@ -3,7 +3,7 @@ use Rattle.lms_tree.specs.Signatures.{KeyOf, number_at}
 use Rattle.desk_areas.specs.Layout.{slots_of}
 use Rattle.route_owner.proofs.Sealing.{all_written, fits_with, no_link, signed_so, signs_header, sealed_so, published_so, seal_short}
 use Rattle.route_server.specs.declared.errors.BuildError.TheVariants as build_errors
-use Rattle.route_owner.proofs.Refusing.{none_refused, desk_refused, book_refused}
+use Rattle.route_owner.proofs.Refusing.{no_reason, none_refused, desk_refused, book_refused}
 use Rattle.route_owner.proofs.publishing.publish.Goals as goal
 
 signature_is : (g : _) (c : goal.After-result-in-Ok-sign-1 g) → c.from_vec.result ≡ c.sign.new.out
@@ -44,3 +44,8 @@ pub returns-in-Err-clause-refused_else : goal.returns-in-Err-clause-refused_else
 returns-in-Err-clause-refused_else g c =
     let other : c.in-Err.fault ≢ build_errors.Memory = search rules in
     book_refused c.server_laws.ensures g.H.Hasher.hash c.args.parts c.args.settings.now c.args.desk.now c.in-Err.fault (c.in-Err.ensures.refused, other)
+
+pub returns-in-Err-clause-succeeds : goal.returns-in-Err-clause-succeeds
+returns-in-Err-clause-succeeds g c can still =
+    let other : c.in-Err.fault ≢ build_errors.Memory = search rules in
+    absurd (no_reason c.server_laws.ensures g.H.Hasher.hash c.args.parts c.args.settings.now c.args.desk.now can.header c.in-Err.fault can.has (c.in-Err.ensures.refused, other))

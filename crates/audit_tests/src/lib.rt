@@ -9,6 +9,8 @@ mod audit_chains;
 #[cfg(test)]
 mod audit_reach;
 #[cfg(test)]
+mod chains;
+#[cfg(test)]
 mod client;
 #[cfg(test)]
 mod octets;

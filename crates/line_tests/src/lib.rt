@@ -2,6 +2,8 @@
 #![tactic(auto)]
 
 #[cfg(test)]
+mod chain_files;
+#[cfg(test)]
 mod hex_files;
 #[cfg(test)]
 mod near_lines;

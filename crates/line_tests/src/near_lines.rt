@@ -20,6 +20,10 @@ fn verdicts_on_radii_are_printed(rt: HostRuntime) -> Result<(), Fail> {
         (NearError::Malformed(1585), "refused Malformed 1585\n"),
         (NearError::Stale(3), "refused Stale 3\n"),
         (
+            NearError::BadChain(6, SealError::BadKey),
+            "refused BadChain 6 BadKey\n",
+        ),
+        (
             NearError::BadSignature(SealError::NoMatch),
             "refused BadSignature NoMatch\n",
         ),

@@ -229,8 +229,12 @@ fn refusals_are_sentences_for_planners(rt: HostRuntime) -> Result<(), Fail> {
             "the reply is of version 3 of the map, which is older than LEAST asks for.",
         ),
         (
+            CheckError::BadChain(0, SealError::NoMatch),
+            "link 0 of the chain, counted from 0 on, is not signed by the key before it.",
+        ),
+        (
             CheckError::BadSignature(SealError::NoMatch),
-            "the reply is not signed under this public key.",
+            "the reply is not signed under this public key, nor under a key of the chain where one is named.",
         ),
         (
             CheckError::Judged(Refusal::Shorter(9)),

@@ -91,15 +91,17 @@ fn each_command_line_is_read(rt: HostRuntime) -> Result<(), Fail> {
                 reply: "a.reply",
                 query,
                 least: 18_446_744_073_709_551_615,
+                chain: None,
             },
         ),
         (
-            "audit k.hex a.pub a.reply 1 3",
+            "audit k.hex a.pub a.reply 1 3 a.chain",
             Command::Audit {
                 key: "k.hex",
                 publication: "a.pub",
                 reply: "a.reply",
                 query,
+                chain: Some("a.chain"),
             },
         ),
         (
@@ -119,12 +121,13 @@ fn each_command_line_is_read(rt: HostRuntime) -> Result<(), Fail> {
             },
         ),
         (
-            "check-reach k.hex a.reply 1 18446744073709551615 3",
+            "check-reach k.hex a.reply 1 18446744073709551615 3 a.chain",
             Command::CheckReach {
                 key: "k.hex",
                 reply: "a.reply",
                 query: near,
                 least: 3,
+                chain: Some("a.chain"),
             },
         ),
         (
@@ -134,6 +137,7 @@ fn each_command_line_is_read(rt: HostRuntime) -> Result<(), Fail> {
                 publication: "a.pub",
                 reply: "a.reply",
                 query: near,
+                chain: None,
             },
         ),
     ] {
@@ -155,6 +159,7 @@ fn other_command_lines_fit_no_command(rt: HostRuntime) -> Result<(), Fail> {
         "prove a.pub 1 4294967296",
         "check k r 1 3",
         "check k r 1 3 18446744073709551616",
+        "check k r 1 3 3 c d",
         "audit k p r 1",
         "desk owner.desk",
         "survey 1 0 dij 2",

@@ -1,5 +1,6 @@
 -- What words ask for: the command line's grammar.
 use Rattle.std.specs.Prelude.{ℕ, nat_le, ◌&&◌, List, [], ◌∷◌, codes, if◌then◌else◌, Option, Some, None}
+use Rattle.std.specs.List.{slice_index_or}
 use Rattle.std.specs.Str.{bytes_eq}
 use Rattle.road_reader.specs.Fields.{natural_of, wide_natural_of, ◌>>=◌}
 use Rattle.book_model.specs.declared.items.Query.{Query}
@@ -18,12 +19,12 @@ pub data Request : Type 0 where
   Publish : List ℕ → Settings → Request
   Prove : List ℕ → Query → Request
   Serve : List ℕ → Request
-  Check : List ℕ → List ℕ → Query → ℕ → Request
-  Audit : List ℕ → List ℕ → List ℕ → Query → Request
+  Check : List ℕ → List ℕ → Query → ℕ → Option (List ℕ) → Request
+  Audit : List ℕ → List ℕ → List ℕ → Query → Option (List ℕ) → Request
   Survey : ℕ → ℕ → ℕ → ℕ → Request
   Reach : List ℕ → NearQuery → Request
-  CheckReach : List ℕ → List ℕ → NearQuery → ℕ → Request
-  AuditReach : List ℕ → List ℕ → List ℕ → NearQuery → Request
+  CheckReach : List ℕ → List ℕ → NearQuery → ℕ → Option (List ℕ) → Request
+  AuditReach : List ℕ → List ℕ → List ℕ → NearQuery → Option (List ℕ) → Request
 
 -- ---- single words
 
@@ -122,6 +123,10 @@ survey_of width seed method queries = do
 
 -- ---- the words behind a command's name
 
+-- the word at an index, from 0
+abbrev pub word_at : List (List ℕ) → ℕ → List ℕ
+word_at words index = slice_index_or words index []
+
 -- a road file's name, and the ids of both ends
 abbrev pub route_words : List (List ℕ) → Option Request
 route_words (roads ∷ from ∷ to ∷ []) = do
@@ -188,19 +193,31 @@ serve_words (publication ∷ []) = Some (Serve publication)
 serve_words _ = None
 
 -- the names of files of a public key and of a reply, the ids of both ends, and the least version
--- that is taken
-abbrev pub check_words : List (List ℕ) → Option Request
-check_words (key ∷ reply ∷ from ∷ to ∷ least ∷ []) = do
+-- that is taken; and a chain file's name, where one is given
+abbrev pub check_of : List ℕ → List ℕ → List ℕ → List ℕ → List ℕ → Option (List ℕ) → Option Request
+check_of key reply from to least chain = do
   query ← query_of from to
   least ← wide_natural_of least
-  Some (Check key reply query least)
+  Some (Check key reply query least chain)
+
+abbrev pub check_words : List (List ℕ) → Option Request
+check_words (key ∷ reply ∷ from ∷ to ∷ least ∷ []) = check_of key reply from to least None
+check_words (key ∷ reply ∷ from ∷ to ∷ least ∷ chain ∷ []) =
+    check_of key reply from to least (Some chain)
 check_words _ = None
 
--- the names of files of a public key, a publication and a reply, and the ids of both ends
-abbrev pub audit_words : List (List ℕ) → Option Request
-audit_words (key ∷ publication ∷ reply ∷ from ∷ to ∷ []) = do
+-- the names of files of a public key, a publication and a reply, and the ids of both ends; and a
+-- chain file's name, where one is given
+abbrev pub audit_of : List ℕ → List ℕ → List ℕ → List ℕ → List ℕ → Option (List ℕ) → Option Request
+audit_of key publication reply from to chain = do
   query ← query_of from to
-  Some (Audit key publication reply query)
+  Some (Audit key publication reply query chain)
+
+abbrev pub audit_words : List (List ℕ) → Option Request
+audit_words (key ∷ publication ∷ reply ∷ from ∷ to ∷ []) = audit_of key publication reply from to
+    None
+audit_words (key ∷ publication ∷ reply ∷ from ∷ to ∷ chain ∷ []) =
+    audit_of key publication reply from to (Some chain)
 audit_words _ = None
 
 -- a grid's width and its seed, the method, and how many queries are asked
@@ -216,19 +233,34 @@ reach_words (publication ∷ from ∷ radius ∷ []) = do
 reach_words _ = None
 
 -- the names of files of a public key and of a reply, the id of a node, a radius, and the least
--- version that is taken
-abbrev pub check_reach_words : List (List ℕ) → Option Request
-check_reach_words (key ∷ reply ∷ from ∷ radius ∷ least ∷ []) = do
+-- version that is taken; and a chain file's name, where one is given
+abbrev pub check_reach_of : List ℕ → List ℕ → List ℕ → List ℕ → List ℕ → Option (List ℕ) →
+    Option Request
+check_reach_of key reply from radius least chain = do
   query ← near_query_of from radius
   least ← wide_natural_of least
-  Some (CheckReach key reply query least)
+  Some (CheckReach key reply query least chain)
+
+abbrev pub check_reach_words : List (List ℕ) → Option Request
+check_reach_words (key ∷ reply ∷ from ∷ radius ∷ least ∷ []) = check_reach_of key reply from radius
+    least None
+check_reach_words (key ∷ reply ∷ from ∷ radius ∷ least ∷ chain ∷ []) =
+    check_reach_of key reply from radius least (Some chain)
 check_reach_words _ = None
 
--- the names of files of a public key, a publication and a reply, the id of a node, and a radius
-abbrev pub audit_reach_words : List (List ℕ) → Option Request
-audit_reach_words (key ∷ publication ∷ reply ∷ from ∷ radius ∷ []) = do
+-- the names of files of a public key, a publication and a reply, the id of a node, and a radius;
+-- and a chain file's name, where one is given
+abbrev pub audit_reach_of : List ℕ → List ℕ → List ℕ → List ℕ → List ℕ → Option (List ℕ) →
+    Option Request
+audit_reach_of key publication reply from radius chain = do
   query ← near_query_of from radius
-  Some (AuditReach key publication reply query)
+  Some (AuditReach key publication reply query chain)
+
+abbrev pub audit_reach_words : List (List ℕ) → Option Request
+audit_reach_words (key ∷ publication ∷ reply ∷ from ∷ radius ∷ []) =
+    audit_reach_of key publication reply from radius None
+audit_reach_words (key ∷ publication ∷ reply ∷ from ∷ radius ∷ chain ∷ []) =
+    audit_reach_of key publication reply from radius (Some chain)
 audit_reach_words _ = None
 
 -- the command that words ask for, if they fit one

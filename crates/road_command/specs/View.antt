@@ -1,5 +1,6 @@
 -- A command as what was asked for, without where its words lie in memory.
 use Rattle.std.specs.Prelude.{ℕ}
+use Rattle.std.specs.Option.{option_map}
 use Rattle.road_command.specs.Requests.{Request}
 use Rattle.road_command.specs.Requests as request
 use Rattle.road_command.specs.declared.command.Command.{Command}
@@ -27,11 +28,13 @@ shown command.Desk = request.Desk
 shown (command.Publish roads settings) = request.Publish roads.now settings
 shown (command.Prove publication query) = request.Prove publication.now query
 shown (command.Serve publication) = request.Serve publication.now
-shown (command.Check key reply query least) = request.Check key.now reply.now query least
-shown (command.Audit key publication reply query) = request.Audit key.now publication.now reply.now
-    query
+shown (command.Check key reply query least chain) = request.Check key.now reply.now query least
+    (option_map (λ word. word.now) chain)
+shown (command.Audit key publication reply query chain) = request.Audit key.now publication.now
+    reply.now query (option_map (λ word. word.now) chain)
 shown (command.Survey asked) = survey_shown asked
 shown (command.Reach publication query) = request.Reach publication.now query
-shown (command.CheckReach key reply query least) = request.CheckReach key.now reply.now query least
-shown (command.AuditReach key publication reply query) = request.AuditReach key.now publication.now
-    reply.now query
+shown (command.CheckReach key reply query least chain) = request.CheckReach key.now reply.now query
+    least (option_map (λ word. word.now) chain)
+shown (command.AuditReach key publication reply query chain) = request.AuditReach key.now
+    publication.now reply.now query (option_map (λ word. word.now) chain)

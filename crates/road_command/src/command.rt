@@ -1,8 +1,8 @@
 //! The commands, and which of them words ask for.
 
-ghost use Rattle.std.specs.Prelude.{◌≡◌, ◌<◌, length, drop};
+ghost use Rattle.std.specs.Prelude.{◌≡◌, ◌<◌, ◌≤◌, length, drop};
 ghost use Rattle.std.specs.Option.{option_map};
-ghost use Rattle.road_command.specs.Requests.{request_of, route_words, root_words, dimacs_words, key_words, succeed_words, links_words, desk_words, publish_words, prove_words, serve_words, check_words, audit_words, survey_words, reach_words, check_reach_words, audit_reach_words};
+ghost use Rattle.road_command.specs.Requests.{request_of, route_words, root_words, dimacs_words, key_words, succeed_words, links_words, desk_words, publish_words, prove_words, serve_words, check_words, check_of, audit_words, audit_of, survey_words, reach_words, check_reach_words, check_reach_of, audit_reach_words, audit_reach_of, word_at};
 ghost use Rattle.road_command.specs.View.{shown};
 
 use crate::asked::Survey;
@@ -60,19 +60,23 @@ pub enum Command<'a> {
     Serve {
         publication: &'a str,
     },
-    /// Check a reply to a query with a public key, and a least version that is taken, and write the verdict.
+    /// Check a reply to a query with a public key, a least version that is taken, and a chain file where
+    /// one is named, and write the verdict.
     Check {
         key: &'a str,
         reply: &'a str,
         query: Query,
         least: u64,
+        chain: Option<&'a str>,
     },
-    /// Find out what an accepted reply is evidence of, with the owner's disk and a publication.
+    /// Find out what an accepted reply is evidence of, with the owner's disk, a publication, and a chain
+    /// file where one is named.
     Audit {
         key: &'a str,
         publication: &'a str,
         reply: &'a str,
         query: Query,
+        chain: Option<&'a str>,
     },
     /// Publish a grid in memory, answer drawn queries over it, check each reply, and write the counts.
     Survey(Survey),
@@ -81,19 +85,23 @@ pub enum Command<'a> {
         publication: &'a str,
         query: NearQuery,
     },
-    /// Check a reply on a radius with a public key, and a least version that is taken, and write the verdict.
+    /// Check a reply on a radius with a public key, a least version that is taken, and a chain file where
+    /// one is named, and write the verdict.
     CheckReach {
         key: &'a str,
         reply: &'a str,
         query: NearQuery,
         least: u64,
+        chain: Option<&'a str>,
     },
-    /// Find out what an accepted reply on a radius is evidence of, with the owner's disk and a publication.
+    /// Find out what an accepted reply on a radius is evidence of, with the owner's disk, a publication,
+    /// and a chain file where one is named.
     AuditReach {
         key: &'a str,
         publication: &'a str,
         reply: &'a str,
         query: NearQuery,
+        chain: Option<&'a str>,
     },
 }
 
@@ -268,9 +276,19 @@ fn check_of(words: &Words) -> Option<Command<'_>>
     requires { 0 < length words.now }
     ensures { option_map shown result ≡ check_words (drop 1 words.now) }
 {
-    if words.count() != 6 {
-        return None;
+    match words.count() {
+        6 => check_along(words, None),
+        7 => check_along(words, Some(words.word(6))),
+        _ => None,
     }
+}
+
+fn check_along<'a>(words: &'a Words, chain: Option<&'a str>) -> Option<Command<'a>>
+    requires { 6 ≤ length words.now }
+    ensures { option_map shown result ≡ check_of (word_at words.now 1) (word_at words.now 2)
+        (word_at words.now 3) (word_at words.now 4) (word_at words.now 5)
+        (option_map (λ word. word.now) chain.entry) }
+{
     let query = query(words.word(3), words.word(4))?;
     let least = wide_natural(words.word(5).as_bytes())?;
     Some(Command::Check {
@@ -278,6 +296,7 @@ fn check_of(words: &Words) -> Option<Command<'_>>
         reply: words.word(2),
         query,
         least,
+        chain,
     })
 }
 
@@ -285,15 +304,26 @@ fn audit_of(words: &Words) -> Option<Command<'_>>
     requires { 0 < length words.now }
     ensures { option_map shown result ≡ audit_words (drop 1 words.now) }
 {
-    if words.count() != 6 {
-        return None;
+    match words.count() {
+        6 => audit_along(words, None),
+        7 => audit_along(words, Some(words.word(6))),
+        _ => None,
     }
+}
+
+fn audit_along<'a>(words: &'a Words, chain: Option<&'a str>) -> Option<Command<'a>>
+    requires { 6 ≤ length words.now }
+    ensures { option_map shown result ≡ audit_of (word_at words.now 1) (word_at words.now 2)
+        (word_at words.now 3) (word_at words.now 4) (word_at words.now 5)
+        (option_map (λ word. word.now) chain.entry) }
+{
     let query = query(words.word(4), words.word(5))?;
     Some(Command::Audit {
         key: words.word(1),
         publication: words.word(2),
         reply: words.word(3),
         query,
+        chain,
     })
 }
 
@@ -326,9 +356,19 @@ fn check_reach_of(words: &Words) -> Option<Command<'_>>
     requires { 0 < length words.now }
     ensures { option_map shown result ≡ check_reach_words (drop 1 words.now) }
 {
-    if words.count() != 6 {
-        return None;
+    match words.count() {
+        6 => check_reach_along(words, None),
+        7 => check_reach_along(words, Some(words.word(6))),
+        _ => None,
     }
+}
+
+fn check_reach_along<'a>(words: &'a Words, chain: Option<&'a str>) -> Option<Command<'a>>
+    requires { 6 ≤ length words.now }
+    ensures { option_map shown result ≡ check_reach_of (word_at words.now 1) (word_at words.now 2)
+        (word_at words.now 3) (word_at words.now 4) (word_at words.now 5)
+        (option_map (λ word. word.now) chain.entry) }
+{
     let query = near_query(words.word(3), words.word(4))?;
     let least = wide_natural(words.word(5).as_bytes())?;
     Some(Command::CheckReach {
@@ -336,6 +376,7 @@ fn check_reach_of(words: &Words) -> Option<Command<'_>>
         reply: words.word(2),
         query,
         least,
+        chain,
     })
 }
 
@@ -343,14 +384,25 @@ fn audit_reach_of(words: &Words) -> Option<Command<'_>>
     requires { 0 < length words.now }
     ensures { option_map shown result ≡ audit_reach_words (drop 1 words.now) }
 {
-    if words.count() != 6 {
-        return None;
+    match words.count() {
+        6 => audit_reach_along(words, None),
+        7 => audit_reach_along(words, Some(words.word(6))),
+        _ => None,
     }
+}
+
+fn audit_reach_along<'a>(words: &'a Words, chain: Option<&'a str>) -> Option<Command<'a>>
+    requires { 6 ≤ length words.now }
+    ensures { option_map shown result ≡ audit_reach_of (word_at words.now 1) (word_at words.now 2)
+        (word_at words.now 3) (word_at words.now 4) (word_at words.now 5)
+        (option_map (λ word. word.now) chain.entry) }
+{
     let query = near_query(words.word(4), words.word(5))?;
     Some(Command::AuditReach {
         key: words.word(1),
         publication: words.word(2),
         reply: words.word(3),
         query,
+        chain,
     })
 }

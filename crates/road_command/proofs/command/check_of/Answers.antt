@@ -1,0 +1,9 @@
+use Rattle.std.proofs.Common.{refl, sym, ◌∙◌}
+use Rattle.road_command.specs.Requests.{check_words, check_of}
+use Rattle.road_command.proofs.SevenWords.{seven_words}
+use Rattle.road_command.proofs.command.check_of.Goals as goal
+
+pub returns-in-7 : goal.returns-in-7
+returns-in-7 c =
+    c.check_along-in-7.ensures
+    ∙ seven_words check_words check_of (λ a b c d e f. refl) c.args.words.now c.word.result.now (sym c.count.ensures ∙ c.in-7.is) c.word.ensures

@@ -1,4 +1,5 @@
 pub mod Areas
+pub mod Bases
 pub mod Frame
 pub mod Growth
 pub mod KeyLemmas

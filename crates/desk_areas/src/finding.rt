@@ -1,10 +1,10 @@
 //! The search for a text in the spent slots of areas.
-ghost use Rattle.std.specs.Prelude.{◌≡◌, ◌≢◌, ◌+◌, ◌*◌, ◌<◌, ◌≤◌, ◌^◌, ◌↔◌, List, ℕ, Some, true, false, length, take, drop, min, IfOk, slice_index_or};
+ghost use Rattle.std.specs.Prelude.{◌≡◌, ◌≢◌, ◌+◌, ◌*◌, ◌<◌, ◌≤◌, ◌^◌, ◌↔◌, List, ℕ, Some, true, false, length, take, drop, min, IfOk, IsErr, slice_index_or};
 ghost use Rattle.std.specs.Option.{ForSome};
 ghost use Rattle.road_io.specs.Causes.{HasCause};
 ghost use Rattle.road_io.specs.Disk.{Stays};
 ghost use Rattle.road_io.specs.Moments.{Image, EachImage, AtEachMoment};
-ghost use Rattle.desk_areas.specs.Layout.{place_in, text_at};
+ghost use Rattle.desk_areas.specs.Layout.{place_in, base_of, text_at};
 ghost use Rattle.desk_areas.specs.Reading.{IsLaidOut, FindsIn, FindsEarlier};
 
 use crate::area::{Area, Count, place_in};
@@ -88,4 +88,38 @@ pub fn find_earlier<D: Disk>(areas: &[Area], disk: &mut D, text: &[u8]) -> Resul
         base = place_in(base, counts.len() as u32);
     }
     Ok(false)
+}
+
+/// Reads the text of the slot at this place, and answers how many octets of what it has put there are the text.
+pub fn read_text<D: Disk>(disk: &mut D, place: u64, into: &mut [u8; 126]) -> Result<u32, Failed>
+    requires within { ForSome (D.content disk.old) (λ c. place + 128 ≤ length c) }
+    requires place { place < 2 ^ 63 }
+    ensures text { IfOk result (λ n.
+        ForSome (D.content disk.old) (λ c. text_at c place ≡ take n into.new)) }
+    ensures short { IfOk result (λ n. n ≤ 126) }
+    ensures refused { IsErr result → into.new ≡ into.old }
+    ensures content { D.content disk.new ≡ D.content disk.old }
+    ensures moments { AtEachMoment D.Disk disk.old disk.new Stays }
+    ensures cause { HasCause (D.faults disk.old) (D.faults disk.new) result }
+{
+    let mut octets = [0u8; 127];
+    disk.read_at(place + 1, &mut octets)?;
+    let len = (octets[0] as u32).min(126);
+    into.copy_from_slice(&octets[1..]);
+    Ok(len)
+}
+
+/// Where the area of a number begins, by the areas before it.
+pub fn base_of(areas: &[Area], area: u32) -> u64
+    requires known { area ≤ length areas.now }
+    requires few { length areas.now ≤ 7 }
+    ensures base { (image : List ℕ) → IsLaidOut areas.now image → result ≡ base_of image area }
+    ensures low { result ≤ 131136 * area }
+{
+    let mut base = 0u64;
+    for number in 0..area {
+        let counts = areas[number as usize].counts();
+        base = place_in(base, counts.len() as u32);
+    }
+    base
 }

@@ -3,7 +3,7 @@
 
 pub use area::{Area, Count, build_key, place_in, slots_of};
 pub use errors::StartError;
-pub use finding::{find_earlier, find_text};
+pub use finding::{base_of, find_earlier, find_text, read_text};
 pub use laws::signed_lists_pairs;
 pub use reading::{Found, has_name, read_gate, read_next};
 pub use writing::{open_gate, put, put_text, store};

@@ -1,6 +1,6 @@
 //! One write within the disk's length, and a sync: the only way in which a slot changes.
 ghost use Rattle.std.specs.Prelude.{◌≡◌, ◌+◌, ◌*◌, ◌<◌, ◌^◌, ◌≤◌, ◌∷◌, List, ℕ, length, take, drop, OnOk, IfOk};
-ghost use Rattle.road_io.specs.Causes.{HasCause};
+ghost use Rattle.road_io.specs.Causes.{HasCause, RoseBy};
 ghost use Rattle.road_io.specs.Disk.{written, Torn};
 ghost use Rattle.road_io.specs.Moments.{Image, EachImage, AtEachMoment};
 ghost use Rattle.desk_areas.specs.Layout.{AgreesOutside, gate_at, text_at};
@@ -8,7 +8,7 @@ ghost use Rattle.desk_areas.specs.Settled.{IsSettled};
 
 use road_io::{Disk, Failed};
 
-/// Writes octets within the length, and syncs.
+/// Writes octets within the length, and syncs: two calls of the disk.
 pub fn store<D: Disk>(disk: &mut D, at: u64, octets: &[u8]) -> Result<(), Failed>
     requires within { EachImage D.Disk disk.old (λ i. at + length octets.now ≤ length i) }
     // Nothing changes outside the range, at any moment.
@@ -19,6 +19,7 @@ pub fn store<D: Disk>(disk: &mut D, at: u64, octets: &[u8]) -> Result<(), Failed
         (λ i. (d : List ℕ) × Image D.Disk disk.old d × (i ≡ written at octets.now d))) }
     ensures settled { OnOk result (IsSettled D.Disk disk.new) }
     ensures cause { HasCause (D.faults disk.old) (D.faults disk.new) result }
+    ensures counted { OnOk result (RoseBy 2 (D.calls disk.old) (D.calls disk.new)) }
 {
     put(disk, at, octets)
 }
@@ -31,6 +32,7 @@ pub fn put<D: Disk>(disk: &mut D, at: u64, octets: &[u8]) -> Result<(), Failed>
         (λ i. (d : List ℕ) × Image D.Disk disk.old d × (i ≡ written at octets.now d))) }
     ensures settled { OnOk result (IsSettled D.Disk disk.new) }
     ensures cause { HasCause (D.faults disk.old) (D.faults disk.new) result }
+    ensures counted { OnOk result (RoseBy 2 (D.calls disk.old) (D.calls disk.new)) }
 {
     disk.write_at(at, octets)?;
     disk.sync()
@@ -47,6 +49,7 @@ pub fn put_text<D: Disk>(disk: &mut D, place: u64, text: &[u8]) -> Result<[u8; 1
     ensures piece { IfOk result (λ piece. take (length text.now) (drop 1 piece) ≡ text.now) }
     ensures settled { OnOk result (IsSettled D.Disk disk.new) }
     ensures cause { HasCause (D.faults disk.old) (D.faults disk.new) result }
+    ensures counted { OnOk result (RoseBy 2 (D.calls disk.old) (D.calls disk.new)) }
 {
     let piece = piece_of(text);
     store(disk, place + 1, &piece[..text.len() + 1])?;
@@ -60,6 +63,7 @@ pub fn open_gate<D: Disk>(disk: &mut D, place: u64) -> Result<(), Failed>
     ensures stored { OnOk result (EachImage D.Disk disk.new (λ i. gate_at i place ≡ 1)) }
     ensures settled { OnOk result (IsSettled D.Disk disk.new) }
     ensures cause { HasCause (D.faults disk.old) (D.faults disk.new) result }
+    ensures counted { OnOk result (RoseBy 2 (D.calls disk.old) (D.calls disk.new)) }
 {
     store(disk, place, &[1])
 }

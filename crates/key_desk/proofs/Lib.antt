@@ -13,6 +13,7 @@ pub mod ReadMore
 pub mod Refusals
 pub mod RunLaws
 pub mod Runs
+pub mod SlotTexts
 pub mod Standing
 pub mod Steps
 pub mod Successors

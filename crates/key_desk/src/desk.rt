@@ -1,6 +1,6 @@
 //! The desk, and the states of one signing.
 ghost use Rattle.std.specs.Prelude.{◌≡◌, ◌≢◌, ◌+◌, ◌*◌, ◌^◌, ◌<◌, ◌≤◌, ◌↔◌, List, ℕ, true, false, length, slice_set, slice_index_or, IfOk, OnOk, IsErrOf, IsErr, IsOk, Err, IfSome, IfNone, take, drop, ◌∷◌};
-ghost use Rattle.road_io.specs.Causes.{Rose};
+ghost use Rattle.road_io.specs.Causes.{Rose, RoseBy};
 ghost use Rattle.road_io.specs.Moments.{Image, EachImage, AtEachMoment};
 ghost use Rattle.desk_areas.specs.Layout.{SlotId, slots_of, place_in, gate_of, IsSigned, SameSigned, SignsAtMost, OutsideSlot};
 ghost use Rattle.key_desk.specs.Stands.{KeepsStanding};
@@ -109,7 +109,7 @@ impl Desk {
     }
 
     // The number of the current area.
-    pub(crate) fn area(&self) -> u32
+    fn current(&self) -> u32
         ensures { result ≡ length self.now.earlier }
     {
         self.earlier.len() as u32
@@ -279,7 +279,8 @@ impl Desk {
         }
     }
 
-    /// Signs a text with the next one-time key: a ticket, its text, its gate, its seal.
+    /// Signs a text with the next one-time key: a ticket, its text, its gate, its seal. Where none of them fails, it
+    /// makes four calls of the disk.
     pub fn sign<D: Disk>(
         &mut self,
         disk: &mut D,
@@ -319,6 +320,7 @@ impl Desk {
             (λ d i. OutsideSlot (slot_here self.old q) d i ×
             SignsAtMost (slot_here self.old q) text.now d i) }
         ensures stands { KeepsStanding D.Disk disk.old disk.new }
+        ensures counted { OnOk result (RoseBy 4 (D.calls disk.old) (D.calls disk.new)) }
         ensures faults { D.faults disk.old ≤ D.faults disk.new }
         ensures fault { IsErrOf result DeskError.DiskFault →
             Rose (D.faults disk.old) (D.faults disk.new) × (self.new.is_open ≡ false) }
@@ -380,7 +382,7 @@ impl Ticket {
         desk.count(slot, Count::Free);
     }
 
-    /// Puts the text into the slot, with its gate closed.
+    /// Puts the text into the slot, with its gate closed: one write, and a sync.
     pub fn write<D: Disk>(
         self,
         desk: &mut Desk,
@@ -410,6 +412,7 @@ impl Ticket {
         ensures moments { AtEachMoment D.Disk disk.old disk.new
             (λ d i. OutsideSlot (slot_here desk.old self) d i × SameSigned d i) }
         ensures stands { KeepsStanding D.Disk disk.old disk.new }
+        ensures counted { OnOk result (RoseBy 2 (D.calls disk.old) (D.calls disk.new)) }
         ensures faults { D.faults disk.old ≤ D.faults disk.new }
         ensures fault { IsErrOf result DeskError.DiskFault →
             Rose (D.faults disk.old) (D.faults disk.new) × (desk.new.is_open ≡ false) }
@@ -428,7 +431,7 @@ impl Ticket {
                 Err(DeskError::DiskFault)
             }
             Ok(piece) => {
-                let area = desk.area();
+                let area = desk.current();
                 desk.count(slot, Count::Written);
                 Ok(Texted {
                     area,
@@ -444,7 +447,7 @@ impl Ticket {
 impl Texted {
     ghost use Rattle.key_desk.specs.Desk.{count_at, slot_here, SameAreas, Fits, KnowsTexted, KnowsSpent, KeepsKnown, texted_slot, texted_text, spent_slot, spent_text};
 
-    /// Opens the slot's gate. From then on the pair counts as signed.
+    /// Opens the slot's gate, by one write and a sync. From then on the pair counts as signed.
     pub fn spend<D: Disk>(self, desk: &mut Desk, disk: &mut D) -> Result<Spent, DeskError>
         requires fits { Fits D.Disk desk.old disk.old }
         requires knows { KnowsTexted D.Disk desk.old disk.old (texted_slot self)
@@ -471,6 +474,7 @@ impl Texted {
             (λ d i. OutsideSlot (texted_slot self) d i ×
             SignsAtMost (texted_slot self) (texted_text self) d i) }
         ensures stands { KeepsStanding D.Disk disk.old disk.new }
+        ensures counted { OnOk result (RoseBy 2 (D.calls disk.old) (D.calls disk.new)) }
         ensures faults { D.faults disk.old ≤ D.faults disk.new }
         ensures fault { IsErrOf result DeskError.DiskFault →
             Rose (D.faults disk.old) (D.faults disk.new) × (desk.new.is_open ≡ false) }

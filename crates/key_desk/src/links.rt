@@ -46,6 +46,14 @@ impl<T: Drop> From<AllocFailed<T>> for LinksError {
     }
 }
 
+/// Why a desk doesn't lend a key.
+#[derive(Clone, Copy, Debug, PartialEq, Eq, Error)]
+pub enum AreaError {
+    /// The disk failed before: the desk must be opened again.
+    #[error("The desk is closed since its disk failed, and must be opened again.")]
+    Closed,
+}
+
 impl Desk {
     ghost use Rattle.key_desk.specs.Desk.{key_of};
     ghost use Rattle.key_desk.specs.Links.{link_from, links_of};
@@ -76,6 +84,19 @@ impl Desk {
         ensures { result ≡ public_key (key_of self.now area) }
     {
         self.key_in(area).public()
+    }
+
+    /// The key of an open area. It takes no memory, since a desk keeps its keys.
+    pub fn area(&self, area: u32) -> Result<&Key, AreaError>
+        requires { area ≤ length self.now.earlier }
+        ensures key { IfOk result (λ key. key.now ≡ key_of self.now area) }
+        ensures closed { IsErrOf result AreaError.Closed ↔ (self.now.is_open ≡ false) }
+    {
+        let is_open = self.is_open();
+        if !is_open {
+            return Err(AreaError::Closed);
+        }
+        Ok(self.key_in(area))
     }
 
     // The link from the key of an area to that of the area behind it.

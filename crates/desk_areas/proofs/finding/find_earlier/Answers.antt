@@ -1,24 +1,16 @@
-use Rattle.std.proofs.Common.{◌≡◌, ◌+◌, ◌<◌, List, ℕ, suc, Some, length, get_or, arith, refl, inl, inr, sym, ◌∙◌, ap, subst}
+use Rattle.std.proofs.Common.{◌≡◌, ◌+◌, ◌<◌, List, ℕ, suc, Some, length, arith, refl, inl, inr, sym, ◌∙◌, ap, subst}
 use Rattle.std.proofs.lemmas.Bool.{cases_lt}
-use Rattle.std.proofs.lemmas.List.{get_or_default}
 use Rattle.road_io.specs.Disk.{Stays}
 use Rattle.road_io.proofs.MomentLaws.{nothing, continued}
 use Rattle.desk_areas.specs.declared.area.Count.{Count}
-use Rattle.desk_areas.specs.Area.{AreaView, area_in, no_area}
+use Rattle.desk_areas.specs.Area.{AreaView, area_in}
 use Rattle.desk_areas.specs.Layout.{place_in, base_of}
-use Rattle.desk_areas.specs.Reading.{FindsIn, IsLaidOut}
-use Rattle.desk_areas.proofs.Areas.{base_first, base_next}
+use Rattle.desk_areas.specs.Reading.{FindsIn}
+use Rattle.desk_areas.proofs.Areas.{base_first}
+use Rattle.desk_areas.proofs.Bases.{item_at, end_at}
 use Rattle.desk_areas.proofs.finding.find_earlier.Given.{Over}
 use Rattle.desk_areas.proofs.finding.find_earlier.Goals as goal
 use Rattle.desk_areas.proofs.finding.find_earlier.Goals.{After-counts-counts}
-
--- an element is the one at its place
-item_at : (areas : List AreaView) (i : ℕ) (item : AreaView) → i < length areas → item ≡ get_or areas i item → item ≡ area_in areas i
-item_at areas i item lt is = is ∙ get_or_default areas i item no_area lt
-
--- where an area ends, by what is counted in it
-end_at : (areas : List AreaView) (c : List ℕ) (i base n : ℕ) → IsLaidOut areas c → i < length areas → base ≡ base_of c i → n ≡ length (area_in areas i).counts → place_in base n ≡ base_of c (suc i)
-end_at areas c i base n laid lt base_is n_is = let slots = laid.slots i lt in omega (arith, base_next c i, slots, base_is, n_is)
 
 -- one area more in which nothing is found
 none_more : (areas : List AreaView) (text c : List ℕ) (i base : ℕ) (item : AreaView) → item ≡ area_in areas i → base ≡ base_of c i → (FindsIn item.counts base text c → ⊥)

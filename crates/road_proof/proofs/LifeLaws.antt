@@ -12,7 +12,7 @@ use Rattle.road_io.specs.Moments.{Image, EachImage, AtEachMoment}
 use Rattle.road_io.specs.Contents.{Folder}
 use Rattle.desk_areas.specs.Layout.{IsOpen}
 use Rattle.key_desk.specs.Stands.{SameKeys}
-use Rattle.road_command.specs.Requests.{Request, Key, Succeed, Links, Publish, Audit, AuditReach}
+use Rattle.road_command.specs.Requests.{Request, Key, Succeed, Links, Publish, Audit, AuditReach, Reduce}
 use Rattle.command_files.specs.declared.fault.Fault.{Fault}
 use Rattle.command_files.specs.declared.fault.Fault.TheVariants.{Sink, MirrorLost}
 use Rattle.command_files.specs.declared.ended.Conclusion.{Conclusion}
@@ -39,8 +39,9 @@ module _ {D : Type 0} (g : Ghosts D) (old new : D) (files : Option Folder) (take
   keys_of (Some (Succeed secret kind)) nothing on_disk = on_disk.keys
   keys_of (Some Links) nothing on_disk = keys_stay g old new on_disk.0
   keys_of (Some (Publish roads settings)) nothing on_disk = keys_published g old new files roads settings on_disk.1
-  keys_of (Some (Audit key publication reply q)) nothing on_disk = keys_stay g old new on_disk.0
-  keys_of (Some (AuditReach key publication reply q)) nothing on_disk = keys_stay g old new on_disk.0
+  keys_of (Some (Audit key publication reply q chain)) nothing on_disk = keys_stay g old new on_disk.0
+  keys_of (Some (AuditReach key publication reply q chain)) nothing on_disk = keys_stay g old new on_disk.0
+  keys_of (Some (Reduce key text signature)) nothing on_disk = keys_stay g old new on_disk.0
   keys_of (Some request) nothing on_disk = keys_stay g old new on_disk
 
 module _ {M : Type 0} (octets : M → Option (List ℕ)) (label puts room : M → ℕ) {D : Type 0} (g : Ghosts D) (reads : (d : D) (c : List ℕ) → g.content d ≡ Some c → Image g d c) where

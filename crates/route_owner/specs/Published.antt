@@ -1,7 +1,7 @@
 -- What publishing promises.
 -- Source: Yiu, Lin and Mouratidis, ICDE 2010: the data owner signs the roots of the trees and hands
 -- them out with the map.
-use Rattle.std.specs.Prelude.{◌≡◌, ◌≢◌, ◌⊎◌, ◌≤◌, ◌+◌, ◌<◌, ◌^◌, ℕ, true, List, ◌++◌, All, length, take, drop}
+use Rattle.std.specs.Prelude.{◌≡◌, ◌≢◌, ◌⊎◌, ◌≤◌, ◌+◌, ◌<◌, ◌^◌, ℕ, true, false, List, ◌++◌, All, length, take, drop}
 use Rattle.std.specs.declared.result.Result.{Result}
 use Rattle.std.specs.declared.result.Result.TheVariants.{Ok, Err}
 use Rattle.sha2.specs.Sha256.{sha256}
@@ -10,7 +10,9 @@ use Rattle.road_io.specs.declared.disk.Disk.{Ghosts}
 use Rattle.road_io.specs.Moments.{EachImage, AtEachMoment}
 use Rattle.book_model.specs.declared.settings.Settings.{Settings}
 use Rattle.lms_tree.specs.Signatures.{KeyOf, number_at}
-use Rattle.key_desk.specs.Desk.{IsSignature, IsUsedUp as HasNoFree}
+use Rattle.desk_areas.specs.declared.area.Count.TheVariants.{Free}
+use Rattle.key_desk.specs.Desk.{IsSignature, count_at, IsUsedUp as HasNoFree}
+use Rattle.key_desk.specs.declared.desk.DeskError.TheVariants as desk_errors
 use Rattle.key_desk.specs.declared.desk.Desk.{Desk as View}
 use Rattle.desk_areas.specs.Layout.{SlotId, slots_of, slots_at, base_of, gate_of, IsCurrent, IsSigned, OutsideSlot, SignsAtMost}
 use Rattle.proof_octets.specs.declared.header.Header.{Header}
@@ -115,6 +117,37 @@ pub record IsUsedUp (hash : List ℕ → List ℕ) (parts : Parts) (s : Settings
   pub has : HasHeader hash sha256 parts s header
   pub opened : desk.is_open ≡ true
   pub none_free : HasNoFree desk
+
+-- there is a header to sign, and the desk is closed
+pub record IsClosed (hash : List ℕ → List ℕ) (parts : Parts) (s : Settings)
+    (desk : View) : Type 0 where
+  pub header : Header
+  pub has : HasHeader hash sha256 parts s header
+  pub closed : desk.is_open ≡ false
+
+-- why a publication is refused, but for want of memory and a fault of the disk
+abbrev pub Refuses : (List ℕ → List ℕ) → Parts → Settings → View → PublishError → Type 0
+Refuses hash parts s desk (Build e) = IsNoBook hash parts s e
+Refuses hash parts s desk (Desk desk_errors.KeysUsedUp) = IsUsedUp hash parts s desk
+Refuses hash parts s desk (Desk desk_errors.Closed) = IsClosed hash parts s desk
+Refuses hash parts s desk e = ⊥
+
+-- what refuses a publication is answered, unless memory was short
+abbrev pub AnswersRefusal : {X : Type 0} → (List ℕ → List ℕ) → Parts → Settings → View →
+    Result X PublishError → Type 0
+AnswersRefusal hash parts s desk answer = (e : PublishError) → Refuses hash parts s desk e →
+    (answer ≡ Err e) ⊎ (answer ≡ Err Memory)
+
+-- there is a header to sign, and the desk is open and counts a slot of its current area as free that
+-- is not the last
+pub record CanPublish (hash : List ℕ → List ℕ) (parts : Parts) (s : Settings)
+    (desk : View) : Type 0 where
+  pub header : Header
+  pub has : HasHeader hash sha256 parts s header
+  pub opened : desk.is_open ≡ true
+  pub number : ℕ
+  pub early : number + 1 < slots_of desk.key.kind
+  pub free : count_at desk number ≡ Free
 
 -- the publication of these
 abbrev pub publication_with : Header → Parts → Settings → List ℕ → Publication

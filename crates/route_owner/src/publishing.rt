@@ -1,9 +1,10 @@
 //! Publishing a map.
 
-ghost use Rattle.std.specs.Prelude.{◌≡◌, ◌≢◌, ℕ, Some, List, Ok, Err, IfOk, IfErr, IsOk, ◌≤◌, true, false, length};
+ghost use Rattle.std.specs.Prelude.{◌≡◌, ◌≢◌, ◌⊎◌, ℕ, Some, slice_set, List, Ok, Err, IfOk, IfErr, IsOk, ◌≤◌, true, false, length};
 ghost use Rattle.sha2.specs.Sha256.{sha256};
 ghost use Rattle.road_io.specs.Causes.{Rose};
-ghost use Rattle.key_desk.specs.Desk.{Fits, KeepsAllKnown};
+ghost use Rattle.desk_areas.specs.declared.area.Count.TheVariants.{Free, Spent};
+ghost use Rattle.key_desk.specs.Desk.{count_at, Fits, KeepsAllKnown};
 ghost use Rattle.key_desk.specs.Stands.{KeepsStanding};
 ghost use Rattle.key_desk.specs.declared.desk.DeskError.{DeskError};
 ghost use Rattle.key_desk.specs.declared.desk.DeskError.TheVariants as desk_errors;
@@ -12,7 +13,7 @@ ghost use Rattle.proof_octets.specs.declared.publication.Publication.{Publicatio
 ghost use Rattle.proof_octets.specs.Publications.{publication_text};
 ghost use Rattle.route_server.specs.Headers.{HasHeader, Makes};
 ghost use Rattle.route_server.specs.declared.errors.BuildError.{BuildError};
-ghost use Rattle.route_owner.specs.Published.{IsPublication, IsSealed, IsNoBook, IsUsedUp, OnSigning, OnNoSigning, SignsHeader, IsSignable};
+ghost use Rattle.route_owner.specs.Published.{slot_of, IsPublication, IsSealed, IsNoBook, IsUsedUp, AnswersRefusal, CanPublish, OnSigning, OnNoSigning, SignsHeader, IsSignable};
 
 use crate::errors::PublishError;
 use crate::widths::{parts_have_widths, settings_have_widths};
@@ -22,7 +23,7 @@ use octet_text::{Hasher, NoMemory, Octets};
 use proof_octets::{Publication, length_laws, range_laws};
 use road_io::Disk;
 use road_map::Parts;
-use route_server::{BuildError, Headed, header_of};
+use route_server::{BuildError, Headed, header_of, server_laws};
 use std::alloc::Global;
 
 /// The header that parts and settings have, and the parts again, or the first reason why they have none.
@@ -77,11 +78,20 @@ pub fn publish<H: Hasher, D: Disk>(
     ensures stays_open { IsOk result → desk.new.is_open ≡ true }
     ensures closes { result ≡ Err (PublishError.Desk desk_errors.DiskFault) →
         desk.new.is_open ≡ false }
+    ensures counts { IfOk result (λ p.
+        desk.new.counts ≡ slice_set desk.old.counts (slot_of p) Spent) }
+    ensures taken { (s : ℕ) → count_at desk.old s ≢ Free →
+        count_at desk.new s ≡ count_at desk.old s }
+    ensures refused_else { AnswersRefusal H.hash parts settings.now desk.old result }
+    ensures succeeds { CanPublish H.hash parts settings.now desk.old →
+        (Rose (D.faults disk.old) (D.faults disk.new) → ⊥) →
+        IsOk result ⊎ (result ≡ Err PublishError.Memory) }
     ensures moments { OnSigning result
         (SignsHeader D.Disk disk.old disk.new H.hash parts settings.now) }
     ensures fits { Fits D.Disk desk.new disk.new }
     ensures key { desk.new.key ≡ desk.old.key }
 {
+    server_laws();
     let Headed { header, parts } = match make_signable::<H>(alloc, parts, settings) {
         Ok(signable) => signable,
         Err(BuildError::Memory) => return Err(PublishError::Memory),

@@ -1,7 +1,9 @@
-use Rattle.std.proofs.Common.{◌≡◌, ◌≤◌, ◌+◌, ◌<◌, ℕ, List, length, ◌∙◌, ap, subst, sym, arith}
+use Rattle.std.proofs.Common.{◌≡◌, ◌≢◌, ◌≤◌, ◌+◌, ◌<◌, ℕ, rules, List, length, ◌∙◌, ap, subst, sym, arith}
 use Rattle.lms_tree.specs.Signatures.{KeyOf, number_at}
 use Rattle.desk_areas.specs.Layout.{slots_of}
 use Rattle.route_owner.proofs.Sealing.{all_written, fits_with, no_link, signed_so, signs_header, sealed_so, published_so, seal_short}
+use Rattle.route_server.specs.declared.errors.BuildError.TheVariants as build_errors
+use Rattle.route_owner.proofs.Refusing.{none_refused, desk_refused, book_refused}
 use Rattle.route_owner.proofs.publishing.publish.Goals as goal
 
 signature_is : (g : _) (c : goal.After-result-in-Ok-sign-1 g) → c.from_vec.result ≡ c.sign.new.out
@@ -29,3 +31,16 @@ returns-in-Ok-sign-clause-moments g c =
 pub returns-in-Err-sign-clause-moments : goal.returns-in-Err-sign-clause-moments
 returns-in-Err-sign-clause-moments g c =
     signs_header _ _ _ _ _ _ c.in-Ok.signable.header _ c.args.desk.now c.in-Err-sign.ensures.moments.0 c.in-Ok.ensures.signable.has c.write.ensures c.requires.areas c.in-Err-sign.ensures.moments.2 c.in-Err-sign.ensures.moments.3
+
+pub returns-in-Ok-sign-clause-refused_else : goal.returns-in-Ok-sign-clause-refused_else
+returns-in-Ok-sign-clause-refused_else g c =
+    none_refused c.server_laws.ensures g.H.Hasher.hash c.args.parts c.args.settings.now c.args.desk.now _ c.in-Ok.signable.header c.in-Ok-sign.field-0 c.in-Ok.ensures.signable.has c.in-Ok-sign.ensures.not_free (λ is. c.in-Ok-sign.ensures.closed.1 is)
+
+pub returns-in-Err-sign-clause-refused_else : goal.returns-in-Err-sign-clause-refused_else
+returns-in-Err-sign-clause-refused_else g c =
+    desk_refused c.server_laws.ensures g.H.Hasher.hash c.args.parts c.args.settings.now c.args.desk.now c.in-Err-sign.fault c.in-Ok.signable.header c.in-Ok.ensures.signable.has c.in-Err-sign.ensures.not_free (λ is. c.in-Err-sign.ensures.closed.1 is)
+
+pub returns-in-Err-clause-refused_else : goal.returns-in-Err-clause-refused_else
+returns-in-Err-clause-refused_else g c =
+    let other : c.in-Err.fault ≢ build_errors.Memory = search rules in
+    book_refused c.server_laws.ensures g.H.Hasher.hash c.args.parts c.args.settings.now c.args.desk.now c.in-Err.fault (c.in-Err.ensures.refused, other)

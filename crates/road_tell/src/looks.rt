@@ -12,6 +12,7 @@ pub enum Look {
     Publication,
     Reply,
     NearReply,
+    Chain,
 }
 
 /// What octets look like, if they look like anything known here.
@@ -24,6 +25,7 @@ pub fn look_of(text: &[u8]) -> Option<Look> {
         [b'R', b'P', b'P', b'1', ..] => Some(Look::Publication),
         [0, b'R', b'P', b'F', b'1', ..] | [1] | [2] => Some(Look::Reply),
         [b'R', b'P', b'N', b'1', ..] => Some(Look::NearReply),
+        [b'R', b'P', b'L', b'1', ..] => Some(Look::Chain),
         _ => None,
     }
 }
@@ -38,6 +40,7 @@ impl Display for Look {
             Look::Publication => "It looks like a publication.",
             Look::Reply => "It looks like a reply on a route.",
             Look::NearReply => "It looks like a reply on a radius.",
+            Look::Chain => "It looks like a chain file.",
         })
     }
 }

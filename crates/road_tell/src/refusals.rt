@@ -54,10 +54,7 @@ impl Unusable {
                 f,
                 "the reply is of version {version} of the map, which is older than LEAST asks for."
             ),
-            CheckError::BadChain(link, _) => write!(
-                f,
-                "the link {link} of the chain is not signed by the key before it, so that no key behind it is the owner's."
-            ),
+            CheckError::BadChain(link, _) => Unusable::chain(f, link),
             CheckError::BadSignature(why) => Unusable::seal(f, why),
             CheckError::BadCover(_, _) => f.write_str(COVER),
             CheckError::Judged(why) => Unusable::judged(f, why),
@@ -76,6 +73,7 @@ impl Unusable {
                 f,
                 "the reply is of version {version} of the map, which is older than LEAST asks for."
             ),
+            NearError::BadChain(link, _) => Unusable::chain(f, link),
             NearError::BadSignature(why) => Unusable::seal(f, why),
             NearError::BadCover(_) => f.write_str(COVER),
             NearError::RepeatedNode(id) => write!(f, "the reply has the node {id} twice."),
@@ -87,14 +85,23 @@ impl Unusable {
         }
     }
 
+    /// Which link of a chain is not signed.
+    fn chain<W: fmt::Write>(f: &mut Formatter<W>, link: u8) -> fmt::Result {
+        write!(
+            f,
+            "link {link} of the chain, counted from 0 on, is not signed by the key before it."
+        )
+    }
+
     /// Why a header is not signed.
     fn seal<W: fmt::Write>(f: &mut Formatter<W>, why: SealError) -> fmt::Result {
         f.write_str(match why {
             SealError::BadKey => {
                 "the public key is of no kind that is known here, so that nothing is signed under it."
             }
-            _ =>
-                "the reply is not signed under this public key, or a later one that a chain leads to.",
+            _ => {
+                "the reply is not signed under this public key, nor under a key of the chain where one is named."
+            }
         })
     }
 

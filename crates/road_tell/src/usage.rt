@@ -8,7 +8,7 @@ pub const VERSION: &str = "0.1.0";
 /// A command: its name and its words as they are typed, and what it does.
 #[derive(Clone, Copy)]
 pub struct Usage {
-    /// The name, and a name for each word behind it.
+    /// The name, and a name for each word behind it; a last one in brackets may be left out.
     pub words: &'static str,
     /// What it does.
     pub does: &'static str,
@@ -57,11 +57,11 @@ pub const USAGES: [Usage; 16] = [
         does: "answers the frames of standard input over a publication, and over those that\n      are installed after it, for up to 16 sessions",
     },
     Usage {
-        words: "check PUBKEY REPLY S T LEAST",
-        does: "writes what a client says of a reply: that it accepts a route of version LEAST\n      or later, or why it does not",
+        words: "check PUBKEY REPLY S T LEAST [CHAIN]",
+        does: "writes what a client says of a reply: that it accepts a route of version LEAST\n      or later, or why it does not; CHAIN is the chain file of an owner with later keys",
     },
     Usage {
-        words: "audit PUBKEY PUB REPLY S T",
+        words: "audit PUBKEY PUB REPLY S T [CHAIN]",
         does: "writes what a reply is evidence of, by owner.desk and a publication",
     },
     Usage {
@@ -69,11 +69,11 @@ pub const USAGES: [Usage; 16] = [
         does: "writes a reply that shows which nodes lie within RADIUS of S",
     },
     Usage {
-        words: "check-reach PUBKEY REPLY S RADIUS LEAST",
+        words: "check-reach PUBKEY REPLY S RADIUS LEAST [CHAIN]",
         does: "writes what a client says of such a reply: how many nodes lie within RADIUS,\n      and which, by version LEAST or later, or why it does not accept it",
     },
     Usage {
-        words: "audit-reach PUBKEY PUB REPLY S RADIUS",
+        words: "audit-reach PUBKEY PUB REPLY S RADIUS [CHAIN]",
         does: "writes what such a reply is evidence of, by owner.desk and a publication",
     },
     Usage {
@@ -85,6 +85,13 @@ pub const USAGES: [Usage; 16] = [
 impl Display for Usage {
     fn fmt<W: fmt::Write>(&self, f: &mut Formatter<W>) -> fmt::Result {
         write!(f, "  {}\n      {}", self.words, self.does)
+    }
+}
+
+impl Usage {
+    /// Whether the last word may be left out.
+    pub fn has_optional(&self) -> bool {
+        self.words.ends_with(']')
     }
 }
 

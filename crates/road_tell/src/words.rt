@@ -45,9 +45,14 @@ pub fn wrong_words(words: &Words) -> Option<WrongWords<'_>> {
 
 /// The first word that can't stand in its place, where their count is right.
 fn wrong_place<'a>(usage: &'static Usage, words: &'a Words) -> Option<WrongWords<'a>> {
-    let wanted = usage.words.split(' ').count();
+    let most = usage.words.split(' ').count();
+    let wanted = if usage.has_optional() {
+        most.saturating_sub(1)
+    } else {
+        most
+    };
     let found = words.count() as usize;
-    if wanted != found {
+    if found < wanted || most < found {
         return Some(WrongWords::Count {
             usage,
             wanted: wanted.saturating_sub(1),
@@ -119,9 +124,14 @@ impl Display for WrongWords<'_> {
                 found,
             } => {
                 let name = usage.words.split(' ').next().unwrap_or("");
+                let more = if usage.has_optional() {
+                    ", or one more"
+                } else {
+                    ""
+                };
                 write!(
                     f,
-                    "road_proof: {name}: It takes {wanted} words behind it, and here are {found}.\n{usage}"
+                    "road_proof: {name}: It takes {wanted} words behind it{more}, and here are {found}.\n{usage}"
                 )
             }
             WrongWords::Word { usage, place, word } => {

@@ -1,5 +1,5 @@
 -- What a client accepts over a survey's publication.
-use Rattle.std.proofs.Common.{◌≡◌, ◌↔◌, ℕ, ◌≤◌, Option, None, Some, Result, Ok, Err, List, length, refl, arith, ap, sym, subst}
+use Rattle.std.proofs.Common.{◌≡◌, ◌↔◌, ℕ, ◌≤◌, Option, None, Some, Result, Ok, Err, List, [], length, refl, arith, ap, sym, subst}
 use Rattle.sha2.specs.Sha256.{sha256}
 use Rattle.lms_tree.specs.Signatures.{public_key}
 use Rattle.road_map.specs.declared.parts.Parts.{Parts}
@@ -58,10 +58,10 @@ is_askable ranges k p parts s held is one =
     record { signed = all.0; version = all.1; short = all.2 }
 
 -- what a client says of octets that are accepted
-pub accepted_as : (key public items octets : List ℕ) (q : Query) (parts : Parts) (r : Result Accepted CheckError) → public ≡ key → octets ≡ items → (a : AreAccepted sha256 key items q 1 parts)
-    → ((x : Accepted) → Accepts sha256 public octets q 1 x → UnlessMemory {A = Accepted} (λ v. v ≡ Ok x) r) → UnlessMemory {A = Accepted} (λ v. v ≡ Ok a.accepted) r
+pub accepted_as : (key public items octets : List ℕ) (q : Query) (parts : Parts) (r : Result Accepted CheckError) → public ≡ key → octets ≡ items → (a : AreAccepted sha256 key [] items q 1 parts)
+    → ((x : Accepted) → Accepts sha256 public [] octets q 1 x → UnlessMemory {A = Accepted} (λ v. v ≡ Ok x) r) → UnlessMemory {A = Accepted} (λ v. v ≡ Ok a.accepted) r
 accepted_as key public items octets q parts r same whole a accepts =
-    accepts a.accepted (subst (λ (k : List ℕ). Accepts sha256 k octets q 1 a.accepted) (sym same) (subst (λ (o : List ℕ). Accepts sha256 key o q 1 a.accepted) (sym whole) a.accepts))
+    accepts a.accepted (subst (λ (k : List ℕ). Accepts sha256 k [] octets q 1 a.accepted) (sym same) (subst (λ (o : List ℕ). Accepts sha256 key [] o q 1 a.accepted) (sym whole) a.accepts))
 
 pub same_accepted : (x y : Accepted) (r : Result Accepted CheckError) → r ≡ Ok x → r ≡ Ok y → x ≡ y
 same_accepted x y r is same = cc

@@ -46,7 +46,7 @@ pub record IsSurveyed (parts : Parts) (s : Settings) (p : Publication) : Type 0 
 -- accepts
 pub record IsAnswered (p : Publication) (q : Query) (reply : List ℕ) : Type 0 where
   pub honest : IsHonest sha256 sha256 p q reply
-  pub accepted : AreAccepted sha256 (public_key survey_key) reply q 1 p.parts
+  pub accepted : AreAccepted sha256 (public_key survey_key) [] reply q 1 p.parts
 
 -- one to each query, in turn
 abbrev pub AllAnswered : Publication → List Query → List (List ℕ) → Type 0

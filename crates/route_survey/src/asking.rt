@@ -55,7 +55,7 @@ fn ask(
         // No honest reply is as long, and none that long is checked.
         return Err(NoMemory);
     }
-    match check::<Sha>(alloc, public, &reply, query, 1) {
+    match check::<Sha>(alloc, public, &[], &reply, query, 1) {
         Ok(accepted) => Ok(Answered {
             reply,
             length: accepted.length,

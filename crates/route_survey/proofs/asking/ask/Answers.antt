@@ -1,29 +1,30 @@
-use Rattle.std.proofs.Common.{◌≡◌, Some, Ok, Err, refl, ap, sym, ◌∙◌}
+use Rattle.std.proofs.Common.{◌≡◌, [], Some, Ok, Err, refl, ap, sym, ◌∙◌}
 use Rattle.sha2.specs.Sha256.{sha256}
 use Rattle.lms_tree.specs.Signatures.{public_key}
 use Rattle.route_server.specs.Keeping.{publication_in}
 use Rattle.route_client.specs.declared.accepted.Accepted.{Accepted}
 use Rattle.route_laws.specs.Honest.{AreAccepted}
+use Rattle.route_laws.proofs.Honest.{leads_itself}
 use Rattle.route_survey.specs.Surveys.{survey_key}
 use Rattle.route_survey.proofs.AnswerLaws.{refused_as, accepted_as, same_accepted, shortest_is}
 use Rattle.route_survey.proofs.asking.ask.Goals as goal
 
 pub memory_of-requires : goal.memory_of-requires
 memory_of-requires c =
-    let a : AreAccepted sha256 (public_key survey_key) c.in_ok-reply.reply.items c.args.query 1 c.args.held.now.map.parts =
-    c.honest_laws.ensures.accepted sha256 sha256 (public_key survey_key) c.in_ok-reply.reply.items (publication_in sha256 c.args.held.now) c.args.query 1 c.requires.askable.signed c.requires.askable.version c.requires.joined c.in_ok-reply.ensures in
+    let a : AreAccepted sha256 (public_key survey_key) [] c.in_ok-reply.reply.items c.args.query 1 c.args.held.now.map.parts =
+    c.honest_laws.ensures.accepted sha256 sha256 (public_key survey_key) (public_key survey_key) [] c.in_ok-reply.reply.items (publication_in sha256 c.args.held.now) c.args.query 1 c.requires.askable.signed (leads_itself (public_key survey_key)) c.requires.askable.version c.requires.joined c.in_ok-reply.ensures in
     refused_as c.in-Err.error a.accepted (accepted_as _ c.args.public.now _ c.deref.result.now c.args.query _ (Err c.in-Err.error) c.requires.public c.deref.ensures.value a c.in-Err.ensures.accepts)
 
 pub returns-in-Ok-clause-answered : goal.returns-in-Ok-clause-answered
 returns-in-Ok-clause-answered c = record {
   honest = c.in_ok-reply.ensures;
-  accepted = c.honest_laws.ensures.accepted sha256 sha256 (public_key survey_key) c.in_ok-reply.reply.items (publication_in sha256 c.args.held.now) c.args.query 1 c.requires.askable.signed c.requires.askable.version c.requires.joined c.in_ok-reply.ensures;
+  accepted = c.honest_laws.ensures.accepted sha256 sha256 (public_key survey_key) (public_key survey_key) [] c.in_ok-reply.reply.items (publication_in sha256 c.args.held.now) c.args.query 1 c.requires.askable.signed (leads_itself (public_key survey_key)) c.requires.askable.version c.requires.joined c.in_ok-reply.ensures;
 }
 
 pub returns-in-Ok-clause-length : goal.returns-in-Ok-clause-length
 returns-in-Ok-clause-length c =
-    let a : AreAccepted sha256 (public_key survey_key) c.in_ok-reply.reply.items c.args.query 1 c.args.held.now.map.parts =
-    c.honest_laws.ensures.accepted sha256 sha256 (public_key survey_key) c.in_ok-reply.reply.items (publication_in sha256 c.args.held.now) c.args.query 1 c.requires.askable.signed c.requires.askable.version c.requires.joined c.in_ok-reply.ensures in
+    let a : AreAccepted sha256 (public_key survey_key) [] c.in_ok-reply.reply.items c.args.query 1 c.args.held.now.map.parts =
+    c.honest_laws.ensures.accepted sha256 sha256 (public_key survey_key) (public_key survey_key) [] c.in_ok-reply.reply.items (publication_in sha256 c.args.held.now) c.args.query 1 c.requires.askable.signed (leads_itself (public_key survey_key)) c.requires.askable.version c.requires.joined c.in_ok-reply.ensures in
     let same : c.in-Ok.accepted ≡ a.accepted = same_accepted c.in-Ok.accepted a.accepted (Ok c.in-Ok.accepted) refl (accepted_as _ c.args.public.now _ c.deref.result.now c.args.query _ (Ok c.in-Ok.accepted) c.requires.public c.deref.ensures.value a c.in-Ok.ensures.accepts) in
     shortest_is c.args.held.now.map.parts (c.map_laws.ensures.distances c.args.held.now.map.parts c.requires.askable.signed.header.is_map) c.args.query.from c.args.query.to a.accepted.length a.accepted.route a.shortest
     ∙ ap (λ (x : Accepted). Some x.length) (sym same)

@@ -39,7 +39,7 @@ pub fn audit<L: Library, K: Sink, D: Disk>(
     chain: Option<&str>,
 ) -> Result<Conclusion, Fault>
     ensures { AuditsFiles routes refused_line D.Disk disk.old disk.new
-        key.now publication.now reply.now query (option_map (λ name. name.now) chain)
+        key.now publication.now reply.now query (option_map (λ name. name.now) chain.entry)
         (L.files library.old) (L.faults library.old) (L.faults library.new)
         (K.taken sink.old) (K.taken sink.new) (K.faults sink.old) (K.faults sink.new) result }
 {
@@ -69,7 +69,7 @@ pub fn audit_files<T: Telling, L: Library, K: Sink, D: Disk>(
     chain: Option<&str>,
 ) -> Result<Conclusion, Fault>
     ensures { AuditsFiles T.Kind.kind T.refused D.Disk disk.old disk.new
-        key.now publication.now reply.now query (option_map (λ name. name.now) chain)
+        key.now publication.now reply.now query (option_map (λ name. name.now) chain.entry)
         (L.files library.old) (L.faults library.old) (L.faults library.new)
         (K.taken sink.old) (K.taken sink.new) (K.faults sink.old) (K.faults sink.new) result }
 {
@@ -101,12 +101,12 @@ fn write_findings<T: Telling, L: Library, K: Sink, D: Disk>(
     chain: Option<&str>,
 ) -> Result<Conclusion, Fault>
     ensures promised { Promises (ends_audit T.Kind.kind T.refused (D.content disk.old)
-        key.now publication.now reply.now query (option_map (λ name. name.now) chain)) TellsNone
+        key.now publication.now reply.now query (option_map (λ name. name.now) chain.entry)) TellsNone
         (Rose (D.faults disk.old) (D.faults disk.new))
         (L.files library.old) (L.faults library.old) (L.faults library.new)
         (K.taken sink.old) (K.taken sink.new) (K.faults sink.old) (K.faults sink.new) result }
     ensures finds { WritesFindings D.Disk disk.new (IsBrought T.Kind.kind) key.now reply.now
-        (option_map (λ name. name.now) chain) (L.files library.old)
+        (option_map (λ name. name.now) chain.entry) (L.files library.old)
         (K.taken sink.old) (K.taken sink.new) result }
     ensures stays { AtEachMoment D.Disk disk.old disk.new Stays }
 {

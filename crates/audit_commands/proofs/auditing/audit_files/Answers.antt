@@ -5,7 +5,7 @@ pub returns : goal.returns
 returns g c = record {
   promised = c.write_findings.ensures.promised;
   finds = c.write_findings.ensures.finds;
-  headline = audits_accepted _ _ c.laws.ensures c.server_laws.ensures g.D.Disk c.write_findings.new.disk
+  headline = audits_accepted g.T.Kind.Replies.kind g.T.Telling.refused c.laws.ensures c.server_laws.ensures g.D.Disk c.write_findings.new.disk
       _ _ _ _ _ _ _ _ _ _ c.write_findings.ensures.promised.mirror c.write_findings.ensures.promised.answered c.write_findings.ensures.finds;
   stays = c.write_findings.ensures.stays;
 }

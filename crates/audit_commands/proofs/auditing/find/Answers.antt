@@ -11,20 +11,20 @@ pub returns-in_err-desk-clause-refused : goal.returns-in_err-desk-clause-refused
 returns-in_err-desk-clause-refused g c =
     let p = err_from_is_err_and c.from_residual.result c.from_residual.ensures.1 in
     rw (p.1, p.2)
-    (not_opened _ _ (Rose (g.D.Disk.faults c.args.disk.now) (g.D.Disk.faults c.open_desk.new.disk)) (g.D.Disk.content c.args.disk.now) c.args.key.now c.args.links.now c.args.publication c.args.reply.now c.args.query c.in_err-desk.field-0.0 c.in_err-desk.ensures.refused)
+    (not_opened g.T.Kind.Replies.kind g.T.Telling.refused (Rose (g.D.Disk.faults c.args.disk.now) (g.D.Disk.faults c.open_desk.new.disk)) (g.D.Disk.content c.args.disk.now) c.args.key.now c.args.links.now c.args.publication c.args.reply.now c.args.query c.in_err-desk.field-0.0 c.in_err-desk.ensures.refused)
 
 pub returns-in_err-desk-clause-others : goal.returns-in_err-desk-clause-others
 returns-in_err-desk-clause-others g c =
     let p = err_from_is_err_and c.from_residual.result c.from_residual.ensures.1 in
     rw (p.1, p.2)
-    (not_opened_rests g.D.Disk c.open_desk.new.disk (IsBrought _ c.args.reply.now) (Rose (g.D.Disk.faults c.args.disk.now) (g.D.Disk.faults c.open_desk.new.disk)) (g.D.Disk.content c.args.disk.now) c.args.key.now c.args.links.now c.in_err-desk.field-0.0 c.in_err-desk.ensures.refused)
+    (not_opened_rests g.D.Disk c.open_desk.new.disk (IsBrought g.T.Kind.Replies.kind c.args.reply.now) (Rose (g.D.Disk.faults c.args.disk.now) (g.D.Disk.faults c.open_desk.new.disk)) (g.D.Disk.content c.args.disk.now) c.args.key.now c.args.links.now c.in_err-desk.field-0.0 c.in_err-desk.ensures.refused)
 
 pub returns-clause-told : goal.returns-clause-told
 returns-clause-told g c =
     let o = c.in_ok-desk.ensures.opened in
     if_ok _ _ _
     (λ (told : Told). λ h. ends_of g.D.Disk c.args.disk.now c.open_desk.new.disk c.audit_reply-answer.new.disk c.in_ok-desk.desk
-    (g.met.D.Disk.reads_image c.open_desk.new.disk) o.content o.areas o.fits _ _ c.laws.ensures c.args.key.now c.args.links.now c.args.reply.now c.args.query c.args.publication o.usable
+    (g.met.D.Disk.reads_image c.open_desk.new.disk) o.content o.areas o.fits g.T.Kind.Replies.kind g.T.Telling.refused c.laws.ensures c.args.key.now c.args.links.now c.args.reply.now c.args.query c.args.publication o.usable
     c.audit_reply-answer.result told.end told.text.items c.audit_reply-answer.ensures.finds h)
     c.tell.ensures.told
 
@@ -33,7 +33,7 @@ returns-clause-rests g c =
     let o = c.in_ok-desk.ensures.opened in
     if_ok _ _ _
     (λ (told : Told). λ h. rests_on g.D.Disk c.args.disk.now c.open_desk.new.disk c.audit_reply-answer.new.disk c.in_ok-desk.desk
-    (g.met.D.Disk.reads_image c.open_desk.new.disk) o.content o.areas o.fits _ _ c.laws.ensures c.args.key.now c.args.links.now c.args.reply.now c.args.query c.args.publication
+    (g.met.D.Disk.reads_image c.open_desk.new.disk) o.content o.areas o.fits g.T.Kind.Replies.kind g.T.Telling.refused c.laws.ensures c.args.key.now c.args.links.now c.args.reply.now c.args.query c.args.publication
     c.audit_reply-answer.ensures.left.moments c.audit_reply-answer.result told.end told.text.items c.audit_reply-answer.ensures.finds h)
     c.tell.ensures.told
 
@@ -42,7 +42,7 @@ returns-clause-others g c =
     let o = c.in_ok-desk.ensures.opened in
     if_err _ _ _
     (λ f h. rests_otherwise g.D.Disk c.args.disk.now c.open_desk.new.disk c.audit_reply-answer.new.disk c.in_ok-desk.desk
-    (g.met.D.Disk.reads_image c.open_desk.new.disk) o.content o.areas o.fits _ _ c.laws.ensures c.args.key.now c.args.links.now c.args.reply.now c.args.query c.args.publication
+    (g.met.D.Disk.reads_image c.open_desk.new.disk) o.content o.areas o.fits g.T.Kind.Replies.kind g.T.Telling.refused c.laws.ensures c.args.key.now c.args.links.now c.args.reply.now c.args.query c.args.publication
     c.audit_reply-answer.ensures.left.moments c.audit_reply-answer.result f c.audit_reply-answer.ensures.finds h)
     c.tell.ensures.refused
 
@@ -51,9 +51,9 @@ returns-clause-refused g c =
     let o = c.in_ok-desk.ensures.opened in
     if_err _ _ _
     (λ f h. why_not g.D.Disk c.args.disk.now c.open_desk.new.disk c.audit_reply-answer.new.disk c.in_ok-desk.desk
-    (g.met.D.Disk.reads_image c.open_desk.new.disk) o.content o.areas o.fits _ _ c.laws.ensures c.args.key.now c.args.links.now c.args.reply.now c.args.query c.args.publication _ o.usable c.audit_reply-answer.result
+    (g.met.D.Disk.reads_image c.open_desk.new.disk) o.content o.areas o.fits g.T.Kind.Replies.kind g.T.Telling.refused c.laws.ensures c.args.key.now c.args.links.now c.args.reply.now c.args.query c.args.publication _ o.usable c.audit_reply-answer.result
     (look_failed g.D.Disk c.args.disk.now c.open_desk.new.disk c.audit_reply-answer.new.disk c.in_ok-desk.desk
-    (g.met.D.Disk.reads_image c.open_desk.new.disk) o.content o.areas o.fits _ _ c.laws.ensures c.args.key.now c.args.links.now c.args.reply.now c.args.query c.args.publication o.is_open c.in_ok-desk.ensures.faults c.audit_reply-answer.result c.audit_reply-answer.ensures.finds)
+    (g.met.D.Disk.reads_image c.open_desk.new.disk) o.content o.areas o.fits g.T.Kind.Replies.kind g.T.Telling.refused c.laws.ensures c.args.key.now c.args.links.now c.args.reply.now c.args.query c.args.publication o.is_open c.in_ok-desk.ensures.faults c.audit_reply-answer.result c.audit_reply-answer.ensures.finds)
     f c.audit_reply-answer.ensures.finds h)
     c.tell.ensures.refused
 

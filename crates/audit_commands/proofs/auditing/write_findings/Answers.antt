@@ -9,14 +9,14 @@ pub returns-in_err-told-clause-promised : goal.returns-in_err-told-clause-promis
 returns-in_err-told-clause-promised g c =
     let p = err_from_is_err_and c.from_residual-in_err-told.result c.from_residual-in_err-told.ensures.1 in
     rw (p.1, p.2)
-    (audit_refused _ _ (g.L.Library.files c.args.library.now) (g.D.Disk.content c.args.disk.now) c.args.key.now c.args.publication.now c.args.reply.now _ _ c.deref.result.now c.as_slice.result.now _ c.args.query
+    (audit_refused g.T.Kind.Replies.kind g.T.Telling.refused (g.L.Library.files c.args.library.now) (g.D.Disk.content c.args.disk.now) c.args.key.now c.args.publication.now c.args.reply.now _ _ c.deref.result.now c.as_slice.result.now _ c.args.query
     c.in_ok-key.ensures.loads.read (moved _ _ _ c.in_ok-key.ensures.same c.in_ok-publication.ensures.loads.read)
     (reply_as _ _ _ _ _ _ c.in_ok-publication.ensures.same c.in_ok-key.ensures.same c.deref.ensures.value c.in_ok-reply.ensures.loads.read)
     (chain_as _ _ _ _ _ (c.in_ok-reply.ensures.same ∙ c.in_ok-publication.ensures.same ∙ c.in_ok-key.ensures.same) c.as_slice.ensures c.in_ok-links.ensures.loads.read) _ _ _ _ _ _ _ c.in_err-told.ensures.refused)
 
 pub returns-clause-promised : goal.returns-clause-promised
 returns-clause-promised g c =
-    audit_told _ _ (g.L.Library.files c.args.library.now) (g.D.Disk.content c.args.disk.now) c.args.key.now c.args.publication.now c.args.reply.now _ _ c.deref.result.now c.as_slice.result.now _ c.args.query
+    audit_told g.T.Kind.Replies.kind g.T.Telling.refused (g.L.Library.files c.args.library.now) (g.D.Disk.content c.args.disk.now) c.args.key.now c.args.publication.now c.args.reply.now _ _ c.deref.result.now c.as_slice.result.now _ c.args.query
     c.in_ok-key.ensures.loads.read (moved _ _ _ c.in_ok-key.ensures.same c.in_ok-publication.ensures.loads.read)
     (reply_as _ _ _ _ _ _ c.in_ok-publication.ensures.same c.in_ok-key.ensures.same c.deref.ensures.value c.in_ok-reply.ensures.loads.read)
     (chain_as _ _ _ _ _ (c.in_ok-reply.ensures.same ∙ c.in_ok-publication.ensures.same ∙ c.in_ok-key.ensures.same) c.as_slice.ensures c.in_ok-links.ensures.loads.read) _ _ _ _ _ _ _ _ _ _ c.in_ok-told.ensures.verdict c.in_ok-told.ensures.told c.write_told.ensures
@@ -24,22 +24,22 @@ returns-clause-promised g c =
 pub returns-in_err-key-clause-finds : goal.returns-in_err-key-clause-finds
 returns-in_err-key-clause-finds g c =
     let p = err_from_is_err_and c.from_residual.result c.from_residual.ensures.1 in
-    rw (p.1, p.2) (nothing_found g.D.Disk c.args.disk.now (IsBrought _) c.args.key.now c.args.reply.now _ (g.L.Library.files c.args.library.now) _ _ _ (files_rest_on_none _ c.in_err-key.ensures.loads.others))
+    rw (p.1, p.2) (nothing_found g.D.Disk c.args.disk.now (IsBrought g.T.Kind.Replies.kind) c.args.key.now c.args.reply.now _ (g.L.Library.files c.args.library.now) _ _ _ (files_rest_on_none _ c.in_err-key.ensures.loads.others))
 
 pub returns-in_err-publication-clause-finds : goal.returns-in_err-publication-clause-finds
 returns-in_err-publication-clause-finds g c =
     let p = err_from_is_err_and c.from_residual-in_err-publication.result c.from_residual-in_err-publication.ensures.1 in
-    rw (p.1, p.2) (nothing_found g.D.Disk c.args.disk.now (IsBrought _) c.args.key.now c.args.reply.now _ (g.L.Library.files c.args.library.now) _ _ _ (files_rest_on_none _ c.in_err-publication.ensures.loads.others))
+    rw (p.1, p.2) (nothing_found g.D.Disk c.args.disk.now (IsBrought g.T.Kind.Replies.kind) c.args.key.now c.args.reply.now _ (g.L.Library.files c.args.library.now) _ _ _ (files_rest_on_none _ c.in_err-publication.ensures.loads.others))
 
 pub returns-in_err-reply-clause-finds : goal.returns-in_err-reply-clause-finds
 returns-in_err-reply-clause-finds g c =
     let p = err_from_is_err_and c.from_residual-in_err-reply.result c.from_residual-in_err-reply.ensures.1 in
-    rw (p.1, p.2) (nothing_found g.D.Disk c.args.disk.now (IsBrought _) c.args.key.now c.args.reply.now _ (g.L.Library.files c.args.library.now) _ _ _ (files_rest_on_none _ c.in_err-reply.ensures.loads.others))
+    rw (p.1, p.2) (nothing_found g.D.Disk c.args.disk.now (IsBrought g.T.Kind.Replies.kind) c.args.key.now c.args.reply.now _ (g.L.Library.files c.args.library.now) _ _ _ (files_rest_on_none _ c.in_err-reply.ensures.loads.others))
 
 pub returns-in_err-links-clause-finds : goal.returns-in_err-links-clause-finds
 returns-in_err-links-clause-finds g c =
     let p = err_from_is_err_and c.from_residual-in_err-links.result c.from_residual-in_err-links.ensures.1 in
-    rw (p.1, p.2) (nothing_found g.D.Disk c.args.disk.now (IsBrought _) c.args.key.now c.args.reply.now _ (g.L.Library.files c.args.library.now) _ _ _ (files_rest_on_none _ c.in_err-links.ensures.loads.others))
+    rw (p.1, p.2) (nothing_found g.D.Disk c.args.disk.now (IsBrought g.T.Kind.Replies.kind) c.args.key.now c.args.reply.now _ (g.L.Library.files c.args.library.now) _ _ _ (files_rest_on_none _ c.in_err-links.ensures.loads.others))
 
 pub returns-in_err-told-clause-finds : goal.returns-in_err-told-clause-finds
 returns-in_err-told-clause-finds g c =
@@ -47,10 +47,10 @@ returns-in_err-told-clause-finds g c =
     rw (p.1, p.2)
     (found_other (g.L.Library.files c.args.library.now) c.args.key.now c.args.reply.now _ _ c.deref.result.now c.as_slice.result.now c.in_ok-key.ensures.loads.read
     (reply_as _ _ _ _ _ _ c.in_ok-publication.ensures.same c.in_ok-key.ensures.same c.deref.ensures.value c.in_ok-reply.ensures.loads.read)
-    (chain_as _ _ _ _ _ (c.in_ok-reply.ensures.same ∙ c.in_ok-publication.ensures.same ∙ c.in_ok-key.ensures.same) c.as_slice.ensures c.in_ok-links.ensures.loads.read) g.D.Disk c.find.new.disk (IsBrought _) _ c.in_err-told.field-0.0 c.in_err-told.ensures.others)
+    (chain_as _ _ _ _ _ (c.in_ok-reply.ensures.same ∙ c.in_ok-publication.ensures.same ∙ c.in_ok-key.ensures.same) c.as_slice.ensures c.in_ok-links.ensures.loads.read) g.D.Disk c.find.new.disk (IsBrought g.T.Kind.Replies.kind) _ c.in_err-told.field-0.0 c.in_err-told.ensures.others)
 
 pub returns-clause-finds : goal.returns-clause-finds
 returns-clause-finds g c =
     found (g.L.Library.files c.args.library.now) c.args.key.now c.args.reply.now _ _ c.deref.result.now c.as_slice.result.now c.in_ok-key.ensures.loads.read
     (reply_as _ _ _ _ _ _ c.in_ok-publication.ensures.same c.in_ok-key.ensures.same c.deref.ensures.value c.in_ok-reply.ensures.loads.read)
-    (chain_as _ _ _ _ _ (c.in_ok-reply.ensures.same ∙ c.in_ok-publication.ensures.same ∙ c.in_ok-key.ensures.same) c.as_slice.ensures c.in_ok-links.ensures.loads.read) g.D.Disk c.find.new.disk (IsBrought _) _ _ _ _ _ _ _ c.in_ok-told.ensures.rests c.in_ok-told.ensures.verdict c.write_told.ensures
+    (chain_as _ _ _ _ _ (c.in_ok-reply.ensures.same ∙ c.in_ok-publication.ensures.same ∙ c.in_ok-key.ensures.same) c.as_slice.ensures c.in_ok-links.ensures.loads.read) g.D.Disk c.find.new.disk (IsBrought g.T.Kind.Replies.kind) _ _ _ _ _ _ _ c.in_ok-told.ensures.rests c.in_ok-told.ensures.verdict c.write_told.ensures

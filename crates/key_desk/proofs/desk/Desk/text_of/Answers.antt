@@ -4,7 +4,7 @@ use Rattle.key_desk.proofs.desk.Desk.text_of.Goals as goal
 
 -- what is both
 no_spent : (b : Bool) → b ≡ true → b ≡ false → ⊥
-no_spent b yes no = cc
+no_spent b is isnt = cc
 
 pub read_text-requires-clause-within : goal.read_text-requires-clause-within
 read_text-requires-clause-within g c x told =

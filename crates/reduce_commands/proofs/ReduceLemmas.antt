@@ -39,7 +39,7 @@ use Rattle.command_desks.proofs.Openings.{shut}
 use Rattle.reduce_commands.specs.ReduceLine.{reduced_line, signed_line}
 use Rattle.reduce_commands.specs.Reducing.{HasSigned, HasSpent, IsKeyIn, TellsReduced, TellsSlot, EndsReducing, EndsReduce, ends_reduce}
 use Rattle.reduce_commands.specs.Unreleased.{ShowsLater, IsUnreleasedLine, IsClashLine, RestsOnReduced, WritesReduced}
-use Rattle.reduce_commands.proofs.Slots.{key_in, none_in}
+use Rattle.reduce_commands.proofs.SlotLemmas.{key_in, none_in}
 
 -- what holds of each image holds of each image afterwards, since none changes
 later : {D : Type 0} (g : Ghosts D) (mid new : D) (P : List ℕ → Type 0) → AtEachMoment g mid new Stays → EachImage g mid P → EachImage g new P

@@ -1,4 +1,4 @@
-use Rattle.std.proofs.Common.{◌≡◌, ◌≢◌, ◌⊎◌, inl, inr, List, ℕ, sym, ap, Err}
+use Rattle.std.proofs.Common.{◌≡◌, ◌≢◌, ◌⊎◌, inl, inr, List, ℕ, sym, ap, ◌∙◌, Err}
 use Rattle.hex.specs.Hex.{decode_of}
 use Rattle.hex.specs.declared.error.FromHexError.{FromHexError}
 use Rattle.hex.specs.declared.error.FromHexError.TheVariants.{OutOfMemory}
@@ -12,4 +12,5 @@ bad_hex digits why (inl is) other = absurd (other is)
 bad_hex digits why (inr is) other = sym (ap as_octets is)
 
 pub returns-in_ok-not_memory-in-Err : goal.returns-in_ok-not_memory-in-Err
-returns-in_ok-not_memory-in-Err c = bad_hex _ c.in-Err.why c.in-Err.ensures.err c.in_ok-not_memory-in-Err.ensures
+returns-in_ok-not_memory-in-Err c =
+    bad_hex _ c.in-Err.why c.in-Err.ensures.err c.in_ok-not_memory-in-Err.ensures ∙ ap (λ (t : List ℕ). as_octets (decode_of t)) c.without_line_end.ensures

@@ -2,7 +2,7 @@ use Rattle.std.proofs.lemmas.Result.{err_from_is_err_and}
 use Rattle.road_io.specs.Causes.{Rose}
 use Rattle.command_files.specs.declared.told.Told.{Told}
 use Rattle.command_desks.proofs.Openings.{stays_twice}
-use Rattle.reduce_commands.proofs.Slots.{ok_then, err_then}
+use Rattle.reduce_commands.proofs.SlotLemmas.{ok_then, err_then}
 use Rattle.reduce_commands.proofs.ReduceLemmas.{told_ends, told_rests, other_key, not_opened, not_told_since}
 use Rattle.reduce_commands.proofs.reducing.find.Goals as goal
 

@@ -1,4 +1,4 @@
-use Rattle.reduce_commands.proofs.Slots.{unnamed, named_within, named_beyond}
+use Rattle.reduce_commands.proofs.SlotLemmas.{unnamed, named_within, named_beyond}
 use Rattle.reduce_commands.proofs.slots.slot_of.Goals as goal
 
 pub returns-in-None-clause-none : goal.returns-in-None-clause-none

@@ -1,4 +1,4 @@
-use Rattle.reduce_commands.proofs.Slots.{ok_then, failed_then, told_spent, told_short}
+use Rattle.reduce_commands.proofs.SlotLemmas.{ok_then, failed_then, told_spent, told_short}
 use Rattle.reduce_commands.proofs.slots.spent_of.Goals as goal
 
 pub returns-in-None-clause-spent : goal.returns-in-None-clause-spent

@@ -101,5 +101,5 @@ failed_then (Err DiskFault) opened P is fault closed used = fault refl
 failed_then (Err Closed) opened P is fault closed used = absurd (no_both opened is (closed.0 refl))
   where
     no_both : (b : Bool) → b ≡ true → b ≡ false → ⊥
-    no_both b yes no = cc
+    no_both b was isnt = cc
 failed_then (Err KeysUsedUp) opened P is fault closed used = absurd (used refl)

@@ -19,7 +19,7 @@ use Rattle.road_leaf.specs.Leaves.{node_leaf_text}
 use Rattle.book_model.specs.declared.settings.Settings.{Settings}
 use Rattle.book_model.specs.Books.{Kind, Book, kind_of, leaf, leaves_of, leaf_order, IsBookOf}
 use Rattle.merkle_cover.specs.Covers.{IsRising, cover_of}
-use Rattle.lms_tree.specs.Signatures.{verified}
+use Rattle.lms_tree.specs.declared.links.Link.{Link}
 use Rattle.proof_judge.specs.ItemWalks.{item_at, any_ways, StandsTwice}
 use Rattle.proof_judge.proofs.Keys.{count-cons}
 use Rattle.proof_method.specs.Gathering.{IsOrderOf}
@@ -34,7 +34,8 @@ use Rattle.proof_octets.specs.Headers.{header_text}
 use Rattle.route_server.specs.Headers.{root_or_zeros, node_texts, book_header, header_of, HasHeader, IsBook}
 use Rattle.route_server.specs.Honesty.{ids_at}
 use Rattle.route_server.proofs.Known.{known_leaf, length-leaves_of}
-use Rattle.route_laws.specs.Honest.{IsSigned}
+use Rattle.route_laws.specs.Honest.{IsSigned, Leads}
+use Rattle.route_laws.proofs.Honest.{verified_among}
 use Rattle.route_laws.proofs.Chosen.{node_texts_chosen, is_covered}
 use Rattle.route_laws.proofs.Ordered.{is_order}
 use Rattle.near_model.specs.declared.marks.Mark.{Mark}
@@ -157,9 +158,9 @@ mark_known parts is_map laws q m n =
     let least : IsLeast (Joins parts q.from m.id) (Some m.distance) = subst (IsLeast (Joins parts q.from m.id)) n.distance_is ((laws parts is_map).least q.from m.id) in
     Joins-known parts (roads_known parts is_map) q.from m.id m.distance least.0
 
-accept : (hash sha : List ℕ → List ℕ) (key octets : List ℕ) (p : Publication) (q : NearQuery) (least : ℕ) (kind : Kind) (b : Book) (a : NearReply) → ((ps : Parts) → IsMap ps → DistanceLaws ps) → Over hash sha p q kind b a
-    → IsSigned hash sha key p → least ≤ p.header.version → near_reply.Fits a → octets ≡ near_reply.spell a → AreAccepted hash key octets q least p.parts
-accept hash sha key octets p q least kind b a laws over signed le fits spelled =
+accept : (hash sha : List ℕ → List ℕ) (key first : List ℕ) (links : List Link) (octets : List ℕ) (p : Publication) (q : NearQuery) (least : ℕ) (kind : Kind) (b : Book) (a : NearReply) → ((ps : Parts) → IsMap ps → DistanceLaws ps) → Over hash sha p q kind b a
+    → IsSigned hash sha key p → Leads first links key → least ≤ p.header.version → near_reply.Fits a → octets ≡ near_reply.spell a → AreAccepted hash first links octets q least p.parts
+accept hash sha key first links octets p q least kind b a laws over signed leads le fits spelled =
     let within : AreWithin p.parts q (marks_of p.parts q) = all_listed p.parts q over.is_map (mark_known p.parts over.is_map laws q) in
     let parts : p.parts ≡ b.parts = sym over.book.of_parts in
     let is_map : IsMap b.parts = subst IsMap parts over.is_map in
@@ -170,7 +171,8 @@ accept hash sha key octets p q least kind b a laws over signed le fits spelled =
         reply = a;
         spelled = ap (whole near_reply) spelled ∙ whole_again near_reply near_exact a fits;
         fresh = subst (λ (h : Header). least ≤ h.version) (sym over.reply.header) le;
-        signed = rw (over.reply.header, over.reply.signature) signed.signature;
+        chain = leads.chain;
+        signed = rw (over.reply.header, over.reply.signature) (verified_among first links (header_text p.header) p.signature key leads.among signed.signature);
         covered = items_fold hash sha p q kind b a over;
         distinct = once_each hash sha p q kind b a over;
         complete = none_lacks hash sha p q kind b a over;
@@ -185,13 +187,13 @@ accept hash sha key octets p q least kind b a laws over signed le fits spelled =
 
 pub replies_accepted : ((hash sha : List ℕ → List ℕ) (parts : Parts) (s : Settings) (h j : Header) → HasHeader hash sha parts s h → HasHeader hash sha parts s j → h ≡ j)
     → ((ps : Parts) → IsMap ps → DistanceLaws ps) → NearRepliesAreAccepted
-replies_accepted one laws hash sha key octets p q least signed le honest =
+replies_accepted one laws hash sha key first links octets p q least signed leads le honest =
     let order = leaf_order sha p.parts p.settings in
     let has = signed.header in
     let own : HasHeader hash sha p.parts p.settings (book_header hash p.settings order honest.book)
     = record { is_map = has.is_map; allowed = has.allowed; kind = honest.kind; book = honest.book; is_book = honest.is_book; is = refl } in
     let header : p.header ≡ book_header hash p.settings order honest.book = one hash sha p.parts p.settings p.header (book_header hash p.settings order honest.book) has own in
-    accept hash sha key octets p q least honest.kind honest.book honest.reply laws
+    accept hash sha key first links octets p q least honest.kind honest.book honest.reply laws
     (record {
       is_map = has.is_map;
       lists = is_order sha p.parts p.settings has.is_map;
@@ -200,4 +202,4 @@ replies_accepted one laws hash sha key octets p q least signed le honest =
       known = honest.known;
       reply = honest.says;
     })
-    signed le honest.fits honest.spelled
+    signed leads le honest.fits honest.spelled

@@ -3,24 +3,28 @@
 -- what the owner signed.
 use Rattle.std.specs.Prelude.{ℕ, ◌≤◌, List}
 use Rattle.road_map.specs.declared.parts.Parts.{Parts}
+use Rattle.lms_tree.specs.declared.links.Link.{Link}
 use Rattle.proof_octets.specs.declared.publication.Publication.{Publication}
-use Rattle.route_laws.specs.Honest.{IsSigned}
+use Rattle.route_laws.specs.Honest.{IsSigned, Leads}
 use Rattle.near_model.specs.declared.query.NearQuery.{NearQuery}
 use Rattle.near_model.specs.Radius.{AreWithin}
 use Rattle.near_client.specs.declared.within.Within.{Within}
 use Rattle.near_client.specs.NearVerdicts.{NearAccepts}
 use Rattle.near_server.specs.NearHonesty.{IsNearHonest}
 
--- octets that a client accepts, with exactly the nodes within the radius, each with its distance
-pub record AreAccepted (hash : List ℕ → List ℕ) (key octets : List ℕ) (q : NearQuery) (least : ℕ)
-    (parts : Parts) : Type 0 where
+-- octets that a client accepts under a key and a chain from it, with exactly the nodes within the
+-- radius, each with its distance
+pub record AreAccepted (hash : List ℕ → List ℕ) (key : List ℕ) (links : List Link)
+    (octets : List ℕ) (q : NearQuery) (least : ℕ) (parts : Parts) : Type 0 where
   pub accepted : Within
-  pub accepts : NearAccepts hash key octets q least accepted
+  pub accepts : NearAccepts hash key links octets q least accepted
   pub within : AreWithin parts q accepted.nodes
 
--- the honest reply to a query from a known node is accepted
+-- the honest reply to a query from a known node is accepted, under the key that the publication is
+-- signed under, and under each key from which a chain leads to that one
 abbrev pub NearRepliesAreAccepted : Type 0
-NearRepliesAreAccepted = (hash sha : List ℕ → List ℕ) (key octets : List ℕ) (p : Publication)
-    (q : NearQuery) (least : ℕ)
-    → IsSigned hash sha key p → least ≤ p.header.version → IsNearHonest hash sha p q octets
-    → AreAccepted hash key octets q least p.parts
+NearRepliesAreAccepted = (hash sha : List ℕ → List ℕ) (key first : List ℕ) (links : List Link)
+    (octets : List ℕ) (p : Publication) (q : NearQuery) (least : ℕ)
+    → IsSigned hash sha key p → Leads first links key → least ≤ p.header.version →
+    IsNearHonest hash sha p q octets
+    → AreAccepted hash first links octets q least p.parts

@@ -13,7 +13,7 @@ import sys
 
 TOP = os.path.join(os.path.dirname(os.path.abspath(__file__)), "../..")
 WITHOUT = {"test_maps", "test_settings"}
-FUNCTION = re.compile(r"^( *)(pub )?(?:const )?fn (\w+)", re.M)
+FUNCTION = re.compile(r"^( *)(pub )?(?:const )?(?:extern \"C\" )?fn (\w+)", re.M)
 BLOCK = re.compile(r"^(pub trait|impl|trait)\b(.*)$", re.M)
 
 

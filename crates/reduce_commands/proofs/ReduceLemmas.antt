@@ -1,18 +1,16 @@
 -- What a signature comes down to, told of the disk and of its images.
-use Rattle.std.proofs.Common.{◌≡◌, ◌≢◌, ◌⊎◌, ◌↔◌, inl, inr, ℕ, ◌+◌, ◌*◌, ◌<◌, ◌≤◌, List, [], length, take, drop, Option, Some, None, IfSome, refl, sym, ap, ◌∙◌, subst, arith}
-use Rattle.std.proofs.lemmas.List.{append-nil}
+use Rattle.std.proofs.Common.{◌≡◌, ◌≢◌, ◌⊎◌, ◌↔◌, inl, inr, ℕ, ◌+◌, ◌*◌, ◌<◌, ◌≤◌, List, length, take, drop, Option, Some, None, IfSome, refl, sym, ap, ◌∙◌, subst, arith}
 use Rattle.std.specs.Prelude.{slice_index}
 use Rattle.std.specs.declared.result.Result.{Result}
 use Rattle.std.specs.declared.result.Result.TheVariants.{Ok, Err}
 use Rattle.std.specs.Option.{ForSome}
-use Rattle.std.specs.Io.KnownBytes.{Appends}
 use Rattle.road_io.specs.Causes.{Rose}
 use Rattle.road_io.specs.Contents.{Folder}
 use Rattle.road_io.specs.Disk.{Stays}
 use Rattle.road_io.specs.declared.disk.Disk.{Ghosts}
 use Rattle.road_io.specs.Moments.{Image, EachImage, AtEachMoment}
 use Rattle.road_io.proofs.MomentLaws.{at_end}
-use Rattle.lms_tree.specs.Signatures.{KeyOf, height_of, number_at, public_key, sealed, verified}
+use Rattle.lms_tree.specs.Signatures.{KeyOf, number_at, public_key, sealed, verified}
 use Rattle.lms_reduce.specs.Released.{own_value, signed_digits, IsUnreleased}
 use Rattle.lms_reduce.specs.Reduction.{IsOfSigned, Reduces}
 use Rattle.lms_reduce.specs.declared.reduced.ReduceError.{ReduceError}
@@ -23,10 +21,9 @@ use Rattle.road_line.specs.VerdictLine.{refused_line}
 use Rattle.lms_reduce.specs.declared.reduced.Reduced.{Reduced}
 use Rattle.lms_reduce.specs.declared.reduced.Reduced.TheVariants.{Collision, Chain}
 use Rattle.lms_reduce.proofs.GoodLemmas.{good-length}
-use Rattle.desk_areas.specs.Layout.{SlotId, IsSigned}
-use Rattle.desk_areas.specs.Faults.{IsUsable}
+use Rattle.desk_areas.specs.Layout.{IsSigned}
 use Rattle.key_desk.specs.declared.desk.Desk.{Desk}
-use Rattle.key_desk.specs.Desk.{key_of, IsSound, Fits}
+use Rattle.key_desk.specs.Desk.{key_of, Fits}
 use Rattle.command_files.specs.HexFiles.{public_key_at, hex_text_at}
 use Rattle.command_files.specs.Endings.{EndsReading, MayEnd, NoEnd, Promises, TellsNone, WhyNot, Writes}
 use Rattle.command_files.specs.declared.fault.Fault.{Fault}
@@ -34,7 +31,7 @@ use Rattle.command_files.specs.declared.fault.Fault.TheVariants as faults
 use Rattle.command_files.specs.declared.ended.Conclusion.{Conclusion}
 use Rattle.command_files.specs.declared.ended.Conclusion.TheVariants.{Done, Refused, Evidence}
 use Rattle.command_files.proofs.Written.{CallsFor, reads, refused, written, why_map}
-use Rattle.command_desks.specs.Opening.{EndsOpening, HasBlocks, IsOpened}
+use Rattle.command_desks.specs.Opening.{EndsOpening, IsOpened}
 use Rattle.command_desks.proofs.Openings.{shut}
 use Rattle.reduce_commands.specs.ReduceLine.{reduced_line, signed_line}
 use Rattle.reduce_commands.specs.Reducing.{HasSigned, HasSpent, IsKeyIn, TellsReduced, TellsSlot, EndsReducing, EndsReduce, ends_reduce}

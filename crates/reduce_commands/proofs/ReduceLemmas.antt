@@ -4,7 +4,6 @@ use Rattle.std.specs.Prelude.{slice_index}
 use Rattle.std.specs.declared.result.Result.{Result}
 use Rattle.std.specs.declared.result.Result.TheVariants.{Ok, Err}
 use Rattle.std.specs.Option.{ForSome}
-use Rattle.road_io.specs.Causes.{Rose}
 use Rattle.road_io.specs.Contents.{Folder}
 use Rattle.road_io.specs.Disk.{Stays}
 use Rattle.road_io.specs.declared.disk.Disk.{Ghosts}
@@ -97,15 +96,6 @@ pub not_opened : (DiskFailed : Type 0) (content : Option (List ℕ)) (public tex
 not_opened DiskFailed content public text sig =
     why_map DiskFailed DiskFailed (EndsOpening content NoEnd) (EndsReduce content public text sig) (λ x. x) (shut content (EndsReducing content public text sig))
 
--- what was not told for want of memory, or since the disk failed
-pub not_told : (Failed : Type 0) (content : Option (List ℕ)) (public text sig : List ℕ) (f : Fault) → (f ≡ faults.Memory) ⊎ ((f ≡ faults.Disk) × Failed) → WhyNot Failed (EndsReduce content public text sig) f
-not_told Failed content public text sig f (inl is) = subst (λ x. WhyNot Failed (EndsReduce content public text sig) x) (sym is) tt
-not_told Failed content public text sig f (inr h) = subst (λ x. WhyNot Failed (EndsReduce content public text sig) x) (sym h.0) h.1
-
--- a count that rose later rose
-pub rose_since : (a b n : ℕ) → a ≤ b → Rose b n → Rose a n
-rose_since a b n le rose = omega (arith, le, rose)
-
 -- ---- what evidence rests on
 
 -- what a slot's signatures show of its chains
@@ -150,11 +140,6 @@ module _ (shows : Shows) {D : Type 0} (g : Ghosts D) (mid new : D) (desk : Desk)
   told_rests o line (spent, each, inl why) = subst (λ x. RestsOnReduced g new x line) (sym why.2) tt
   told_rests o line (spent, each, inr (good, inl signed)) = subst (λ x. RestsOnReduced g new x line) (sym signed.1) tt
   told_rests o line (spent, each, inr (good, inr evidence)) = subst (λ x. RestsOnReduced g new x line) (sym evidence.3) (by_reduced spent line each good evidence.1 evidence.2 evidence.4)
-
--- a fault behind an opening
-pub not_told_since : (old mid new : ℕ) (content : Option (List ℕ)) (public text sig : List ℕ) (f : Fault) → old ≤ mid → (f ≡ faults.Memory) ⊎ ((f ≡ faults.Disk) × Rose mid new) → WhyNot (Rose old new) (EndsReduce content public text sig) f
-not_told_since old mid new content public text sig f le (inl is) = not_told (Rose old new) content public text sig f (inl is)
-not_told_since old mid new content public text sig f le (inr h) = not_told (Rose old new) content public text sig f (inr (h.0, rose_since old mid new le h.1))
 
 -- ---- the command
 

@@ -89,10 +89,6 @@ pub ok_then : {T E : Type 0} (r : Result T E) (P Q : T → Type 0) → ((x : T) 
 ok_then (Ok x) P Q f h = f x h
 ok_then (Err e) P Q f h = tt
 
-pub err_then : {T E : Type 0} (r : Result T E) (P Q : E → Type 0) → ((x : E) → P x → Q x) → IfErr r P → IfErr r Q
-err_then (Ok x) P Q f h = tt
-err_then (Err e) P Q f h = f e h
-
 -- an open desk refuses only where its disk failed
 pub failed_then : {T : Type 0} (r : Result T DeskError) (opened : Bool) (P : Type 0) → opened ≡ true → (r ≡ Err DiskFault → P) → (r ≡ Err Closed) ↔ (opened ≡ false) → r ≢ Err KeysUsedUp → IfErr r (λ e. P)
 failed_then (Ok x) opened P is fault closed used = tt

@@ -1,5 +1,5 @@
 -- Over its files and what the disk holds, `reduce` has one end.
-use Rattle.std.proofs.Common.{◌≡◌, ◌≢◌, ◌⊎◌, inl, inr, ℕ, ◌+◌, ◌<◌, ◌≤◌, List, length, take, drop, min, Option, Some, None, refl, sym, ap, ◌∙◌, subst, arith}
+use Rattle.std.proofs.Common.{◌≡◌, inl, inr, ℕ, ◌+◌, ◌<◌, ◌≤◌, List, length, take, drop, Option, Some, None, refl, sym, ap, ◌∙◌, subst, arith}
 use Rattle.std.proofs.lemmas.Bool.{cases_lt}
 use Rattle.std.proofs.lemmas.List.{length-take, length-drop}
 use Rattle.std.specs.declared.result.Result.{Result}
@@ -9,9 +9,9 @@ use Rattle.lms_tree.specs.Signatures.{KeyOf, public_key, verified}
 use Rattle.lms_tree.specs.declared.seals.SealError.{SealError}
 use Rattle.lms_tree.proofs.SealLemmas.{public_key-name}
 use Rattle.lms_reduce.proofs.GoodLemmas.{good-length}
-use Rattle.desk_areas.specs.Layout.{SlotId, slots_at, base_of, secret_at, place_in, IsAreaOpen, IsSigned}
+use Rattle.desk_areas.specs.Layout.{SlotId, slots_at, base_of, place_in, IsAreaOpen}
 use Rattle.desk_areas.specs.Keys.{key_at}
-use Rattle.desk_areas.specs.Faults.{IsUsable, IsBadArea, TooShort, IsFaulty, Alone, SameName, IsBadBlock}
+use Rattle.desk_areas.specs.Faults.{IsUsable, TooShort, Alone, SameName}
 use Rattle.command_files.specs.HexFiles.{public_key_at, hex_text_at}
 use Rattle.command_files.specs.Endings.{Ending, EndsReading}
 use Rattle.command_files.specs.Exact.{HasOneEnd}

@@ -1,18 +1,15 @@
 -- What a signature comes down to, told of the disk and of its images.
-use Rattle.std.proofs.Common.{◌≡◌, ◌≢◌, ◌⊎◌, ◌↔◌, inl, inr, ℕ, ◌+◌, ◌*◌, ◌<◌, ◌≤◌, List, [], length, take, drop, Option, Some, None, IfSome, refl, sym, ap, ◌∙◌, subst, arith}
-use Rattle.std.proofs.lemmas.List.{append-nil}
+use Rattle.std.proofs.Common.{◌≡◌, ◌≢◌, ◌⊎◌, ◌↔◌, inl, inr, ℕ, ◌+◌, ◌*◌, ◌<◌, ◌≤◌, List, length, take, drop, Option, Some, None, IfSome, refl, sym, ap, ◌∙◌, subst, arith}
 use Rattle.std.specs.Prelude.{slice_index}
 use Rattle.std.specs.declared.result.Result.{Result}
 use Rattle.std.specs.declared.result.Result.TheVariants.{Ok, Err}
 use Rattle.std.specs.Option.{ForSome}
-use Rattle.std.specs.Io.KnownBytes.{Appends}
-use Rattle.road_io.specs.Causes.{Rose}
 use Rattle.road_io.specs.Contents.{Folder}
 use Rattle.road_io.specs.Disk.{Stays}
 use Rattle.road_io.specs.declared.disk.Disk.{Ghosts}
 use Rattle.road_io.specs.Moments.{Image, EachImage, AtEachMoment}
 use Rattle.road_io.proofs.MomentLaws.{at_end}
-use Rattle.lms_tree.specs.Signatures.{KeyOf, height_of, number_at, public_key, sealed, verified}
+use Rattle.lms_tree.specs.Signatures.{KeyOf, number_at, public_key, sealed, verified}
 use Rattle.lms_reduce.specs.Released.{own_value, signed_digits, IsUnreleased}
 use Rattle.lms_reduce.specs.Reduction.{IsOfSigned, Reduces}
 use Rattle.lms_reduce.specs.declared.reduced.ReduceError.{ReduceError}
@@ -23,10 +20,9 @@ use Rattle.road_line.specs.VerdictLine.{refused_line}
 use Rattle.lms_reduce.specs.declared.reduced.Reduced.{Reduced}
 use Rattle.lms_reduce.specs.declared.reduced.Reduced.TheVariants.{Collision, Chain}
 use Rattle.lms_reduce.proofs.GoodLemmas.{good-length}
-use Rattle.desk_areas.specs.Layout.{SlotId, IsSigned}
-use Rattle.desk_areas.specs.Faults.{IsUsable}
+use Rattle.desk_areas.specs.Layout.{IsSigned}
 use Rattle.key_desk.specs.declared.desk.Desk.{Desk}
-use Rattle.key_desk.specs.Desk.{key_of, IsSound, Fits}
+use Rattle.key_desk.specs.Desk.{key_of, Fits}
 use Rattle.command_files.specs.HexFiles.{public_key_at, hex_text_at}
 use Rattle.command_files.specs.Endings.{EndsReading, MayEnd, NoEnd, Promises, TellsNone, WhyNot, Writes}
 use Rattle.command_files.specs.declared.fault.Fault.{Fault}
@@ -34,7 +30,7 @@ use Rattle.command_files.specs.declared.fault.Fault.TheVariants as faults
 use Rattle.command_files.specs.declared.ended.Conclusion.{Conclusion}
 use Rattle.command_files.specs.declared.ended.Conclusion.TheVariants.{Done, Refused, Evidence}
 use Rattle.command_files.proofs.Written.{CallsFor, reads, refused, written, why_map}
-use Rattle.command_desks.specs.Opening.{EndsOpening, HasBlocks, IsOpened}
+use Rattle.command_desks.specs.Opening.{EndsOpening, IsOpened}
 use Rattle.command_desks.proofs.Openings.{shut}
 use Rattle.reduce_commands.specs.ReduceLine.{reduced_line, signed_line}
 use Rattle.reduce_commands.specs.Reducing.{HasSigned, HasSpent, IsKeyIn, TellsReduced, TellsSlot, EndsReducing, EndsReduce, ends_reduce}
@@ -100,15 +96,6 @@ pub not_opened : (DiskFailed : Type 0) (content : Option (List ℕ)) (public tex
 not_opened DiskFailed content public text sig =
     why_map DiskFailed DiskFailed (EndsOpening content NoEnd) (EndsReduce content public text sig) (λ x. x) (shut content (EndsReducing content public text sig))
 
--- what was not told for want of memory, or since the disk failed
-pub not_told : (Failed : Type 0) (content : Option (List ℕ)) (public text sig : List ℕ) (f : Fault) → (f ≡ faults.Memory) ⊎ ((f ≡ faults.Disk) × Failed) → WhyNot Failed (EndsReduce content public text sig) f
-not_told Failed content public text sig f (inl is) = subst (λ x. WhyNot Failed (EndsReduce content public text sig) x) (sym is) tt
-not_told Failed content public text sig f (inr h) = subst (λ x. WhyNot Failed (EndsReduce content public text sig) x) (sym h.0) h.1
-
--- a count that rose later rose
-pub rose_since : (a b n : ℕ) → a ≤ b → Rose b n → Rose a n
-rose_since a b n le rose = omega (arith, le, rose)
-
 -- ---- what evidence rests on
 
 -- what a slot's signatures show of its chains
@@ -153,11 +140,6 @@ module _ (shows : Shows) {D : Type 0} (g : Ghosts D) (mid new : D) (desk : Desk)
   told_rests o line (spent, each, inl why) = subst (λ x. RestsOnReduced g new x line) (sym why.2) tt
   told_rests o line (spent, each, inr (good, inl signed)) = subst (λ x. RestsOnReduced g new x line) (sym signed.1) tt
   told_rests o line (spent, each, inr (good, inr evidence)) = subst (λ x. RestsOnReduced g new x line) (sym evidence.3) (by_reduced spent line each good evidence.1 evidence.2 evidence.4)
-
--- a fault behind an opening
-pub not_told_since : (old mid new : ℕ) (content : Option (List ℕ)) (public text sig : List ℕ) (f : Fault) → old ≤ mid → (f ≡ faults.Memory) ⊎ ((f ≡ faults.Disk) × Rose mid new) → WhyNot (Rose old new) (EndsReduce content public text sig) f
-not_told_since old mid new content public text sig f le (inl is) = not_told (Rose old new) content public text sig f (inl is)
-not_told_since old mid new content public text sig f le (inr h) = not_told (Rose old new) content public text sig f (inr (h.0, rose_since old mid new le h.1))
 
 -- ---- the command
 

@@ -5,7 +5,6 @@ use Rattle.road_io.specs.declared.disk.Disk.{Ghosts}
 use Rattle.road_io.specs.Moments.{EachImage}
 use Rattle.lms_tree.specs.Signatures.{KeyOf, number_at, public_key}
 use Rattle.desk_areas.specs.Layout.{SlotId, slots_of, slots_at, base_of, gate_of, IsSigned}
-use Rattle.desk_areas.specs.Keys.{key_at}
 use Rattle.desk_areas.proofs.Areas.{open_down}
 use Rattle.desk_areas.proofs.Growth.{open_upto}
 use Rattle.key_desk.specs.declared.desk.Desk.{Desk}
@@ -14,7 +13,7 @@ use Rattle.key_desk.specs.declared.desk.DeskError.{DeskError}
 use Rattle.key_desk.specs.declared.desk.DeskError.TheVariants.{KeysUsedUp, DiskFault, Closed}
 use Rattle.key_desk.specs.SlotTexts.{HasInSlot}
 use Rattle.key_desk.proofs.ReadGood.{key_is}
-use Rattle.reduce_commands.specs.Reducing.{HasSigned, HasSpent, IsKeyIn, IsNamed, slot_named}
+use Rattle.reduce_commands.specs.Reducing.{HasSpent, IsKeyIn, IsNamed, slot_named}
 
 -- ---- keys
 
@@ -81,7 +80,7 @@ named_within desk area sig slot (Some n) is long h = record { number = h.0 ∙ i
 -- and one that wasn't names none that has signed anything
 pub named_beyond : (desk : Desk) (area : ℕ) (sig : List ℕ) (slot : ℕ) (found : Option ℕ) → area ≤ length desk.earlier → slot ≡ number_at sig 0 → 4 ≤ length sig → IfNone found (slots_of (key_of desk area).kind ≤ slot)
     → IfNone found ((i : List ℕ) → HasAreas desk i → HasSpent i area sig None)
-named_beyond desk area sig slot None le is long high i areas = beyond desk i area slot sig areas le long is high
+named_beyond desk area sig slot None le is long high = λ i areas. beyond desk i area slot sig areas le long is high
 named_beyond desk area sig slot (Some n) le is long h = tt
 
 -- ---- what follows of a result
@@ -89,10 +88,6 @@ named_beyond desk area sig slot (Some n) le is long h = tt
 pub ok_then : {T E : Type 0} (r : Result T E) (P Q : T → Type 0) → ((x : T) → P x → Q x) → IfOk r P → IfOk r Q
 ok_then (Ok x) P Q f h = f x h
 ok_then (Err e) P Q f h = tt
-
-pub err_then : {T E : Type 0} (r : Result T E) (P Q : E → Type 0) → ((x : E) → P x → Q x) → IfErr r P → IfErr r Q
-err_then (Ok x) P Q f h = tt
-err_then (Err e) P Q f h = f e h
 
 -- an open desk refuses only where its disk failed
 pub failed_then : {T : Type 0} (r : Result T DeskError) (opened : Bool) (P : Type 0) → opened ≡ true → (r ≡ Err DiskFault → P) → (r ≡ Err Closed) ↔ (opened ≡ false) → r ≢ Err KeysUsedUp → IfErr r (λ e. P)

@@ -2,7 +2,6 @@
 use Rattle.std.specs.Prelude.{◌≡◌, ◌≢◌, ◌⊎◌, ◌<◌, ◌≤◌, ℕ, List, [], length}
 use Rattle.std.specs.declared.option.Option.{Option}
 use Rattle.std.specs.declared.option.Option.TheVariants.{None, Some}
-use Rattle.std.specs.declared.result.Result.{Result}
 use Rattle.std.specs.declared.result.Result.TheVariants.{Ok, Err}
 use Rattle.std.specs.Option.{ForSome}
 use Rattle.road_io.specs.declared.disk.Disk.{Ghosts}
@@ -76,8 +75,8 @@ TellsSlot g disk area key text sig outcome line =
 -- what the signature comes down to is told by this key and by what its slot has signed on the disk
 abbrev pub EndsReducing : Option (List ℕ) → List ℕ → List ℕ → List ℕ → Ending
 EndsReducing content public text sig outcome line =
-    ((outcome ≡ Err OtherKey) × ForSome content (λ c. (area : ℕ) (key : KeyOf) → IsKeyIn c area key →
-    public ≢ public_key key) × (line ≡ []))
+    ((outcome ≡ Err OtherKey) × ForSome content (λ c. (area : ℕ) (key : KeyOf) →
+    IsKeyIn c area key → public ≢ public_key key) × (line ≡ []))
     ⊎ ((area : ℕ) × (key : KeyOf) × (spent : Option (List ℕ)) × (public ≡ public_key key) ×
     ForSome content (λ c. IsKeyIn c area key × HasSpent c area sig spent) ×
     TellsReduced key spent text sig outcome line)

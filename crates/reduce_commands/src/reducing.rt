@@ -23,8 +23,9 @@ use road_line::line_of_refused;
 use route_client::CheckError;
 use std::alloc::Global;
 
-/// Writes what a signature on a text comes down to, by the owner's disk: a collision of SHA-256, or a value of a
-/// chain that the desk never released, unless the signature is not good, or its slot has signed that text.
+/// Writes what a signature on a text comes down to, by the owner's disk: a collision of SHA-256, or a
+/// value of a chain that the desk never released, unless the signature is not good, or its slot has
+/// signed that text.
 pub fn reduce<L: Library, K: Sink, D: Disk>(
     alloc: Global,
     library: &mut L,
@@ -121,7 +122,8 @@ fn front(found: Option<u32>, octets: &[u8; 126]) -> Option<&[u8]>
     }
 }
 
-/// The line of what a signature comes down to, by the key and by what the signature's slot has signed.
+/// The line of what a signature comes down to, by the key and by what the signature's slot has
+/// signed.
 fn tell(
     alloc: Global,
     key: &Key,

@@ -76,8 +76,8 @@ fn slot_of(desk: &Desk, area: u32, sig: &[u8]) -> Option<u32>
     }
 }
 
-/// How many octets the slot of an area has signed that a signature names, where it has signed some: they are put at
-/// the front of `into`.
+/// How many octets the slot of an area has signed that a signature names, where it has signed some:
+/// they are put at the front of `into`.
 pub fn spent_of<D: Disk>(
     desk: &mut Desk,
     disk: &mut D,

@@ -1,9 +1,8 @@
 use Rattle.std.proofs.lemmas.Result.{err_from_is_err_and}
 use Rattle.road_io.specs.Causes.{Rose}
 use Rattle.command_files.specs.declared.told.Told.{Told}
-use Rattle.command_desks.proofs.Openings.{stays_twice}
-use Rattle.reduce_commands.proofs.SlotLemmas.{ok_then, err_then}
-use Rattle.reduce_commands.proofs.ReduceLemmas.{told_ends, told_rests, other_key, not_opened, not_told_since}
+use Rattle.reduce_commands.proofs.SlotLemmas.{ok_then}
+use Rattle.reduce_commands.proofs.ReduceLemmas.{told_ends, told_rests, other_key, not_opened}
 use Rattle.reduce_commands.proofs.reducing.find.Goals as goal
 
 pub returns-in_err-desk-clause-refused : goal.returns-in_err-desk-clause-refused
@@ -14,28 +13,19 @@ returns-in_err-desk-clause-refused g c =
 
 pub returns-in-None-clause-refused : goal.returns-in-None-clause-refused
 returns-in-None-clause-refused g c =
-    other_key g.D.Disk c.args.disk.now c.open_desk.new.disk c.in_ok-desk.desk c.args.public.now c.args.text.now c.args.sig.now c.in_ok-desk.ensures.opened (g.met.D.Disk.reads_image c.open_desk.new.disk) _ c.in-None.ensures.none
+    other_key g.D.Disk c.args.disk.now c.open_desk.new.disk c.in_ok-desk.desk c.args.public.now c.args.text.now c.args.sig.now c.in_ok-desk.ensures.opened (g.met.D.Disk.reads_image c.open_desk.new.disk)
+    (Rose (g.D.Disk.faults c.args.disk.now) (g.D.Disk.faults c.open_desk.new.disk)) c.in-None.ensures.none
 
-pub returns-in-Some-clause-told : goal.returns-in-Some-clause-told
-returns-in-Some-clause-told g c =
+pub returns-clause-told : goal.returns-clause-told
+returns-clause-told g c =
     let found = c.in-Some.ensures.found in
     ok_then c.find_in.result _ _
     (λ (told : Told). λ h. told_ends g.D.Disk c.args.disk.now c.open_desk.new.disk c.in_ok-desk.desk c.args.public.now c.args.text.now c.args.sig.now c.in_ok-desk.ensures.opened (g.met.D.Disk.reads_image c.open_desk.new.disk) c.in-Some.area told.end told.text.items found.0 found.1 h)
     c.find_in.ensures.told
 
-pub returns-in-Some-clause-rests : goal.returns-in-Some-clause-rests
-returns-in-Some-clause-rests g c =
+pub returns-clause-rests : goal.returns-clause-rests
+returns-clause-rests g c =
     let found = c.in-Some.ensures.found in
     ok_then c.find_in.result _ _
     (λ (told : Told). λ h. told_rests c.released_laws.ensures.shows g.D.Disk c.open_desk.new.disk c.find_in.new.disk c.in_ok-desk.desk c.in-Some.area c.args.text.now c.args.sig.now c.in_ok-desk.ensures.opened.fits found.0 c.find_in.ensures.stays told.end told.text.items h)
     c.find_in.ensures.told
-
-pub returns-in-Some-clause-refused : goal.returns-in-Some-clause-refused
-returns-in-Some-clause-refused g c =
-    err_then c.find_in.result _ _
-    (λ f h. not_told_since (g.D.Disk.faults c.args.disk.now) (g.D.Disk.faults c.open_desk.new.disk) (g.D.Disk.faults c.find_in.new.disk) (g.D.Disk.content c.args.disk.now) c.args.public.now c.args.text.now c.args.sig.now f c.in_ok-desk.ensures.faults h)
-    c.find_in.ensures.refused
-
-pub returns-in-Some-clause-stays : goal.returns-in-Some-clause-stays
-returns-in-Some-clause-stays g c =
-    stays_twice g.D.Disk c.args.disk.now c.open_desk.new.disk c.find_in.new.disk c.in_ok-desk.ensures.stays c.find_in.ensures.stays

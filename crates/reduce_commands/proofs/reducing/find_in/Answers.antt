@@ -1,4 +1,4 @@
-use Rattle.std.proofs.Common.{List, ℕ, take, ap, sym, ◌∙◌}
+use Rattle.std.proofs.Common.{take, ap, ◌∙◌}
 use Rattle.std.specs.Option.{option_map}
 use Rattle.key_desk.specs.declared.desk.Desk.{Desk}
 use Rattle.key_desk.specs.Desk.{key_of}

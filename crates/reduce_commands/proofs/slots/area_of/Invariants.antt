@@ -1,4 +1,4 @@
-use Rattle.std.proofs.Common.{◌≡◌, ◌≢◌, ◌<◌, ℕ}
+use Rattle.std.proofs.Common.{◌≢◌, ◌<◌, ℕ}
 use Rattle.lms_tree.specs.Signatures.{public_key}
 use Rattle.key_desk.specs.Desk.{key_of}
 use Rattle.reduce_commands.proofs.slots.area_of.Given as goal

@@ -15,15 +15,17 @@ use std::test::Fail;
 use test_maps::{NODES, ROADS, parts_of};
 use test_settings::DIJ;
 
-/// The owner's files and disk, and the octets of the publication that the desk has signed.
+/// The owner's key, files and disk, and the octets of the publication that the desk has signed.
 #[derive(Drop)]
 struct World {
+    key: Key,
     library: MemLibrary,
     disk: MemDisk,
     publication: Vec<u8>,
 }
 
-/// The octets of a publication in this version, which the desk over a new key signs, and that desk's disk.
+/// The octets of a publication in this version, which the desk over a new key of zero octets signs,
+/// and that desk's disk.
 fn published(alloc: Global, version: u64) -> Result<(MemDisk, Vec<u8>), Fail> {
     let mut disk = MemDisk::new(alloc, 4160, 100_000, Vec::new(alloc), None)?;
     let mut desk = Desk::create(alloc, &mut disk, 5, &[0; 48])?;
@@ -33,38 +35,41 @@ fn published(alloc: Global, version: u64) -> Result<(MemDisk, Vec<u8>), Fail> {
     Ok((disk, publication.write(alloc)?))
 }
 
-/// The key of 48 zero octets, as the desk has it.
-fn key_of_zeros(alloc: Global) -> Result<Key, Fail> {
-    Ok(Key::build(alloc, 5, &[0; 16], &[0; 32])?)
-}
-
 /// An owner whose first slot has signed version 3.
 fn owner(alloc: Global) -> Result<World, Fail> {
     let (disk, publication) = published(alloc, 3)?;
+    let key = Key::build(alloc, 5, &[0; 16], &[0; 32])?;
     let mut library = MemLibrary::new(alloc, Vec::new(alloc));
-    let public = hex::encode(alloc, &key_of_zeros(alloc)?.public())?;
+    let public = hex::encode(alloc, &key.public())?;
     library.put("key", public.as_bytes())?;
     Ok(World {
+        key,
         library,
         disk,
         publication,
     })
 }
 
-/// The line of what a signature on a text comes down to, and how the command ends.
-fn line_of(
+/// Puts some octets' hex file under this name.
+fn put_hex(rt: &impl Abort, alloc: Global, library: &mut MemLibrary, name: &str, octets: &[u8]) {
+    let digits = hex::encode(alloc, octets).expect(rt, "the memory is ample");
+    library
+        .put(name, digits.as_bytes())
+        .expect(rt, "the memory is ample");
+}
+
+/// Asserts the line of what a signature on a text comes down to, and how the command ends.
+fn assert_told(
     rt: &impl Abort,
     alloc: Global,
     world: &mut World,
-    text: &[u8],
-    signature: &[u8],
+    (text, signature): (&[u8], &[u8]),
+    line: &[u8],
     end: Result<Conclusion, Fault>,
-) -> Result<Vec<u8>, Fail> {
-    let text = hex::encode(alloc, text)?;
-    world.library.put("text", text.as_bytes())?;
-    let signature = hex::encode(alloc, signature)?;
-    world.library.put("signature", signature.as_bytes())?;
-    let mut sink = MemSink::new(alloc, 4096, 4096, Vec::new(alloc))?;
+) {
+    put_hex(rt, alloc, &mut world.library, "text", text);
+    put_hex(rt, alloc, &mut world.library, "signature", signature);
+    let mut sink = MemSink::new(alloc, 4096, 4096, Vec::new(alloc)).expect(rt, "memory is ample");
     let ended = reduce(
         alloc,
         &mut world.library,
@@ -75,7 +80,32 @@ fn line_of(
         "signature",
     );
     assert_eq!(rt; ended, end);
-    Ok(sink.taken().to_vec(alloc)?)
+    assert_eq!(rt; sink.taken(), line);
+}
+
+/// Asserts that a text that a slot signs past the desk comes down to this chain of the signature.
+fn assert_shows(
+    rt: &impl Abort,
+    alloc: Global,
+    world: &mut World,
+    text: &[u8],
+    slot: u32,
+    at: usize,
+) {
+    assert!(rt; slot < 32 && at < 34);
+    let mut sig = [0; 1292];
+    world.key.sign_into(slot, text, &mut sig);
+    let step = digits(&[0; 16], slot, &array_at(&sig, 8), text)[at];
+    let value = hex::encode(alloc, &sig[40 + 32 * at..72 + 32 * at]).expect(
+        rt,
+        "the memory is ample",
+    );
+    let line = format!(in alloc; "chain {slot} {at} {step} {value}\n").expect(
+        rt,
+        "memory is ample",
+    );
+    let evidence = Ok(Conclusion::Evidence);
+    assert_told(rt, alloc, world, (text, &sig), line.as_bytes(), evidence);
 }
 
 /// The first place at which the digits of a text are below those of another that the slot has signed.
@@ -96,66 +126,42 @@ fn a_forged_header_shows_a_value_that_was_not_released(rt: HostRuntime) -> Resul
     let mut world = owner(alloc)?;
     let (_other, forged) = published(alloc, 9)?;
     assert!(rt; forged.len() == 1550 && world.publication.len() == 1550);
-    let key = key_of_zeros(alloc)?;
     let below = first_below(0, &forged[4..108], &world.publication[4..108]);
-    for (slot, at) in [(31u32, 0usize), (0, below)] {
-        assert!(rt; at < 34);
-        let mut sig = [0; 1292];
-        key.sign_into(slot, &forged[4..108], &mut sig);
-        let line = line_of(
-            &rt,
-            alloc,
-            &mut world,
-            &forged[4..108],
-            &sig,
-            Ok(Conclusion::Evidence),
-        )?;
-        let step = digits(&[0; 16], slot, &array_at(&sig, 8), &forged[4..108])[at];
-        let value = hex::encode(alloc, &sig[40 + 32 * at..72 + 32 * at])?;
-        let wanted = format!(in alloc; "chain {slot} {at} {step} {value}\n")?;
-        assert_eq!(rt; line.as_slice(), wanted.as_bytes());
+    for (slot, at) in [(31, 0), (0, below)] {
+        assert_shows(&rt, alloc, &mut world, &forged[4..108], slot, at);
     }
     Ok(())
 }
 
 #[test]
-fn what_the_desk_has_signed_and_bad_files_are_told(rt: HostRuntime) -> Result<(), Fail> {
+fn what_the_desk_has_signed_is_told(rt: HostRuntime) -> Result<(), Fail> {
     let alloc = rt.alloc();
     let mut world = owner(alloc)?;
-    let mut text = world.publication.to_vec(alloc)?;
-    assert!(rt; text.len() == 1550);
-    let signed = line_of(
-        &rt,
-        alloc,
-        &mut world,
-        &text[4..108],
-        &text[110..1402],
-        Ok(Conclusion::Done),
-    )?;
-    assert_eq!(rt; signed.as_slice(), b"signed 0\n".as_slice());
-    text[1401] ^= 1;
+    let mut octets = world.publication.to_vec(alloc)?;
+    assert!(rt; octets.len() == 1550);
+    let pair = (&octets[4..108], &octets[110..1402]);
+    let done = Ok(Conclusion::Done);
+    assert_told(&rt, alloc, &mut world, pair, b"signed 0\n", done);
+    octets[1401] ^= 1;
+    let pair = (&octets[4..108], &octets[110..1402]);
     let refused = Ok(Conclusion::Refused);
-    let turned = line_of(
-        &rt,
-        alloc,
-        &mut world,
-        &text[4..108],
-        &text[110..1402],
-        refused,
-    )?;
-    assert_eq!(rt;
-        turned.as_slice(),
-        b"refused BadSignature NoMatch\n".as_slice()
-    );
-    let short = line_of(&rt, alloc, &mut world, b"", b"abc", refused)?;
-    assert_eq!(rt;
-        short.as_slice(),
-        b"refused BadSignature BadForm\n".as_slice()
-    );
-    let other = hex::encode(alloc, &[0u8; 56])?;
-    world.library.put("key", other.as_bytes())?;
-    line_of(&rt, alloc, &mut world, b"", b"", Err(Fault::OtherKey))?;
+    let line = b"refused BadSignature NoMatch\n";
+    assert_told(&rt, alloc, &mut world, pair, line, refused);
+    Ok(())
+}
+
+#[test]
+fn bad_files_are_refused(rt: HostRuntime) -> Result<(), Fail> {
+    let alloc = rt.alloc();
+    let mut world = owner(alloc)?;
+    let line = b"refused BadSignature BadForm\n";
+    let refused = Ok(Conclusion::Refused);
+    assert_told(&rt, alloc, &mut world, (b"", b"abc"), line, refused);
+    put_hex(&rt, alloc, &mut world.library, "key", &[0; 56]);
+    let other = Err(Fault::OtherKey);
+    assert_told(&rt, alloc, &mut world, (b"", b""), b"", other);
     world.library.put("key", b"0")?;
-    line_of(&rt, alloc, &mut world, b"", b"", Err(Fault::BadHex))?;
+    let bad = Err(Fault::BadHex);
+    assert_told(&rt, alloc, &mut world, (b"", b""), b"", bad);
     Ok(())
 }

@@ -9,9 +9,9 @@ use Rattle.road_proof.proofs.program.run.Goals.{After-near_laws}
 verdicts : (g : Over) (c : After-near_laws g) → Verdicts
 verdicts g c = record {
   one = c.verdict_laws.ensures.one;
-  accepted = λ hash key octets q least x h. (c.verdict_laws.ensures.accepts hash key octets q least x).0 h;
+  accepted = λ hash key links octets q least x h. (c.verdict_laws.ensures.accepts hash key links octets q least x).0 h;
   near_one = c.near_verdict_laws.ensures.one;
-  near_accepted = λ hash key octets q least x h. (c.near_verdict_laws.ensures.accepts hash key octets q least x).0 h;
+  near_accepted = λ hash key links octets q least x h. (c.near_verdict_laws.ensures.accepts hash key links octets q least x).0 h;
 }
 
 -- and of honest replies

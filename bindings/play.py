@@ -121,7 +121,7 @@ def radii(played, client):
     same("the nodes within 4", within.distances, {1: 0, 2: 4, 4: 3})
     line = f"within {len(within.distances)}: {' '.join(map(str, within.distances))}\n"
     same("check-reach", played.run("check-reach owner.key near.reply 1 4 0")[1].decode(), line)
-    for radius in (5, 2**63):
+    for radius in (9, 2**63):
         try:
             client.check_reach(played.replies["near.reply"], 1, radius)
             faults.append(f"the reply is accepted for the radius {radius}")

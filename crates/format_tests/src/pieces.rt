@@ -14,7 +14,7 @@ fn publication_text(alloc: Global) -> Result<Vec<u8>, NoMemory> {
     for place in 0..1292 {
         signature[place] = (place % 251) as u8;
     }
-    let mut text = octets_before_nodes(alloc, 3, 5, &signature)?;
+    let mut text = octets_before_nodes(alloc, 3, [0, 0, 0, 5], &signature)?;
     put_numbers(&mut text, &NUMBERS)?;
     Ok(text)
 }

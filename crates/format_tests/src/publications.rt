@@ -3,12 +3,12 @@
 use octet_text::{NoMemory, put_octets, put_u32};
 use std::alloc::Global;
 
-/// What stands before the nodes: the header of this version over so many nodes, the signature, and the
-/// settings.
+/// What stands before the nodes: the header of this version over so many nodes, in four octets, the
+/// signature, and the settings.
 pub fn octets_before_nodes(
     alloc: Global,
     version: u8,
-    nodes: u16,
+    nodes: [u8; 4],
     signature: &[u8; 1292],
 ) -> Result<Vec<u8>, NoMemory> {
     let mut text = Vec::new(alloc);
@@ -16,7 +16,7 @@ pub fn octets_before_nodes(
         b"RPP1RPF1",
         &[1, 0, 2, 0],
         &[0, 0, 0, 0, 0, 0, 0, version],
-        &[0, 0, (nodes >> 8) as u8, nodes as u8],
+        &nodes,
         &[17; 32],
         &[0; 52],
         &[0x05, 0x0c],

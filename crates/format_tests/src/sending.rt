@@ -13,7 +13,7 @@ use std::test::Fail;
 
 // 400 nodes and 760 roads under DIJ, with a signature of 1,292 octets.
 fn publication_text(alloc: Global) -> Result<Vec<u8>, NoMemory> {
-    let mut text = octets_before_nodes(alloc, 1, 400, &[9; 1292])?;
+    let mut text = octets_before_nodes(alloc, 1, [0, 0, 0x01, 0x90], &[9; 1292])?;
     put_numbers(&mut text, &[400])?;
     for id in 0..400u32 {
         put_numbers(&mut text, &[id, 5, 0xffff_fffb])?;

@@ -42,8 +42,9 @@ fn a_later_key_is_accepted_along_its_chain(rt: HostRuntime) -> Result<(), Fail> 
     assert_eq!(rt; refusal(alloc, &first, &[], &reply), Some(no_match));
     assert_eq!(rt; refusal(alloc, &PUBLIC, &[], &reply), None);
     let mut chain = [link, next];
-    assert_eq!(rt; refusal(alloc, &first, &chain[..1], &reply), None);
-    assert_eq!(rt; refusal(alloc, &PUBLIC, &chain[1..], &reply), None);
+    let links = chain.as_slice();
+    assert_eq!(rt; refusal(alloc, &first, &links[..1], &reply), None);
+    assert_eq!(rt; refusal(alloc, &PUBLIC, &links[1..], &reply), None);
     for index in [1, 0] {
         chain[index].key[8] ^= 1;
         let bad_chain = CheckError::BadChain(index as u8, SealError::NoMatch);

@@ -5,8 +5,6 @@
 #[cfg(test)]
 mod audit;
 #[cfg(test)]
-mod audit_chains;
-#[cfg(test)]
 mod audit_reach;
 #[cfg(test)]
 mod chains;

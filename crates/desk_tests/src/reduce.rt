@@ -1,4 +1,5 @@
 //! The command `reduce`: headers that were signed past the desk, and one that the desk has signed.
+ghost use Rattle.std.specs.Prelude.{◌≡◌};
 
 use book_model::Settings;
 use command_files::{Conclusion, Fault};
@@ -22,6 +23,7 @@ struct World {
     library: MemLibrary,
     disk: MemDisk,
     publication: Vec<u8>,
+    ghost height: { key.kind ≡ 5 },
 }
 
 /// The octets of a publication in this version, which the desk over a new key of zero octets signs,

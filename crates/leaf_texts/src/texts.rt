@@ -7,7 +7,7 @@ ghost use Rattle.road_leaf.specs.Leaves.{node_leaf_text, pair_leaf};
 
 use merkle_cover::Texts;
 use octet_text::NoMemory;
-use road_leaf::{NodeLeaf, PairLeaf, put_node_leaf};
+use road_leaf::{NodeLeaf, PairLeaf};
 use std::alloc::Global;
 
 /// Adds the text of a node's leaf, which is spelled in a buffer that each leaf uses again.
@@ -17,7 +17,7 @@ pub fn push_leaf(texts: &mut Texts, text: &mut Vec<u8>, leaf: &NodeLeaf) -> Resu
     ensures { OnOk result (texts.new ≡ texts.old ++ node_leaf_text leaf.now ∷ []) }
 {
     text.clear();
-    put_node_leaf(text, leaf)?;
+    leaf.write(text)?;
     texts.push(text)
 }
 

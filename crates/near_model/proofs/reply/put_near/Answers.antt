@@ -9,5 +9,5 @@ pub returns : goal.returns
 unfolding near_text
 returns c =
     then c.in_ok-put_octets.ensures.ok (then (subst (λ t. Puts c.put_octets.new.out.items c.put_octets-2.new.out.items t) c.write.ensures c.in_ok-put_octets-2.ensures.ok)
-    (then (subst (λ t. Puts c.put_octets-2.new.out.items c.put_signature.new.out.items (signature.spell t)) c.as_slice.ensures c.in_ok-put_signature.ensures)
-    (then c.in_ok-put_node_items.ensures c.in_ok-put_digests.ensures)))
+    (then (subst (λ t. Puts c.put_octets-2.new.out.items c.put_signature.new.out.items (signature.spell t)) c.as_slice.ensures c.in_ok-put_signature.ensures.ok)
+    (then c.in_ok-put_node_items.ensures.ok c.in_ok-put_digests.ensures.ok)))

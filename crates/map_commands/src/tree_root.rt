@@ -1,6 +1,6 @@
 //! The command `root`.
 
-ghost use Rattle.std.specs.Prelude.{◌≡◌, ◌<◌, length, string_bytes, IfOk};
+ghost use Rattle.std.specs.Prelude.{◌≡◌, ◌≤◌, ◌<◌, length, string_bytes, IfOk};
 ghost use Rattle.sha2.specs.Sha256.{sha256};
 ghost use Rattle.merkle_cover.specs.Trees.{root};
 ghost use Rattle.command_files.specs.Endings.{Promises, TellsNone, NoDisk};
@@ -14,7 +14,8 @@ use road_leaf::{Extra, NodeLeaf};
 use road_map::{Arc, Arcs, Map, Node};
 use std::alloc::{AllocError, Global};
 
-/// Writes how many nodes a file's map has, and the root of the tree over their plain leaves.
+/// Writes how many nodes a file's map has, and the root of the tree over their plain leaves. The
+/// fan-out is one of a tree, from 2 to 32.
 pub fn root<L: Library, K: Sink>(
     alloc: Global,
     library: &mut L,
@@ -22,6 +23,8 @@ pub fn root<L: Library, K: Sink>(
     roads: &str,
     fan: u8,
 ) -> Result<Conclusion, Fault>
+    requires least { 2 ≤ fan }
+    requires most { fan ≤ 32 }
     ensures { Promises (ends_root roads.now fan) TellsNone NoDisk
         (L.files library.old) (L.faults library.old) (L.faults library.new)
         (K.taken sink.old) (K.taken sink.new) (K.faults sink.old) (K.faults sink.new) result }
@@ -35,6 +38,8 @@ pub fn root<L: Library, K: Sink>(
 
 /// The count of a map's nodes, and the root of the tree over their plain leaves, as a line.
 fn root_line(alloc: Global, map: &Map, fan: u8) -> Result<Vec<u8>, NoMemory>
+    requires least { 2 ≤ fan }
+    requires most { fan ≤ 32 }
     ensures { IfOk result (λ line. IsRootLine map.now.parts fan line.items) }
 {
     let count = map.parts().nodes.as_slice().len();
@@ -44,16 +49,16 @@ fn root_line(alloc: Global, map: &Map, fan: u8) -> Result<Vec<u8>, NoMemory>
 }
 
 /// The root of the tree over the plain leaves of a map's nodes, by rising id, of which one at a time is
-/// spelled. There are some, and the fan-out is one of a tree, so that memory alone can be missing.
+/// spelled.
 fn plain_root(alloc: Global, map: &Map, fan: u8) -> Result<Digest32, NoMemory>
+    requires least { 2 ≤ fan }
+    requires most { fan ≤ 32 }
     ensures { IfOk result (λ digest.
         digest ≡ root sha256 (plain_texts map.now.parts map.now.order) fan) }
 {
     let _parts = map.parts();
     let count = map.count();
-    let Ok(mut rising) = Rising::<Sha>::new(alloc, count, fan, &[]) else {
-        return Err(NoMemory);
-    };
+    let mut rising = Rising::<Sha>::unpushed(alloc, count, fan)?;
     for position in 0..count {
         let text = leaf_text(alloc, map, position)?;
         rising.push(text.as_slice());

@@ -224,6 +224,25 @@ impl<H: Hasher> Rising<H> {
         }
     }
 
+    /// A tree of so many leaves that has taken no text, without a cover. Takes all memory that the
+    /// tree will need, and nothing else can be missing.
+    pub fn unpushed(alloc: Global, leaves: u32, fan: u8) -> Result<Rising<H>, NoMemory>
+        requires fan { 2 ≤ fan }
+        requires fan_max { fan ≤ 32 }
+        requires leaves { 1 ≤ leaves }
+        requires leaves_max { leaves ≤ 2097152 }
+        ensures unpushed { IfOk result (λ r. r.pushed ≡ 0) }
+        ensures leaves { IfOk result (λ r. r.leaves ≡ leaves) }
+        ensures takes { IfOk result (λ r. (texts : List (List ℕ)) → length texts ≡ leaves →
+            Takes H.hash fan [] texts r) }
+    {
+        match Rising::new(alloc, leaves, fan, &[]) {
+            Ok(rising) => Ok(rising),
+            Err(RisingError::Memory) => Err(NoMemory),
+            Err(_) => unreachable!(),
+        }
+    }
+
     /// Takes the next text.
     pub fn push(&mut self, text: &[u8])
         requires { self.old.pushed < self.old.leaves }

@@ -1,5 +1,5 @@
 -- A command as what was asked for, without where its words lie in memory.
-use Rattle.std.specs.Prelude.{ℕ}
+use Rattle.std.specs.Prelude.{ℕ, ◌≤◌, ⊤}
 use Rattle.std.specs.Option.{option_map}
 use Rattle.road_command.specs.Requests.{Request}
 use Rattle.road_command.specs.Requests as request
@@ -39,3 +39,8 @@ shown (command.CheckReach key reply query least chain) = request.CheckReach key.
 shown (command.AuditReach key publication reply query chain) = request.AuditReach key.now
     publication.now reply.now query (option_map (λ word. word.now) chain)
 shown (command.Reduce key text signature) = request.Reduce key.now text.now signature.now
+
+-- the fan-out of a root that is asked for is one of a tree
+abbrev pub HasFan : Command → Type 0
+HasFan (command.Root roads fan) = (2 ≤ fan) × (fan ≤ 32)
+HasFan asked = ⊤

@@ -1,9 +1,9 @@
 //! The commands, and which of them words ask for.
 
-ghost use Rattle.std.specs.Prelude.{◌≡◌, ◌<◌, ◌≤◌, length, drop};
+ghost use Rattle.std.specs.Prelude.{◌≡◌, ◌<◌, ◌≤◌, length, drop, IfSome};
 ghost use Rattle.std.specs.Option.{option_map};
 ghost use Rattle.road_command.specs.Requests.{request_of, route_words, root_words, dimacs_words, key_words, succeed_words, links_words, desk_words, publish_words, prove_words, serve_words, check_words, check_of, audit_words, audit_of, survey_words, reach_words, check_reach_words, check_reach_of, audit_reach_words, audit_reach_of, word_at, reduce_words};
-ghost use Rattle.road_command.specs.View.{shown};
+ghost use Rattle.road_command.specs.View.{shown, HasFan};
 
 use crate::asked::Survey;
 use crate::kind::KeyKind;
@@ -113,7 +113,8 @@ pub enum Command<'a> {
 
 /// The command that the words ask for, if they fit one.
 pub fn command_of(words: &Words) -> Option<Command<'_>>
-    ensures { option_map shown result ≡ request_of words.now }
+    ensures is { option_map shown result ≡ request_of words.now }
+    ensures fan { IfSome result HasFan }
 {
     if words.count() == 0 {
         return None;
@@ -142,7 +143,8 @@ pub fn command_of(words: &Words) -> Option<Command<'_>>
 
 fn route_of(words: &Words) -> Option<Command<'_>>
     requires { 0 < length words.now }
-    ensures { option_map shown result ≡ route_words (drop 1 words.now) }
+    ensures is { option_map shown result ≡ route_words (drop 1 words.now) }
+    ensures fan { IfSome result HasFan }
 {
     if words.count() != 4 {
         return None;
@@ -158,7 +160,8 @@ fn route_of(words: &Words) -> Option<Command<'_>>
 
 fn root_of(words: &Words) -> Option<Command<'_>>
     requires { 0 < length words.now }
-    ensures { option_map shown result ≡ root_words (drop 1 words.now) }
+    ensures is { option_map shown result ≡ root_words (drop 1 words.now) }
+    ensures fan { IfSome result HasFan }
 {
     if words.count() != 3 {
         return None;
@@ -172,7 +175,8 @@ fn root_of(words: &Words) -> Option<Command<'_>>
 
 fn dimacs_of(words: &Words) -> Option<Command<'_>>
     requires { 0 < length words.now }
-    ensures { option_map shown result ≡ dimacs_words (drop 1 words.now) }
+    ensures is { option_map shown result ≡ dimacs_words (drop 1 words.now) }
+    ensures fan { IfSome result HasFan }
 {
     if words.count() != 3 {
         return None;
@@ -185,7 +189,8 @@ fn dimacs_of(words: &Words) -> Option<Command<'_>>
 
 fn key_of(words: &Words) -> Option<Command<'_>>
     requires { 0 < length words.now }
-    ensures { option_map shown result ≡ key_words (drop 1 words.now) }
+    ensures is { option_map shown result ≡ key_words (drop 1 words.now) }
+    ensures fan { IfSome result HasFan }
 {
     if words.count() != 3 {
         return None;
@@ -199,7 +204,8 @@ fn key_of(words: &Words) -> Option<Command<'_>>
 
 fn succeed_of(words: &Words) -> Option<Command<'_>>
     requires { 0 < length words.now }
-    ensures { option_map shown result ≡ succeed_words (drop 1 words.now) }
+    ensures is { option_map shown result ≡ succeed_words (drop 1 words.now) }
+    ensures fan { IfSome result HasFan }
 {
     if words.count() != 3 {
         return None;
@@ -213,7 +219,8 @@ fn succeed_of(words: &Words) -> Option<Command<'_>>
 
 fn links_of(words: &Words) -> Option<Command<'_>>
     requires { 0 < length words.now }
-    ensures { option_map shown result ≡ links_words (drop 1 words.now) }
+    ensures is { option_map shown result ≡ links_words (drop 1 words.now) }
+    ensures fan { IfSome result HasFan }
 {
     if words.count() != 1 {
         return None;
@@ -223,7 +230,8 @@ fn links_of(words: &Words) -> Option<Command<'_>>
 
 fn desk_of(words: &Words) -> Option<Command<'_>>
     requires { 0 < length words.now }
-    ensures { option_map shown result ≡ desk_words (drop 1 words.now) }
+    ensures is { option_map shown result ≡ desk_words (drop 1 words.now) }
+    ensures fan { IfSome result HasFan }
 {
     if words.count() != 1 {
         return None;
@@ -233,7 +241,8 @@ fn desk_of(words: &Words) -> Option<Command<'_>>
 
 fn publish_of(words: &Words) -> Option<Command<'_>>
     requires { 0 < length words.now }
-    ensures { option_map shown result ≡ publish_words (drop 1 words.now) }
+    ensures is { option_map shown result ≡ publish_words (drop 1 words.now) }
+    ensures fan { IfSome result HasFan }
 {
     if words.count() != 10 {
         return None;
@@ -255,7 +264,8 @@ fn publish_of(words: &Words) -> Option<Command<'_>>
 
 fn prove_of(words: &Words) -> Option<Command<'_>>
     requires { 0 < length words.now }
-    ensures { option_map shown result ≡ prove_words (drop 1 words.now) }
+    ensures is { option_map shown result ≡ prove_words (drop 1 words.now) }
+    ensures fan { IfSome result HasFan }
 {
     if words.count() != 4 {
         return None;
@@ -269,7 +279,8 @@ fn prove_of(words: &Words) -> Option<Command<'_>>
 
 fn serve_of(words: &Words) -> Option<Command<'_>>
     requires { 0 < length words.now }
-    ensures { option_map shown result ≡ serve_words (drop 1 words.now) }
+    ensures is { option_map shown result ≡ serve_words (drop 1 words.now) }
+    ensures fan { IfSome result HasFan }
 {
     if words.count() != 2 {
         return None;
@@ -281,7 +292,8 @@ fn serve_of(words: &Words) -> Option<Command<'_>>
 
 fn check_of(words: &Words) -> Option<Command<'_>>
     requires { 0 < length words.now }
-    ensures { option_map shown result ≡ check_words (drop 1 words.now) }
+    ensures is { option_map shown result ≡ check_words (drop 1 words.now) }
+    ensures fan { IfSome result HasFan }
 {
     match words.count() {
         6 => check_along(words, None),
@@ -292,9 +304,10 @@ fn check_of(words: &Words) -> Option<Command<'_>>
 
 fn check_along<'a>(words: &'a Words, chain: Option<&'a str>) -> Option<Command<'a>>
     requires { 6 ≤ length words.now }
-    ensures { option_map shown result ≡ check_of (word_at words.now 1) (word_at words.now 2)
+    ensures is { option_map shown result ≡ check_of (word_at words.now 1) (word_at words.now 2)
         (word_at words.now 3) (word_at words.now 4) (word_at words.now 5)
         (option_map (λ word. word.now) chain.entry) }
+    ensures fan { IfSome result HasFan }
 {
     let query = query(words.word(3), words.word(4))?;
     let least = wide_natural(words.word(5).as_bytes())?;
@@ -309,7 +322,8 @@ fn check_along<'a>(words: &'a Words, chain: Option<&'a str>) -> Option<Command<'
 
 fn audit_of(words: &Words) -> Option<Command<'_>>
     requires { 0 < length words.now }
-    ensures { option_map shown result ≡ audit_words (drop 1 words.now) }
+    ensures is { option_map shown result ≡ audit_words (drop 1 words.now) }
+    ensures fan { IfSome result HasFan }
 {
     match words.count() {
         6 => audit_along(words, None),
@@ -320,9 +334,10 @@ fn audit_of(words: &Words) -> Option<Command<'_>>
 
 fn audit_along<'a>(words: &'a Words, chain: Option<&'a str>) -> Option<Command<'a>>
     requires { 6 ≤ length words.now }
-    ensures { option_map shown result ≡ audit_of (word_at words.now 1) (word_at words.now 2)
+    ensures is { option_map shown result ≡ audit_of (word_at words.now 1) (word_at words.now 2)
         (word_at words.now 3) (word_at words.now 4) (word_at words.now 5)
         (option_map (λ word. word.now) chain.entry) }
+    ensures fan { IfSome result HasFan }
 {
     let query = query(words.word(4), words.word(5))?;
     Some(Command::Audit {
@@ -336,7 +351,8 @@ fn audit_along<'a>(words: &'a Words, chain: Option<&'a str>) -> Option<Command<'
 
 fn survey_of(words: &Words) -> Option<Command<'_>>
     requires { 0 < length words.now }
-    ensures { option_map shown result ≡ survey_words (drop 1 words.now) }
+    ensures is { option_map shown result ≡ survey_words (drop 1 words.now) }
+    ensures fan { IfSome result HasFan }
 {
     if words.count() != 5 {
         return None;
@@ -347,7 +363,8 @@ fn survey_of(words: &Words) -> Option<Command<'_>>
 
 fn reach_of(words: &Words) -> Option<Command<'_>>
     requires { 0 < length words.now }
-    ensures { option_map shown result ≡ reach_words (drop 1 words.now) }
+    ensures is { option_map shown result ≡ reach_words (drop 1 words.now) }
+    ensures fan { IfSome result HasFan }
 {
     if words.count() != 4 {
         return None;
@@ -361,7 +378,8 @@ fn reach_of(words: &Words) -> Option<Command<'_>>
 
 fn check_reach_of(words: &Words) -> Option<Command<'_>>
     requires { 0 < length words.now }
-    ensures { option_map shown result ≡ check_reach_words (drop 1 words.now) }
+    ensures is { option_map shown result ≡ check_reach_words (drop 1 words.now) }
+    ensures fan { IfSome result HasFan }
 {
     match words.count() {
         6 => check_reach_along(words, None),
@@ -372,9 +390,10 @@ fn check_reach_of(words: &Words) -> Option<Command<'_>>
 
 fn check_reach_along<'a>(words: &'a Words, chain: Option<&'a str>) -> Option<Command<'a>>
     requires { 6 ≤ length words.now }
-    ensures { option_map shown result ≡ check_reach_of (word_at words.now 1) (word_at words.now 2)
+    ensures is { option_map shown result ≡ check_reach_of (word_at words.now 1) (word_at words.now 2)
         (word_at words.now 3) (word_at words.now 4) (word_at words.now 5)
         (option_map (λ word. word.now) chain.entry) }
+    ensures fan { IfSome result HasFan }
 {
     let query = near_query(words.word(3), words.word(4))?;
     let least = wide_natural(words.word(5).as_bytes())?;
@@ -389,7 +408,8 @@ fn check_reach_along<'a>(words: &'a Words, chain: Option<&'a str>) -> Option<Com
 
 fn audit_reach_of(words: &Words) -> Option<Command<'_>>
     requires { 0 < length words.now }
-    ensures { option_map shown result ≡ audit_reach_words (drop 1 words.now) }
+    ensures is { option_map shown result ≡ audit_reach_words (drop 1 words.now) }
+    ensures fan { IfSome result HasFan }
 {
     match words.count() {
         6 => audit_reach_along(words, None),
@@ -400,9 +420,10 @@ fn audit_reach_of(words: &Words) -> Option<Command<'_>>
 
 fn audit_reach_along<'a>(words: &'a Words, chain: Option<&'a str>) -> Option<Command<'a>>
     requires { 6 ≤ length words.now }
-    ensures { option_map shown result ≡ audit_reach_of (word_at words.now 1) (word_at words.now 2)
+    ensures is { option_map shown result ≡ audit_reach_of (word_at words.now 1) (word_at words.now 2)
         (word_at words.now 3) (word_at words.now 4) (word_at words.now 5)
         (option_map (λ word. word.now) chain.entry) }
+    ensures fan { IfSome result HasFan }
 {
     let query = near_query(words.word(4), words.word(5))?;
     Some(Command::AuditReach {
@@ -416,7 +437,8 @@ fn audit_reach_along<'a>(words: &'a Words, chain: Option<&'a str>) -> Option<Com
 
 fn reduce_of(words: &Words) -> Option<Command<'_>>
     requires { 0 < length words.now }
-    ensures { option_map shown result ≡ reduce_words (drop 1 words.now) }
+    ensures is { option_map shown result ≡ reduce_words (drop 1 words.now) }
+    ensures fan { IfSome result HasFan }
 {
     if words.count() != 4 {
         return None;

@@ -11,28 +11,10 @@ ghost use Rattle.route_server.specs.Headers.{node_texts, pair_texts, root_or_zer
 use crate::widths::has_widths;
 use octet_text::{Digest32, Hasher, NoMemory};
 use proof_method::MethodBook;
-use rising_tree::{Rising, RisingError};
-use road_leaf::{PairLeaf, put_node_leaf};
+use rising_tree::Rising;
+use road_leaf::PairLeaf;
 use road_map::map_laws;
 use std::alloc::Global;
-
-// A tree of so many leaves that has taken no text.
-fn unpushed<H: Hasher>(alloc: Global, leaves: u32, fan: u8) -> Result<Rising<H>, NoMemory>
-    requires fan { 2 ≤ fan }
-    requires fan_max { fan ≤ 32 }
-    requires leaves { 1 ≤ leaves }
-    requires leaves_max { leaves ≤ 2097152 }
-    ensures unpushed { IfOk result (λ r. r.pushed ≡ 0) }
-    ensures leaves { IfOk result (λ r. r.leaves ≡ leaves) }
-    ensures takes { IfOk result (λ r. (texts : List (List ℕ)) → length texts ≡ leaves →
-        Takes H.hash fan [] texts r) }
-{
-    match Rising::new(alloc, leaves, fan, &[]) {
-        Ok(rising) => Ok(rising),
-        Err(RisingError::Memory) => Err(NoMemory),
-        Err(_) => unreachable!(),
-    }
-}
 
 /// The root of the tree over a book's node leaves, in an order of its ids.
 pub fn node_root<H: Hasher, B: MethodBook>(
@@ -51,13 +33,13 @@ pub fn node_root<H: Hasher, B: MethodBook>(
 {
     map_laws();
     let count = order.len() as u32;
-    let mut rising = unpushed::<H>(alloc, count, fan)?;
+    let mut rising = Rising::<H>::unpushed(alloc, count, fan)?;
     let mut text = Vec::new(alloc);
     for id in order {
         let leaf = book.node_leaf(alloc, *id)?;
         has_widths(&leaf);
         text.clear();
-        put_node_leaf(&mut text, &leaf)?;
+        leaf.write(&mut text)?;
         rising.push(&text);
     }
     Ok(rising.end().root)
@@ -78,7 +60,7 @@ pub fn pair_root<H: Hasher>(
         return Ok([0; 32]);
     }
     let count = pairs.len() as u32;
-    let mut rising = unpushed::<H>(alloc, count, fan)?;
+    let mut rising = Rising::<H>::unpushed(alloc, count, fan)?;
     for pair in pairs {
         rising.push(&pair.write());
     }

@@ -7,9 +7,9 @@ use Rattle.map_commands.proofs.tree_root.plain_root.Goals as goal
 pub loop-position-init : goal.loop-position-init
 loop-position-init c =
     record {
-      pushed_is = c.in-Ok.ensures.unpushed;
-      leaves_is = c.in-Ok.ensures.leaves ∙ c.count-count.ensures;
-      takes = c.in-Ok.ensures.takes (plain_texts c.args.map.now.parts c.args.map.now.order) (length-map c.args.map.now.order _ ∙ sym c.count-count.ensures);
+      pushed_is = c.in_ok-rising.ensures.unpushed;
+      leaves_is = c.in_ok-rising.ensures.leaves ∙ c.count-count.ensures;
+      takes = c.in_ok-rising.ensures.takes (plain_texts c.args.map.now.parts c.args.map.now.order) (length-map c.args.map.now.order _ ∙ sym c.count-count.ensures);
     }
 
 pub loop-position-preserved : goal.loop-position-preserved

@@ -3,7 +3,7 @@ use Rattle.road_command.specs.Requests.{audit_reach_words, audit_reach_of}
 use Rattle.road_command.proofs.SevenWords.{seven_words}
 use Rattle.road_command.proofs.command.audit_reach_of.Goals as goal
 
-pub returns-in-7 : goal.returns-in-7
-returns-in-7 c =
-    c.audit_reach_along-in-7.ensures
+pub returns-in-7-clause-is : goal.returns-in-7-clause-is
+returns-in-7-clause-is c =
+    c.audit_reach_along-in-7.ensures.is
     ∙ seven_words audit_reach_words audit_reach_of (λ a b c d e f. refl) c.args.words.now c.word.result.now (sym c.count.ensures ∙ c.in-7.is) c.word.ensures

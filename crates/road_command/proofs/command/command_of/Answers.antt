@@ -20,5 +20,5 @@ no_command [] verb is a b c d e f g h i j k l m n o p q = refl
 no_command (first ∷ words) verb is a b c d e f g h i j k l m n o p q =
     subst (λ v. None ≡ request_of (v ∷ words)) is (rw (not_word verb (codes "route") a, not_word verb (codes "root") b, not_word verb (codes "dimacs") c, not_word verb (codes "key") d, not_word verb (codes "succeed") e, not_word verb (codes "links") f, not_word verb (codes "desk") g, not_word verb (codes "publish") h, not_word verb (codes "prove") i, not_word verb (codes "serve") j, not_word verb (codes "check") k, not_word verb (codes "audit") l, not_word verb (codes "survey") m, not_word verb (codes "reach") n, not_word verb (codes "check-reach") o, not_word verb (codes "audit-reach") p, not_word verb (codes "reduce") q) refl)
 
-pub returns-in_default : goal.returns-in_default
-returns-in_default c = let h = c.in_default in no_command c.args.words.now c.word.result.now c.word.ensures h.not-route h.not-root h.not-dimacs h.not-key h.not-succeed h.not-links h.not-desk h.not-publish h.not-prove h.not-serve h.not-check h.not-audit h.not-survey h.not-reach h.not-text h.not-text-2 h.not-reduce
+pub returns-in_default-clause-is : goal.returns-in_default-clause-is
+returns-in_default-clause-is c = let h = c.in_default in no_command c.args.words.now c.word.result.now c.word.ensures h.not-route h.not-root h.not-dimacs h.not-key h.not-succeed h.not-links h.not-desk h.not-publish h.not-prove h.not-serve h.not-check h.not-audit h.not-survey h.not-reach h.not-text h.not-text-2 h.not-reduce

@@ -29,8 +29,8 @@ loop-id-init g c = record {
 pub node_leaf-requires : goal.node_leaf-requires
 node_leaf-requires g c = (c.requires.order.same _).0 (contains_item c.args.order.now c.loop-id.id-index c.loop-id-test.true)
 
-pub put_node_leaf-requires : goal.put_node_leaf-requires
-put_node_leaf-requires g c =
+pub write-requires : goal.write-requires
+write-requires g c =
     let kind = g.B.MethodBook.kind c.args.book.now in
     let b = g.B.MethodBook.shown c.args.book.now in
     omega (
@@ -50,7 +50,7 @@ loop-id-preserved g c =
       takes = c.push.ensures.takes _ _ _ inv.takes
           (ap (λ i. get_or texts i []) inv.pushed_is
           ∙ text_at b c.args.order.now (λ x h. (c.requires.order.same x).0 h) c.loop-id.id-index c.in_ok-leaf.leaf c.loop-id-test.true c.in_ok-leaf.ensures
-          ∙ sym (c.deref.ensures.value ∙ c.in_ok-put_node_leaf.ensures.is ∙ ap (λ (x : List ℕ). x ++ node_leaf_text c.in_ok-leaf.leaf) c.clear.ensures.items));
+          ∙ sym (c.deref.ensures.value ∙ c.in_ok-write.ensures.ok.is ∙ ap (λ (x : List ℕ). x ++ node_leaf_text c.in_ok-leaf.leaf) c.clear.ensures.items));
     }
 
 pub returns : goal.returns

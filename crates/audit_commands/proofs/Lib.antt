@@ -2,3 +2,4 @@ pub mod Steps
 pub mod OneAudit
 pub mod AuditLemmas
 pub mod HeadlineLemmas
+mod Worked

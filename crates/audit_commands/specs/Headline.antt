@@ -188,7 +188,8 @@ AuditsAccepted kind g content disk key publication reply q chain None old new ou
 -- ---- the command
 
 -- what the command promises over its files, its sink and the owner's disk: its end is one that they
--- call for, what its line rests on, the headline, and that no image of the disk changes
+-- call for, what its line rests on, the headline, that no image of the disk changes, and that a
+-- fault of the disk is always answered
 pub record AuditsFiles {Q A X E : Type 0} (kind : ReplyKind Q A X E) (line : E → List ℕ) {D : Type 0}
     (g : Ghosts D) (disk new_disk : D) (key publication reply : List ℕ) (q : Q)
     (chain : Option (List ℕ)) (files : Option Folder) (loads new_loads : ℕ)
@@ -202,3 +203,4 @@ pub record AuditsFiles {Q A X E : Type 0} (kind : ReplyKind Q A X E) (line : E �
   pub headline : AuditsAccepted kind g (g.content disk) new_disk key publication reply q chain files
       taken new_taken outcome
   pub stays : AtEachMoment g disk new_disk Stays
+  pub unfaulted : outcome ≢ Err Disk → g.faults new_disk ≡ g.faults disk

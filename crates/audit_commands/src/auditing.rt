@@ -1,6 +1,6 @@
 //! The command `audit`, and what it does for every kind of replies.
 
-ghost use Rattle.std.specs.Prelude.{◌≡◌, ◌<◌, ◌≤◌, ◌^◌, List, [], length, Err, IfOk, IfErr};
+ghost use Rattle.std.specs.Prelude.{◌≡◌, ◌<◌, ◌≤◌, ◌^◌, List, [], length, Err, IfOk, IfErr, ◌≢◌};
 ghost use Rattle.std.specs.Option.{option_map};
 ghost use Rattle.road_io.specs.Causes.{Rose};
 ghost use Rattle.road_io.specs.Disk.{Stays};
@@ -108,6 +108,7 @@ fn write_findings<T: Telling, L: Library, K: Sink, D: Disk>(
     ensures finds { WritesFindings D.Disk disk.new (IsBrought T.Kind.kind) key.now reply.now
         (option_map (λ name. name.now) chain.entry) (L.files library.old)
         (K.taken sink.old) (K.taken sink.new) result }
+    ensures unfaulted { result ≢ Err Fault.Disk → D.faults disk.new ≡ D.faults disk.old }
     ensures stays { AtEachMoment D.Disk disk.old disk.new Stays }
 {
     let key: [u8; 56] = load_hex(alloc, library, key)?;
@@ -150,6 +151,7 @@ fn find<T: Telling, D: Disk>(
     ensures refused { IfErr result (WhyNot (Rose (D.faults disk.old) (D.faults disk.new))
         (EndsAudit T.Kind.kind T.refused
         (D.content disk.old) key.now links.now publication reply.now query)) }
+    ensures unfaulted { result ≢ Err Fault.Disk → D.faults disk.new ≡ D.faults disk.old }
     ensures stays { AtEachMoment D.Disk disk.old disk.new Stays }
 {
     <T::Kind as Replies>::laws();

@@ -2,6 +2,7 @@
 
 ghost use Rattle.std.specs.Prelude.{◌≡◌, ℕ, List, Err, IfOk, IfErr};
 ghost use Rattle.command_files.specs.Endings.{TellsNone, MayEnd, WhyNot};
+ghost use Rattle.key_desk.specs.declared.desk.DeskError.{DeskError};
 ghost use Rattle.audit_commands.specs.Auditing.{TellsFinding, Tells, LookFailed};
 
 use command_books::not_built;
@@ -52,6 +53,7 @@ pub(crate) fn tell<T: Telling>(
     ensures told { IfOk result (λ told. Tells T.refused answer told.end told.text.items) }
     ensures verdict { IfOk result (λ told. MayEnd TellsNone told.end) }
     ensures refused { IfErr result (WhyNot (LookFailed answer) (Tells T.refused answer)) }
+    ensures desk { (e : DeskError) → answer ≡ Err (AuditError.Desk e) → result ≡ Err Fault.Disk }
 {
     match answer {
         Ok(finding) => match line_of(alloc, &finding) {

@@ -16,7 +16,8 @@ use Rattle.desk_areas.specs.Layout.{IsOpen, IsCurrent, base_of, kind_at, secret_
 use Rattle.desk_areas.specs.declared.errors.StartError.{StartError}
 use Rattle.desk_areas.specs.declared.errors.StartError.TheVariants as start
 use Rattle.desk_areas.proofs.Growth.{one_current}
-use Rattle.key_desk.specs.Desk.{HasKey, HasAreas, IsSound}
+use Rattle.desk_areas.specs.Blank.{HasKey}
+use Rattle.key_desk.specs.Desk.{HasAreas, IsSound}
 use Rattle.key_desk.specs.declared.desk.Desk.{Desk}
 use Rattle.key_desk.proofs.Counts.{key_here}
 use Rattle.command_files.specs.Endings.{Ending, NoEnd}

@@ -1,6 +1,6 @@
 //! The opening of a desk.
 
-ghost use Rattle.std.specs.Prelude.{◌≤◌, IfOk, IfErr};
+ghost use Rattle.std.specs.Prelude.{◌≤◌, IfOk, IfErr, ◌≡◌, ◌≢◌, Err};
 ghost use Rattle.road_io.specs.Causes.{Rose};
 ghost use Rattle.road_io.specs.Disk.{Stays};
 ghost use Rattle.road_io.specs.Moments.{AtEachMoment};
@@ -20,6 +20,7 @@ pub fn open_desk<D: Disk>(alloc: Global, disk: &mut D) -> Result<Desk, Fault>
         (WhyNot (Rose (D.faults disk.old) (D.faults disk.new))
         (EndsOpening (D.content disk.old) NoEnd)) }
     ensures faults { D.faults disk.old ≤ D.faults disk.new }
+    ensures unfaulted { result ≢ Err Fault.Disk → D.faults disk.new ≡ D.faults disk.old }
     ensures stays { AtEachMoment D.Disk disk.old disk.new Stays }
     ensures stands { KeepsStanding D.Disk disk.old disk.new }
 {

@@ -1,8 +1,10 @@
 pub mod Areas
 pub mod Bases
+pub mod Blocks
 pub mod Frame
 pub mod Growth
 pub mod KeyLemmas
+pub mod OnOks
 pub mod Pairs
 pub mod Pieces
 pub mod ReadLemmas

@@ -132,8 +132,3 @@ keys_left image base = count_by (λ number. gate_at image (place_in base number)
 pub record IsOpen (image : List ℕ) : Type 0 where
   pub long : 64 ≤ length image
   pub gate : 0 < gate_at image 0
-
--- the front of the image is zero
-pub record IsClear (size : ℕ) (image : List ℕ) : Type 0 where
-  pub long : size ≤ length image
-  pub zero : (k : ℕ) → k < size → get_or image k 0 ≡ 0

@@ -1,4 +1,5 @@
 pub mod Area
+pub mod Blank
 pub mod Faults
 pub mod Keys
 pub mod Layout

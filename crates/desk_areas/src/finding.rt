@@ -1,5 +1,5 @@
 //! The search for a text in the spent slots of areas.
-ghost use Rattle.std.specs.Prelude.{◌≡◌, ◌≢◌, ◌+◌, ◌*◌, ◌<◌, ◌≤◌, ◌^◌, ◌↔◌, List, ℕ, Some, true, false, length, take, drop, min, IfOk, IsErr, slice_index_or};
+ghost use Rattle.std.specs.Prelude.{◌≡◌, ◌≢◌, ◌+◌, ◌*◌, ◌<◌, ◌≤◌, ◌^◌, ◌↔◌, List, ℕ, Some, true, false, length, take, drop, min, IfOk, IsErr, slice_index_or, OnOk};
 ghost use Rattle.std.specs.Option.{ForSome};
 ghost use Rattle.road_io.specs.Causes.{HasCause};
 ghost use Rattle.road_io.specs.Disk.{Stays};
@@ -21,6 +21,7 @@ fn has_text<D: Disk>(disk: &mut D, place: u64, text: &[u8]) -> Result<bool, Fail
     ensures content { D.content disk.new ≡ D.content disk.old }
     ensures moments { AtEachMoment D.Disk disk.old disk.new Stays }
     ensures cause { HasCause (D.faults disk.old) (D.faults disk.new) result }
+    ensures kept { OnOk result (D.faults disk.new ≡ D.faults disk.old) }
 {
     let mut octets = [0u8; 127];
     disk.read_at(place + 1, &mut octets)?;
@@ -54,6 +55,7 @@ pub fn find_text<D: Disk>(
     ensures content { D.content disk.new ≡ D.content disk.old }
     ensures moments { AtEachMoment D.Disk disk.old disk.new Stays }
     ensures cause { HasCause (D.faults disk.old) (D.faults disk.new) result }
+    ensures kept { OnOk result (D.faults disk.new ≡ D.faults disk.old) }
 {
     let mut number = 0u32;
     for count in counts {
@@ -78,6 +80,7 @@ pub fn find_earlier<D: Disk>(areas: &[Area], disk: &mut D, text: &[u8]) -> Resul
     ensures content { D.content disk.new ≡ D.content disk.old }
     ensures moments { AtEachMoment D.Disk disk.old disk.new Stays }
     ensures cause { HasCause (D.faults disk.old) (D.faults disk.new) result }
+    ensures kept { OnOk result (D.faults disk.new ≡ D.faults disk.old) }
 {
     let mut base = 0u64;
     for area in areas {
@@ -101,6 +104,7 @@ pub fn read_text<D: Disk>(disk: &mut D, place: u64, into: &mut [u8; 126]) -> Res
     ensures content { D.content disk.new ≡ D.content disk.old }
     ensures moments { AtEachMoment D.Disk disk.old disk.new Stays }
     ensures cause { HasCause (D.faults disk.old) (D.faults disk.new) result }
+    ensures kept { OnOk result (D.faults disk.new ≡ D.faults disk.old) }
 {
     let mut octets = [0u8; 127];
     disk.read_at(place + 1, &mut octets)?;

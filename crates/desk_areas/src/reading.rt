@@ -32,6 +32,7 @@ fn read_block<D: Disk>(disk: &mut D, base: u64) -> Result<Block, Failed>
     ensures content { D.content disk.new ≡ D.content disk.old }
     ensures moments { AtEachMoment D.Disk disk.old disk.new Stays }
     ensures cause { HasCause (D.faults disk.old) (D.faults disk.new) result }
+    ensures kept { OnOk result (D.faults disk.new ≡ D.faults disk.old) }
 {
     let mut octets = [0u8; 53];
     disk.read_at(base, &mut octets)?;
@@ -52,6 +53,7 @@ pub fn read_gate<D: Disk>(disk: &mut D, place: u64) -> Result<bool, Failed>
     ensures content { D.content disk.new ≡ D.content disk.old }
     ensures moments { AtEachMoment D.Disk disk.old disk.new Stays }
     ensures cause { HasCause (D.faults disk.old) (D.faults disk.new) result }
+    ensures kept { OnOk result (D.faults disk.new ≡ D.faults disk.old) }
 {
     let mut octets = [0u8; 1];
     disk.read_at(place, &mut octets)?;
@@ -77,6 +79,7 @@ fn read_gates<D: Disk>(
     ensures faults { D.faults disk.old ≤ D.faults disk.new }
     ensures fault { IsErrOf result StartError.DiskFault →
         Rose (D.faults disk.old) (D.faults disk.new) }
+    ensures kept { result ≢ Err StartError.DiskFault → D.faults disk.new ≡ D.faults disk.old }
     ensures other { IsErr result → (result ≡ Err StartError.DiskFault) ⊎
         (result ≡ Err StartError.Memory) }
 {
@@ -99,6 +102,7 @@ fn read_link<D: Disk>(disk: &mut D, place: u64) -> Result<Option<[u8; 56]>, Fail
     ensures content { D.content disk.new ≡ D.content disk.old }
     ensures moments { AtEachMoment D.Disk disk.old disk.new Stays }
     ensures cause { HasCause (D.faults disk.old) (D.faults disk.new) result }
+    ensures kept { OnOk result (D.faults disk.new ≡ D.faults disk.old) }
 {
     let mut octets = [0u8; 127];
     disk.read_at(place + 1, &mut octets)?;
@@ -134,6 +138,7 @@ fn has_stray<D: Disk>(disk: &mut D, base: u64, counts: &[Count]) -> Result<bool,
     ensures content { D.content disk.new ≡ D.content disk.old }
     ensures moments { AtEachMoment D.Disk disk.old disk.new Stays }
     ensures cause { HasCause (D.faults disk.old) (D.faults disk.new) result }
+    ensures kept { OnOk result (D.faults disk.new ≡ D.faults disk.old) }
 {
     let mut number = 0u32;
     for count in counts {
@@ -159,6 +164,7 @@ fn last_link<D: Disk>(disk: &mut D, base: u64, counts: &[Count]) -> Result<Optio
     ensures content { D.content disk.new ≡ D.content disk.old }
     ensures moments { AtEachMoment D.Disk disk.old disk.new Stays }
     ensures cause { HasCause (D.faults disk.old) (D.faults disk.new) result }
+    ensures kept { OnOk result (D.faults disk.new ≡ D.faults disk.old) }
 {
     let last = counts.len() - 1;
     if counts[last] != Count::Spent {
@@ -186,6 +192,7 @@ fn read_area<D: Disk>(alloc: Global, disk: &mut D, base: u64, len: u64) -> Resul
     ensures faults { D.faults disk.old ≤ D.faults disk.new }
     ensures fault { IsErrOf result StartError.DiskFault →
         Rose (D.faults disk.old) (D.faults disk.new) }
+    ensures kept { result ≢ Err StartError.DiskFault → D.faults disk.new ≡ D.faults disk.old }
 {
     if len < base + 64 {
         return Err(StartError::BadBlock);
@@ -268,6 +275,7 @@ pub fn read_next<D: Disk>(
     ensures faults { D.faults disk.old ≤ D.faults disk.new }
     ensures fault { IsErrOf result StartError.DiskFault →
         Rose (D.faults disk.old) (D.faults disk.new) }
+    ensures kept { result ≢ Err StartError.DiskFault → D.faults disk.new ≡ D.faults disk.old }
 {
     let area = read_area(alloc, disk, base, len)?;
     if has_name(earlier, &area.key().i()) {

@@ -8,8 +8,8 @@ ghost use Rattle.desk_areas.specs.Settled.{IsSettled};
 
 use road_io::{Disk, Failed};
 
-/// Writes octets within the length, and syncs: two calls of the disk.
-pub fn store<D: Disk>(disk: &mut D, at: u64, octets: &[u8]) -> Result<(), Failed>
+// Writes octets within the length, and syncs: two calls of the disk.
+pub(crate) fn store<D: Disk>(disk: &mut D, at: u64, octets: &[u8]) -> Result<(), Failed>
     requires within { EachImage D.Disk disk.old (λ i. at + length octets.now ≤ length i) }
     // Nothing changes outside the range, at any moment.
     ensures moments { AtEachMoment D.Disk disk.old disk.new
@@ -19,19 +19,21 @@ pub fn store<D: Disk>(disk: &mut D, at: u64, octets: &[u8]) -> Result<(), Failed
         (λ i. (d : List ℕ) × Image D.Disk disk.old d × (i ≡ written at octets.now d))) }
     ensures settled { OnOk result (IsSettled D.Disk disk.new) }
     ensures cause { HasCause (D.faults disk.old) (D.faults disk.new) result }
+    ensures kept { OnOk result (D.faults disk.new ≡ D.faults disk.old) }
     ensures counted { OnOk result (RoseBy 2 (D.calls disk.old) (D.calls disk.new)) }
 {
     put(disk, at, octets)
 }
 
-/// The same, also past the end.
-pub fn put<D: Disk>(disk: &mut D, at: u64, octets: &[u8]) -> Result<(), Failed>
+// The same, also past the end.
+pub(crate) fn put<D: Disk>(disk: &mut D, at: u64, octets: &[u8]) -> Result<(), Failed>
     requires within { EachImage D.Disk disk.old (λ i. at ≤ length i) }
     ensures moments { AtEachMoment D.Disk disk.old disk.new (Torn at (length octets.now)) }
     ensures stored { OnOk result (EachImage D.Disk disk.new
         (λ i. (d : List ℕ) × Image D.Disk disk.old d × (i ≡ written at octets.now d))) }
     ensures settled { OnOk result (IsSettled D.Disk disk.new) }
     ensures cause { HasCause (D.faults disk.old) (D.faults disk.new) result }
+    ensures kept { OnOk result (D.faults disk.new ≡ D.faults disk.old) }
     ensures counted { OnOk result (RoseBy 2 (D.calls disk.old) (D.calls disk.new)) }
 {
     disk.write_at(at, octets)?;
@@ -49,6 +51,7 @@ pub fn put_text<D: Disk>(disk: &mut D, place: u64, text: &[u8]) -> Result<[u8; 1
     ensures piece { IfOk result (λ piece. take (length text.now) (drop 1 piece) ≡ text.now) }
     ensures settled { OnOk result (IsSettled D.Disk disk.new) }
     ensures cause { HasCause (D.faults disk.old) (D.faults disk.new) result }
+    ensures kept { OnOk result (D.faults disk.new ≡ D.faults disk.old) }
     ensures counted { OnOk result (RoseBy 2 (D.calls disk.old) (D.calls disk.new)) }
 {
     let piece = piece_of(text);
@@ -63,6 +66,7 @@ pub fn open_gate<D: Disk>(disk: &mut D, place: u64) -> Result<(), Failed>
     ensures stored { OnOk result (EachImage D.Disk disk.new (λ i. gate_at i place ≡ 1)) }
     ensures settled { OnOk result (IsSettled D.Disk disk.new) }
     ensures cause { HasCause (D.faults disk.old) (D.faults disk.new) result }
+    ensures kept { OnOk result (D.faults disk.new ≡ D.faults disk.old) }
     ensures counted { OnOk result (RoseBy 2 (D.calls disk.old) (D.calls disk.new)) }
 {
     store(disk, place, &[1])

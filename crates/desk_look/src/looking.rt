@@ -1,5 +1,5 @@
 //! What a desk says of the texts that an accepted reply stands on: the links of its chain, and its header.
-ghost use Rattle.std.specs.Prelude.{◌≡◌, ◌<◌, length, IfOk, OnOk, Ok};
+ghost use Rattle.std.specs.Prelude.{◌≡◌, ◌≢◌, ◌<◌, false, length, IfOk, OnOk, Ok, Err};
 ghost use Rattle.lms_tree.specs.Chains.{chained, verified_along};
 ghost use Rattle.key_desk.specs.Desk.{Fits};
 ghost use Rattle.desk_look.specs.Forgeries.{Looked, forgery as forgery_with, forgery_of};
@@ -85,6 +85,8 @@ fn is_signed<D: Disk>(desk: &mut Desk, disk: &mut D, text: &[u8]) -> Result<bool
     ensures says { Says (look_at D.Disk desk.old disk.old disk.new) text.now result }
     ensures stays { OnOk result (desk.new ≡ desk.old) }
     ensures left { IsLeft D.Disk desk.old disk.old desk.new disk.new }
+    ensures kept { result ≢ Err DeskError.DiskFault → D.faults disk.new ≡ D.faults disk.old }
+    ensures closed { desk.old.is_open ≡ false → result ≡ Err DeskError.Closed }
 {
     desk.signed(disk, text)
 }
@@ -107,6 +109,9 @@ pub fn look<D: Disk>(
     ensures looked { Looked (look_at D.Disk desk.old disk.old disk.new)
         public.now chain.now header.now signature.now result }
     ensures left { IsLeft D.Disk desk.old disk.old desk.new disk.new }
+    ensures kept { result ≢ Err (LookError.Desk DeskError.DiskFault) →
+        D.faults disk.new ≡ D.faults disk.old }
+    ensures closed { desk.old.is_open ≡ false → result ≡ Err (LookError.Desk DeskError.Closed) }
 {
     match is_signed(desk, disk, header) {
         Err(failure) => Err(LookError::Desk(failure)),

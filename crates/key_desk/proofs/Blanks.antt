@@ -7,7 +7,8 @@ use Rattle.lms_tree.specs.Signatures.{KeyOf}
 use Rattle.key_desk.specs.declared.desk.Desk.{Desk}
 use Rattle.desk_areas.specs.declared.area.Count.TheVariants
 use Rattle.desk_areas.specs.Layout.{SlotId, slots_of, slots_at, place_in, base_of, gate_at, gate_of, last_slot, IsAreaOpen, IsCurrent, IsSigned}
-use Rattle.key_desk.specs.Desk.{key_of, count_of, slot_here, IsSlotOf, IsSound, HasKey, HasAreas, Fits, IsBlank}
+use Rattle.desk_areas.specs.Blank.{HasKey, IsBlank}
+use Rattle.key_desk.specs.Desk.{key_of, count_of, slot_here, IsSlotOf, IsSound, HasAreas, Fits}
 use Rattle.desk_areas.proofs.Areas.{base_first, first_open, open_link, open_down}
 use Rattle.desk_areas.proofs.Growth.{open_upto}
 use Rattle.key_desk.proofs.Counts.{free_isnt_spent}

@@ -1,11 +1,9 @@
 pub mod Blanks
-pub mod Blocks
 pub mod Counts
 pub mod Finding
 mod FreeSlots
 pub mod KeptKeys
 pub mod LinkLemmas
-pub mod OnOks
 pub mod Raising
 pub mod RaisingSteps
 pub mod ReadFits
@@ -19,3 +17,4 @@ pub mod Standing
 pub mod Steps
 pub mod Successors
 pub mod Tickets
+mod Worked

@@ -10,7 +10,8 @@ use Rattle.lms_tree.specs.Links.{IsLink, link_text}
 use Rattle.key_desk.specs.declared.desk.Desk.{Desk}
 use Rattle.desk_areas.specs.declared.area.Count.TheVariants
 use Rattle.desk_areas.specs.Layout.{SlotId, slots_of, place_in, place_of, slots_at, base_of, gate_at, text_at, gate_of, text_of, IsSigned, AgreesOutside, OutsideSlot, SameSigned, SignsAtMost}
-use Rattle.key_desk.specs.Desk.{count_of, slot_here, key_of, IsSlotOf, HasAreas, SameSpent, Fits, IsBlankArea}
+use Rattle.desk_areas.specs.Blank.{IsBlankArea}
+use Rattle.key_desk.specs.Desk.{count_of, slot_here, key_of, IsSlotOf, HasAreas, SameSpent, Fits}
 use Rattle.key_desk.specs.Succession.{last_number, next_desk, CanSucceed, HasKeys}
 use Rattle.desk_areas.specs.Settled.{IsSettled}
 use Rattle.desk_areas.proofs.Areas.{slot_cases, bases, kinds, secrets}

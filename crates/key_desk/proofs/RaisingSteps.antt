@@ -8,7 +8,8 @@ use Rattle.lms_tree.specs.Signatures.{KeyOf, public_key}
 use Rattle.lms_tree.specs.Links.{IsLink, link_mark, link_text}
 use Rattle.key_desk.specs.View.{View}
 use Rattle.desk_areas.specs.Layout.{slots_of, place_in, gate_at, text_at, AgreesOutside, SameSigned, SignsAtMost, IsSigned}
-use Rattle.key_desk.specs.Desk.{slot_here, Fits, IsBlankArea}
+use Rattle.desk_areas.specs.Blank.{IsBlankArea}
+use Rattle.key_desk.specs.Desk.{slot_here, Fits}
 use Rattle.key_desk.specs.Succession.{last_number, next_desk, CanSucceed, HasKeys}
 use Rattle.desk_areas.specs.Settled.{IsSettled}
 use Rattle.desk_areas.proofs.Growth.{SameFront}

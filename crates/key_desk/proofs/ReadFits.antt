@@ -12,7 +12,8 @@ use Rattle.desk_areas.specs.declared.area.Count.TheVariants
 use Rattle.desk_areas.specs.Layout.{SlotId, slots_of, slots_at, place_in, base_of, gate_at, text_at, gate_of, text_of, secret_at, last_slot, IsAreaOpen, IsCurrent, HasLink}
 use Rattle.desk_areas.specs.Keys.{key_from, key_at}
 use Rattle.desk_areas.specs.Area.{AreaView, area_in}
-use Rattle.key_desk.specs.Desk.{key_of, counts_of, count_of, count_at, slot_here, IsSlotOf, IsSound, HasKey, HasAreas, SameSpent, Fits}
+use Rattle.desk_areas.specs.Blank.{HasKey}
+use Rattle.key_desk.specs.Desk.{key_of, counts_of, count_of, count_at, slot_here, IsSlotOf, IsSound, HasAreas, SameSpent, Fits}
 use Rattle.desk_areas.specs.Reading.{HasStray, HasGates, IsReadArea, IsLinkTo, IsLastLink, IsNamed, IsLinkBefore, HasRead}
 use Rattle.desk_areas.proofs.Areas
 use Rattle.key_desk.proofs.Counts.{key_here, counts_here, count_here, free_isnt_spent}

@@ -8,7 +8,8 @@ use Rattle.key_desk.specs.declared.desk.Desk.{Desk}
 use Rattle.desk_areas.specs.Layout.{SlotId, slots_of, slots_at, place_in, base_of, gate_at, text_at, gate_of, text_of, kind_at, secret_at, last_slot, HasLink, IsOpen}
 use Rattle.desk_areas.specs.Keys.{key_from, key_at}
 use Rattle.desk_areas.specs.Faults.{IsBadArea, UnknownKind, TooShort, StrayLink, IsFaulty, Alone, SameName, OtherKey, NinthKey, IsBadBlock}
-use Rattle.key_desk.specs.Desk.{key_of, IsSlotOf, IsSound, HasKey, HasAreas}
+use Rattle.desk_areas.specs.Blank.{HasKey}
+use Rattle.key_desk.specs.Desk.{key_of, IsSlotOf, IsSound, HasAreas}
 use Rattle.desk_areas.proofs.Areas
 use Rattle.desk_areas.proofs.Growth.{open_upto}
 use Rattle.key_desk.proofs.Successors.{slots_on}

@@ -11,7 +11,8 @@ use Rattle.desk_areas.specs.declared.area.Count.TheVariants
 use Rattle.lms_tree.specs.Signatures.{KeyOf, public_key}
 use Rattle.lms_tree.specs.Links.{IsLink, link_text}
 use Rattle.desk_areas.specs.Layout.{SlotId, slots_of, slots_at, place_in, base_of, place_of, gate_at, text_at, gate_of, text_of, last_slot, HasLink, IsAreaOpen, IsSigned, AgreesOutside, SameSigned, SignsAtMost, OutsideSlot}
-use Rattle.key_desk.specs.Desk.{key_of, counts_of, count_of, count_at, slot_here, IsSlotOf, IsSound, HasKey, HasAreas, SameSpent, Fits, KnowsTexted, KnowsSpent, KeepsKnown, IsBlank}
+use Rattle.desk_areas.specs.Blank.{HasKey, IsBlank}
+use Rattle.key_desk.specs.Desk.{key_of, counts_of, count_of, count_at, slot_here, IsSlotOf, IsSound, HasAreas, SameSpent, Fits, KnowsTexted, KnowsSpent, KeepsKnown}
 use Rattle.desk_areas.proofs.Areas
 use Rattle.desk_areas.proofs.Pairs.{text_signs_nothing, gate_signs_text}
 use Rattle.key_desk.proofs.Counts.{changed, key_here, counts_here, count_here, own_here, counted_within, count_other, this_count, sound_changed, sound_closed, written_isnt_spent}

@@ -12,7 +12,8 @@ use Rattle.desk_areas.specs.declared.area.Count.{Count}
 use Rattle.desk_areas.specs.declared.area.Count.TheVariants
 use Rattle.desk_areas.specs.Area.{AreaView}
 use Rattle.desk_areas.specs.Layout.{SlotId, slots_of, slots_at, place_in, base_of, place_of, gate_at, text_at, gate_of, text_of, kind_at, secret_at, last_slot, IsWithin, HasLink, IsAreaOpen, IsCurrent, IsSigned, AgreesOutside, OutsideSlot, SameSigned, SignsAtMost}
-use Rattle.key_desk.specs.Desk.{key_of, counts_of, count_of, count_at, slot_here, IsSlotOf, IsSound, HasKey, HasAreas, SameSpent, Fits, IsBlankArea}
+use Rattle.desk_areas.specs.Blank.{HasKey, IsBlankArea}
+use Rattle.key_desk.specs.Desk.{key_of, counts_of, count_of, count_at, slot_here, IsSlotOf, IsSound, HasAreas, SameSpent, Fits}
 use Rattle.key_desk.specs.Succession.{last_number, next_desk, CanSucceed}
 use Rattle.desk_areas.proofs.Areas
 use Rattle.desk_areas.proofs.Growth

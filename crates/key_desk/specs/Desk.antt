@@ -1,5 +1,5 @@
 -- What a desk and its disk have in common, and what a state of signing knows.
-use Rattle.std.specs.Prelude.{◌≡◌, ◌≢◌, ◌⊎◌, ℕ, suc, ◌+◌, ◌-◌, ◌<◌, ◌≤◌, true, false, Bool, List, ◌++◌, take, drop, length, map, get_or, slice_index_or, Ok}
+use Rattle.std.specs.Prelude.{◌≡◌, ◌≢◌, ◌⊎◌, ℕ, suc, ◌+◌, ◌-◌, ◌<◌, ◌≤◌, true, false, Bool, List, take, drop, length, map, slice_index_or, Ok}
 use Rattle.std.specs.List.{count_by}
 use Rattle.road_io.specs.declared.disk.Disk.{Ghosts}
 use Rattle.road_io.specs.Moments.{Image, EachImage}
@@ -10,7 +10,8 @@ use Rattle.lms_tree.specs.Signatures.{KeyOf, number_at, public_key, verified}
 use Rattle.lms_tree.specs.Links.{IsLink, link_text}
 use Rattle.desk_areas.specs.declared.area.Count.{Count}
 use Rattle.desk_areas.specs.declared.area.Count.TheVariants
-use Rattle.desk_areas.specs.Layout.{slots_of, place_in, base_of, gate_at, gate_of, text_of, kind_at, secret_at, last_slot, SlotId, IsSigned, IsOpen, IsCurrent}
+use Rattle.desk_areas.specs.Blank.{HasKey}
+use Rattle.desk_areas.specs.Layout.{slots_of, base_of, gate_of, text_of, last_slot, SlotId, IsSigned, IsCurrent}
 
 -- ---- a desk's areas
 
@@ -71,12 +72,6 @@ pub record SameAreas (old new : Desk) : Type 0 where
   pub key : new.key ≡ old.key
 
 -- ---- a desk and its disk
-
--- the image has this key's block at a base, and all its slots
-pub record HasKey (key : KeyOf) (base : ℕ) (image : List ℕ) : Type 0 where
-  pub kind : kind_at image base ≡ key.kind
-  pub secret : secret_at image base ≡ key.i ++ key.seed
-  pub within : place_in base (slots_of key.kind) ≤ length image
 
 -- the open areas of the image have the desk's keys, each later one is named by the link text before
 -- it, and no other spent slot holds a link text
@@ -158,20 +153,3 @@ spent_slot spent = record { area = spent.area; number = spent.number }
 
 abbrev pub spent_text : Spent → List ℕ
 spent_text spent = take spent.len (drop 1 spent.piece)
-
--- ---- a new key
-
--- the image has this key's whole block at a base, and behind its 53 octets zeros to the area's end:
--- no slot is spent
-pub record IsBlankArea (key : KeyOf) (base : ℕ) (image : List ℕ) : Type 0 where
-  pub block : HasKey key base image
-  pub zero : (k : ℕ) → base + 53 ≤ k → k < place_in base (slots_of key.kind) → get_or image k 0 ≡ 0
-
--- the image has this key's open block in its first area, which is blank
-pub record IsBlank (key : KeyOf) (image : List ℕ) : Type 0 where
-  pub key_open : 0 < gate_at image 0
-  pub area : IsBlankArea key 0 image
-
--- what a crash may leave while a key is made
-abbrev pub IsFresh : KeyOf → List ℕ → Type 0
-IsFresh key image = (IsOpen image → ⊥) ⊎ IsBlank key image

@@ -1,5 +1,5 @@
 -- The next key of a desk.
-use Rattle.std.specs.Prelude.{◌≡◌, ◌≢◌, ◌⊎◌, ℕ, ◌+◌, ◌-◌, ◌<◌, ◌≤◌, true, List, [], ◌∷◌, ◌++◌, length, get_or, replicate, slice_set}
+use Rattle.std.specs.Prelude.{◌≡◌, ◌≢◌, ◌⊎◌, ℕ, ◌+◌, ◌-◌, ◌<◌, ◌≤◌, true, List, [], ◌∷◌, ◌++◌, length, replicate, slice_set}
 use Rattle.std.specs.declared.option.Option.{Option}
 use Rattle.std.specs.declared.result.Result.{Result}
 use Rattle.std.specs.declared.result.Result.TheVariants.{Err}
@@ -14,7 +14,8 @@ use Rattle.desk_areas.specs.declared.area.Count.TheVariants
 use Rattle.desk_areas.specs.Faults.{IsBadBlock, IsUsable}
 use Rattle.desk_areas.specs.Keys.{key_at}
 use Rattle.desk_areas.specs.Layout.{slots_of, place_in, base_of, gate_at, gate_of, last_slot, IsAreaOpen, IsOpen, IsCurrent, SignsAtMost}
-use Rattle.key_desk.specs.Desk.{count_at, key_of, HasKey}
+use Rattle.desk_areas.specs.Blank.{HasKey}
+use Rattle.key_desk.specs.Desk.{count_at, key_of}
 
 -- the number of the slot that signs the next key
 abbrev pub last_number : Desk → ℕ
@@ -48,11 +49,6 @@ pub record CanSucceed (desk : Desk) (key : KeyOf) : Type 0 where
 abbrev pub HasKeys : Desk → List ℕ → Type 0
 HasKeys desk image = (area : ℕ) → area ≤ length desk.earlier →
     HasKey (key_of desk area) (base_of image area) image
-
--- every octet of the image in this range is zero
-pub record IsZero (from size : ℕ) (image : List ℕ) : Type 0 where
-  pub long : from + size ≤ length image
-  pub zero : (k : ℕ) → from ≤ k → k < from + size → get_or image k 0 ≡ 0
 
 -- the image as it was, or the last slot of its current area has signed this text and nothing else
 -- was signed

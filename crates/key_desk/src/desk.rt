@@ -310,6 +310,9 @@ impl Desk {
             ((s : ℕ) → s ≢ q → count_at self.new s ≡ count_at self.old s) }
         ensures taken { (s : ℕ) → count_at self.old s ≢ Count.Free →
             count_at self.new s ≡ count_at self.old s }
+        ensures unfreed { IsErrOf result DeskError.DiskFault → (q : ℕ) ×
+            (count_at self.old q ≡ Count.Free) × (count_at self.new q ≢ Count.Free) ×
+            ((s : ℕ) → s ≢ q → count_at self.new s ≡ count_at self.old s) }
         ensures untouched { IsErr result → result ≢ Err DeskError.DiskFault →
             (self.new ≡ self.old) × (disk.new ≡ disk.old) }
         ensures not_free { IsUsedUp self.old → self.old.is_open ≡ true →
@@ -324,6 +327,7 @@ impl Desk {
         ensures faults { D.faults disk.old ≤ D.faults disk.new }
         ensures fault { IsErrOf result DeskError.DiskFault →
             Rose (D.faults disk.old) (D.faults disk.new) × (self.new.is_open ≡ false) }
+        ensures kept { result ≢ Err DeskError.DiskFault → D.faults disk.new ≡ D.faults disk.old }
         ensures closed { IsErrOf result DeskError.Closed ↔ (self.old.is_open ≡ false) }
         ensures used_up { IsErrOf result DeskError.KeysUsedUp → (self.old.is_open ≡ true) ×
             IsUsedUp self.old }
@@ -416,6 +420,7 @@ impl Ticket {
         ensures faults { D.faults disk.old ≤ D.faults disk.new }
         ensures fault { IsErrOf result DeskError.DiskFault →
             Rose (D.faults disk.old) (D.faults disk.new) × (desk.new.is_open ≡ false) }
+        ensures kept { result ≢ Err DeskError.DiskFault → D.faults disk.new ≡ D.faults disk.old }
         ensures closed { IsErrOf result DeskError.Closed ↔ (desk.old.is_open ≡ false) }
         ensures not_used_up { result ≢ Err DeskError.KeysUsedUp }
     {
@@ -478,6 +483,7 @@ impl Texted {
         ensures faults { D.faults disk.old ≤ D.faults disk.new }
         ensures fault { IsErrOf result DeskError.DiskFault →
             Rose (D.faults disk.old) (D.faults disk.new) × (desk.new.is_open ≡ false) }
+        ensures kept { result ≢ Err DeskError.DiskFault → D.faults disk.new ≡ D.faults disk.old }
         ensures closed { IsErrOf result DeskError.Closed ↔ (desk.old.is_open ≡ false) }
         ensures not_used_up { result ≢ Err DeskError.KeysUsedUp }
     {

@@ -28,6 +28,7 @@ impl Desk {
         ensures faults { D.faults disk.old ≤ D.faults disk.new }
         ensures fault { IsErrOf result DeskError.DiskFault →
             Rose (D.faults disk.old) (D.faults disk.new) × (self.new.is_open ≡ false) }
+        ensures kept { result ≢ Err DeskError.DiskFault → D.faults disk.new ≡ D.faults disk.old }
         ensures stays_open { OnOk result (self.new.is_open ≡ true) }
         ensures untouched { IsErrOf result DeskError.Closed → (self.new ≡ self.old) ×
             (disk.new ≡ disk.old) }

@@ -43,6 +43,7 @@ impl Desk {
         ensures faults { D.faults disk.old ≤ D.faults disk.new }
         ensures fault { IsErrOf result StartError.DiskFault →
             Rose (D.faults disk.old) (D.faults disk.new) }
+        ensures kept { result ≢ Err StartError.DiskFault → D.faults disk.new ≡ D.faults disk.old }
         ensures not_held { result ≢ Err StartError.Held }
         ensures stands { KeepsStanding D.Disk disk.old disk.new }
         ensures one { OnOk result (EachImage D.Disk disk.new (λ i. D.content disk.old ≡ Some i)) }
@@ -76,6 +77,7 @@ impl Desk {
         ensures faults { D.faults disk.old ≤ D.faults disk.new }
         ensures fault { IsErrOf result StartError.DiskFault →
             Rose (D.faults disk.old) (D.faults disk.new) }
+        ensures kept { result ≢ Err StartError.DiskFault → D.faults disk.new ≡ D.faults disk.old }
     {
         let mut earlier: Vec<Area> = Vec::new(alloc);
         let mut base = 0u64;

@@ -2,58 +2,28 @@
 ghost use Rattle.std.specs.Prelude.{◌≡◌, ◌≢◌, ◌⊎◌, ◌+◌, ◌*◌, ◌^◌, ◌↔◌, ◌<◌, ◌≤◌, ◌-◌, List, ℕ, suc, Err, length, take, replicate, IfOk, OnOk, OnErr, IfErr, IsErrOf, IsErr, true, false};
 ghost use Rattle.std.specs.Option.{ForSome};
 ghost use Rattle.road_io.specs.Causes.{HasCause, Rose};
-ghost use Rattle.road_io.specs.Disk.{Torn, Stays};
+ghost use Rattle.road_io.specs.Disk.{Stays};
 ghost use Rattle.road_io.specs.Moments.{Image, EachImage, AtEachMoment};
 ghost use Rattle.lms_tree.specs.Signatures.{public_key};
 ghost use Rattle.lms_tree.specs.Links.{link_text};
-ghost use Rattle.desk_areas.specs.Layout.{slots_of, place_in, last_slot, IsSigned, IsCurrent, AgreesOutside, SignsAtMost};
+ghost use Rattle.desk_areas.specs.Layout.{slots_of, place_in, last_slot, IsSigned, IsCurrent, SignsAtMost};
 ghost use Rattle.desk_areas.specs.Keys.{key_from};
 ghost use Rattle.key_desk.specs.Stands.{KeepsStanding, SameKeys};
 ghost use Rattle.desk_areas.specs.Settled.{IsSettled};
-ghost use Rattle.key_desk.specs.Desk.{slot_here, Fits, IsBlankArea};
+ghost use Rattle.key_desk.specs.Desk.{slot_here, Fits};
 ghost use Rattle.key_desk.specs.View.{View};
-ghost use Rattle.key_desk.specs.Succession.{last_number, next_desk, CanSucceed, HasKeys, IsZero, SignsLink, DeskRefuses, CanFollow, IsDeskCalledFor, AnswersDeskRefusal, IsCalledFor, AnswersRefusal, started};
+ghost use Rattle.key_desk.specs.Succession.{last_number, next_desk, CanSucceed, HasKeys, SignsLink, DeskRefuses, CanFollow, IsDeskCalledFor, AnswersDeskRefusal, IsCalledFor, AnswersRefusal, started};
 
-use crate::create::block_of;
 use crate::desk::Desk;
 use desk_areas::{
-    Area, Count, StartError, build_key, has_name, open_gate, place_in, put, put_text, slots_of,
-    store,
+    Area, Count, StartError, build_key, clear_next, has_name, open_gate, place_in, put_block,
+    put_text, slots_of,
 };
 use lms_ots::array_at;
 use lms_tree::{Key, link_text};
 use road_io::{Disk, Failed};
 use std::alloc::{AllocError, AllocFailed, Global};
 use thiserror::Error;
-
-// Zeros over a new area behind all others.
-fn clear_area<D: Disk>(disk: &mut D, base: u64, zeros: &[u8]) -> Result<(), Failed>
-    requires within { EachImage D.Disk disk.old (λ i. base ≤ length i) }
-    requires zeros { zeros.now ≡ replicate (length zeros.now) 0 }
-    ensures moments { AtEachMoment D.Disk disk.old disk.new (Torn base (length zeros.now)) }
-    ensures cleared { OnOk result (EachImage D.Disk disk.new (IsZero base (length zeros.now))) }
-    ensures cause { HasCause (D.faults disk.old) (D.faults disk.new) result }
-{
-    put(disk, base, zeros)
-}
-
-// The octets 1 to 52 of the new key block.
-fn put_area_block<D: Disk>(
-    disk: &mut D,
-    base: u64,
-    kind: u32,
-    secret: &[u8; 48],
-) -> Result<(), Failed>
-    requires clear { EachImage D.Disk disk.old (IsZero base (place_in 0 (slots_of kind))) }
-    requires low { base < 2 ^ 63 }
-    ensures moments { AtEachMoment D.Disk disk.old disk.new (AgreesOutside (base + 1) (base + 53)) }
-    ensures blank { OnOk result (EachImage D.Disk disk.new
-        (IsBlankArea (key_from kind secret.now) base)) }
-    ensures cause { HasCause (D.faults disk.old) (D.faults disk.new) result }
-{
-    let block = block_of(kind, secret);
-    store(disk, base + 1, &block)
-}
 
 // Adds a blank area, and then lets the last slot of the current area sign its key.
 fn raise<D: Disk>(
@@ -92,10 +62,11 @@ fn raise<D: Disk>(
         (λ i. IsSigned i (slot_here desk (last_number desk))
         (link_text (public_key (key_from kind secret.now))))) }
     ensures cause { HasCause (D.faults disk.old) (D.faults disk.new) result }
+    ensures kept { OnOk result (D.faults disk.new ≡ D.faults disk.old) }
 {
     let end = place_in(base, slots);
-    clear_area(disk, end, zeros)?;
-    put_area_block(disk, end, kind, secret)?;
+    clear_next(disk, end, zeros)?;
+    put_block(disk, end, kind, secret)?;
     let place = place_in(base, slots - 1);
     put_text(disk, place, link)?;
     open_gate(disk, place)
@@ -254,6 +225,7 @@ impl Desk {
         ensures faults { D.faults disk.old ≤ D.faults disk.new }
         ensures fault { IsErrOf result SucceedError.DiskFault →
             Rose (D.faults disk.old) (D.faults disk.new) }
+        ensures kept { result ≢ Err SucceedError.DiskFault → D.faults disk.new ≡ D.faults disk.old }
     {
         match Desk::reopen(alloc, disk) {
             Err(e) => Err(started(e)),
@@ -289,6 +261,7 @@ impl Desk {
         ensures faults { D.faults disk.old ≤ D.faults disk.new }
         ensures fault { IsErrOf result SucceedError.DiskFault →
             Rose (D.faults disk.old) (D.faults disk.new) }
+        ensures kept { result ≢ Err SucceedError.DiskFault → D.faults disk.new ≡ D.faults disk.old }
     {
         let name: [u8; 16] = array_at(secret, 0);
         match self.may_follow(&name) {
@@ -325,6 +298,7 @@ impl Desk {
         ensures faults { D.faults disk.old ≤ D.faults disk.new }
         ensures fault { IsErrOf result SucceedError.DiskFault →
             Rose (D.faults disk.old) (D.faults disk.new) }
+        ensures kept { result ≢ Err SucceedError.DiskFault → D.faults disk.new ≡ D.faults disk.old }
     {
         let slots = slots_of(kind);
         let key = match build_key(alloc, kind, secret) {

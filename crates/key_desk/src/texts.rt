@@ -73,6 +73,7 @@ impl Desk {
         ensures faults { D.faults disk.old ≤ D.faults disk.new }
         ensures fault { IsErrOf result DeskError.DiskFault →
             Rose (D.faults disk.old) (D.faults disk.new) }
+        ensures unfaulted { result ≢ Err DeskError.DiskFault → D.faults disk.new ≡ D.faults disk.old }
         ensures closes { IsErrOf result DeskError.DiskFault →
             self.new ≡ record self.old { is_open = false } }
         ensures untouched { IsErrOf result DeskError.Closed → (self.new ≡ self.old) ×

@@ -1,5 +1,5 @@
 -- The mirror in memory.
-use Rattle.std.specs.Prelude.{◌≡◌, ℕ, ◌-◌, List, [], length}
+use Rattle.std.specs.Prelude.{◌≡◌, ℕ, ◌+◌, ◌-◌, ◌^◌, List, [], length, min}
 use Rattle.mirror_out.specs.Promises.{puts_before}
 use Rattle.mirror_out.specs.declared.mem_mirror.MemMirror.{MemMirror}
 
@@ -14,6 +14,12 @@ promised_puts mirror = puts_before mirror.fails.items mirror.calls
 -- the octets that it promises
 abbrev pub free_room : MemMirror → ℕ
 free_room mirror = mirror.room - length (held_in mirror)
+
+-- a put was counted, and the plan and the room are as before
+pub record CountsPut (old new : MemMirror) : Type 0 where
+  pub counted : new.calls ≡ min (old.calls + 1) (2 ^ 64 - 1)
+  pub plan : new.fails.items ≡ old.fails.items
+  pub room_is : new.room ≡ old.room
 
 -- it holds nothing, has not been called and has not failed
 pub record IsNewMirror (label room : ℕ) (fails : List ℕ) (mirror : MemMirror) : Type 0 where

@@ -1,5 +1,5 @@
 //! A mirror in memory, which tells what it holds.
-ghost use Rattle.std.specs.Prelude.{◌≡◌, ◌-◌, ◌≤◌, ◌+◌, ◌<◌, ◌^◌, ℕ, length, vec_len, vec_capacity, IfOk, OnOk, OnErr};
+ghost use Rattle.std.specs.Prelude.{◌≡◌, ◌-◌, ◌≤◌, ◌+◌, ◌<◌, ◌^◌, ℕ, length, min, vec_len, vec_capacity, IfOk, OnOk, OnErr};
 ghost use Rattle.std.specs.declared.option.Option.TheVariants.{Some};
 ghost use Rattle.std.specs.Bool.{OnTrue, OnFalse};
 ghost use Rattle.mirror_out.specs.Promises.{puts_before};
@@ -61,7 +61,7 @@ impl Mirror for MemMirror {
     ghost use Rattle.std.specs.Io.KnownBytes.{Appends};
     ghost use Rattle.road_io.specs.Causes.{HasCause};
     ghost use Rattle.mirror_out.specs.Mirrors.{PromisedLess};
-    ghost use Rattle.mirror_out.specs.MemMirror.{held_in, promised_puts, free_room};
+    ghost use Rattle.mirror_out.specs.MemMirror.{held_in, promised_puts, free_room, CountsPut};
 
     ghost octets = { λ m. Some (held_in m) };
 
@@ -89,7 +89,10 @@ impl Mirror for MemMirror {
             (PromisedLess 1 piece.now (promised_puts self.old) (free_room self.old)) }
         ensures puts { OnOk result (promised_puts self.old ≤ promised_puts self.new + 1) }
         ensures room { OnOk result (free_room self.old ≤ free_room self.new + length piece.now) }
+        ensures kept { OnOk result (self.new.faults ≡ self.old.faults) }
         ensures cause { HasCause self.old.faults self.new.faults result }
+        ensures counts { CountsPut self.old self.new }
+        ensures faulted { OnErr result (self.new.faults ≡ min (self.old.faults + 1) (2 ^ 64 - 1)) }
         ensures promised { OnOk result
             ((0 < promised_puts self.old) × (length piece.now ≤ free_room self.old)) }
         ensures refused { OnErr result (held_in self.new ≡ held_in self.old) }

@@ -16,7 +16,7 @@ pub trait Mirror: Drop {
     /// Its label.
     ghost named: { Self → ℕ };
 
-    /// How often it has failed. The count stops at 2^64 - 1.
+    /// How often it has failed. The count stops at 2^64 - 1. A put that succeeds leaves it.
     ghost faults: { Self → ℕ };
 
     /// How many puts it promises to take.
@@ -41,5 +41,6 @@ pub trait Mirror: Drop {
         ensures err { OnErr result (PromisedLess 1 piece.now (puts self.old) (room self.old)) }
         ensures puts { OnOk result (puts self.old ≤ puts self.new + 1) }
         ensures room { OnOk result (room self.old ≤ room self.new + length piece.now) }
+        ensures kept { OnOk result (faults self.new ≡ faults self.old) }
         ensures cause { HasCause (faults self.old) (faults self.new) result };
 }

@@ -1,10 +1,11 @@
 -- How `key` and `desk` end.
-use Rattle.std.proofs.Common.{◌≡◌, inl, inr, ℕ, ◌-◌, List, [], sym, ap, ◌∙◌, subst, length, IfSome, IfOk, OnOk}
+use Rattle.std.proofs.Common.{◌≡◌, inl, inr, ℕ, ◌-◌, List, [], sym, ap, ◌∙◌, subst, length, IfSome, IfOk, IfErr, OnOk}
 use Rattle.std.specs.declared.option.Option.{Option}
 use Rattle.std.specs.declared.option.Option.TheVariants.{None, Some}
 use Rattle.std.specs.declared.result.Result.{Result}
 use Rattle.std.specs.declared.result.Result.TheVariants.{Ok, Err}
 use Rattle.std.specs.Option.{ForSome}
+use Rattle.road_io.specs.declared.disk.Disk.{Ghosts}
 use Rattle.road_io.specs.Contents.{Folder}
 use Rattle.lms_tree.specs.Signatures.{KeyOf, public_key}
 use Rattle.desk_areas.specs.Layout.{slots_of, base_of, keys_left}
@@ -22,6 +23,7 @@ use Rattle.command_desks.specs.Opening.{EndsOpening, HasBlocks}
 use Rattle.command_desks.proofs.Openings.{shut, key_on}
 use Rattle.owner_commands.specs.OwnerKey.{EndsKey, ends_key}
 use Rattle.owner_commands.specs.OwnerDesk.{IsDeskLine, TellsDesk, EndsDesk}
+use Rattle.owner_commands.specs.Signing.{StaysRefused}
 
 module _ (files : Option Folder) (name secret : List ℕ) (content : Option (List ℕ)) (kind : ℕ) (DiskFailed : Type 0) (l l' k k' : ℕ) (read : IfSome files (λ folder. secret_at folder name ≡ Ok secret)) (old : Option (List ℕ)) where
   -- what the file of a secret calls for
@@ -43,6 +45,13 @@ module _ (files : Option Folder) (name secret : List ℕ) (content : Option (Lis
 pub on_any : {T E : Type 0} (r : Result T E) (P : Type 0) → P → OnOk r P
 on_any (Ok x) P p = p
 on_any (Err e) P p = tt
+
+-- work that was done, or whose text the sink did not take, is no refusal
+pub written_stays : {D : Type 0} (g : Ghosts D) (before now : D) (text : List ℕ) (old new : Option (List ℕ)) (k k' : ℕ) (o : Result Conclusion Fault) → Writes (Ok Done) text old new k k' o → IfErr o (StaysRefused g before now)
+written_stays g before now text old new k k' o w = elim w [
+  | inl h ↦ subst (λ (r : Result Conclusion Fault). IfErr r (StaysRefused g before now)) (sym h.0) tt
+  | inr h ↦ subst (λ (r : Result Conclusion Fault). IfErr r (StaysRefused g before now)) (sym h.0) tt
+]
 
 -- what holds of the secret that was read holds of the one that the file spells
 pub made_of : (files : Option Folder) (name secret : List ℕ) (P : List ℕ → Type 0) → IfSome files (λ folder. secret_at folder name ≡ Ok secret) → P secret

@@ -40,6 +40,7 @@ use Rattle.command_files.specs.declared.ended.Conclusion.TheVariants.{Done}
 use Rattle.command_files.proofs.OneEnd.{one_reading}
 use Rattle.command_files.proofs.Written.{CallsFor, over, over_any, reads, refused, written_done, why_map}
 use Rattle.owner_commands.specs.NextKey.{fault_of, EndsSuccession, ends_succession, MakesNext, LinksFile, AddsKey}
+use Rattle.owner_commands.specs.Signing.{StaysRefused}
 use Rattle.owner_commands.specs.ChainLine.{link_on, IsChainOn, TellsLinks, EndsLinks}
 
 -- ---- a succession
@@ -112,6 +113,16 @@ module _ (files : Option Folder) (name secret : List ℕ) (content : Option (Lis
   -- what was signed is the link to the key of the file
   pub links_file : {D : Type 0} (g : Ghosts D) (d e : D) → AtEachMoment g d e (λ x i. (i ≡ x) ⊎ SignsLink (link_text (public_key (key_from kind secret))) x i) → LinksFile g d e files name kind
   links_file g d e each = record { secret = secret; of_file = read; each = each }
+
+-- a refused succession leaves each image
+pub stays_followed : {D : Type 0} (g : Ghosts D) (old new : D) (e : SucceedError) → (e ≢ why.DiskFault → AtEachMoment g old new Stays) → StaysRefused g old new (fault_of e)
+stays_followed g old new why.NoKey m = m (λ is. cc)
+stays_followed g old new why.BadBlock m = m (λ is. cc)
+stays_followed g old new why.TooManyKeys m = m (λ is. cc)
+stays_followed g old new why.NoSuccession m = m (λ is. cc)
+stays_followed g old new why.SameSecret m = m (λ is. cc)
+stays_followed g old new why.DiskFault m = tt
+stays_followed g old new why.Memory m = m (λ is. cc)
 
 -- ---- a chain
 

@@ -1,13 +1,14 @@
 -- What the words of the owner's promises say at some ends, so that a weaker word is seen.
-use Rattle.std.proofs.Common.{◌≡◌, ◌≢◌, ◌⊎◌, inl, inr, ℕ, ◌+◌, ◌<◌, List, length, refl}
+use Rattle.std.proofs.Common.{◌≡◌, ◌≢◌, ◌⊎◌, inl, inr, ℕ, ◌+◌, ◌<◌, ◌≤◌, List, length, arith, refl, sym, ◌∙◌, subst}
 use Rattle.std.specs.declared.option.Option.{Option}
+use Rattle.std.specs.declared.option.Option.TheVariants.{Some}
 use Rattle.std.specs.declared.result.Result.{Result}
 use Rattle.std.specs.declared.result.Result.TheVariants.{Ok, Err}
 use Rattle.std.specs.Io.KnownBytes.{Appends, Keeps}
 use Rattle.road_io.specs.declared.disk.Disk.{Ghosts}
 use Rattle.road_io.specs.Disk.{Stays}
 use Rattle.road_io.specs.Moments.{AtEachMoment}
-use Rattle.road_io.specs.Contents.{AppendsFront}
+use Rattle.road_io.specs.Contents.{Folder, AppendsFront}
 use Rattle.proof_octets.specs.Publications.{publication_text}
 use Rattle.publication_out.specs.Sent.{pieces_in}
 use Rattle.mirror_out.specs.Mirrors.{Mirrors}
@@ -19,11 +20,17 @@ use Rattle.command_files.specs.declared.fault.Fault.{Fault}
 use Rattle.command_files.specs.declared.fault.Fault.TheVariants.{Words, Missing, Road, Map, Plan, KeysUsedUp, Memory, NoKey, BadBlock, Disk, Sink, MirrorLost}
 use Rattle.command_files.specs.declared.ended.Conclusion.{Conclusion}
 use Rattle.command_files.specs.declared.ended.Conclusion.TheVariants.{Done}
+use Rattle.desk_areas.specs.Blank.{IsBlank}
+use Rattle.desk_areas.specs.Keys.{key_from}
+use Rattle.desk_areas.specs.Layout.{IsOpen}
+use Rattle.command_files.specs.HexFiles.{secret_at}
+use Rattle.owner_commands.specs.OwnerKey.{KeepsKey, MakesByFile}
+use Rattle.owner_commands.specs.NextKey.{AddsKey}
 use Rattle.owner_commands.specs.Publishing.{TellsLost}
 use Rattle.owner_commands.specs.Signing.{StaysRefused, Wrote, WroteSealed, SealsWhatItWrites, SealsWhatItMirrors, SpreadSealed}
 use Rattle.owner_commands.specs.StandingKeys.{WroteChain, ChainsWhatItWrites}
 
--- ---- a publication that was refused changes no image
+-- ---- what was refused changes no image
 
 module _ {D : Type 0} (g : Ghosts D) (old new : D) where
   at_no_file : StaysRefused g old new Missing → AtEachMoment g old new Stays
@@ -49,6 +56,26 @@ module _ {D : Type 0} (g : Ghosts D) (old new : D) where
 
   at_bad_block : StaysRefused g old new BadBlock → AtEachMoment g old new Stays
   at_bad_block h = h
+
+  -- a key by a file that is missing, or by short memory, changes none, and no more does a next key
+  no_key_without_a_file : (files : Option Folder) (secret : List ℕ) (kind : ℕ) → KeepsKey g old new files secret kind (Err Missing) → AtEachMoment g old new Stays
+  no_key_without_a_file files secret kind h = h.untouched
+
+  no_key_without_memory : (files : Option Folder) (secret : List ℕ) (kind : ℕ) → KeepsKey g old new files secret kind (Err Memory) → AtEachMoment g old new Stays
+  no_key_without_memory files secret kind h = h.untouched
+
+  no_next_key_without_memory : (files : Option Folder) (name : List ℕ) (kind : ℕ) → AddsKey g old new files name kind (Err Memory) → AtEachMoment g old new Stays
+  no_next_key_without_memory files name kind h = h.untouched
+
+  -- where the disk failed, an image with an open gate is one from before, or has the key of the file's secret
+  only_the_key_of_the_file : (folder : Folder) (name secret : List ℕ) (kind : ℕ) → secret_at folder name ≡ Ok secret → (m : MakesByFile g old new (Some folder) name kind) → (i : List ℕ) → g.clock old ≤ g.clock new → m.turns.turn ≤ g.clock new
+      → g.image_at new (g.clock new) i → IsOpen i → IsBlank (key_from kind secret) i
+  only_the_key_of_the_file folder name secret kind read m i later turned now opened =
+      let same : m.secret ≡ secret = (let h : ◌≡◌ {A = Result (List ℕ) Fault} (Ok m.secret) (Ok secret) = sym m.of_file ∙ read in cc) in
+      elim (m.turns.since (g.clock new) i turned (omega arith) now) [
+        | inl shut ↦ absurd (shut opened)
+        | inr blank ↦ subst (λ (s : List ℕ). IsBlank (key_from kind s) i) same blank
+      ]
 
 -- ---- what was written
 

@@ -1,5 +1,5 @@
 -- What `succeed` writes, and does to the owner's disk.
-use Rattle.std.specs.Prelude.{◌≡◌, ◌⊎◌, ℕ, List, [], take, IfOk, OnOk, IfSome}
+use Rattle.std.specs.Prelude.{◌≡◌, ◌⊎◌, ℕ, List, [], take, IfOk, OnOk, IfSome, IfErr}
 use Rattle.std.specs.declared.option.Option.{Option}
 use Rattle.std.specs.declared.result.Result.{Result}
 use Rattle.std.specs.declared.result.Result.TheVariants.{Ok, Err}
@@ -23,7 +23,7 @@ use Rattle.command_files.specs.declared.fault.Fault.TheVariants.{Disk, Memory, N
 use Rattle.command_files.specs.declared.ended.Conclusion.{Conclusion}
 use Rattle.command_files.specs.declared.ended.Conclusion.TheVariants.{Done}
 use Rattle.owner_commands.specs.OwnerKey.{key_line}
-use Rattle.owner_commands.specs.Signing.{OnWriting}
+use Rattle.owner_commands.specs.Signing.{OnWriting, StaysRefused}
 use Rattle.owner_commands.specs.StandingKeys.{FollowsByFile}
 
 -- the fault that a refused succession is
@@ -67,10 +67,11 @@ pub record LinksFile {D : Type 0} (g : Ghosts D) (old new : D) (files : Option F
 
 -- A key is added where none of the refusals holds, and no image changes but by its link. The keys of
 -- the areas that are open stay. Where a line may have been written, the new key stands behind
--- another, which has signed its link text.
+-- another, which has signed its link text. What is refused leaves every image.
 pub record AddsKey {D : Type 0} (g : Ghosts D) (old new : D) (files : Option Folder) (name : List ℕ)
     (kind : ℕ) (outcome : Result Conclusion Fault) : Type 0 where
   pub made : OnOk outcome (IfSome files (λ folder. MakesNext g new kind (secret_at folder name)))
   pub links : AtEachMoment g old new Stays ⊎ LinksFile g old new files name kind
   pub keys : AtEachMoment g old new SameKeys
   pub follows : OnWriting outcome (FollowsByFile g new files name kind)
+  pub untouched : IfErr outcome (StaysRefused g old new)

@@ -1,17 +1,17 @@
 -- What `key` writes, and does to the owner's disk.
-use Rattle.std.specs.Prelude.{◌≡◌, ◌≢◌, ℕ, List, [], ◌++◌, codes, IfOk, OnOk, IfSome}
+use Rattle.std.specs.Prelude.{◌≡◌, ◌≢◌, ◌⊎◌, ℕ, List, [], ◌++◌, codes, IfOk, OnOk, IfSome, IfErr}
 use Rattle.std.specs.declared.option.Option.{Option}
 use Rattle.std.specs.declared.result.Result.{Result}
 use Rattle.std.specs.declared.result.Result.TheVariants.{Ok, Err}
 use Rattle.std.specs.Option.{ForSome}
 use Rattle.hex.specs.Hex.{encode_lower}
 use Rattle.road_io.specs.declared.disk.Disk.{Ghosts}
-use Rattle.road_io.specs.Disk.{Stays}
+use Rattle.road_io.specs.Disk.{Stays, Turns}
 use Rattle.road_io.specs.Moments.{EachImage, AtEachMoment}
 use Rattle.road_io.specs.Contents.{Folder}
 use Rattle.lms_tree.specs.Signatures.{public_key}
 use Rattle.desk_areas.specs.Keys.{key_from}
-use Rattle.key_desk.specs.Desk.{IsBlank}
+use Rattle.desk_areas.specs.Blank.{IsBlank, IsFresh}
 use Rattle.desk_areas.specs.Layout.{IsOpen}
 use Rattle.command_files.specs.HexFiles.{secret_at}
 use Rattle.command_files.specs.Endings.{Ending, EndsReading}
@@ -19,6 +19,7 @@ use Rattle.command_files.specs.declared.fault.Fault.{Fault}
 use Rattle.command_files.specs.declared.fault.Fault.TheVariants.{Held}
 use Rattle.command_files.specs.declared.ended.Conclusion.{Conclusion}
 use Rattle.command_files.specs.declared.ended.Conclusion.TheVariants.{Done}
+use Rattle.owner_commands.specs.Signing.{StaysRefused}
 
 -- the public key of a secret and a type, in lower case hex, and a line end
 abbrev pub key_line : ℕ → List ℕ → List ℕ
@@ -42,9 +43,20 @@ abbrev pub MakesKey : {D : Type 0} → Ghosts D → D → ℕ → Result (List �
 MakesKey g disk kind secret = IfOk secret
     (λ secret. EachImage g disk (IsBlank (key_from kind secret)))
 
--- a key is made where the disk holds none, and nothing is changed where it holds one
+-- from some moment on each image has a closed gate, or the whole block of the file's secret and no
+-- spent slot; before that moment each is one from entry
+pub record MakesByFile {D : Type 0} (g : Ghosts D) (old new : D) (files : Option Folder)
+    (name : List ℕ) (kind : ℕ) : Type 0 where
+  pub secret : List ℕ
+  pub of_file : IfSome files (λ folder. secret_at folder name ≡ Ok secret)
+  pub turns : Turns g.clock g.image_at old new (IsFresh (key_from kind secret))
+
+-- A key is made where the disk holds none, and nothing is changed where it holds one. No other key
+-- than that of the file's secret is ever made, and what is refused leaves every image.
 pub record KeepsKey {D : Type 0} (g : Ghosts D) (old new : D) (files : Option Folder)
     (secret : List ℕ) (kind : ℕ) (outcome : Result Conclusion Fault) : Type 0 where
   pub made : OnOk outcome (IfSome files (λ folder. MakesKey g new kind (secret_at folder secret)))
   pub held : ForSome (g.content old) IsOpen → AtEachMoment g old new Stays
   pub kept : ForSome (g.content old) (λ c. IsOpen c → outcome ≢ Ok Done)
+  pub moments : AtEachMoment g old new Stays ⊎ MakesByFile g old new files secret kind
+  pub untouched : IfErr outcome (StaysRefused g old new)

@@ -134,10 +134,10 @@ SignsAtMostOne g old new files roads s = AtEachMoment g old new Stays ⊎
 
 -- ---- a refusal
 
--- A publication that was refused before the signing began leaves the disk: no image changes at any
--- moment. That is where the road file is missing or has a fault, the desk does not open, the
--- settings have no book, all one-time keys were used, or memory is short. Nothing is said here of a
--- sink or a disk that failed or a mirror that was lost.
+-- A command of the owner's that was refused before its work began leaves the disk: no image changes
+-- at any moment. That is where a file is missing or has a fault, the desk does not open or holds a
+-- key already, no key can follow, the settings have no book, all one-time keys were used, or memory
+-- is short. Nothing is said here of a sink or a disk that failed or a mirror that was lost.
 abbrev pub StaysRefused : {D : Type 0} → Ghosts D → D → D → Fault → Type 0
 StaysRefused g old new Sink = Unit {0}
 StaysRefused g old new Disk = Unit {0}

@@ -1,6 +1,6 @@
 //! The command `links`.
 
-ghost use Rattle.std.specs.Prelude.{IfOk, IfErr};
+ghost use Rattle.std.specs.Prelude.{IfOk, IfErr, ◌≡◌, ◌≢◌, Err};
 ghost use Rattle.std.specs.Option.{ForSome};
 ghost use Rattle.road_io.specs.Causes.{Rose};
 ghost use Rattle.road_io.specs.Disk.{Stays};
@@ -27,6 +27,7 @@ pub fn links<K: Sink, D: Disk>(
     ensures promised { PromisesWithoutFiles (EndsLinks (D.content disk.old))
         (Rose (D.faults disk.old) (D.faults disk.new))
         (K.taken sink.old) (K.taken sink.new) (K.faults sink.old) (K.faults sink.new) result }
+    ensures unfaulted { result ≢ Err Fault.Disk → D.faults disk.new ≡ D.faults disk.old }
     ensures stays { AtEachMoment D.Disk disk.old disk.new Stays }
     ensures sealed { ChainsWhatItWrites D.Disk disk.new (K.taken sink.old) (K.taken sink.new)
         result }
@@ -43,6 +44,7 @@ fn chain_on<D: Disk>(alloc: Global, disk: &mut D) -> Result<Vec<u8>, Fault>
     ensures refused { IfErr result
         (WhyNot (Rose (D.faults disk.old) (D.faults disk.new))
         (EndsOpening (D.content disk.old) NoEnd)) }
+    ensures unfaulted { result ≢ Err Fault.Disk → D.faults disk.new ≡ D.faults disk.old }
     ensures stays { AtEachMoment D.Disk disk.old disk.new Stays }
     ensures stand { IfOk result (λ chain. IsStandingChain D.Disk disk.new chain.items) }
 {

@@ -1,19 +1,20 @@
 //! The command `key`.
 
-ghost use Rattle.std.specs.Prelude.{◌≡◌, ◌≢◌, ◌++◌, codes, IfOk, IfErr, IfSome, OnOk};
+ghost use Rattle.std.specs.Prelude.{◌≡◌, ◌≢◌, ◌⊎◌, ◌++◌, codes, IfOk, IfErr, IfSome, OnOk, Err};
 ghost use Rattle.std.specs.Option.{ForSome};
 ghost use Rattle.hex.specs.Hex.{encode_lower};
 ghost use Rattle.road_io.specs.Causes.{Rose};
-ghost use Rattle.road_io.specs.Disk.{Stays};
+ghost use Rattle.road_io.specs.Disk.{Stays, Turns};
 ghost use Rattle.road_io.specs.Moments.{AtEachMoment, EachImage};
-ghost use Rattle.key_desk.specs.Desk.{IsBlank};
+ghost use Rattle.desk_areas.specs.Blank.{IsBlank, IsFresh};
 ghost use Rattle.desk_areas.specs.Keys.{key_from};
 ghost use Rattle.desk_areas.specs.Layout.{IsOpen};
 ghost use Rattle.key_desk.specs.Stands.{KeepsStanding};
 ghost use Rattle.road_command.specs.View.{type_of};
 ghost use Rattle.command_files.specs.HexFiles.{secret_at};
 ghost use Rattle.command_files.specs.Endings.{Promises, TellsNone, WhyNot};
-ghost use Rattle.owner_commands.specs.OwnerKey.{EndsKey, MakesKey, ends_key};
+ghost use Rattle.owner_commands.specs.OwnerKey.{EndsKey, MakesByFile, MakesKey, ends_key};
+ghost use Rattle.owner_commands.specs.Signing.{StaysRefused};
 
 use command_files::{Conclusion, Fault, load_hex, write_text};
 use key_desk::{Desk, StartError};
@@ -39,6 +40,10 @@ pub fn key<L: Library, K: Sink, D: Disk>(
     ensures held { ForSome (D.content disk.old) IsOpen →
         AtEachMoment D.Disk disk.old disk.new Stays }
     ensures kept { ForSome (D.content disk.old) (λ c. IsOpen c → result ≢ Ok Conclusion.Done) }
+    ensures moments { AtEachMoment D.Disk disk.old disk.new Stays ⊎
+        MakesByFile D.Disk disk.old disk.new (L.files library.old) secret.now (type_of kind) }
+    ensures untouched { IfErr result (StaysRefused D.Disk disk.old disk.new) }
+    ensures unfaulted { result ≢ Err Fault.Disk → D.faults disk.new ≡ D.faults disk.old }
     ensures stands { KeepsStanding D.Disk disk.old disk.new }
 {
     let secret: [u8; 48] = load_hex(alloc, library, secret)?;
@@ -62,6 +67,10 @@ fn make_key<D: Disk>(
         (EndsKey (D.content disk.old) (type_of kind) secret.now)) }
     ensures held { ForSome (D.content disk.old) IsOpen →
         AtEachMoment D.Disk disk.old disk.new Stays }
+    ensures moments { Turns D.clock D.image_at disk.old disk.new
+        (IsFresh (key_from (type_of kind) secret.now)) }
+    ensures untouched { IfErr result (StaysRefused D.Disk disk.old disk.new) }
+    ensures unfaulted { result ≢ Err Fault.Disk → D.faults disk.new ≡ D.faults disk.old }
     ensures stands { KeepsStanding D.Disk disk.old disk.new }
 {
     match Desk::create(alloc, disk, kind.number(), secret) {

@@ -1,6 +1,6 @@
 //! The command `publish`.
 
-ghost use Rattle.std.specs.Prelude.{IfOk, IfErr};
+ghost use Rattle.std.specs.Prelude.{IfOk, IfErr, ◌≡◌, ◌≢◌, Err};
 ghost use Rattle.road_io.specs.Causes.{Rose};
 ghost use Rattle.key_desk.specs.Stands.{KeepsStanding};
 ghost use Rattle.command_files.specs.Endings.{Promises, WhyNot};
@@ -44,6 +44,7 @@ pub fn publish<L: Library, K: Sink, D: Disk, M: Mirror>(
     ensures signs { SignsAtMostOne D.Disk disk.old disk.new
         (L.files library.old) roads.now settings.now }
     ensures untouched { IfErr result (StaysRefused D.Disk disk.old disk.new) }
+    ensures unfaulted { result ≢ Err Fault.Disk → D.faults disk.new ≡ D.faults disk.old }
     ensures stands { KeepsStanding D.Disk disk.old disk.new }
 {
     let parts = load_parts(alloc, library, roads)?;
@@ -71,6 +72,7 @@ fn signed<D: Disk>(
         (EndsPublish (D.content disk.old) settings.now parts)) }
     ensures signs { SignsAtMostHeader D.Disk disk.old disk.new parts settings.now }
     ensures untouched { IfErr result (StaysRefused D.Disk disk.old disk.new) }
+    ensures unfaulted { result ≢ Err Fault.Disk → D.faults disk.new ≡ D.faults disk.old }
     ensures stands { KeepsStanding D.Disk disk.old disk.new }
 {
     let mut desk = open_desk(alloc, disk)?;

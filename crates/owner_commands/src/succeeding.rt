@@ -1,6 +1,6 @@
 //! The command `succeed`.
 
-ghost use Rattle.std.specs.Prelude.{◌≡◌, ◌⊎◌, IfOk, IfErr, IfSome, OnOk};
+ghost use Rattle.std.specs.Prelude.{◌≡◌, ◌⊎◌, IfOk, IfErr, IfSome, OnOk, ◌≢◌, Err};
 ghost use Rattle.road_io.specs.Causes.{Rose};
 ghost use Rattle.road_io.specs.Moments.{AtEachMoment, EachImage};
 ghost use Rattle.lms_tree.specs.Links.{link_text};
@@ -12,6 +12,7 @@ ghost use Rattle.road_command.specs.View.{type_of};
 ghost use Rattle.command_files.specs.Endings.{Promises, TellsNone, WhyNot};
 ghost use Rattle.command_desks.specs.Opening.{IsKeyOn};
 ghost use Rattle.owner_commands.specs.NextKey.{AddsKey, EndsSuccession, ends_succession, fault_of};
+ghost use Rattle.owner_commands.specs.Signing.{StaysRefused};
 ghost use Rattle.owner_commands.specs.StandingKeys.{FollowsAnother};
 
 use crate::making::line_of_key;
@@ -36,6 +37,7 @@ pub fn succeed<L: Library, K: Sink, D: Disk>(
         (K.taken sink.old) (K.taken sink.new) (K.faults sink.old) (K.faults sink.new) result }
     ensures adds { AddsKey D.Disk disk.old disk.new (L.files library.old) secret.now
         (type_of kind) result }
+    ensures unfaulted { result ≢ Err Fault.Disk → D.faults disk.new ≡ D.faults disk.old }
     ensures stands { KeepsStanding D.Disk disk.old disk.new }
 {
     let secret: [u8; 48] = load_hex(alloc, library, secret)?;
@@ -63,6 +65,8 @@ fn make_next<D: Disk>(
     ensures keys { AtEachMoment D.Disk disk.old disk.new SameKeys }
     ensures follows { OnOk result
         (FollowsAnother D.Disk disk.new (key_from (type_of kind) secret.now)) }
+    ensures untouched { IfErr result (StaysRefused D.Disk disk.old disk.new) }
+    ensures unfaulted { result ≢ Err Fault.Disk → D.faults disk.new ≡ D.faults disk.old }
     ensures stands { KeepsStanding D.Disk disk.old disk.new }
 {
     match Desk::succeed(alloc, disk, kind.number(), secret) {

@@ -1,3 +1,4 @@
 pub mod SlotLemmas
 pub mod ReduceLemmas
 pub mod OneReduce
+mod Worked

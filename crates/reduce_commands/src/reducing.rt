@@ -1,6 +1,6 @@
 //! The command `reduce`.
 
-ghost use Rattle.std.specs.Prelude.{◌≡◌, ◌≤◌, ◌⊎◌, true, length, take, IfOk, IfErr, IfSome};
+ghost use Rattle.std.specs.Prelude.{◌≡◌, ◌≤◌, ◌⊎◌, true, length, take, IfOk, IfErr, IfSome, ◌≢◌, Err};
 ghost use Rattle.std.specs.Option.{option_copied, option_map};
 ghost use Rattle.road_io.specs.Causes.{Rose};
 ghost use Rattle.road_io.specs.Disk.{Stays};
@@ -42,6 +42,7 @@ pub fn reduce<L: Library, K: Sink, D: Disk>(
         (K.taken sink.old) (K.taken sink.new) (K.faults sink.old) (K.faults sink.new) result }
     ensures unreleased { WritesReduced D.Disk disk.new (K.taken sink.old)
         (K.taken sink.new) result }
+    ensures unfaulted { result ≢ Err Fault.Disk → D.faults disk.new ≡ D.faults disk.old }
     ensures stays { AtEachMoment D.Disk disk.old disk.new Stays }
 {
     let public: [u8; 56] = load_hex(alloc, library, key)?;
@@ -67,6 +68,7 @@ fn find<D: Disk>(
     ensures refused { IfErr result
         (WhyNot (Rose (D.faults disk.old) (D.faults disk.new))
         (EndsReduce (D.content disk.old) public.now text.now sig.now)) }
+    ensures unfaulted { result ≢ Err Fault.Disk → D.faults disk.new ≡ D.faults disk.old }
     ensures stays { AtEachMoment D.Disk disk.old disk.new Stays }
 {
     released_laws();
@@ -96,6 +98,7 @@ fn find_in<D: Disk>(
     ensures refused { IfErr result (λ fault. (fault ≡ Fault.Memory) ⊎ ((fault ≡ Fault.Disk) ×
         Rose (D.faults disk.old) (D.faults disk.new))) }
     ensures faults { D.faults disk.old ≤ D.faults disk.new }
+    ensures unfaulted { result ≢ Err Fault.Disk → D.faults disk.new ≡ D.faults disk.old }
     ensures stays { AtEachMoment D.Disk disk.old disk.new Stays }
 {
     let mut room = [0u8; 126];

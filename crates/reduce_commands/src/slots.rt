@@ -94,6 +94,7 @@ pub fn spent_of<D: Disk>(
     ensures desk { IfOk result (λ found. desk.new ≡ desk.old) }
     ensures failed { IfErr result (λ e. Rose (D.faults disk.old) (D.faults disk.new)) }
     ensures faults { D.faults disk.old ≤ D.faults disk.new }
+    ensures unfaulted { IfOk result (λ found. D.faults disk.new ≡ D.faults disk.old) }
     ensures stays { AtEachMoment D.Disk disk.old disk.new Stays }
 {
     match slot_of(desk, area, sig) {

@@ -4,6 +4,7 @@ use Rattle.road_map.specs.declared.parts.Parts.{Parts}
 use Rattle.book_model.specs.declared.settings.Settings.{Settings}
 use Rattle.lms_tree.specs.declared.links.Link.{Link}
 use Rattle.key_desk.specs.declared.desk.DeskError.{DeskError}
+use Rattle.key_desk.specs.declared.desk.DeskError.TheVariants as desk_errors
 use Rattle.road_io.specs.declared.disk.Disk.{Ghosts}
 use Rattle.key_desk.specs.declared.desk.Desk.{Desk as TheDesk}
 use Rattle.key_desk.specs.Desk.{Fits}
@@ -137,13 +138,16 @@ module _ {Q A X E : Type 0} (kind : ReplyKind Q A X E) (laws : AreReplies kind) 
     comes = λ c opened steady. comes kind laws hash sha256 (look_at g desk disk disk) u made (works g desk disk disk opened steady) r c found;
     untouched = before_any r ((desk ≡ desk) × (disk ≡ disk)) (refl, refl);
     left = left_alone g desk disk fits;
+    kept = λ other. refl;
   }
 
   -- an audit that looked
-  pub audits_after : (new_desk : TheDesk) (new : D) (r : Result Finding (AuditError E)) → Finds kind hash sha256 (look_at g desk disk new) u r → BeforeLook r ((new_desk ≡ desk) × (new ≡ disk)) → IsLeft g desk disk new_desk new → Audits kind hash sha256 g desk disk new_desk new u r
-  audits_after new_desk new r found late left = record {
+  pub audits_after : (new_desk : TheDesk) (new : D) (r : Result Finding (AuditError E)) → Finds kind hash sha256 (look_at g desk disk new) u r → BeforeLook r ((new_desk ≡ desk) × (new ≡ disk)) → IsLeft g desk disk new_desk new → (r ≢ Err (Desk desk_errors.DiskFault) → g.faults new ≡ g.faults disk)
+      → Audits kind hash sha256 g desk disk new_desk new u r
+  audits_after new_desk new r found late left kept = record {
     finds = found;
     comes = λ c opened steady. comes kind laws hash sha256 (look_at g desk disk new) u made (works g desk disk new opened steady) r c found;
     untouched = late;
     left = left;
+    kept = kept;
   }

@@ -4,6 +4,7 @@ use Rattle.lms_tree.specs.declared.links.Link.{Link}
 use Rattle.road_io.specs.declared.disk.Disk.{Ghosts}
 use Rattle.road_io.specs.Causes.{Rose}
 use Rattle.key_desk.specs.declared.desk.Desk.{Desk as TheDesk}
+use Rattle.key_desk.specs.declared.desk.DeskError.TheVariants as desk_errors
 use Rattle.desk_look.specs.Forgeries.{AreSigned, Forges, forgery}
 use Rattle.desk_look.specs.Left.{IsLeft}
 use Rattle.desk_look.specs.Looks.{Look, look_at}
@@ -122,7 +123,7 @@ BeforeLook r P = Unit {0}
 -- What an audit of octets by a desk answers, and what it leaves: the first step that holds is
 -- answered; what is auditable comes to a finding where the desk is open and its disk doesn't fail;
 -- before the look at the slots nothing is touched, and afterwards the desk and the disk are left as
--- they were.
+-- they were; a fault of the disk is always answered, also where memory runs out.
 pub record Audits {Q A X E : Type 0} (kind : ReplyKind Q A X E) (hash sha : List ℕ → List ℕ)
     {D : Type 0} (g : Ghosts D) (old_desk : TheDesk) (old : D) (new_desk : TheDesk) (new : D)
     (u : Audited Q) (answer : Result Finding (AuditError E)) : Type 0 where
@@ -132,3 +133,4 @@ pub record Audits {Q A X E : Type 0} (kind : ReplyKind Q A X E) (hash sha : List
       → Comes (kind.header auditable.answer) u.publication.header answer
   pub untouched : BeforeLook answer ((new_desk ≡ old_desk) × (new ≡ old))
   pub left : IsLeft g old_desk old new_desk new
+  pub kept : answer ≢ Err (Desk desk_errors.DiskFault) → g.faults new ≡ g.faults old

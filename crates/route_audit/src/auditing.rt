@@ -1,7 +1,8 @@
 //! The audit of a reply.
-ghost use Rattle.std.specs.Prelude.{◌≡◌, ◌<◌, ◌≤◌, ◌^◌, length};
+ghost use Rattle.std.specs.Prelude.{◌≡◌, ◌≢◌, ◌<◌, ◌≤◌, ◌^◌, false, length, Err};
 ghost use Rattle.sha2.specs.Sha256.{sha256};
 ghost use Rattle.key_desk.specs.Desk.{Fits};
+ghost use Rattle.key_desk.specs.declared.desk.DeskError.TheVariants as desk_errors;
 ghost use Rattle.desk_look.specs.Left.{IsLeft};
 ghost use Rattle.desk_look.specs.Looks.{IsKeyFrom, look_at};
 ghost use Rattle.route_server.specs.Keeping.{HasSpellings, IsKept};
@@ -45,6 +46,10 @@ fn find_in<R: Replies, H: Hasher, D: Disk>(
     ensures finds { FindsIn R.kind H.hash sha256 (look_at D.Disk desk.old disk.old disk.new)
         public.now chain.now held.now query answer.now result }
     ensures left { IsLeft D.Disk desk.old disk.old desk.new disk.new }
+    ensures kept { result ≢ Err (AuditError.Desk desk_errors.DiskFault) →
+        D.faults disk.new ≡ D.faults disk.old }
+    ensures closed { desk.old.is_open ≡ false →
+        result ≡ Err (AuditError.Desk desk_errors.Closed) }
 {
     R::laws();
     let header = R::header(answer);

@@ -71,6 +71,8 @@ pub fn publish<H: Hasher, D: Disk>(
         desk.old.is_open ≡ false }
     ensures fault { result ≡ Err (PublishError.Desk desk_errors.DiskFault) →
         Rose (D.faults disk.old) (D.faults disk.new) }
+    ensures kept { result ≢ Err (PublishError.Desk desk_errors.DiskFault) →
+        D.faults disk.new ≡ D.faults disk.old }
     ensures untouched { OnNoSigning result ((desk.new ≡ desk.old) × (disk.new ≡ disk.old)) }
     ensures unsigned { (e : DeskError) → result ≡ Err (PublishError.Desk e) →
         e ≢ desk_errors.DiskFault → (desk.new ≡ desk.old) × (disk.new ≡ disk.old) }

@@ -8,4 +8,5 @@ returns g c = record {
   headline = audits_accepted g.T.Kind.Replies.kind g.T.Telling.refused c.laws.ensures c.server_laws.ensures g.D.Disk c.write_findings.new.disk
       _ _ _ _ _ _ _ _ _ _ c.write_findings.ensures.promised.mirror c.write_findings.ensures.promised.answered c.write_findings.ensures.finds;
   stays = c.write_findings.ensures.stays;
+  unfaulted = c.write_findings.ensures.unfaulted;
 }

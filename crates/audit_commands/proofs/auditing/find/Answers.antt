@@ -1,7 +1,9 @@
+use Rattle.std.proofs.Common.{◌∙◌}
 use Rattle.std.proofs.lemmas.Result.{err_from_is_err_and}
 use Rattle.road_io.specs.Causes.{Rose}
 use Rattle.command_files.specs.declared.told.Told.{Told}
 use Rattle.command_desks.proofs.Openings.{stays_twice}
+use Rattle.key_desk.specs.declared.desk.DeskError.TheVariants.{DiskFault}
 use Rattle.audit_commands.specs.Headline.{IsBrought}
 use Rattle.audit_commands.proofs.Steps.{if_ok, if_err}
 use Rattle.audit_commands.proofs.AuditLemmas.{ends_of, why_not, look_failed, not_opened, not_opened_rests, rests_on, rests_otherwise}
@@ -60,3 +62,6 @@ returns-clause-refused g c =
 pub returns-clause-stays : goal.returns-clause-stays
 returns-clause-stays g c =
     stays_twice g.D.Disk c.args.disk.now c.open_desk.new.disk c.audit_reply-answer.new.disk c.in_ok-desk.ensures.stays c.audit_reply-answer.ensures.left.moments
+
+pub returns-clause-unfaulted : goal.returns-clause-unfaulted
+returns-clause-unfaulted g c other = c.audit_reply-answer.ensures.kept (λ is. other (c.tell.ensures.desk DiskFault is)) ∙ c.in_ok-desk.ensures.unfaulted (λ e. cc)

@@ -26,7 +26,7 @@ pub loop-area-init : goal.loop-area-init
 loop-area-init g c = record {
   content = refl;
   moments = nothing g.D.Disk c.args.disk.now Stays (λ d now. refl);
-  faults = omega arith;
+  faults = refl;
   low = omega arith;
   based = λ x told. sym (base_first x);
   none = λ x told a lt. absurd (omega arith);
@@ -59,7 +59,7 @@ loop-area-preserved g c =
     record {
       content = c.find_text.ensures.content ∙ c.loop-area.invariant.content;
       moments = continued g.D.Disk c.args.disk.now c.loop-area.disk c.find_text.new.disk Stays Stays Stays c.loop-area.invariant.moments c.find_text.ensures.moments (λ d i now h. h) (λ d e i now_d now_e h k. k ∙ h);
-      faults = omega (arith, c.loop-area.invariant.faults, c.find_text.ensures.cause.later);
+      faults = c.in_ok-find_text.ensures.kept ∙ c.loop-area.invariant.faults;
       low = omega (arith, c.loop-area.invariant.low, c.place_in-base.ensures.place, c.counts-counts.ensures.few);
       based = λ x told. c.place_in-base.ensures.place ∙ here g at x told ∙ ap (λ (n : ℕ). base_of x n) (sym more);
       none = λ x told. none_more c.args.areas.now c.args.text.now x c.loop-area.area-index c.loop-area.base c.area-item.result (item_is g at) (c.loop-area.invariant.based x told)

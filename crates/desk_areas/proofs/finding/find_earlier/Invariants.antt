@@ -10,7 +10,7 @@ abbrev pub invariant-loop-area : goal.invariant-loop-area
 invariant-loop-area g l = record {
   content : g.D.Disk.content l.disk ≡ g.D.Disk.content l.fn.disk;
   moments : AtEachMoment g.D.Disk l.fn.disk l.disk Stays;
-  faults : g.D.Disk.faults l.fn.disk ≤ g.D.Disk.faults l.disk;
+  faults : g.D.Disk.faults l.disk ≡ g.D.Disk.faults l.fn.disk;
   low : l.base ≤ 131136 * l.area-index;
   based : (c : List ℕ) → g.D.Disk.content l.fn.disk ≡ Some c → l.base ≡ base_of c l.area-index;
   none : (c : List ℕ) → g.D.Disk.content l.fn.disk ≡ Some c → (a : ℕ) → a < l.area-index → FindsIn (area_in l.areas a).counts (base_of c a) l.text c → ⊥;

@@ -1,4 +1,4 @@
-use Rattle.std.proofs.Common.{◌≡◌, ◌+◌, ◌<◌, ◌≤◌, List, ℕ, length, get_or, Some}
+use Rattle.std.proofs.Common.{◌≡◌, ◌+◌, ◌<◌, List, ℕ, length, get_or, Some}
 use Rattle.road_io.specs.Disk.{Stays}
 use Rattle.road_io.specs.Moments.{AtEachMoment}
 use Rattle.lms_tree.specs.Links.{IsLink}
@@ -10,7 +10,7 @@ abbrev pub invariant-loop-count : goal.invariant-loop-count
 invariant-loop-count g l = record {
   content : g.D.Disk.content l.disk ≡ g.D.Disk.content l.fn.disk;
   moments : AtEachMoment g.D.Disk l.fn.disk l.disk Stays;
-  faults : g.D.Disk.faults l.fn.disk ≤ g.D.Disk.faults l.disk;
+  faults : g.D.Disk.faults l.disk ≡ g.D.Disk.faults l.fn.disk;
   at : l.number ≡ l.count-index;
   none : (c : List ℕ) → g.D.Disk.content l.fn.disk ≡ Some c → (s : ℕ) → s < l.number → s + 1 < length l.counts → get_or l.counts s TheVariants.Spent ≡ TheVariants.Spent → IsLink (text_at c (place_in l.base s)) → ⊥;
 }

@@ -4,39 +4,39 @@ use Rattle.lms_tree.specs.Signatures.{public_key}
 use Rattle.lms_tree.specs.Links.{link_text}
 use Rattle.desk_areas.specs.Keys.{key_from}
 use Rattle.desk_areas.specs.Layout.{text_at}
-use Rattle.key_desk.proofs.OnOks.{on_ok, on_ok_both}
+use Rattle.desk_areas.proofs.OnOks.{on_ok, on_ok_both}
 use Rattle.key_desk.proofs.RaisingSteps.{signs1, signs2, signs3, signs4, keys1, keys2, keys3, keys4, fits4, signed4, link_size}
 use Rattle.key_desk.proofs.succeed.raise.Given.{Over}
 use Rattle.key_desk.proofs.succeed.raise.Goals as goal
 use Rattle.key_desk.proofs.succeed.raise.Goals.{After-open_gate}
 
-pub returns-in_err-clear_area-clause-moments : goal.returns-in_err-clear_area-clause-moments
-returns-in_err-clear_area-clause-moments g c desk fits can base slots =
-    signs1 g.D.Disk desk (key_from c.args.kind c.args.secret.now) c.args.disk.now fits can c.args.base c.args.slots c.place_in-end.result _ base slots c.place_in-end.ensures.place refl c.clear_area.new.disk (length c.args.zeros.now) c.clear_area.ensures.moments
+pub returns-in_err-clear_next-clause-moments : goal.returns-in_err-clear_next-clause-moments
+returns-in_err-clear_next-clause-moments g c desk fits can base slots =
+    signs1 g.D.Disk desk (key_from c.args.kind c.args.secret.now) c.args.disk.now fits can c.args.base c.args.slots c.place_in-end.result _ base slots c.place_in-end.ensures.place refl c.clear_next.new.disk (length c.args.zeros.now) c.clear_next.ensures.moments
 
-pub returns-in_err-clear_area-clause-keys : goal.returns-in_err-clear_area-clause-keys
-returns-in_err-clear_area-clause-keys g c desk fits can base slots =
-    keys1 g.D.Disk desk (key_from c.args.kind c.args.secret.now) c.args.disk.now fits can c.args.base c.args.slots c.place_in-end.result _ base slots c.place_in-end.ensures.place refl c.clear_area.new.disk (length c.args.zeros.now) c.clear_area.ensures.moments
+pub returns-in_err-clear_next-clause-keys : goal.returns-in_err-clear_next-clause-keys
+returns-in_err-clear_next-clause-keys g c desk fits can base slots =
+    keys1 g.D.Disk desk (key_from c.args.kind c.args.secret.now) c.args.disk.now fits can c.args.base c.args.slots c.place_in-end.result _ base slots c.place_in-end.ensures.place refl c.clear_next.new.disk (length c.args.zeros.now) c.clear_next.ensures.moments
 
-pub returns-in_err-put_area_block-clause-moments : goal.returns-in_err-put_area_block-clause-moments
-returns-in_err-put_area_block-clause-moments g c desk fits can base slots =
-    signs2 g.D.Disk desk (key_from c.args.kind c.args.secret.now) c.args.disk.now fits can c.args.base c.args.slots c.place_in-end.result _ base slots c.place_in-end.ensures.place refl c.clear_area.new.disk (length c.args.zeros.now) c.clear_area.ensures.moments
-    c.put_area_block.new.disk c.put_area_block.ensures.moments
+pub returns-in_err-put_block-clause-moments : goal.returns-in_err-put_block-clause-moments
+returns-in_err-put_block-clause-moments g c desk fits can base slots =
+    signs2 g.D.Disk desk (key_from c.args.kind c.args.secret.now) c.args.disk.now fits can c.args.base c.args.slots c.place_in-end.result _ base slots c.place_in-end.ensures.place refl c.clear_next.new.disk (length c.args.zeros.now) c.clear_next.ensures.moments
+    c.put_block.new.disk c.put_block.ensures.moments
 
-pub returns-in_err-put_area_block-clause-keys : goal.returns-in_err-put_area_block-clause-keys
-returns-in_err-put_area_block-clause-keys g c desk fits can base slots =
-    keys2 g.D.Disk desk (key_from c.args.kind c.args.secret.now) c.args.disk.now fits can c.args.base c.args.slots c.place_in-end.result _ base slots c.place_in-end.ensures.place refl c.clear_area.new.disk (length c.args.zeros.now) c.clear_area.ensures.moments
-    c.put_area_block.new.disk c.put_area_block.ensures.moments
+pub returns-in_err-put_block-clause-keys : goal.returns-in_err-put_block-clause-keys
+returns-in_err-put_block-clause-keys g c desk fits can base slots =
+    keys2 g.D.Disk desk (key_from c.args.kind c.args.secret.now) c.args.disk.now fits can c.args.base c.args.slots c.place_in-end.result _ base slots c.place_in-end.ensures.place refl c.clear_next.new.disk (length c.args.zeros.now) c.clear_next.ensures.moments
+    c.put_block.new.disk c.put_block.ensures.moments
 
 pub returns-in_err-put_text-clause-moments : goal.returns-in_err-put_text-clause-moments
 returns-in_err-put_text-clause-moments g c desk fits can base slots =
-    signs3 g.D.Disk desk (key_from c.args.kind c.args.secret.now) c.args.disk.now fits can c.args.base c.args.slots c.place_in-end.result c.place_in-place.result base slots c.place_in-end.ensures.place c.place_in-place.ensures.place c.clear_area.new.disk (length c.args.zeros.now) c.clear_area.ensures.moments
-    c.put_area_block.new.disk c.put_area_block.ensures.moments c.put_text.new.disk c.put_text.ensures.moments
+    signs3 g.D.Disk desk (key_from c.args.kind c.args.secret.now) c.args.disk.now fits can c.args.base c.args.slots c.place_in-end.result c.place_in-place.result base slots c.place_in-end.ensures.place c.place_in-place.ensures.place c.clear_next.new.disk (length c.args.zeros.now) c.clear_next.ensures.moments
+    c.put_block.new.disk c.put_block.ensures.moments c.put_text.new.disk c.put_text.ensures.moments
 
 pub returns-in_err-put_text-clause-keys : goal.returns-in_err-put_text-clause-keys
 returns-in_err-put_text-clause-keys g c desk fits can base slots =
-    keys3 g.D.Disk desk (key_from c.args.kind c.args.secret.now) c.args.disk.now fits can c.args.base c.args.slots c.place_in-end.result c.place_in-place.result base slots c.place_in-end.ensures.place c.place_in-place.ensures.place c.clear_area.new.disk (length c.args.zeros.now) c.clear_area.ensures.moments
-    c.put_area_block.new.disk c.put_area_block.ensures.moments c.put_text.new.disk c.put_text.ensures.moments
+    keys3 g.D.Disk desk (key_from c.args.kind c.args.secret.now) c.args.disk.now fits can c.args.base c.args.slots c.place_in-end.result c.place_in-place.result base slots c.place_in-end.ensures.place c.place_in-place.ensures.place c.clear_next.new.disk (length c.args.zeros.now) c.clear_next.ensures.moments
+    c.put_block.new.disk c.put_block.ensures.moments c.put_text.new.disk c.put_text.ensures.moments
 
 module _ (g : Over) (c : After-open_gate g) where
   stored : EachImage g.D.Disk c.put_text.new.disk (λ i. text_at i c.place_in-place.result ≡ link_text (public_key (key_from c.args.kind c.args.secret.now)))
@@ -47,24 +47,24 @@ module _ (g : Over) (c : After-open_gate g) where
 
 pub returns-clause-moments : goal.returns-clause-moments
 returns-clause-moments g c desk fits can base slots =
-    signs4 g.D.Disk desk (key_from c.args.kind c.args.secret.now) c.args.disk.now fits can c.args.base c.args.slots c.place_in-end.result c.place_in-place.result base slots c.place_in-end.ensures.place c.place_in-place.ensures.place c.clear_area.new.disk (length c.args.zeros.now) c.clear_area.ensures.moments
-    c.put_area_block.new.disk c.put_area_block.ensures.moments c.put_text.new.disk c.put_text.ensures.moments c.open_gate.new.disk c.open_gate.ensures.moments c.in_ok-put_area_block.ensures.blank (stored g (goal.at.returns-clause-moments g c).After-open_gate)
+    signs4 g.D.Disk desk (key_from c.args.kind c.args.secret.now) c.args.disk.now fits can c.args.base c.args.slots c.place_in-end.result c.place_in-place.result base slots c.place_in-end.ensures.place c.place_in-place.ensures.place c.clear_next.new.disk (length c.args.zeros.now) c.clear_next.ensures.moments
+    c.put_block.new.disk c.put_block.ensures.moments c.put_text.new.disk c.put_text.ensures.moments c.open_gate.new.disk c.open_gate.ensures.moments c.in_ok-put_block.ensures.blank (stored g (goal.at.returns-clause-moments g c).After-open_gate)
 
 pub returns-clause-keys : goal.returns-clause-keys
 returns-clause-keys g c desk fits can base slots =
-    keys4 g.D.Disk desk (key_from c.args.kind c.args.secret.now) c.args.disk.now fits can c.args.base c.args.slots c.place_in-end.result c.place_in-place.result base slots c.place_in-end.ensures.place c.place_in-place.ensures.place c.clear_area.new.disk (length c.args.zeros.now) c.clear_area.ensures.moments
-    c.put_area_block.new.disk c.put_area_block.ensures.moments c.put_text.new.disk c.put_text.ensures.moments c.open_gate.new.disk c.open_gate.ensures.moments c.in_ok-put_area_block.ensures.blank (stored g (goal.at.returns-clause-keys g c).After-open_gate)
+    keys4 g.D.Disk desk (key_from c.args.kind c.args.secret.now) c.args.disk.now fits can c.args.base c.args.slots c.place_in-end.result c.place_in-place.result base slots c.place_in-end.ensures.place c.place_in-place.ensures.place c.clear_next.new.disk (length c.args.zeros.now) c.clear_next.ensures.moments
+    c.put_block.new.disk c.put_block.ensures.moments c.put_text.new.disk c.put_text.ensures.moments c.open_gate.new.disk c.open_gate.ensures.moments c.in_ok-put_block.ensures.blank (stored g (goal.at.returns-clause-keys g c).After-open_gate)
 
 pub returns-clause-fits : goal.returns-clause-fits
 returns-clause-fits g c desk fits can base slots =
     let at = (goal.at.returns-clause-fits g c).After-open_gate in
     on_ok_both c.open_gate.result _ _ _ c.open_gate.ensures.stored c.open_gate.ensures.settled (λ gate settled.
-    fits4 g.D.Disk desk (key_from c.args.kind c.args.secret.now) c.args.disk.now fits can c.args.base c.args.slots c.place_in-end.result c.place_in-place.result base slots c.place_in-end.ensures.place c.place_in-place.ensures.place c.clear_area.new.disk (length c.args.zeros.now) c.clear_area.ensures.moments
-    c.put_area_block.new.disk c.put_area_block.ensures.moments c.put_text.new.disk c.put_text.ensures.moments c.open_gate.new.disk c.open_gate.ensures.moments c.in_ok-put_area_block.ensures.blank (stored g at) (size g at) gate settled)
+    fits4 g.D.Disk desk (key_from c.args.kind c.args.secret.now) c.args.disk.now fits can c.args.base c.args.slots c.place_in-end.result c.place_in-place.result base slots c.place_in-end.ensures.place c.place_in-place.ensures.place c.clear_next.new.disk (length c.args.zeros.now) c.clear_next.ensures.moments
+    c.put_block.new.disk c.put_block.ensures.moments c.put_text.new.disk c.put_text.ensures.moments c.open_gate.new.disk c.open_gate.ensures.moments c.in_ok-put_block.ensures.blank (stored g at) (size g at) gate settled)
 
 pub returns-clause-signed : goal.returns-clause-signed
 returns-clause-signed g c desk fits can base slots =
     let at = (goal.at.returns-clause-signed g c).After-open_gate in
     on_ok c.open_gate.result _ _ c.open_gate.ensures.stored (λ gate.
-    signed4 g.D.Disk desk (key_from c.args.kind c.args.secret.now) c.args.disk.now fits can c.args.base c.args.slots c.place_in-end.result c.place_in-place.result base slots c.place_in-end.ensures.place c.place_in-place.ensures.place c.clear_area.new.disk (length c.args.zeros.now) c.clear_area.ensures.moments
-    c.put_area_block.new.disk c.put_area_block.ensures.moments c.put_text.new.disk c.put_text.ensures.moments c.open_gate.new.disk c.open_gate.ensures.moments c.in_ok-put_area_block.ensures.blank (stored g at) (size g at) gate)
+    signed4 g.D.Disk desk (key_from c.args.kind c.args.secret.now) c.args.disk.now fits can c.args.base c.args.slots c.place_in-end.result c.place_in-place.result base slots c.place_in-end.ensures.place c.place_in-place.ensures.place c.clear_next.new.disk (length c.args.zeros.now) c.clear_next.ensures.moments
+    c.put_block.new.disk c.put_block.ensures.moments c.put_text.new.disk c.put_text.ensures.moments c.open_gate.new.disk c.open_gate.ensures.moments c.in_ok-put_block.ensures.blank (stored g at) (size g at) gate)

@@ -1,9 +1,10 @@
 use Rattle.std.proofs.lemmas.Result.{err_from_is_err_and}
-use Rattle.command_desks.proofs.Disks.{no_step}
-use Rattle.std.proofs.Common.{refl}
-use Rattle.owner_commands.proofs.OwnerLemmas.{key_refused, key_told, made_of, on_any}
+use Rattle.command_desks.proofs.Disks.{no_moment, no_step}
+use Rattle.std.proofs.Common.{refl, inl, inr}
+use Rattle.owner_commands.proofs.OwnerLemmas.{key_refused, key_told, made_of, on_any, written_stays}
+use Rattle.owner_commands.proofs.PublishLemmas.{stays_refused}
 use Rattle.road_io.specs.Moments.{EachImage}
-use Rattle.key_desk.specs.Desk.{IsBlank}
+use Rattle.desk_areas.specs.Blank.{IsBlank}
 use Rattle.desk_areas.specs.Keys.{key_from}
 use Rattle.road_command.specs.View.{type_of}
 use Rattle.owner_commands.proofs.making.key.Goals as goal
@@ -27,3 +28,25 @@ returns-clause-made g c =
 
 pub returns-clause-kept : goal.returns-clause-kept
 returns-clause-kept g c = λ x is opened e. c.in_ok-line.ensures.line.0 x is opened
+
+pub returns-in_err-secret-clause-moments : goal.returns-in_err-secret-clause-moments
+returns-in_err-secret-clause-moments g c = inl (no_moment g.D.Disk c.args.disk.now)
+
+pub returns-in_err-secret-clause-untouched : goal.returns-in_err-secret-clause-untouched
+returns-in_err-secret-clause-untouched g c =
+    let p = err_from_is_err_and c.from_residual.result c.from_residual.ensures.1 in
+    rw (p.1, p.2) (stays_refused g.D.Disk c.args.disk.now c.args.disk.now _ (no_moment g.D.Disk c.args.disk.now))
+
+pub returns-in_err-line-clause-moments : goal.returns-in_err-line-clause-moments
+returns-in_err-line-clause-moments g c = inr (record { secret = c.in_ok-secret.secret; of_file = c.in_ok-secret.ensures.loads.read; turns = c.make_key.ensures.moments })
+
+pub returns-in_err-line-clause-untouched : goal.returns-in_err-line-clause-untouched
+returns-in_err-line-clause-untouched g c =
+    let p = err_from_is_err_and c.from_residual-in_err-line.result c.from_residual-in_err-line.ensures.1 in
+    rw (p.1, p.2) c.in_err-line.ensures.untouched
+
+pub returns-clause-moments : goal.returns-clause-moments
+returns-clause-moments g c = inr (record { secret = c.in_ok-secret.secret; of_file = c.in_ok-secret.ensures.loads.read; turns = c.make_key.ensures.moments })
+
+pub returns-clause-untouched : goal.returns-clause-untouched
+returns-clause-untouched g c = written_stays g.D.Disk c.args.disk.now c.make_key.new.disk _ _ _ _ _ _ c.write_text.ensures

@@ -1,7 +1,7 @@
-use Rattle.std.proofs.Common.{ap, ◌∙◌}
+use Rattle.std.proofs.Common.{refl, ap, ◌∙◌}
 use Rattle.std.specs.declared.result.Result.TheVariants.{Err}
 use Rattle.desk_areas.specs.Keys.{key_from}
-use Rattle.owner_commands.proofs.SuccessionLemmas.{not_followed, next_line, next_on, links_kind}
+use Rattle.owner_commands.proofs.SuccessionLemmas.{not_followed, next_line, next_on, links_kind, stays_followed}
 use Rattle.owner_commands.proofs.StandingLemmas.{key_follows}
 use Rattle.owner_commands.proofs.succeeding.make_next.Goals as goal
 
@@ -27,3 +27,8 @@ returns-in-Err-clause-refused g c =
 pub returns-in-Ok-clause-follows : goal.returns-in-Ok-clause-follows
 returns-in-Ok-clause-follows g c =
     key_follows g.D.Disk c.in-Ok.desk c.succeed.new.disk c.in-Ok.ensures.fits _ c.in-Ok.ensures.follows (c.in-Ok.ensures.key ∙ ap (λ n. key_from n c.args.secret.now) c.number.ensures.is)
+
+pub returns-in-Err-clause-untouched : goal.returns-in-Err-clause-untouched
+returns-in-Err-clause-untouched g c =
+    rw c.not_followed.ensures
+    (stays_followed g.D.Disk c.args.disk.now c.succeed.new.disk c.in-Err.e (λ other. c.in-Err.ensures.untouched refl (λ is. other cc)))

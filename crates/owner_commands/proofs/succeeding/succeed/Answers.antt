@@ -5,7 +5,8 @@ use Rattle.desk_areas.specs.Keys.{key_from}
 use Rattle.road_command.specs.View.{type_of}
 use Rattle.command_desks.specs.Opening.{IsKeyOn}
 use Rattle.command_desks.proofs.Disks.{no_moment, no_step}
-use Rattle.owner_commands.proofs.OwnerLemmas.{made_of, on_any}
+use Rattle.owner_commands.proofs.OwnerLemmas.{made_of, on_any, written_stays}
+use Rattle.owner_commands.proofs.PublishLemmas.{stays_refused}
 use Rattle.road_io.specs.Causes.{Rose}
 use Rattle.owner_commands.specs.NextKey.{EndsSuccession}
 use Rattle.owner_commands.proofs.StandingLemmas.{no_keys, on_writing, none_written, files_written}
@@ -24,6 +25,7 @@ returns-in_err-secret-clause-adds g c =
       links = inl (no_moment g.D.Disk c.args.disk.now);
       keys = no_keys g.D.Disk c.args.disk.now;
       follows = files_written c.in_err-secret.field-0.0 _ c.in_err-secret.ensures.loads.others;
+      untouched = stays_refused g.D.Disk c.args.disk.now c.args.disk.now _ (no_moment g.D.Disk c.args.disk.now);
     })
 
 pub returns-in_err-line-clause-promised : goal.returns-in_err-line-clause-promised
@@ -41,6 +43,7 @@ returns-in_err-line-clause-adds g c =
       links = inr (links_file _ _ _ (g.D.Disk.content c.args.disk.now) _ (Unit {0}) 0 0 0 0 c.in_ok-secret.ensures.loads.read (g.D.Disk.content c.args.disk.now) g.D.Disk c.args.disk.now c.make_next.new.disk c.make_next.ensures.links);
       keys = c.make_next.ensures.keys;
       follows = none_written (Rose (g.D.Disk.faults c.args.disk.now) (g.D.Disk.faults c.make_next.new.disk)) (EndsSuccession (g.D.Disk.content c.args.disk.now) (type_of c.args.kind) c.in_ok-secret.secret) c.in_err-line.field-0.0 _ c.in_err-line.ensures.refused;
+      untouched = c.in_err-line.ensures.untouched;
     })
 
 pub returns-clause-promised : goal.returns-clause-promised
@@ -53,4 +56,5 @@ returns-clause-adds g c = record {
   links = inr (links_file _ _ _ (g.D.Disk.content c.args.disk.now) _ (Unit {0}) 0 0 0 0 c.in_ok-secret.ensures.loads.read (g.D.Disk.content c.args.disk.now) g.D.Disk c.args.disk.now c.make_next.new.disk c.make_next.ensures.links);
   keys = c.make_next.ensures.keys;
   follows = on_writing c.write_text.result _ (record { secret = c.in_ok-secret.secret; of_file = c.in_ok-secret.ensures.loads.read; follows = c.in_ok-line.ensures.follows });
+  untouched = written_stays g.D.Disk c.args.disk.now c.make_next.new.disk _ _ _ _ _ _ c.write_text.ensures;
 }

@@ -28,4 +28,4 @@ returns g c =
     audits_after kind c.laws.ensures hash (c.server_laws.ensures hash sha256) g.D.Disk c.args.desk.now c.args.disk.now c.requires.fits (at c.args.public.now c.args.chain.now c.args.reply.now c.args.query c.args.publication) c.find_in.new.desk c.find_in.new.disk c.find_in.result
     (found_finds kind hash look c.args.public.now c.args.chain.now c.args.reply.now c.args.query own c.args.publication c.in_ok-answer.answer c.in_ok-held.held c.find_in.result c.in_ok-answer.ensures.accepted c.in_ok-held.ensures.installed found)
     (found_late kind hash sha256 look c.args.public.now c.args.chain.now c.in_ok-held.held c.args.query c.in_ok-answer.answer c.find_in.result _ found)
-    c.find_in.ensures.left
+    c.find_in.ensures.left c.find_in.ensures.kept

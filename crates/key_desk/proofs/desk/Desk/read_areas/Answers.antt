@@ -21,7 +21,7 @@ loop-round-init g c =
     record {
       content = refl;
       moments = nothing g.D.Disk c.args.disk.now Stays (λ d now. refl);
-      faults = omega arith;
+      faults = refl;
       count = size;
       few = omega arith;
       low = omega arith;
@@ -105,7 +105,7 @@ loop-round-preserved g c =
     record {
       content = c.read_next.ensures.content ∙ c.loop-round.invariant.content;
       moments = all g at;
-      faults = omega (arith, c.loop-round.invariant.faults, c.read_next.ensures.faults);
+      faults = c.in_ok-area.ensures.kept (λ e. cc) ∙ c.loop-round.invariant.faults;
       count = longer ∙ ap (λ (n : ℕ). n + 1) c.loop-round.invariant.count;
       few = omega (arith, seven, same, c.loop-round.invariant.count);
       low = omega (arith, c.loop-round.invariant.low, c.place_in-base.ensures.place, c.counts.ensures.few);

@@ -10,7 +10,7 @@ abbrev pub invariant-loop-round : goal.invariant-loop-round
 invariant-loop-round g l = record {
   content : g.D.Disk.content l.disk ≡ g.D.Disk.content l.fn.disk;
   moments : AtEachMoment g.D.Disk l.fn.disk l.disk Stays;
-  faults : g.D.Disk.faults l.fn.disk ≤ g.D.Disk.faults l.disk;
+  faults : g.D.Disk.faults l.disk ≡ g.D.Disk.faults l.fn.disk;
   count : length l.earlier.items ≡ l._round;
   few : l._round ≤ 7;
   low : l.base ≤ 131136 * l._round;

@@ -3,16 +3,15 @@ use Rattle.std.proofs.Common.{◌≡◌, ℕ, zero, suc, ◌+◌, ◌*◌, ◌<�
 use Rattle.std.proofs.lemmas.List.{places, get_or-replicate, get_or-take, get_or-drop, drop-take, take-take, drop-drop}
 use Rattle.road_io.specs.Disk.{written}
 use Rattle.road_io.proofs.WrittenLaws.{written_inside, written_above, length-written}
-use Rattle.desk_areas.specs.Layout.{slots_of, place_in, kind_at, secret_at, IsClear}
+use Rattle.desk_areas.specs.Layout.{slots_of, place_in, kind_at, secret_at}
 use Rattle.desk_areas.specs.Keys.{key_from}
-use Rattle.key_desk.specs.Desk.{IsBlankArea}
-use Rattle.key_desk.specs.Succession.{IsZero}
+use Rattle.desk_areas.specs.Blank.{IsZero, IsBlankArea}
 use Rattle.desk_areas.proofs.KeyLemmas.{key_from-secret}
 
-pub cleared : (zeros c : List ℕ) → zeros ≡ replicate (length zeros) 0 → get_or c 0 0 ≡ 0 → 0 < length c → IsClear (length zeros + 1) (written 1 zeros c)
+pub cleared : (zeros c : List ℕ) → zeros ≡ replicate (length zeros) 0 → get_or c 0 0 ≡ 0 → 0 < length c → IsZero 0 (length zeros + 1) (written 1 zeros c)
 cleared zeros c are first some = record {
   long = grind (arith, places);
-  zero = λ k lt. zeroes k lt;
+  zero = λ k from lt. zeroes k (omega (arith, lt));
 }
   where
     zeroes : (k : ℕ) → k < length zeros + 1 → get_or (written 1 zeros c) k 0 ≡ 0

@@ -1,9 +1,9 @@
-use Rattle.std.proofs.Common.{◌≡◌, List, ℕ, length, rules, subst, sym}
+use Rattle.std.proofs.Common.{◌≡◌, length, rules, subst, sym}
 use Rattle.desk_areas.specs.Keys.{key_from}
-use Rattle.key_desk.specs.Desk.{IsBlankArea}
-use Rattle.key_desk.proofs.Blocks.{blank_written}
-use Rattle.key_desk.proofs.OnOks.{on_ok}
-use Rattle.key_desk.proofs.succeed.put_area_block.Goals as goal
+use Rattle.desk_areas.specs.Blank.{IsBlankArea}
+use Rattle.desk_areas.proofs.Blocks.{blank_written}
+use Rattle.desk_areas.proofs.OnOks.{on_ok}
+use Rattle.desk_areas.proofs.making.put_block.Goals as goal
 
 pub returns-clause-blank : goal.returns-clause-blank
 returns-clause-blank g c = on_ok c.store.result _ _ c.store.ensures.stored (λ stored i now.

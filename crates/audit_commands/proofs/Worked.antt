@@ -1,0 +1,99 @@
+-- What the words of the headline say at some ends, so that a weaker word is seen.
+use Rattle.std.proofs.Common.{◌≡◌, ◌≢◌, ◌<◌, ℕ, List, length}
+use Rattle.std.specs.declared.option.Option.{Option}
+use Rattle.std.specs.declared.result.Result.TheVariants.{Ok, Err}
+use Rattle.std.specs.Io.KnownBytes.{Appends}
+use Rattle.sha2.specs.Sha256.{sha256}
+use Rattle.road_io.specs.declared.disk.Disk.{Ghosts}
+use Rattle.road_io.specs.Moments.{EachImage}
+use Rattle.lms_tree.specs.Signatures.{verified}
+use Rattle.lms_tree.specs.declared.links.Link.{Link}
+use Rattle.desk_areas.specs.Layout.{SlotId, IsSigned}
+use Rattle.desk_look.specs.Forgeries.{text_at}
+use Rattle.proof_octets.specs.declared.header.Header.{Header}
+use Rattle.proof_octets.specs.declared.publication.Publication.{Publication}
+use Rattle.proof_octets.specs.Headers.{header_text}
+use Rattle.road_line.specs.EvidenceLine.{right_line, forged_line}
+use Rattle.command_files.specs.declared.fault.Fault.TheVariants.{Missing, OtherKey, OtherPublication}
+use Rattle.command_files.specs.declared.ended.Conclusion.TheVariants.{Done, Refused, Evidence}
+use Rattle.audit_commands.specs.Headline.{IsCollisionLine, IsForgedLine, IsEvidence, IsAcceptedHeader, RestsOn, IsTrue, FindsTruth}
+use Rattle.audit_commands.specs.Owners.{IsOwnersKey}
+use Rattle.route_audit.specs.Kinds.{ReplyKind}
+
+-- ---- evidence
+
+-- one text twice is no collision
+one_text_is_no_collision : (text : List ℕ) (c : IsCollisionLine text) → c.left ≡ c.right → ⊥
+one_text_is_no_collision text c same = c.differ same
+
+one_digest : (text : List ℕ) (c : IsCollisionLine text) → sha256 c.left ≡ sha256 c.right
+one_digest text c = c.one_digest
+
+module _ {D : Type 0} (g : Ghosts D) (disk : D) (Brings : List ℕ → List ℕ → Type 0) (key : List ℕ) (links : List Link) (text : List ℕ) (f : IsForgedLine g disk Brings key links text) where
+  -- a text that is signed in a slot of an image is not forged
+  signed_is_not_forged : (i : List ℕ) → g.image_at disk (g.clock disk) i → (slot : SlotId) → IsSigned i slot f.forgery.text → ⊥
+  signed_is_not_forged i now slot signed = f.forges.forgery.unsigned i now slot signed
+
+  -- its signature is good, under a key of an open area of every image
+  good : verified f.forgery.key f.forgery.text f.forgery.signature ≡ Ok tt
+  good = f.forges.forgery.good
+
+  owners : EachImage g disk (λ i. IsOwnersKey i f.forgery.key)
+  owners = f.forges.forgery.own
+
+  -- the line has this text and this signature
+  line : text ≡ forged_line f.forgery.text f.forgery.signature
+  line = f.line
+
+-- the header of the evidence is the accepted one, with what the reply brings
+accepted_header : (accepted : Header) (Brings : List ℕ → List ℕ → Type 0) (header signature : List ℕ) → IsAcceptedHeader accepted Brings header signature → (header ≡ header_text accepted) × Brings header signature
+accepted_header accepted Brings header signature h = h
+
+-- ---- what an end rests on
+
+module _ {D : Type 0} (g : Ghosts D) (disk : D) (Brings : List ℕ → List ℕ → Type 0) (key : List ℕ) (links : List Link) (text : List ℕ) where
+  -- a right reply's links and header stand in slots, each in one of every image
+  right_is_signed : (r : RestsOn g disk Brings key links (Ok Done) text) → (slot : SlotId) × EachImage g disk (λ i. IsSigned i slot r.header)
+  right_is_signed r = r.signed.sealed
+
+  right_is_linked : RestsOn g disk Brings key links (Ok Done) text → (number : ℕ) → number < length links → (slot : SlotId) × EachImage g disk (λ i. IsSigned i slot (text_at links number))
+  right_is_linked r = r.signed.linked
+
+  others_are_signed : (r : RestsOn g disk Brings key links (Err OtherPublication) text) → (slot : SlotId) × EachImage g disk (λ i. IsSigned i slot r.header)
+  others_are_signed r = r.signed.sealed
+
+  evidence_is_told : RestsOn g disk Brings key links (Ok Evidence) text → IsEvidence g disk Brings key links text
+  evidence_is_told r = r
+
+-- ---- the headline
+
+module _ {D : Type 0} (g : Ghosts D) (disk : D) (Brings : List ℕ → List ℕ → Type 0) (key : List ℕ) (links : List Link) (p : Publication) (accepted : Header) (Truth : Type 0) (old new : Option (List ℕ)) where
+  done_is_true : FindsTruth g disk Brings key links p accepted Truth old new (Ok Done) → Truth × Appends old new right_line
+  done_is_true h = h
+
+  other_is_other : FindsTruth g disk Brings key links p accepted Truth old new (Err OtherPublication) → accepted ≢ p.header
+  other_is_other h = h.other
+
+  other_is_signed : FindsTruth g disk Brings key links p accepted Truth old new (Err OtherPublication) → (slot : SlotId) × EachImage g disk (λ i. IsSigned i slot (header_text accepted))
+  other_is_signed h = h.signed
+
+  -- what is accepted is not refused, nor is its key another, nor a file missing
+  never_refused : FindsTruth g disk Brings key links p accepted Truth old new (Ok Refused) → ⊥
+  never_refused h = h
+
+  never_another_key : FindsTruth g disk Brings key links p accepted Truth old new (Err OtherKey) → ⊥
+  never_another_key h = h
+
+  never_missing : FindsTruth g disk Brings key links p accepted Truth old new (Err Missing) → ⊥
+  never_missing h = h
+
+-- what is true holds in the map, has the accepted header, and that is signed
+module _ {Q A X E : Type 0} (kind : ReplyKind Q A X E) {D : Type 0} (g : Ghosts D) (disk : D) (p : Publication) (q : Q) (x : X) (t : IsTrue kind g disk p q x) where
+  holds : kind.IsTrue p q x
+  holds = t.truth
+
+  same_header : kind.taken_header x ≡ p.header
+  same_header = t.same
+
+  signed : (slot : SlotId) × EachImage g disk (λ i. IsSigned i slot (header_text p.header))
+  signed = t.signed

@@ -1,0 +1,153 @@
+//! A new key's area: zeros first, then the key block, whose gate is opened last.
+ghost use Rattle.std.specs.Prelude.{◌≡◌, ◌≢◌, ◌⊎◌, ◌+◌, ◌*◌, ◌^◌, ◌<◌, ◌≤◌, Some, Err, length, take, drop, replicate, IfOk, OnOk, IsErrOf, IsErr, get_or};
+ghost use Rattle.std.specs.Option.{ForSome};
+ghost use Rattle.road_io.specs.Causes.{HasCause, Rose};
+ghost use Rattle.road_io.specs.Disk.{Torn, Stays};
+ghost use Rattle.road_io.specs.Moments.{EachImage, AtEachMoment};
+ghost use Rattle.desk_areas.specs.Layout.{slots_of, place_in, gate_at, IsOpen, AgreesOutside};
+ghost use Rattle.desk_areas.specs.Keys.{key_from};
+ghost use Rattle.desk_areas.specs.Blank.{IsZero, IsBlankArea, IsBlank, IsFresh};
+
+use crate::errors::StartError;
+use crate::writing::{put, store};
+use road_io::{Disk, Failed};
+
+/// Whether a key stands on the disk; and how long the disk is.
+pub fn look_for_key<D: Disk>(disk: &mut D) -> Result<u64, StartError>
+    ensures shut { IfOk result (λ n.
+        EachImage D.Disk disk.new (λ i. (IsOpen i → ⊥) × (length i ≡ n))) }
+    ensures was_shut { IfOk result
+        (λ n. ForSome (D.content disk.old) (λ c. (IsOpen c → ⊥) × (length c ≡ n))) }
+    ensures one { OnOk result (EachImage D.Disk disk.new (λ i. D.content disk.old ≡ Some i)) }
+    ensures held { IsErrOf result StartError.Held → ForSome (D.content disk.old) IsOpen }
+    ensures other { IsErr result → (result ≡ Err StartError.DiskFault) ⊎
+        (result ≡ Err StartError.Held) }
+    ensures fault { IsErrOf result StartError.DiskFault →
+        Rose (D.faults disk.old) (D.faults disk.new) }
+    ensures kept { result ≢ Err StartError.DiskFault → D.faults disk.new ≡ D.faults disk.old }
+    ensures faults { D.faults disk.old ≤ D.faults disk.new }
+    ensures content { OnOk result (D.content disk.new ≡ D.content disk.old) }
+    ensures moments { AtEachMoment D.Disk disk.old disk.new Stays }
+{
+    disk.sync()?;
+    let len = disk.len()?;
+    if len >= 64 {
+        let mut gate = [0u8; 1];
+        disk.read_at(0, &mut gate)?;
+        if gate[0] != 0 {
+            return Err(StartError::Held);
+        }
+    }
+    Ok(len)
+}
+
+/// Zeros over the whole length of a first key's area, with its gate closed at each moment.
+pub fn clear_first<D: Disk>(disk: &mut D, len: u64, zeros: &[u8]) -> Result<(), Failed>
+    requires shut { EachImage D.Disk disk.old (λ i. (IsOpen i → ⊥) × (length i ≡ len)) }
+    requires zeros { zeros.now ≡ replicate (length zeros.now) 0 }
+    requires long { 63 ≤ length zeros.now }
+    ensures moments { AtEachMoment D.Disk disk.old disk.new (λ d i. IsOpen i → ⊥) }
+    ensures cleared { OnOk result (EachImage D.Disk disk.new (IsZero 0 (length zeros.now + 1))) }
+    ensures cause { HasCause (D.faults disk.old) (D.faults disk.new) result }
+    ensures kept { OnOk result (D.faults disk.new ≡ D.faults disk.old) }
+{
+    if len < 64 {
+        close(disk)?;
+    }
+    zero_all(disk, zeros)
+}
+
+// Zeros behind a closed gate.
+fn zero_all<D: Disk>(disk: &mut D, zeros: &[u8]) -> Result<(), Failed>
+    requires shut { EachImage D.Disk disk.old (λ i. (0 < length i) × (gate_at i 0 ≡ 0)) }
+    requires zeros { zeros.now ≡ replicate (length zeros.now) 0 }
+    requires long { 63 ≤ length zeros.now }
+    ensures moments { AtEachMoment D.Disk disk.old disk.new (λ d i. IsOpen i → ⊥) }
+    ensures cleared { OnOk result (EachImage D.Disk disk.new (IsZero 0 (length zeros.now + 1))) }
+    ensures cause { HasCause (D.faults disk.old) (D.faults disk.new) result }
+    ensures kept { OnOk result (D.faults disk.new ≡ D.faults disk.old) }
+{
+    put(disk, 1, zeros)
+}
+
+// Octet 0 is there and zero.
+fn close<D: Disk>(disk: &mut D) -> Result<(), Failed>
+    requires short { EachImage D.Disk disk.old (λ i. length i < 64) }
+    ensures moments { AtEachMoment D.Disk disk.old disk.new (λ d i. length i < 64) }
+    ensures closed { OnOk result (EachImage D.Disk disk.new
+        (λ i. (0 < length i) × (gate_at i 0 ≡ 0))) }
+    ensures cause { HasCause (D.faults disk.old) (D.faults disk.new) result }
+    ensures kept { OnOk result (D.faults disk.new ≡ D.faults disk.old) }
+{
+    put(disk, 0, &[0])
+}
+
+/// Zeros over a new area behind all others.
+pub fn clear_next<D: Disk>(disk: &mut D, base: u64, zeros: &[u8]) -> Result<(), Failed>
+    requires within { EachImage D.Disk disk.old (λ i. base ≤ length i) }
+    requires zeros { zeros.now ≡ replicate (length zeros.now) 0 }
+    ensures moments { AtEachMoment D.Disk disk.old disk.new (Torn base (length zeros.now)) }
+    ensures cleared { OnOk result (EachImage D.Disk disk.new (IsZero base (length zeros.now))) }
+    ensures cause { HasCause (D.faults disk.old) (D.faults disk.new) result }
+    ensures kept { OnOk result (D.faults disk.new ≡ D.faults disk.old) }
+{
+    put(disk, base, zeros)
+}
+
+/// The octets 1 to 52 of the key block at a base, behind its closed gate.
+pub fn put_block<D: Disk>(
+    disk: &mut D,
+    base: u64,
+    kind: u32,
+    secret: &[u8; 48],
+) -> Result<(), Failed>
+    requires clear { EachImage D.Disk disk.old (IsZero base (place_in 0 (slots_of kind))) }
+    requires low { base < 2 ^ 63 }
+    ensures moments { AtEachMoment D.Disk disk.old disk.new (AgreesOutside (base + 1) (base + 53)) }
+    ensures blank { OnOk result (EachImage D.Disk disk.new
+        (IsBlankArea (key_from kind secret.now) base)) }
+    ensures cause { HasCause (D.faults disk.old) (D.faults disk.new) result }
+    ensures kept { OnOk result (D.faults disk.new ≡ D.faults disk.old) }
+{
+    let block = block_of(kind, secret);
+    store(disk, base + 1, &block)
+}
+
+// The kind in four octets, and the secret.
+fn block_of(kind: u32, secret: &[u8; 48]) -> [u8; 52]
+    ensures kind { ((get_or result 0 0 * 256 + get_or result 1 0) * 256 + get_or result 2 0) * 256 +
+        get_or result 3 0 ≡ kind }
+    ensures secret { take 48 (drop 4 result) ≡ secret.now }
+{
+    let mut block = [0u8; 52];
+    block[0] = (kind / 16777216) as u8;
+    block[1] = (kind / 65536 % 256) as u8;
+    block[2] = (kind / 256 % 256) as u8;
+    block[3] = (kind % 256) as u8;
+    (&mut block[4..52]).copy_from_slice(secret);
+    block
+}
+
+/// The first key's block, and then its gate.
+pub fn open_first<D: Disk>(disk: &mut D, kind: u32, secret: &[u8; 48]) -> Result<(), Failed>
+    requires clear { EachImage D.Disk disk.old (IsZero 0 (place_in 0 (slots_of kind))) }
+    ensures moments { AtEachMoment D.Disk disk.old disk.new
+        (λ d i. IsFresh (key_from kind secret.now) i) }
+    ensures blank { OnOk result (EachImage D.Disk disk.new (IsBlank (key_from kind secret.now))) }
+    ensures cause { HasCause (D.faults disk.old) (D.faults disk.new) result }
+    ensures kept { OnOk result (D.faults disk.new ≡ D.faults disk.old) }
+{
+    put_block(disk, 0, kind, secret)?;
+    open_block(disk)
+}
+
+// The first key's gate.
+fn open_block<D: Disk>(disk: &mut D) -> Result<(), Failed>
+    requires within { EachImage D.Disk disk.old (λ i. 1 ≤ length i) }
+    ensures moments { AtEachMoment D.Disk disk.old disk.new (AgreesOutside 0 1) }
+    ensures open { OnOk result (EachImage D.Disk disk.new (λ i. gate_at i 0 ≡ 1)) }
+    ensures cause { HasCause (D.faults disk.old) (D.faults disk.new) result }
+    ensures kept { OnOk result (D.faults disk.new ≡ D.faults disk.old) }
+{
+    store(disk, 0, &[1])
+}

@@ -3,3 +3,5 @@ pub mod TakenLemmas
 pub mod RunLemmas
 pub mod LifeLaws
 pub mod LifeWorked
+pub mod CompleteLemmas
+mod RunWorked

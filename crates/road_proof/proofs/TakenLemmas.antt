@@ -68,7 +68,7 @@ module _ (laws : AcceptedLaws) (refused : RefusedLaws) (folder : Folder) (file :
     | inr n ↦ inr (λ k. is.unknown (subst (λ n. Knows p.parts n) (sym (is.first n).0) k))
   ]
 
-  writes : (old new : Option (List ℕ)) (o : Result Conclusion Fault) → Answered (ends_prove file q folder) old new o → WritesReply p q old new o
+  pub writes : (old new : Option (List ℕ)) (o : Result Conclusion Fault) → Answered (ends_prove file q folder) old new o → WritesReply p q old new o
   writes old new (Ok Done) a =
       let e = ends (Ok Done) a.0 tt a.1 in
       (a.0, (λ signer key links least signed leads fresh. laws.answers sha256 sha256 signer key links a.0 p q least signed leads fresh (record { from = e.0.walk.known; to = e.0.end; length = e.0.length; joins = e.0.walk }) e.1), a.2)

@@ -2,3 +2,4 @@ pub mod Commands
 pub mod Sources
 pub mod Accepting
 pub mod Lives
+pub mod Complete

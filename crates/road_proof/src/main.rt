@@ -93,6 +93,8 @@ fn main(rt: HostRuntime) -> ExitCode {
 }
 
 #[cfg(test)]
+mod asserts;
+#[cfg(test)]
 mod parties_tests;
 #[cfg(test)]
 mod status_tests;

@@ -1,11 +1,12 @@
 //! The whole program.
 
-ghost use Rattle.std.specs.Prelude.{◌≡◌, IfSome};
+ghost use Rattle.std.specs.Prelude.{◌≡◌, IfSome, ◌≢◌, Err};
 ghost use Rattle.road_io.specs.Causes.{Rose};
 ghost use Rattle.road_command.specs.Requests.{request_of};
 ghost use Rattle.command_files.specs.Outcomes.{outcome_of, status_of};
 ghost use Rattle.command_files.specs.Exact.{NoneFailed, IsExact};
 ghost use Rattle.road_proof.specs.Commands.{Ends, IsTold, OnMirrors, RunPromises, but_for_mirrors};
+ghost use Rattle.road_proof.specs.Complete.{CallsFor, AreTold, IsComplete, PromisedEnough, ProvesJoined};
 ghost use Rattle.road_proof.specs.Sources.{IfServe, IsExactServing, RunTakes};
 ghost use Rattle.road_proof.specs.Accepting.{AcceptsHonest, RepliesAreTaken};
 
@@ -54,6 +55,7 @@ pub fn run<L: Library, S: Source, K: Sink, D: Disk, M: Mirror>(
         (request_of words.now)
         (K.taken sink.old) (K.taken sink.new) mirrors.old.items mirrors.new.items
         (outcome_of result) }
+    ensures unfaulted { outcome_of result ≢ Err Fault.Disk → D.faults disk.new ≡ D.faults disk.old }
     ensures exact { NoneFailed (L.faults library.old) (L.faults library.new) (K.faults sink.old)
         (K.faults sink.new)
         (D.faults disk.old) (D.faults disk.new) →
@@ -71,6 +73,17 @@ pub fn run<L: Library, S: Source, K: Sink, D: Disk, M: Mirror>(
     ensures taken { IfSome (request_of words.now) (λ request.
         RepliesAreTaken request (L.files library.old) (K.taken sink.old) (K.taken sink.new)
         (outcome_of result)) }
+    ensures proves { IfSome (request_of words.now) (λ request.
+        ProvesJoined request (L.files library.old) (K.taken sink.old) (K.taken sink.new)
+        (outcome_of result)) }
+    ensures complete { ¬ Rose (S.faults source.old) (S.faults source.new) →
+        NoneFailed (L.faults library.old) (L.faults library.new) (K.faults sink.old)
+        (K.faults sink.new) (D.faults disk.old) (D.faults disk.new) →
+        IfSome (request_of words.now) (λ request. IfSome (L.files library.old) (λ folder.
+        AreTold (D.content disk.old) (S.left source.old) request →
+        IsComplete (CallsFor (D.content disk.old) (S.left source.old) request folder)
+        (PromisedEnough M.puts M.room (K.taken sink.old) (K.taken sink.new) mirrors.old.items)
+        (outcome_of result))) }
 {
     no_key_signs_twice::<D, M>();
     map_laws();
@@ -101,6 +114,7 @@ fn work<L: Library, S: Source, K: Sink, D: Disk, M: Mirror>(
     ensures mirrors { OnMirrors M.octets M.named M.puts M.room D.Disk disk.old disk.new
         (request_of words.now)
         (K.taken sink.old) (K.taken sink.new) mirrors.old.items mirrors.new.items result }
+    ensures unfaulted { result ≢ Err Fault.Disk → D.faults disk.new ≡ D.faults disk.old }
 {
     match command_of(words) {
         None => Err(Fault::Words),

@@ -1,6 +1,7 @@
 //! A table of what standard error says of runs over objects in memory.
 
-use crate::again::look_again;
+use crate::again::{Again, look_again};
+use crate::asserts::assert_octets;
 use crate::parties_tests::{FIVE_NODES, ZEROS, words_of};
 use crate::run;
 use crate::tell::{Facts, message_on};
@@ -9,6 +10,7 @@ use command_files::{Ended, Fault};
 use mem_io::{MemDisk, MemLibrary, MemSink, MemSource};
 use mirror_out::MemMirror;
 use near_client::NearError;
+use road_command::Words;
 use road_tell::Unusable;
 use route_client::CheckError;
 use std::alloc::Global;
@@ -16,29 +18,43 @@ use std::io::{self, ErrorKind};
 use std::process::Abort;
 use std::test::Fail;
 
-/// Runs a command line over some files, and compares what is said of it.
-fn says(rt: &impl Abort, alloc: Global, line: &str, name: &str, wanted: &str) -> Result<(), Fail> {
-    let words = words_of(rt, alloc, line)?;
+/// The files that the command lines name.
+fn files(alloc: Global) -> Result<MemLibrary, Fail> {
     let mut library = MemLibrary::new(alloc, Vec::new(alloc));
     library.put("map.roads", FIVE_NODES.as_bytes())?;
-    let self_road = format!(in alloc; "{FIVE_NODES}road 3 3 1\n")?;
+    let mut self_road = FIVE_NODES.to_string(alloc)?;
+    self_road.push_str("road 3 3 1\n")?;
     library.put("self.roads", self_road.as_bytes())?;
     library.put("zeros", ZEROS.as_bytes())?;
     library.put("zip", b"\x1f\x8b\x08")?;
+    Ok(library)
+}
+
+/// How words end over those files and a desk without a key.
+fn ended(alloc: Global, words: &Words, library: &mut MemLibrary) -> Result<Ended, Fail> {
     let mut sink = MemSink::new(alloc, 1000, 1000, Vec::new(alloc))?;
     let mut disk = MemDisk::new(alloc, 4160, 10_000, Vec::new(alloc), None)?;
     let mut source = MemSource::new(Vec::new(alloc), 1, Vec::new(alloc));
     let mut mirrors: Vec<MemMirror> = Vec::new(alloc);
-    let ended = run(
+    Ok(run(
         alloc,
-        &words,
-        &mut library,
+        words,
+        library,
         &mut source,
         &mut sink,
         &mut disk,
         &mut mirrors,
-    );
-    let again = look_again(alloc, &mut library, &words, ended, name);
+    ))
+}
+
+/// What is said of an end where its file is not there.
+fn told_again(
+    alloc: Global,
+    words: &Words,
+    ended: Ended,
+    name: &str,
+    again: &Again,
+) -> Result<String, Fail> {
     let facts = Facts {
         name,
         text: &again.text,
@@ -49,8 +65,25 @@ fn says(rt: &impl Abort, alloc: Global, line: &str, name: &str, wanted: &str) ->
         refusal: again.refusal,
         left: again.left,
     };
-    let text = told(rt, alloc, line, ended, facts)?;
-    assert_eq!(rt; text.as_str(), wanted, "at {line}");
+    told(alloc, words, ended, facts)
+}
+
+/// What is said of an end.
+fn told(alloc: Global, words: &Words, ended: Ended, facts: Facts<'_>) -> Result<String, Fail> {
+    match message_on(words, ended, facts) {
+        Some(message) => Ok(format!(in alloc; "{message}")?),
+        None => Ok(String::new(alloc)),
+    }
+}
+
+/// Runs a command line over the files, and compares what is said of it.
+fn says(rt: &impl Abort, alloc: Global, line: &str, name: &str, wanted: &str) -> Result<(), Fail> {
+    let words = words_of(rt, alloc, line)?;
+    let mut library = files(alloc)?;
+    let ended = ended(alloc, &words, &mut library)?;
+    let again = look_again(alloc, &mut library, &words, ended, name);
+    let text = told_again(alloc, &words, ended, name, &again)?;
+    assert_octets(rt, line, text.as_bytes(), wanted.as_bytes());
     Ok(())
 }
 
@@ -119,20 +152,30 @@ fn each_end_is_told(rt: HostRuntime) -> Result<(), Fail> {
     Ok(())
 }
 
-/// What is said of a run of these words that ended so.
-fn told(
+/// Compares what is said of a run of a line that ended so, where each object has this error.
+fn assert_told(
     rt: &impl Abort,
     alloc: Global,
     line: &str,
     ended: Ended,
-    facts: Facts,
-) -> Result<String, Fail> {
+    error: ErrorKind,
+    refusal: Option<Unusable>,
+    wanted: &str,
+) -> Result<(), Fail> {
     let words = words_of(rt, alloc, line)?;
-    let text = match message_on(&words, ended, facts) {
-        Some(message) => format!(in alloc; "{message}")?,
-        None => String::new(alloc),
+    let facts = Facts {
+        name: "r",
+        text: b"RPP1",
+        file_error: None,
+        source_error: Some(io::Error::from(error)),
+        sink_error: Some(io::Error::from(error)),
+        desk_error: Some(io::Error::from(error)),
+        refusal,
+        left: Some(1),
     };
-    Ok(text)
+    let text = told(alloc, &words, ended, facts)?;
+    assert_octets(rt, line, text.as_bytes(), wanted.as_bytes());
+    Ok(())
 }
 
 #[test]
@@ -271,18 +314,8 @@ fn ends_over_real_files_are_told(rt: HostRuntime) -> Result<(), Fail> {
             "road_proof: r: It has no node 9.",
         ),
     ] {
-        let facts = Facts {
-            name: "r",
-            text: b"RPP1",
-            file_error: None,
-            source_error: Some(io::Error::from(error)),
-            sink_error: Some(io::Error::from(error)),
-            desk_error: Some(io::Error::from(error)),
-            refusal,
-            left: Some(1),
-        };
-        let text = told(&rt, rt.alloc(), line, Ended { status, fault }, facts)?;
-        assert_eq!(rt; text.as_str(), wanted, "at {line}");
+        let ended = Ended { status, fault };
+        assert_told(&rt, rt.alloc(), line, ended, error, refusal, wanted)?;
     }
     Ok(())
 }

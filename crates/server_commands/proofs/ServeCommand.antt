@@ -1,14 +1,17 @@
 -- How `serve` ends.
-use Rattle.std.proofs.Common.{◌≡◌, inl, inr, ℕ, List, [], take, refl, sym, subst, IfSome}
+use Rattle.std.proofs.Common.{◌≡◌, inl, inr, ℕ, ◌+◌, ◌<◌, ◌≤◌, List, [], ◌++◌, length, take, append-nil, refl, sym, subst, arith, IfSome}
+use Rattle.std.proofs.lemmas.Bool.{cases_lt}
 use Rattle.std.specs.declared.option.Option.{Option}
 use Rattle.std.specs.declared.option.Option.TheVariants.{None, Some}
 use Rattle.std.specs.declared.result.Result.{Result}
 use Rattle.std.specs.declared.result.Result.TheVariants.{Ok, Err}
-use Rattle.std.specs.Io.KnownBytes.{Appends, IsAtEnd}
+use Rattle.std.specs.Io.KnownBytes.{Appends, Consumes, IsAtEnd}
 use Rattle.sha2.specs.Sha256.{sha256}
 use Rattle.road_io.specs.Causes.{Rose}
 use Rattle.road_io.specs.Contents.{Folder}
-use Rattle.octet_frame.specs.Frames.{framed}
+use Rattle.octet_frame.specs.Frames.{frame_of, framed, IsPart, IsTooLong}
+use Rattle.octet_frame.proofs.FrameLemmas.{length_frame}
+use Rattle.road_io.proofs.ReadLemmas.{Consumes-++, Consumes-none}
 use Rattle.proof_octets.specs.declared.header.Header.{Header}
 use Rattle.proof_octets.specs.declared.publication.Publication.{Publication}
 use Rattle.route_server.specs.declared.errors.BuildError.{BuildError}
@@ -16,7 +19,7 @@ use Rattle.route_server.specs.declared.errors.BuildError.TheVariants as build
 use Rattle.route_service.specs.Machine.{State, first_state}
 use Rattle.route_serving.specs.Inputs.{Ending as InputEnding, Input, IsInput, split, WritesRun, WritesFront, ServesInput}
 use Rattle.route_serving.specs.Inputs.Ending.{Regular, TooLong, Truncated, TooMany}
-use Rattle.route_serving.specs.Serving.{Serves}
+use Rattle.route_serving.specs.Serving.{Served, Then, Cut, Serves}
 use Rattle.route_serving.specs.declared.serving.ServeError.{ServeError}
 use Rattle.route_serving.specs.declared.serving.ServeError.TheVariants as errors
 use Rattle.command_files.specs.Reading.{publication_at, IsOfFiles, Fails, Loads}
@@ -28,7 +31,7 @@ use Rattle.command_files.specs.declared.ended.Conclusion.TheVariants.{Done}
 use Rattle.command_files.proofs.Written.{CallsFor, failed, over, over_any, reads, keeps_same, appends_none, no_untold, refused, written, why_map}
 use Rattle.command_books.specs.Installing.{AfterBuild, IfInstalled, EndsInstalling, IsInstallable}
 use Rattle.command_books.proofs.Installings.{installed, not_installed}
-use Rattle.server_commands.specs.Serving.{EndsFrames, EndsServe, EndsServeSome, ends_serving, ends_serve, AnswersFrames, AnswersInput, ServesFrames, TellsFrames, first_frames, ended_at, most_octets, most_frames}
+use Rattle.server_commands.specs.Serving.{EndsFrames, EndsServe, EndsServeSome, ends_serving, ends_serve, AnswersFrames, AnswersInput, TookFrames, LeavesInput, ServesFrames, TellsFrames, first_frames, ended_at, most_octets, most_frames}
 use Rattle.server_commands.specs.ServingEnds.{ended_serving}
 
 abbrev not_loaded : Fault → Result Publication Fault
@@ -62,12 +65,68 @@ unread name input folder old Library of read = keeps_same old
 unread name input folder old Memory of read = inl (keeps_same old)
 unread name input folder old e of read = absurd of
 
+-- ---- what is left
+
+-- no octet was taken
+none_taken : (left : Option (List ℕ)) → TookFrames left left
+none_taken left = record { frames = []; octets = []; took = Consumes-none left; few = omega arith }
+
+-- a file that spells no publication leaves all of it
+unread_leaves : (left : Option (List ℕ)) (e : Fault) → IsOfFiles e → LeavesInput left left (Err e)
+unread_leaves left Missing of = refl
+unread_leaves left too_long of = refl
+unread_leaves left (Road fault) of = refl
+unread_leaves left (Dimacs fault) of = refl
+unread_leaves left (Malformed at) of = refl
+unread_leaves left BadHex of = refl
+unread_leaves left Library of = refl
+unread_leaves left Memory of = none_taken left
+unread_leaves left e of = absurd of
+
+part_few : (octets : List ℕ) → IsPart most_octets octets → length octets ≤ 4 + most_octets
+part_few octets part = elim (cases_lt (length octets) 4) [
+  | inl short ↦ omega (arith, short)
+  | inr long ↦ let h = part.whole long in omega (arith, h.0, h.1)
+]
+
+-- frames that were served, and what was taken behind them
+module _ (first last : State) (count : ℕ) (left rest old new : Option (List ℕ)) where
+  took_then : (Is : List ℕ → Type 0) → ((octets : List ℕ) → Is octets → length octets ≤ 4 + most_octets) → Then sha256 sha256 first last most_octets count left rest old new Is → TookFrames left rest
+  took_then Is few t = record {
+    frames = t.served.frames;
+    octets = t.octets;
+    took = Consumes-++ left t.between rest _ _ t.served.took t.took;
+    few = few t.octets t.is;
+  }
+
+  took_all : Served sha256 sha256 first last most_octets count left rest old new → TookFrames left rest
+  took_all s = record { frames = s.frames; octets = []; took = subst (Consumes left rest) (sym (append-nil (framed s.frames))) s.took; few = omega arith }
+
+  took_cut : Cut sha256 sha256 first last most_octets count left rest old new → TookFrames left rest
+  took_cut c = record {
+    frames = c.served.frames;
+    octets = frame_of c.frame;
+    took = Consumes-++ left c.between rest _ _ c.served.took c.took;
+    few = omega (arith, length_frame c.frame, c.short);
+  }
+
+leaves : (first last : State) (left rest old new : Option (List ℕ)) (r : Result (Unit {0}) ServeError) → Serves sha256 sha256 first last most_octets most_frames left rest old new r → LeavesInput left rest (ended_serving r)
+leaves first last left rest old new (Ok ended) s = took_all first last s.0 left rest old new s.2
+leaves first last left rest old new (Err errors.FrameTooLong) s = took_then first last s.0 left rest old new (IsTooLong most_octets) (λ octets h. omega (arith, h.size)) s.2
+leaves first last left rest old new (Err errors.TruncatedFrame) s =
+    took_then first last s.0 left rest old new (λ octets. (0 < length octets) × IsPart most_octets octets) (λ octets h. part_few octets h.1) s.2
+leaves first last left rest old new (Err errors.TooManyFrames) s = took_then first last most_frames left rest old new (λ octets. length octets ≡ 1) (λ octets h. omega (arith, h)) s
+leaves first last left rest old new (Err errors.Source) s = took_then first last s.0 left rest old new (IsPart most_octets) part_few s.2
+leaves first last left rest old new (Err errors.Sink) s = took_cut first last s.0 left rest old new s.2
+leaves first last left rest old new (Err errors.Memory) s = took_then first last s.0 left rest old new (λ octets. length octets ≤ 4 + most_octets) (λ octets h. h) s.2
+
 pub unread_serves : (files : Option Folder) (name : List ℕ) (left old : Option (List ℕ)) (s s' : ℕ) (e : Fault) → IsOfFiles e → IfSome files (λ folder. Fails e (publication_at folder name))
     → ServesFrames name files left left s s' old old (Err e)
 unread_serves files name left old s s' e of read = record {
   served = over files (λ folder. Fails e (publication_at folder name)) (λ folder. AnswersInput name left folder old old (Err e))
       (λ folder h. let i = some_input left in (i.0, i.1, unread name i.0 folder old e of h)) read;
   source = λ is. absurd (subst IsOfFiles (same_fault e Source is) of);
+  left = unread_leaves left e of;
   drained = λ is. absurd (not_done e is);
 }
 
@@ -127,11 +186,21 @@ module _ (files : Option Folder) (name : List ℕ) (p : Publication) (l l' k k' 
       ([], serving input (Err TooManyFrames) [] folder is (not_installed p (EndsFrames input p) (Err TooManyFrames) [] h), appends_none old)
   refused_here folder is input old f h = (serving input (Err f) [] folder is (not_installed p (EndsFrames input p) (Err f) [] h), keeps_same old)
 
+  refused_leaves : (left : Option (List ℕ)) (f : Fault) → WhyNot NoDisk (EndsInstalling p NoEnd) f → LeavesInput left left (Err f)
+  refused_leaves left Memory h = none_taken left
+  refused_leaves left TruncatedFrame h = none_taken left
+  refused_leaves left FrameTooLong h = none_taken left
+  refused_leaves left TooManyFrames h = none_taken left
+  refused_leaves left Source h = none_taken left
+  refused_leaves left Sink h = none_taken left
+  refused_leaves left f h = refl
+
   pub refused_serves : (left old : Option (List ℕ)) (s s' : ℕ) (f : Fault) → WhyNot NoDisk (EndsInstalling p NoEnd) f → ServesFrames name files left left s s' old old (Err f)
   refused_serves left old s s' f h = record {
     served = over files (λ folder. publication_at folder name ≡ Ok p) (λ folder. AnswersInput name left folder old old (Err f))
         (λ folder is. let i = some_input left in (i.0, i.1, refused_here folder is i.0 old f h)) read;
     source = λ e. absurd (subst (λ x. WhyNot NoDisk (EndsInstalling p NoEnd) x) (same_fault f Source e) h);
+    left = refused_leaves left f h;
     drained = λ e. absurd (not_done f e);
   }
 
@@ -242,5 +311,6 @@ module _ (files : Option Folder) (name : List ℕ) (p : Publication) (l l' k k' 
     serves_frames left rest old new s s' r state last is h serves rose = record {
       served = served_answers left old new r (from_first left old new r state is h);
       source = λ e. rose (blamed r e);
+      left = leaves state last left rest old new r serves;
       drained = λ e. at_end state last left rest old new r serves e;
     }

@@ -1,9 +1,9 @@
 -- What `serve` writes.
-use Rattle.std.specs.Prelude.{◌≡◌, ◌⊎◌, ℕ, List, [], take, IfSome}
+use Rattle.std.specs.Prelude.{◌≡◌, ◌⊎◌, ℕ, ◌+◌, ◌≤◌, List, [], ◌++◌, length, take, IfSome}
 use Rattle.std.specs.declared.option.Option.{Option}
 use Rattle.std.specs.declared.result.Result.{Result}
 use Rattle.std.specs.declared.result.Result.TheVariants.{Ok, Err}
-use Rattle.std.specs.Io.KnownBytes.{Appends, IsAtEnd, Keeps}
+use Rattle.std.specs.Io.KnownBytes.{Appends, Consumes, IsAtEnd, Keeps}
 use Rattle.sha2.specs.Sha256.{sha256}
 use Rattle.road_io.specs.Causes.{Rose}
 use Rattle.road_io.specs.Contents.{Folder, AppendsFront}
@@ -112,12 +112,32 @@ abbrev pub AnswersInput : List ℕ → Option (List ℕ) → Folder → Option (
 AnswersInput file left folder old new outcome = (input : Input) ×
     IsInput most_octets most_frames left input × AnswersFrames file input folder old new outcome
 
+-- frames were taken from the source, and at most the octets of one frame more
+pub record TookFrames (left rest : Option (List ℕ)) : Type 0 where
+  pub frames : List (List ℕ)
+  pub octets : List ℕ
+  pub took : Consumes left rest (framed frames ++ octets)
+  pub few : length octets ≤ 4 + most_octets
+
+-- What is left in the source, by the end of `serve`: what is behind the frames that it took, and all
+-- of it where it took none.
+abbrev pub LeavesInput : Option (List ℕ) → Option (List ℕ) → Result Conclusion Fault → Type 0
+LeavesInput left rest (Ok verdict) = TookFrames left rest
+LeavesInput left rest (Err FrameTooLong) = TookFrames left rest
+LeavesInput left rest (Err TruncatedFrame) = TookFrames left rest
+LeavesInput left rest (Err TooManyFrames) = TookFrames left rest
+LeavesInput left rest (Err Source) = TookFrames left rest
+LeavesInput left rest (Err Sink) = TookFrames left rest
+LeavesInput left rest (Err Memory) = TookFrames left rest
+LeavesInput left rest (Err fault) = rest ≡ left
+
 -- What `serve` does with its source, beside what each command promises: the sink has taken the
--- replies to the frames of what was left in it; a source that is blamed has failed; and where the
--- work was done, nothing is left.
+-- replies to the frames of what was left in it; a source that is blamed has failed; what is left is
+-- behind the frames that were taken; and where the work was done, nothing is.
 pub record ServesFrames (file : List ℕ) (files : Option Folder)
     (left_before left_now : Option (List ℕ)) (source_before source_now : ℕ)
     (old new : Option (List ℕ)) (outcome : Result Conclusion Fault) : Type 0 where
   pub served : IfSome files (λ folder. AnswersInput file left_before folder old new outcome)
   pub source : outcome ≡ Err Source → Rose source_before source_now
+  pub left : LeavesInput left_before left_now outcome
   pub drained : outcome ≡ Ok Done → IsAtEnd left_now

@@ -1,3 +1,4 @@
+use Rattle.road_proof.proofs.CompleteLemmas.{complete_run, proves_run}
 use Rattle.road_proof.proofs.RunLemmas.{exact_run, honest_run, taken_run, exact_serving}
 use Rattle.road_proof.proofs.HonestLemmas.{Verdicts, AcceptedLaws}
 use Rattle.road_proof.proofs.TakenLemmas.{RefusedLaws}
@@ -46,3 +47,20 @@ pub returns-clause-serve_exact : goal.returns-clause-serve_exact
 returns-clause-serve_exact g c =
     rw c.of.ensures.outcome
     (exact_serving g.D.Disk c.args.disk.now c.work.new.disk c.server_laws.ensures _ _ _ _ _ _ _ _ _ _ _ _ _ c.work.ensures.promised c.work.ensures.takes)
+
+pub returns-clause-proves : goal.returns-clause-proves
+returns-clause-proves g c =
+    let said : RefusedLaws = record { unknown = c.honest_laws.ensures.unknown; apart = c.honest_laws.ensures.apart } in
+    rw c.of.ensures.outcome
+    (proves_run c.server_laws.ensures (laws g (goal.at.returns-clause-proves g c).After-near_laws) said g.D.Disk c.args.disk.now c.work.new.disk _ _ _ _ _ _ _ _ _ c.work.ensures.promised)
+
+pub returns-clause-complete : goal.returns-clause-complete
+returns-clause-complete g c =
+    rw c.of.ensures.outcome
+    (complete_run g.D.Disk g.M.Mirror.octets g.M.Mirror.named g.M.Mirror.puts g.M.Mirror.room c.args.disk.now c.work.new.disk _ _ _ _ _ _ _ _ _ _ _ _ _ _ _ c.work.ensures.promised c.work.ensures.takes c.work.ensures.mirrors
+    (exact_run g.D.Disk c.args.disk.now c.work.new.disk _ _ _ _ _ _ _ _ _ c.map_laws.ensures.faults c.map_laws.ensures.arcs c.server_laws.ensures
+    (verdicts g (goal.at.returns-clause-complete g c).After-near_laws) c.work.ensures.promised)
+    (exact_serving g.D.Disk c.args.disk.now c.work.new.disk c.server_laws.ensures _ _ _ _ _ _ _ _ _ _ _ _ _ c.work.ensures.promised c.work.ensures.takes))
+
+pub returns-clause-unfaulted : goal.returns-clause-unfaulted
+returns-clause-unfaulted g c = rw c.of.ensures.outcome c.work.ensures.unfaulted

@@ -1,65 +1,30 @@
-//! What no clause says: a reply over a map of five nodes is right, of another publication, refused, forged, or
-//! shows two leaves with one digest. The hash sums octets, so that two leaves have one digest where their octets
-//! are in another order.
+//! What no clause says: a reply over a map of five nodes is right, of another publication, refused,
+//! forged, or shows two leaves with one digest.
 ghost use Rattle.std.specs.Prelude.{◌≤◌, length};
 ghost use Rattle.key_desk.specs.Desk.{Fits};
 
+use crate::asserts::{assert_octets, assert_same};
 use crate::octets::spliced;
-use book_model::{Query, Settings};
+use crate::owners::{
+    SECOND, SECOND_MOVED, header_of, installed, owner, publication, sealed, signed_past,
+};
+use book_model::Query;
 use key_desk::Desk;
-use lms_tree::{Key, Link};
-use mem_io::MemDisk;
-use octet_text::{NoMemory, Octets, Toy};
+use lms_tree::Link;
+use octet_text::{NoMemory, Toy};
 use proof_judge::Refusal;
-use proof_octets::{Header, Publication};
 use road_io::Disk;
 use route_audit::{AuditError, Finding, audit};
 use route_client::CheckError;
 use route_server::Held;
 use std::alloc::Global;
+use std::process::Abort;
 use std::test::Fail;
-use test_maps::{NODES, ROADS, parts_of};
-use test_settings::DIJ;
 
 const ASKED: Query = Query { from: 1, to: 3 };
 
-/// The text that is hashed for the leaf of node 2, which stands at (10, 0).
-pub const SECOND: [u8; 32] = [
-    0, 0x4e, 0, 0, 0, 2, 0, 0, 0, 10, 0, 0, 0, 0, 0, 2, 0, 0, 0, 1, 0, 0, 0, 4, 0, 0, 0, 3, 0, 0,
-    0, 5,
-];
-
-/// The same where node 2 stands at (0, 10).
-pub const SECOND_MOVED: [u8; 32] = [
-    0, 0x4e, 0, 0, 0, 2, 0, 0, 0, 0, 0, 0, 0, 10, 0, 2, 0, 0, 0, 1, 0, 0, 0, 4, 0, 0, 0, 3, 0, 0,
-    0, 5,
-];
-
-/// DIJ in a version.
-fn settings(version: u64) -> Settings {
-    Settings { version, ..DIJ }
-}
-
-pub fn header_of(alloc: Global, version: u64) -> Result<Header, Fail> {
-    let held = Held::<Toy>::build(alloc, parts_of(alloc, &NODES, &ROADS)?, &settings(version))?;
-    Ok(held.header())
-}
-
-/// The publication of a version with this signature.
-pub fn publication(alloc: Global, version: u64, signature: Vec<u8>) -> Result<Publication, Fail> {
-    Ok(Publication {
-        header: header_of(alloc, version)?,
-        signature: Octets::from_vec(signature),
-        settings: settings(version),
-        parts: parts_of(alloc, &NODES, &ROADS)?,
-    })
-}
-
-/// The publication of a version with this signature, installed.
-pub fn installed(alloc: Global, version: u64, signature: Vec<u8>) -> Result<Held<Toy>, Fail> {
-    let publication = publication(alloc, version, signature)?;
-    Ok(Held::install(alloc, publication)?)
-}
+/// What an audit answers.
+type Found = Result<Finding, AuditError<CheckError>>;
 
 /// The octets of the reply over what is held.
 fn answer(alloc: Global, held: &Held<Toy>) -> Result<Vec<u8>, NoMemory> {
@@ -70,7 +35,7 @@ fn answer(alloc: Global, held: &Held<Toy>) -> Result<Vec<u8>, NoMemory> {
 }
 
 /// The octets of the reply over the publication of a version with this signature.
-pub fn reply(alloc: Global, version: u64, signature: Vec<u8>) -> Result<Vec<u8>, Fail> {
+pub(crate) fn reply(alloc: Global, version: u64, signature: Vec<u8>) -> Result<Vec<u8>, Fail> {
     let held = installed(alloc, version, signature)?;
     match answer(alloc, &held) {
         Ok(octets) => Ok(octets),
@@ -79,7 +44,7 @@ pub fn reply(alloc: Global, version: u64, signature: Vec<u8>) -> Result<Vec<u8>,
 }
 
 /// The same, signed by the desk.
-pub fn signed_reply<D: Disk>(
+pub(crate) fn signed_reply<D: Disk>(
     alloc: Global,
     desk: &mut Desk,
     disk: &mut D,
@@ -88,45 +53,143 @@ pub fn signed_reply<D: Disk>(
     requires { Fits D.Disk desk.old disk.old }
     ensures { Fits D.Disk desk.new disk.new }
 {
-    let header = header_of(alloc, version)?;
-    let mut signature = Vec::from_elem(alloc, 0u8, desk.sig_len() as usize)?;
-    desk.sign(disk, &header.write(), &mut signature)?;
+    let signature = sealed(alloc, desk, disk, version)?;
     reply(alloc, version, signature)
 }
 
-/// The audit of octets under a key and a chain, against the publication of a version.
-pub fn audited_along<D: Disk>(
-    alloc: Global,
-    desk: &mut Desk,
-    disk: &mut D,
-    key: &[u8; 56],
-    chain: &[Link],
-    octets: &[u8],
-    version: u64,
-) -> Result<Result<Finding, AuditError<CheckError>>, Fail>
-    requires { Fits D.Disk desk.old disk.old }
-    ensures { Fits D.Disk desk.new disk.new }
-{
-    if octets.len() > 10_000 || chain.len() > 7 {
-        return Ok(Err(AuditError::Memory));
-    }
-    let publication = publication(alloc, version, Vec::new(alloc))?;
-    Ok(audit::<Toy, D>(alloc, key, chain, octets, ASKED, publication, desk, disk))
+/// Octets that are audited under a key and along a chain, against the publication of a version.
+#[derive(Clone, Copy)]
+pub(crate) struct Case<'a> {
+    pub key: [u8; 56],
+    pub chain: &'a [Link],
+    pub octets: &'a [u8],
+    pub version: u64,
 }
 
-/// The audit of octets under the desk's current key alone.
+/// Octets under a key alone, against the publication of version 3.
+fn alone(key: [u8; 56], octets: &[u8]) -> Case<'_> {
+    Case {
+        key,
+        chain: &[],
+        octets,
+        version: 3,
+    }
+}
+
+/// The audit of a case.
 fn audited<D: Disk>(
     alloc: Global,
     desk: &mut Desk,
     disk: &mut D,
-    octets: &[u8],
-    version: u64,
-) -> Result<Result<Finding, AuditError<CheckError>>, Fail>
+    case: Case<'_>,
+) -> Result<Found, Fail>
     requires { Fits D.Disk desk.old disk.old }
     ensures { Fits D.Disk desk.new disk.new }
 {
-    let key = desk.public();
-    audited_along(alloc, desk, disk, &key, &[], octets, version)
+    let Case {
+        key,
+        chain,
+        octets,
+        version,
+    } = case;
+    if octets.len() > 10_000 || chain.len() > 7 {
+        return Ok(Err(AuditError::Memory));
+    }
+    let publication = publication(alloc, version, Vec::new(alloc))?;
+    Ok(audit::<Toy, D>(alloc, &key, chain, octets, ASKED, publication, desk, disk))
+}
+
+/// Asserts that a case is right.
+pub(crate) fn assert_right<D: Disk>(
+    rt: &impl Abort,
+    alloc: Global,
+    desk: &mut Desk,
+    disk: &mut D,
+    case: Case<'_>,
+) -> Result<(), Fail>
+    requires { Fits D.Disk desk.old disk.old }
+    ensures { Fits D.Disk desk.new disk.new }
+{
+    let found = audited(alloc, desk, disk, case)?;
+    assert!(rt; matches!(&found, Ok(Finding::Right)));
+    Ok(())
+}
+
+/// Asserts that a case is refused for this reason.
+pub(crate) fn assert_refused<D: Disk>(
+    rt: &impl Abort,
+    alloc: Global,
+    desk: &mut Desk,
+    disk: &mut D,
+    case: Case<'_>,
+    why: AuditError<CheckError>,
+) -> Result<(), Fail>
+    requires { Fits D.Disk desk.old disk.old }
+    ensures { Fits D.Disk desk.new disk.new }
+{
+    let found = audited(alloc, desk, disk, case)?;
+    assert_same(rt, &found.err(), &Some(why));
+    Ok(())
+}
+
+/// Asserts that a finding is this signature of this text under this key.
+fn assert_forgery(rt: &impl Abort, found: &Found, key: &[u8; 56], text: &[u8], signature: &[u8]) {
+    match found {
+        Ok(
+            Finding::Forged {
+                key: own,
+                text: shown,
+                signature: seal,
+            },
+        ) => {
+            assert_octets(rt, own, key);
+            assert_octets(rt, shown.as_slice(), text);
+            assert_octets(rt, seal.as_slice(), signature);
+        }
+        _ => assert!(rt; false),
+    }
+}
+
+/// Asserts that a case is forged by this signature of this text under its key.
+pub(crate) fn assert_forged<D: Disk>(
+    rt: &impl Abort,
+    alloc: Global,
+    desk: &mut Desk,
+    disk: &mut D,
+    case: Case<'_>,
+    text: &[u8],
+    signature: &[u8],
+) -> Result<(), Fail>
+    requires { Fits D.Disk desk.old disk.old }
+    ensures { Fits D.Disk desk.new disk.new }
+{
+    let found = audited(alloc, desk, disk, case)?;
+    assert_forgery(rt, &found, &case.key, text, signature);
+    Ok(())
+}
+
+#[test]
+fn a_reply_is_right_or_of_another_publication(rt: HostRuntime) -> Result<(), Fail> {
+    let alloc = rt.alloc();
+    let (mut desk, mut disk) = owner(alloc)?;
+    let octets = signed_reply(alloc, &mut desk, &mut disk, 3)?;
+    let right = alone(desk.public(), &octets);
+    assert_right(&rt, alloc, &mut desk, &mut disk, right)?;
+    let later = Case {
+        version: 4,
+        ..right
+    };
+    let why = AuditError::OtherPublication;
+    assert_refused(&rt, alloc, &mut desk, &mut disk, later, why)?;
+    let other_key = alone([0; 56], &octets);
+    assert_refused(
+        &rt,
+        alloc,
+        &mut desk,
+        &mut disk,
+        other_key,
+        AuditError::OtherKey,
+    )
 }
 
 /// The reply without the leaf of node 4, whose digest stands in the cover.
@@ -140,71 +203,46 @@ fn without_four(alloc: Global, octets: &[u8]) -> Result<Vec<u8>, Fail> {
 }
 
 #[test]
-fn a_reply_is_right_or_refused_or_of_another_publication(rt: HostRuntime) -> Result<(), Fail> {
+fn a_reply_without_a_leaf_is_refused(rt: HostRuntime) -> Result<(), Fail> {
     let alloc = rt.alloc();
-    let mut disk = MemDisk::new(alloc, 4160, 100_000, Vec::new(alloc), None)?;
-    let mut desk = Desk::create(alloc, &mut disk, 5, &[0; 48])?;
+    let (mut desk, mut disk) = owner(alloc)?;
     let octets = signed_reply(alloc, &mut desk, &mut disk, 3)?;
-    let right = audited(alloc, &mut desk, &mut disk, &octets, 3)?;
-    assert!(rt; matches!(&right, Ok(Finding::Right)));
-    let other = audited(alloc, &mut desk, &mut disk, &octets, 4)?;
-    assert_eq!(rt; other.err(), Some(AuditError::OtherPublication));
     let fewer = without_four(alloc, &octets)?;
-    let refused = audited(alloc, &mut desk, &mut disk, &fewer, 3)?;
-    let missing = CheckError::Judged(Refusal::MissingTuple(4));
-    assert_eq!(rt; refused.err(), Some(AuditError::Refused(missing)));
-    let other_key = audited_along(alloc, &mut desk, &mut disk, &[0; 56], &[], &octets, 3)?;
-    assert_eq!(rt; other_key.err(), Some(AuditError::OtherKey));
-    Ok(())
+    let case = alone(desk.public(), &fewer);
+    let why = AuditError::Refused(CheckError::Judged(Refusal::MissingTuple(4)));
+    assert_refused(&rt, alloc, &mut desk, &mut disk, case, why)
+}
+
+/// Asserts that a finding is the two texts of node 2.
+fn assert_second(rt: &impl Abort, found: &Found) {
+    match found {
+        Ok(Finding::Collision { left, right }) => {
+            assert_octets(rt, left.as_slice(), &SECOND);
+            assert_octets(rt, right.as_slice(), &SECOND_MOVED);
+        }
+        _ => assert!(rt; false),
+    }
 }
 
 #[test]
 fn a_moved_node_with_the_same_digest_is_a_collision(rt: HostRuntime) -> Result<(), Fail> {
     let alloc = rt.alloc();
-    let mut disk = MemDisk::new(alloc, 4160, 100_000, Vec::new(alloc), None)?;
-    let mut desk = Desk::create(alloc, &mut disk, 5, &[0; 48])?;
-    let mut octets = signed_reply(alloc, &mut desk, &mut disk, 3)?;
-    if octets.len() > 1474 {
-        octets[1470] = 0;
-        octets[1474] = 10;
-    }
-    let found = audited(alloc, &mut desk, &mut disk, &octets, 3)?;
-    match &found {
-        Ok(Finding::Collision { left, right }) => {
-            assert_eq!(rt; left.as_slice(), SECOND.as_slice());
-            assert_eq!(rt; right.as_slice(), SECOND_MOVED.as_slice());
-        }
-        _ => assert!(rt; false),
-    }
+    let (mut desk, mut disk) = owner(alloc)?;
+    let octets = signed_reply(alloc, &mut desk, &mut disk, 3)?;
+    let moved = spliced(alloc, &octets, 1470, 1475, &[0, 0, 0, 0, 10])?;
+    let case = alone(desk.public(), &moved);
+    let found = audited(alloc, &mut desk, &mut disk, case)?;
+    assert_second(&rt, &found);
     Ok(())
 }
 
 #[test]
 fn a_header_that_the_desk_never_signed_is_forged(rt: HostRuntime) -> Result<(), Fail> {
     let alloc = rt.alloc();
-    let mut disk = MemDisk::new(alloc, 4160, 100_000, Vec::new(alloc), None)?;
-    let mut desk = Desk::create(alloc, &mut disk, 5, &[0; 48])?;
-    let key = Key::build(alloc, 5, &[0; 16], &[0; 32])?;
-    let header = header_of(alloc, 9)?;
-    let mut signature = Vec::from_elem(alloc, 0u8, 1292)?;
-    key.sign_into(31, &header.write(), &mut signature);
-    let mut copy = Vec::new(alloc);
-    copy.extend_from_slice(&signature)?;
-    let octets = reply(alloc, 9, copy)?;
-    let found = audited(alloc, &mut desk, &mut disk, &octets, 3)?;
-    match &found {
-        Ok(
-            Finding::Forged {
-                key: own,
-                text,
-                signature: seal,
-            },
-        ) => {
-            assert_eq!(rt; *own, desk.public());
-            assert_eq!(rt; text.as_slice(), header.write().as_slice());
-            assert_eq!(rt; seal.as_slice(), signature.as_slice());
-        }
-        _ => assert!(rt; false),
-    }
-    Ok(())
+    let (mut desk, mut disk) = owner(alloc)?;
+    let text = header_of(alloc, 9)?.write();
+    let (key, signature) = signed_past(alloc, 0, &text)?;
+    let octets = reply(alloc, 9, signature.to_vec(alloc)?)?;
+    let case = alone(key, &octets);
+    assert_forged(&rt, alloc, &mut desk, &mut disk, case, &text, &signature)
 }

@@ -1,26 +1,29 @@
-//! What no clause says: an answer that an owner's second key signed is refused under the first one alone, and
-//! accepted with the chain that leads to it; an answer of the first key is accepted both ways.
+//! What no clause says: an answer that an owner's second key signed is refused under the first one
+//! alone, and accepted with the chain that leads to it; an answer of the first key is accepted both
+//! ways.
+use crate::asserts::{assert_octets, assert_same};
 use crate::octets::octets_of;
+use crate::owners::signed_past;
 use crate::signed_answers::{PUBLIC, REPLY};
 use book_model::Query;
-use lms_tree::{Key, Link, SealError, link_text};
+use lms_tree::{Link, SealError, link_text};
 use octet_text::{Octets, Sha};
 use route_client::{CheckError, check};
 use std::alloc::Global;
+use std::process::Abort;
 use std::test::Fail;
 
 const ASKED: Query = Query { from: 1, to: 3 };
 
-// The public key of the key whose secret is one octet again and again, and the link from it to another key.
-fn link_to(alloc: Global, secret: u8, next: [u8; 56]) -> Result<([u8; 56], Link), Fail> {
-    let key = Key::build(alloc, 5, &[secret; 16], &[secret; 32])?;
-    let mut signature = Vec::from_elem(alloc, 0u8, 1292)?;
-    key.sign_into(31, &link_text(&next), &mut signature);
+/// The public key of the key whose secret is one octet again and again, and the link from it to
+/// another key.
+pub(crate) fn link_to(alloc: Global, secret: u8, next: [u8; 56]) -> Result<([u8; 56], Link), Fail> {
+    let (key, signature) = signed_past(alloc, secret, &link_text(&next))?;
     let link = Link {
         key: next,
         signature: Octets::from_vec(signature),
     };
-    Ok((key.public(), link))
+    Ok((key, link))
 }
 
 // Why octets are refused under a key and a chain, where they are.
@@ -31,24 +34,57 @@ fn refusal(alloc: Global, public: &[u8], chain: &[Link], octets: &[u8]) -> Optio
     check::<Sha>(alloc, public, chain, octets, ASKED, 3).err()
 }
 
+// Asserts how octets are refused under a key and a chain, or that they are accepted.
+fn assert_ends(
+    rt: &impl Abort,
+    alloc: Global,
+    public: &[u8; 56],
+    chain: &[Link],
+    octets: &[u8],
+    why: Option<CheckError>,
+) {
+    assert_same(rt, &refusal(alloc, public, chain, octets), &why);
+}
+
 #[test]
 fn a_later_key_is_accepted_along_its_chain(rt: HostRuntime) -> Result<(), Fail> {
     let alloc = rt.alloc();
     let reply = octets_of(alloc, REPLY)?;
     let (first, link) = link_to(alloc, 1, PUBLIC)?;
-    let (public, next) = link_to(alloc, 0, first)?;
-    assert_eq!(rt; public, PUBLIC);
-    let no_match = CheckError::BadSignature(SealError::NoMatch);
-    assert_eq!(rt; refusal(alloc, &first, &[], &reply), Some(no_match));
-    assert_eq!(rt; refusal(alloc, &PUBLIC, &[], &reply), None);
-    let mut chain = [link, next];
-    let links = chain.as_slice();
-    assert_eq!(rt; refusal(alloc, &first, &links[..1], &reply), None);
-    assert_eq!(rt; refusal(alloc, &PUBLIC, &links[1..], &reply), None);
-    for index in [1, 0] {
-        chain[index].key[8] ^= 1;
-        let bad_chain = CheckError::BadChain(index as u8, SealError::NoMatch);
-        assert_eq!(rt; refusal(alloc, &first, &chain, &reply), Some(bad_chain));
-    }
+    let no_match = Some(CheckError::BadSignature(SealError::NoMatch));
+    assert_ends(&rt, alloc, &first, &[], &reply, no_match);
+    assert_ends(&rt, alloc, &first, &[link], &reply, None);
+    Ok(())
+}
+
+#[test]
+fn the_first_key_is_accepted_both_ways(rt: HostRuntime) -> Result<(), Fail> {
+    let alloc = rt.alloc();
+    let reply = octets_of(alloc, REPLY)?;
+    let (public, link) = link_to(alloc, 0, [7; 56])?;
+    assert_octets(&rt, &public, &PUBLIC);
+    assert_ends(&rt, alloc, &public, &[], &reply, None);
+    assert_ends(&rt, alloc, &public, &[link], &reply, None);
+    Ok(())
+}
+
+// The key that leads to the public key, and a chain from it to that key and back.
+fn there_and_back(alloc: Global) -> Result<([u8; 56], [Link; 2]), Fail> {
+    let (first, there) = link_to(alloc, 1, PUBLIC)?;
+    let (_, back) = link_to(alloc, 0, first)?;
+    Ok((first, [there, back]))
+}
+
+#[test]
+fn the_first_bad_link_is_named(rt: HostRuntime) -> Result<(), Fail> {
+    let alloc = rt.alloc();
+    let reply = octets_of(alloc, REPLY)?;
+    let (first, mut chain) = there_and_back(alloc)?;
+    chain[1].key[8] ^= 1;
+    let second = Some(CheckError::BadChain(1, SealError::NoMatch));
+    assert_ends(&rt, alloc, &first, &chain, &reply, second);
+    chain[0].key[8] ^= 1;
+    let both = Some(CheckError::BadChain(0, SealError::NoMatch));
+    assert_ends(&rt, alloc, &first, &chain, &reply, both);
     Ok(())
 }

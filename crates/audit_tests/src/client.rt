@@ -1,5 +1,6 @@
-//! What no clause says: signed answers of another program are accepted, and changed ones are refused.
-//! `checks/client/answers.py` is that program.
+//! What no clause says: signed answers of another program are accepted, and changed ones are
+//! refused. `checks/client/answers.py` is that program.
+use crate::asserts::{assert_octets, assert_same};
 use crate::octets::{octets_of, spliced};
 use crate::signed_answers::{
     BORDER_REPLY, FOURTH_DIGEST, FULL_DETOUR, FULL_REPLY, FULL_WITHOUT_PAIR, LDM_REPLY,
@@ -12,9 +13,12 @@ use octet_text::{Hasher, Sha, Toy};
 use proof_judge::Refusal;
 use route_client::{Accepted, CheckError, CoverFault, check};
 use std::alloc::Global;
+use std::process::Abort;
 use std::test::Fail;
 
 const ASKED: Query = Query { from: 1, to: 3 };
+
+const LONG: Query = Query { from: 3, to: 5 };
 
 // The check of octets under the first so many octets of the public key.
 fn checked<H: Hasher>(
@@ -31,33 +35,64 @@ fn checked<H: Hasher>(
     check::<H>(alloc, public, &[], octets, query, least)
 }
 
-// Why octets are no answer to a query, where they are none.
-fn refusal_to(alloc: Global, octets: &[u8], query: Query, least: u64) -> Option<CheckError> {
-    checked::<Sha>(alloc, 56, octets, query, least).err()
+// Asserts that octets are no answer to a query, for this reason.
+fn assert_no_answer(
+    rt: &impl Abort,
+    alloc: Global,
+    octets: &[u8],
+    query: Query,
+    least: u64,
+    why: CheckError,
+) {
+    let refused = checked::<Sha>(alloc, 56, octets, query, least).err();
+    assert_same(rt, &refused, &Some(why));
 }
 
-// Why octets are refused, where they are.
-fn refusal(alloc: Global, octets: &[u8], least: u64) -> Option<CheckError> {
-    refusal_to(alloc, octets, ASKED, least)
+// The same of any version.
+fn assert_refused(rt: &impl Abort, alloc: Global, octets: &[u8], why: CheckError) {
+    assert_no_answer(rt, alloc, octets, ASKED, 0, why);
 }
 
-// Whether octets are accepted with this length and route.
-fn is_accepted(alloc: Global, octets: &[u8], query: Query, length: u64, route: &[u32]) -> bool {
-    match checked::<Sha>(alloc, 56, octets, query, 1) {
-        Ok(accepted) => accepted.length == length && accepted.route.as_slice() == route,
-        Err(_) => false,
-    }
+// Asserts that a reply with other octets from a place up to another is refused for this reason.
+fn assert_found(
+    rt: &impl Abort,
+    alloc: Global,
+    reply: &[u8],
+    from: usize,
+    to: usize,
+    others: &[u8],
+    why: CheckError,
+) -> Result<(), Fail> {
+    let octets = spliced(alloc, reply, from, to, others)?;
+    assert_refused(rt, alloc, &octets, why);
+    Ok(())
+}
+
+// Asserts that the reply in hex is accepted as an answer to a query, with this length and route.
+fn assert_accepted(
+    rt: &impl Abort,
+    alloc: Global,
+    text: &str,
+    query: Query,
+    length: u64,
+    route: &[u32],
+) -> Result<(), Fail> {
+    let reply = octets_of(alloc, text)?;
+    let accepted = checked::<Sha>(alloc, 56, &reply, query, 1)?;
+    assert_same(rt, &accepted.length, &length);
+    assert_same(rt, &accepted.route.as_slice(), &route);
+    Ok(())
 }
 
 #[test]
 fn a_signed_answer_is_accepted(rt: HostRuntime) -> Result<(), Fail> {
-    let reply = octets_of(rt.alloc(), REPLY)?;
-    let accepted = checked::<Sha>(rt.alloc(), 56, &reply, ASKED, 3)?;
-    assert_eq!(rt; accepted.length, 9);
-    assert_eq!(rt; accepted.route.as_slice(), [1, 2, 3].as_slice());
-    assert_eq!(rt; accepted.version, 3);
-    let header = accepted.header.write();
-    assert_eq!(rt; Some(header.as_slice()), reply.get(1..105));
+    let alloc = rt.alloc();
+    assert_accepted(&rt, alloc, REPLY, ASKED, 9, &[1, 2, 3])?;
+    let reply = octets_of(alloc, REPLY)?;
+    let accepted = checked::<Sha>(alloc, 56, &reply, ASKED, 3)?;
+    assert_same(&rt, &accepted.version, &3);
+    let header = reply.get(1..105).unwrap_or(&[]);
+    assert_octets(&rt, &accepted.header.write(), header);
     Ok(())
 }
 
@@ -65,32 +100,27 @@ fn a_signed_answer_is_accepted(rt: HostRuntime) -> Result<(), Fail> {
 fn the_first_failing_test_is_named(rt: HostRuntime) -> Result<(), Fail> {
     let alloc = rt.alloc();
     let reply = octets_of(alloc, REPLY)?;
-    let rows = [
-        (reply.as_slice(), 4, CheckError::Stale(3)),
-        (&[], 0, CheckError::Malformed(0)),
-        (&[2], 0, CheckError::NotAnswer(2)),
-        (&[1, 0], 0, CheckError::Malformed(1)),
-        (
-            reply.get(..1610).unwrap_or(&[]),
-            0,
-            CheckError::Malformed(1607),
-        ),
-    ];
-    for (octets, least, error) in rows {
-        assert_eq!(rt; refusal(alloc, octets, least), Some(error));
-    }
-    let other_key = checked::<Sha>(alloc, 55, &reply, ASKED, 0);
-    assert_eq!(rt;
-        other_key.err(),
-        Some(CheckError::BadSignature(SealError::BadKey))
-    );
-    let other_hash = checked::<Toy>(alloc, 56, &reply, ASKED, 0);
-    assert_eq!(rt;
-        other_hash.err(),
-        Some(CheckError::BadCover(1, CoverFault::Differs))
-    );
-    let other_end = refusal_to(alloc, &reply, Query { from: 1, to: 2 }, 0);
-    assert_eq!(rt; other_end, Some(CheckError::Judged(Refusal::BadRoute(3))));
+    assert_no_answer(&rt, alloc, &reply, ASKED, 4, CheckError::Stale(3));
+    assert_refused(&rt, alloc, &[], CheckError::Malformed(0));
+    assert_refused(&rt, alloc, &[2], CheckError::NotAnswer(2));
+    assert_refused(&rt, alloc, &[1, 0], CheckError::Malformed(1));
+    let cut = reply.get(..1610).unwrap_or(&[]);
+    assert_refused(&rt, alloc, cut, CheckError::Malformed(1607));
+    let other_end = Query { from: 1, to: 2 };
+    let broken = CheckError::Judged(Refusal::BadRoute(3));
+    assert_no_answer(&rt, alloc, &reply, other_end, 0, broken);
+    Ok(())
+}
+
+#[test]
+fn another_key_and_another_hash_are_named(rt: HostRuntime) -> Result<(), Fail> {
+    let reply = octets_of(rt.alloc(), REPLY)?;
+    let other_key = checked::<Sha>(rt.alloc(), 55, &reply, ASKED, 0).err();
+    let bad_key = CheckError::BadSignature(SealError::BadKey);
+    assert_same(&rt, &other_key, &Some(bad_key));
+    let other_hash = checked::<Toy>(rt.alloc(), 56, &reply, ASKED, 0).err();
+    let differs = CheckError::BadCover(1, CoverFault::Differs);
+    assert_same(&rt, &other_hash, &Some(differs));
     Ok(())
 }
 
@@ -98,38 +128,39 @@ fn the_first_failing_test_is_named(rt: HostRuntime) -> Result<(), Fail> {
 fn a_changed_octet_is_found(rt: HostRuntime) -> Result<(), Fail> {
     let alloc = rt.alloc();
     let reply = octets_of(alloc, REPLY)?;
-    let bit = reply.get(21).copied().unwrap_or(0) ^ 1;
-    let changes = [
-        (21, bit, CheckError::BadSignature(SealError::NoMatch)),
-        (108, 1, CheckError::BadSignature(SealError::BadForm)),
-        (1474, 1, CheckError::BadCover(1, CoverFault::Differs)),
-        (1533, 5, CheckError::BadCover(1, CoverFault::Place)),
-        (1410, 4, CheckError::Judged(Refusal::Shorter(9))),
-    ];
-    for (place, octet, error) in changes {
-        let octets = spliced(alloc, &reply, place, place + 1, &[octet])?;
-        assert_eq!(rt; refusal(alloc, &octets, 0), Some(error), "{place}");
-    }
-    Ok(())
+    let no_match = CheckError::BadSignature(SealError::NoMatch);
+    let bad_form = CheckError::BadSignature(SealError::BadForm);
+    let differs = CheckError::BadCover(1, CoverFault::Differs);
+    let no_place = CheckError::BadCover(1, CoverFault::Place);
+    let shorter = CheckError::Judged(Refusal::Shorter(9));
+    // One bit of the root of the nodes, which begins with 1a.
+    assert_found(&rt, alloc, &reply, 21, 22, &[0x1b], no_match)?;
+    assert_found(&rt, alloc, &reply, 108, 109, &[1], bad_form)?;
+    assert_found(&rt, alloc, &reply, 1474, 1475, &[1], differs)?;
+    assert_found(&rt, alloc, &reply, 1533, 1534, &[5], no_place)?;
+    assert_found(&rt, alloc, &reply, 1410, 1411, &[4], shorter)
 }
 
-// The index at which a route of two ids is broken.
-fn broken_at(alloc: Global, reply: &[u8], first: u8, last: u8) -> Result<Option<u32>, Fail> {
+// Asserts that the reply with a route of two ids is broken at this index.
+fn assert_broken(
+    rt: &impl Abort,
+    alloc: Global,
+    reply: &[u8],
+    (first, last): (u8, u8),
+    index: u32,
+) -> Result<(), Fail> {
     let route = [0, 0, 0, 2, 0, 0, 0, first, 0, 0, 0, last];
-    let octets = spliced(alloc, reply, 1399, 1415, &route)?;
-    match refusal(alloc, &octets, 0) {
-        Some(CheckError::Judged(Refusal::BadRoute(index))) => Ok(Some(index)),
-        _ => Ok(None),
-    }
+    let why = CheckError::Judged(Refusal::BadRoute(index));
+    assert_found(rt, alloc, reply, 1399, 1415, &route, why)
 }
 
 #[test]
 fn a_broken_route_is_found(rt: HostRuntime) -> Result<(), Fail> {
-    let reply = octets_of(rt.alloc(), REPLY)?;
-    assert_eq!(rt; broken_at(rt.alloc(), &reply, 2, 3)?, Some(0));
-    assert_eq!(rt; broken_at(rt.alloc(), &reply, 1, 3)?, Some(1));
-    assert_eq!(rt; broken_at(rt.alloc(), &reply, 1, 2)?, Some(2));
-    Ok(())
+    let alloc = rt.alloc();
+    let reply = octets_of(alloc, REPLY)?;
+    assert_broken(&rt, alloc, &reply, (2, 3), 0)?;
+    assert_broken(&rt, alloc, &reply, (1, 3), 1)?;
+    assert_broken(&rt, alloc, &reply, (1, 2), 2)
 }
 
 // A count and the digests behind it.
@@ -137,134 +168,133 @@ fn counted(alloc: Global, count: u8, digests: &[u8]) -> Result<Vec<u8>, Fail> {
     spliced(alloc, &[0, 0, 0, count], 4, 4, digests)
 }
 
-// The answer with another octet behind it, and with other covers.
-fn with_other_covers(
-    alloc: Global,
-    reply: &[u8],
-    fourth: &[u8],
-) -> Result<[(Vec<u8>, CheckError); 4], Fail> {
-    let own = reply.get(1575..1607).unwrap_or(&[]);
-    let two = counted(alloc, 2, own)?;
-    let one = counted(alloc, 1, fourth)?;
-    Ok([
-        (
-            spliced(alloc, reply, 1611, 1611, &[0])?,
-            CheckError::Malformed(1611),
-        ),
-        (
-            spliced(alloc, reply, 1571, 1607, &[0; 4])?,
-            CheckError::BadCover(1, CoverFault::Short),
-        ),
-        (
-            spliced(alloc, reply, 1571, 1575, &two)?,
-            CheckError::BadCover(1, CoverFault::Long),
-        ),
-        (
-            spliced(alloc, reply, 1607, 1611, &one)?,
-            CheckError::BadCover(2, CoverFault::Long),
-        ),
-    ])
+#[test]
+fn left_out_and_added_digests_are_found(rt: HostRuntime) -> Result<(), Fail> {
+    let alloc = rt.alloc();
+    let reply = octets_of(alloc, REPLY)?;
+    let one = counted(alloc, 1, reply.get(1575..1607).unwrap_or(&[]))?;
+    let two = counted(alloc, 2, reply.get(1575..1607).unwrap_or(&[]))?;
+    let short = CheckError::BadCover(1, CoverFault::Short);
+    let long = CheckError::BadCover(1, CoverFault::Long);
+    let long_pairs = CheckError::BadCover(2, CoverFault::Long);
+    assert_found(
+        &rt,
+        alloc,
+        &reply,
+        1611,
+        1611,
+        &[0],
+        CheckError::Malformed(1611),
+    )?;
+    assert_found(&rt, alloc, &reply, 1571, 1607, &[0; 4], short)?;
+    assert_found(&rt, alloc, &reply, 1571, 1575, &two, long)?;
+    assert_found(&rt, alloc, &reply, 1607, 1611, &one, long_pairs)
 }
 
 #[test]
-fn left_out_and_added_parts_are_found(rt: HostRuntime) -> Result<(), Fail> {
+fn a_left_out_leaf_is_found(rt: HostRuntime) -> Result<(), Fail> {
     let alloc = rt.alloc();
     let reply = octets_of(alloc, REPLY)?;
     let fourth = octets_of(alloc, FOURTH_DIGEST)?;
-    for (octets, error) in with_other_covers(alloc, &reply, &fourth)? {
-        assert_eq!(rt; refusal(alloc, &octets, 0), Some(error));
-    }
-    let covered = spliced(alloc, &reply, 1571, 1575, &counted(alloc, 2, &fourth)?)?;
+    let two = counted(alloc, 2, &fourth)?;
+    let covered = spliced(alloc, &reply, 1571, 1575, &two)?;
     let fewer = spliced(alloc, &covered, 1530, 1567, &[])?;
-    let without_four = spliced(alloc, &fewer, 1415, 1419, &[0, 0, 0, 3])?;
     let missing = CheckError::Judged(Refusal::MissingTuple(4));
-    assert_eq!(rt; refusal(alloc, &without_four, 0), Some(missing));
-    Ok(())
+    assert_found(&rt, alloc, &fewer, 1415, 1419, &[0, 0, 0, 3], missing)
 }
 
 #[test]
 fn a_signed_answer_with_pairs_is_judged(rt: HostRuntime) -> Result<(), Fail> {
     let alloc = rt.alloc();
+    assert_accepted(&rt, alloc, BORDER_REPLY, ASKED, 9, &[1, 2, 3])?;
     let reply = octets_of(alloc, BORDER_REPLY)?;
-    assert!(rt; is_accepted(alloc, &reply, ASKED, 9, &[1, 2, 3]));
-    let other_route = spliced(alloc, &reply, 1407, 1411, &[0, 0, 0, 4])?;
     let shorter = CheckError::Judged(Refusal::Shorter(9));
-    assert_eq!(rt; refusal(alloc, &other_route, 0), Some(shorter));
-    let other_distance = spliced(alloc, &reply, 1611, 1612, &[4])?;
     let differs = CheckError::BadCover(2, CoverFault::Differs);
-    assert_eq!(rt; refusal(alloc, &other_distance, 0), Some(differs));
+    assert_found(&rt, alloc, &reply, 1407, 1411, &[0, 0, 0, 4], shorter)?;
+    assert_found(&rt, alloc, &reply, 1611, 1612, &[4], differs)
+}
+
+#[test]
+fn a_left_out_pair_is_found(rt: HostRuntime) -> Result<(), Fail> {
+    let alloc = rt.alloc();
+    let reply = octets_of(alloc, BORDER_REPLY)?;
     let cover = octets_of(alloc, ONE_PAIR_COVER)?;
     let covered = spliced(alloc, &reply, 1669, 1705, &cover)?;
     let fewer = spliced(alloc, &covered, 1612, 1633, &[])?;
-    let one_pair = spliced(alloc, &fewer, 1587, 1591, &[0, 0, 0, 1])?;
     let missing = CheckError::Judged(Refusal::MissingPair(3, 4));
-    assert_eq!(rt; refusal(alloc, &one_pair, 0), Some(missing));
-    Ok(())
+    assert_found(&rt, alloc, &fewer, 1587, 1591, &[0, 0, 0, 1], missing)
 }
 
 #[test]
 fn signed_answers_of_each_method_are_accepted(rt: HostRuntime) -> Result<(), Fail> {
-    let long = Query { from: 3, to: 5 };
     let rows = [
         (FULL_REPLY, ASKED, 9, [1, 2, 3]),
-        (LDM_REPLY, long, 20, [3, 4, 5]),
+        (LDM_REPLY, LONG, 20, [3, 4, 5]),
         (ZERO_DIJ_REPLY, ASKED, 0, [1, 2, 3]),
         (ZERO_FULL_REPLY, ASKED, 0, [1, 2, 3]),
         (ZERO_LDM_REPLY, ASKED, 0, [1, 2, 3]),
         (ZERO_HYP_REPLY, ASKED, 0, [1, 2, 3]),
     ];
     for (text, query, length, route) in rows {
-        let reply = octets_of(rt.alloc(), text)?;
-        let accepted = is_accepted(rt.alloc(), &reply, query, length, &route);
-        assert!(rt; accepted, "{}", reply.len());
+        assert_accepted(&rt, rt.alloc(), text, query, length, &route)?;
     }
+    Ok(())
+}
+
+// Asserts that a reply in hex, with others behind its signature up to a place, is judged so.
+fn assert_judged(
+    rt: &impl Abort,
+    alloc: Global,
+    (text, to, others): (&str, usize, &str),
+    query: Query,
+    refusal: Refusal,
+) -> Result<(), Fail> {
+    let reply = octets_of(alloc, text)?;
+    let others = octets_of(alloc, others)?;
+    let octets = spliced(alloc, &reply, 1399, to, &others)?;
+    assert_no_answer(rt, alloc, &octets, query, 0, CheckError::Judged(refusal));
     Ok(())
 }
 
 #[test]
 fn refusals_of_full_and_ldm_are_named(rt: HostRuntime) -> Result<(), Fail> {
     let alloc = rt.alloc();
-    let back = Query { from: 1, to: 1 };
-    let long = Query { from: 3, to: 5 };
-    let rows = [
-        (FULL_REPLY, 1755, FULL_DETOUR, ASKED, Refusal::Disagrees(9)),
-        (
-            FULL_REPLY,
-            1755,
-            FULL_WITHOUT_PAIR,
-            ASKED,
-            Refusal::MissingPair(1, 3),
-        ),
-        (
-            LDM_REPLY,
-            1615,
-            LDM_WITHOUT_2,
-            long,
-            Refusal::MissingTuple(2),
-        ),
-    ];
-    for (text, to, others, query, refusal) in rows {
-        let reply = octets_of(alloc, text)?;
-        let others = octets_of(alloc, others)?;
-        let octets = spliced(alloc, &reply, 1399, to, &others)?;
-        let error = refusal_to(alloc, &octets, query, 0);
-        assert_eq!(rt; error, Some(CheckError::Judged(refusal)));
-    }
+    let disagrees = Refusal::Disagrees(9);
+    assert_judged(
+        &rt,
+        alloc,
+        (FULL_REPLY, 1755, FULL_DETOUR),
+        ASKED,
+        disagrees,
+    )?;
+    let no_pair = Refusal::MissingPair(1, 3);
+    assert_judged(
+        &rt,
+        alloc,
+        (FULL_REPLY, 1755, FULL_WITHOUT_PAIR),
+        ASKED,
+        no_pair,
+    )?;
+    let no_tuple = Refusal::MissingTuple(2);
+    assert_judged(&rt, alloc, (LDM_REPLY, 1615, LDM_WITHOUT_2), LONG, no_tuple)
+}
+
+#[test]
+fn a_route_to_its_own_start_is_shorter(rt: HostRuntime) -> Result<(), Fail> {
+    let alloc = rt.alloc();
     let full = octets_of(alloc, FULL_REPLY)?;
     let to_itself = spliced(alloc, &full, 1411, 1415, &[0, 0, 0, 1])?;
-    assert_eq!(rt;
-        refusal_to(alloc, &to_itself, back, 0),
-        Some(CheckError::Judged(Refusal::Shorter(0)))
-    );
+    let back = Query { from: 1, to: 1 };
+    let shorter = CheckError::Judged(Refusal::Shorter(0));
+    assert_no_answer(&rt, alloc, &to_itself, back, 0, shorter);
     Ok(())
 }
 
 #[test]
 fn refusals_are_whole_sentences(rt: HostRuntime) -> Result<(), Fail> {
     let error = CheckError::BadCover(2, CoverFault::Short);
-    assert_eq!(rt;
-        format!(in rt.alloc(); "{error}")?.as_str(),
-        "The items of tree 2 are not those of its root: the cover has too few digests."
-    );
+    let text = format!(in rt.alloc(); "{error}")?;
+    let wanted = "The items of tree 2 are not those of its root: the cover has too few digests.";
+    assert_octets(&rt, text.as_bytes(), wanted.as_bytes());
     Ok(())
 }

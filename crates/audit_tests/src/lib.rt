@@ -3,7 +3,11 @@
 #![tactic(auto)]
 
 #[cfg(test)]
+mod asserts;
+#[cfg(test)]
 mod audit;
+#[cfg(test)]
+mod audit_keys;
 #[cfg(test)]
 mod audit_reach;
 #[cfg(test)]
@@ -12,5 +16,7 @@ mod chains;
 mod client;
 #[cfg(test)]
 mod octets;
+#[cfg(test)]
+mod owners;
 #[cfg(test)]
 mod signed_answers;

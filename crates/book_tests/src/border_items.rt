@@ -1,13 +1,13 @@
 //! Verdicts worked out by hand, over a map with two ways from 1 to 3: of length 9 over 2, and of
 //! length 10 over 4. The nodes 1, 2 and 4 are in one cell, and 3 is in another, so that 2, 3 and 4
 //! are borders.
-ghost use Rattle.std.specs.Prelude.{◌≤◌, length};
 
-use book_model::{Items, NodeLeaves, Numbers, PairLeaves, Query};
+use crate::judging::items_of;
+use crate::same::assert_row;
+use book_model::{Numbers, Query};
 use hyp_judge::Hyp;
 use proof_judge::{Judge, Refusal};
 use road_leaf::{Extra, NodeLeaf, PairLeaf};
-use road_map::Ids;
 use std::alloc::{AllocError, Global};
 use test_maps::leaf_with;
 
@@ -28,23 +28,14 @@ fn leaves_of(alloc: Global, ids: &[u32]) -> Result<Vec<NodeLeaf>, AllocError> {
     Ok(leaves)
 }
 
-fn judged(alloc: Global, ids: &[u32], pairs: &[PairLeaf], route: &[u32]) -> Result<u64, Refusal>
-    requires { length route.now ≤ 65536 }
-{
-    let items = Items {
-        route: Ids::from_vec(route.to_vec(alloc)?),
-        nodes: NodeLeaves::from_vec(leaves_of(alloc, ids)?),
-        pairs: PairLeaves::from_vec(pairs.to_vec(alloc)?),
+fn judged(alloc: Global, ids: &[u32], pairs: &[PairLeaf], route: &[u32]) -> Result<u64, Refusal> {
+    let leaves = leaves_of(alloc, ids)?;
+    let items = items_of(alloc, route, leaves, pairs)?;
+    let numbers = Numbers {
+        first: 3,
+        second: 1,
     };
-    Hyp::judge(
-        alloc,
-        Numbers {
-            first: 3,
-            second: 1,
-        },
-        &items,
-        Query { from: 1, to: 3 },
-    )
+    Hyp::judge(alloc, numbers, &items, Query { from: 1, to: 3 })
 }
 
 const NEAR: PairLeaf = PairLeaf {
@@ -59,32 +50,38 @@ const FAR: PairLeaf = PairLeaf {
     distance: 7,
 };
 
-#[test]
-fn all_pairs_of_borders_are_asked_for(rt: HostRuntime) {
-    let alloc = rt.alloc();
-    assert_eq!(rt;
-        judged(alloc, &[1, 2, 3, 4], &[NEAR, FAR], &[1, 2, 3]),
-        Ok(9)
-    );
-    assert_eq!(rt;
-        judged(alloc, &[1, 2, 3, 4], &[NEAR], &[1, 2, 3]),
-        Err(Refusal::MissingPair(3, 4))
-    );
-    assert_eq!(rt;
-        judged(alloc, &[1, 2, 3, 4], &[FAR], &[1, 2, 3]),
-        Err(Refusal::MissingPair(2, 3))
-    );
-    assert_eq!(rt;
-        judged(alloc, &[1, 2, 3], &[NEAR, FAR], &[1, 2, 3]),
-        Err(Refusal::MissingTuple(4))
-    );
-}
+// The ids whose leaves are at hand, the pairs that are, a route, and the verdict.
+type Row = (
+    &'static [u32],
+    &'static [PairLeaf],
+    &'static [u32],
+    Result<u64, Refusal>,
+);
+
+const ALL: &[u32] = &[1, 2, 3, 4];
+
+static ROWS: [Row; 5] = [
+    (ALL, &[NEAR, FAR], &[1, 2, 3], Ok(9)),
+    (ALL, &[NEAR], &[1, 2, 3], Err(Refusal::MissingPair(3, 4))),
+    (ALL, &[FAR], &[1, 2, 3], Err(Refusal::MissingPair(2, 3))),
+    (
+        &[1, 2, 3],
+        &[NEAR, FAR],
+        &[1, 2, 3],
+        Err(Refusal::MissingTuple(4)),
+    ),
+    // A shorter way over two borders is found.
+    (ALL, &[NEAR, FAR], &[1, 4, 3], Err(Refusal::Shorter(9))),
+];
 
 #[test]
-fn a_shorter_way_over_two_borders_is_found(rt: HostRuntime) {
-    let alloc = rt.alloc();
-    assert_eq!(rt;
-        judged(alloc, &[1, 2, 3, 4], &[NEAR, FAR], &[1, 4, 3]),
-        Err(Refusal::Shorter(9))
-    );
+fn all_pairs_of_borders_are_asked_for(rt: HostRuntime) {
+    for (ids, pairs, route, verdict) in &ROWS {
+        assert_row(
+            &rt,
+            *pairs,
+            judged(rt.alloc(), *ids, *pairs, *route),
+            *verdict,
+        );
+    }
 }

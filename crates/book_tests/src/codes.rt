@@ -1,9 +1,11 @@
 //! What no clause says: landmarks, codes and references worked out by hand, at a small map.
+
+use crate::same::{assert_row, assert_same};
 use landmarks::{CodeError, CodeTable, PickError, codes, compress, landmark_codes, pick};
-use octet_text::NoMemory;
 use road_leaf::Extra;
 use road_map::{Map, MapError};
-use std::alloc::Global;
+use std::alloc::{AllocError, Global};
+use std::process::Abort;
 use std::test::Fail;
 use test_maps::{NODES, ROADS, apart, are_known, map_of};
 
@@ -11,16 +13,98 @@ fn two_ways(alloc: Global) -> Result<Map, MapError> {
     map_of(alloc, &NODES, &ROADS)
 }
 
+static PICKED: [(u32, &[u32]); 4] = [
+    (1, &[1]),
+    (2, &[1, 5]),
+    (3, &[1, 5, 3]),
+    (5, &[1, 5, 3, 2, 4]),
+];
+
+#[test]
+fn each_landmark_is_farthest_from_those_before(rt: HostRuntime) -> Result<(), Fail> {
+    let map = two_ways(rt.alloc())?;
+    for (count, ids) in &PICKED {
+        let chosen = pick(rt.alloc(), &map, *count)?;
+        assert_row(&rt, *count, chosen.as_slice(), *ids);
+    }
+    Ok(())
+}
+
+#[test]
+fn landmarks_are_1_to_64_of_the_nodes(rt: HostRuntime) -> Result<(), Fail> {
+    let map = two_ways(rt.alloc())?;
+    for count in [0, 6, 65] {
+        let chosen = pick(rt.alloc(), &map, count);
+        assert_row(&rt, count, chosen.err(), Some(PickError::Count));
+    }
+    Ok(())
+}
+
 // The codes for these landmarks, if they are nodes of the map.
-fn coded(alloc: Global, map: &Map, chosen: &[u32], bits: u8) -> Result<CodeTable, CodeError> {
+fn codes_over(alloc: Global, map: &Map, chosen: &[u32], bits: u8) -> Result<CodeTable, CodeError> {
     if !are_known(map, chosen) {
         return Err(CodeError::Memory);
     }
     codes(alloc, map, chosen, bits)
 }
 
+fn coded(alloc: Global, chosen: &[u32], bits: u8) -> Result<CodeTable, CodeError> {
+    match two_ways(alloc) {
+        Ok(map) => codes_over(alloc, &map, chosen, bits),
+        Err(_) => Err(CodeError::Memory),
+    }
+}
+
+static OF_TWO: [(u32, Option<&[u16]>); 6] = [
+    (1, Some(&[0, 65535])),
+    (2, Some(&[1, 65535])),
+    (3, Some(&[2, 65535])),
+    (4, Some(&[0, 65535])),
+    (5, Some(&[65535, 0])),
+    (6, None),
+];
+
+// Asserts the step and the codes for the landmarks 1 and 5, of two bits.
+fn assert_codes(rt: &impl Abort, table: &CodeTable) {
+    assert_same(rt, table.step(), 4);
+    for (id, wanted) in &OF_TWO {
+        assert_row(rt, *id, table.of(*id), *wanted);
+    }
+}
+
+#[test]
+fn codes_count_steps(rt: HostRuntime) -> Result<(), Fail> {
+    let table = coded(rt.alloc(), &[1, 5], 2)?;
+    assert_codes(&rt, &table);
+    Ok(())
+}
+
+#[test]
+fn codes_are_those_for_the_picked_landmarks(rt: HostRuntime) -> Result<(), Fail> {
+    let map = two_ways(rt.alloc())?;
+    let table = landmark_codes(rt.alloc(), &map, 2, 2)?;
+    assert_codes(&rt, &table);
+    Ok(())
+}
+
+// The step of the codes of so many bits for the landmark 1.
+fn step_of(alloc: Global, bits: u8) -> Result<u64, CodeError> {
+    let table = coded(alloc, &[1], bits)?;
+    Ok(table.step())
+}
+
+#[test]
+fn codes_have_1_to_16_bits(rt: HostRuntime) {
+    assert_same(&rt, step_of(rt.alloc(), 16), Ok(1));
+    for bits in [0, 17] {
+        assert_row(&rt, bits, step_of(rt.alloc(), bits), Err(CodeError::Bits));
+    }
+}
+
 // What a leaf says of codes: those of a node itself, or the node that it refers to and its error.
-fn said(extra: &Extra) -> (&[u16], Option<(u32, u16)>) {
+type Saying<'a> = (&'a [u16], Option<(u32, u16)>);
+
+fn said(extra: &Extra) -> Saying<'_> {
     match extra {
         Extra::Own(codes) => (codes.as_slice(), None),
         Extra::Near { reference, error } => (&[], Some((*reference, *error))),
@@ -28,125 +112,105 @@ fn said(extra: &Extra) -> (&[u16], Option<(u32, u16)>) {
     }
 }
 
-#[test]
-fn each_landmark_is_farthest_from_those_before(rt: HostRuntime) -> Result<(), Fail> {
-    let alloc = rt.alloc();
-    let map = two_ways(alloc)?;
-    let table: [(u32, &[u32]); 4] = [
-        (1, &[1]),
-        (2, &[1, 5]),
-        (3, &[1, 5, 3]),
-        (5, &[1, 5, 3, 2, 4]),
-    ];
-    for (count, expected) in table {
-        let chosen = pick(alloc, &map, count)?;
-        assert_eq!(rt; chosen.as_slice(), expected, "{count} landmarks");
-    }
-    for count in [0, 6, 65] {
-        match pick(alloc, &map, count) {
-            Ok(_) => assert!(rt; false, "{count} landmarks"),
-            Err(error) => assert_eq!(rt; error, PickError::Count),
-        }
+static EXACT: [Saying<'static>; 5] = [
+    (&[0], None),
+    (&[1], None),
+    (&[2], None),
+    (&[], Some((1, 0))),
+    (&[65535], None),
+];
+
+static NEAR: [Saying<'static>; 5] = [
+    (&[0], None),
+    (&[], Some((1, 1))),
+    (&[2], None),
+    (&[], Some((1, 0))),
+    (&[65535], None),
+];
+
+// What the nodes 1 to 5 say at a threshold, by codes of two bits for the landmark 1.
+fn extras_at(alloc: Global, threshold: u16) -> Result<Vec<Extra>, CodeError> {
+    let codes = coded(alloc, &[1], 2)?;
+    Ok(compress(alloc, &codes, &[1, 2, 3, 4, 5], threshold)?)
+}
+
+fn assert_said(
+    rt: &impl Abort,
+    alloc: Global,
+    threshold: u16,
+    wanted: &[Saying<'static>],
+) -> Result<(), CodeError> {
+    let extras = extras_at(alloc, threshold)?;
+    assert_same(rt, extras.len(), 5);
+    for (extra, says) in extras.iter().zip(wanted) {
+        assert_row(rt, threshold, said(extra), *says);
     }
     Ok(())
 }
 
 #[test]
-fn codes_count_steps(rt: HostRuntime) -> Result<(), Fail> {
-    let alloc = rt.alloc();
-    let map = two_ways(alloc)?;
-    let two = coded(alloc, &map, &[1, 5], 2)?;
-    assert_eq!(rt; two.step(), 4);
-    let table: [(u32, &[u16]); 5] = [
-        (1, &[0, 65535]),
-        (2, &[1, 65535]),
-        (3, &[2, 65535]),
-        (4, &[0, 65535]),
-        (5, &[65535, 0]),
-    ];
-    for (id, expected) in table {
-        assert_eq!(rt; two.of(id), Some(expected), "node {id}");
-    }
-    assert!(rt; two.of(6).is_none());
-    let same = landmark_codes(alloc, &map, 2, 2)?;
-    assert_eq!(rt; (same.step(), same.of(3)), (4, two.of(3)));
-    assert_eq!(rt; coded(alloc, &map, &[1], 16)?.step(), 1);
-    for bits in [0, 17] {
-        match coded(alloc, &map, &[1], bits) {
-            Ok(_) => assert!(rt; false, "{bits} bits"),
-            Err(error) => assert_eq!(rt; error, CodeError::Bits),
-        }
-    }
-    Ok(())
+fn nodes_refer_to_the_latest_that_is_near(rt: HostRuntime) -> Result<(), CodeError> {
+    assert_said(&rt, rt.alloc(), 0, &EXACT)?;
+    assert_said(&rt, rt.alloc(), 1, &NEAR)
 }
 
-#[test]
-fn nodes_refer_to_the_latest_that_is_near(rt: HostRuntime) -> Result<(), Fail> {
-    let alloc = rt.alloc();
-    let map = two_ways(alloc)?;
-    let codes = coded(alloc, &map, &[1], 2)?;
-    let none: &[u16] = &[];
-    let exact: [(&[u16], Option<(u32, u16)>); 5] = [
-        (&[0], None),
-        (&[1], None),
-        (&[2], None),
-        (none, Some((1, 0))),
-        (&[65535], None),
-    ];
-    let near: [(&[u16], Option<(u32, u16)>); 5] = [
-        (&[0], None),
-        (none, Some((1, 1))),
-        (&[2], None),
-        (none, Some((1, 0))),
-        (&[65535], None),
-    ];
-    for (threshold, expected) in [(0, exact), (1, near)] {
-        let extras = compress(alloc, &codes, &[1, 2, 3, 4, 5], threshold)?;
-        assert_eq!(rt; extras.len(), 5);
-        for (extra, says) in extras.iter().zip(expected) {
-            assert_eq!(rt; said(extra), says, "at {threshold}");
-        }
-    }
-    Ok(())
-}
-
-#[test]
-fn the_last_64_nodes_with_codes_are_candidates(rt: HostRuntime) -> Result<(), Fail> {
-    let alloc = rt.alloc();
-    let extras = on_a_line(alloc, 64)?;
-    match extras.last() {
-        Some(extra) => assert_eq!(rt; said(extra).1, Some((1, 0))),
-        None => assert!(rt; false),
-    }
-    let extras = on_a_line(alloc, 65)?;
-    match extras.last() {
-        Some(extra) => assert!(rt; said(extra).1.is_none()),
-        None => assert!(rt; false),
-    }
-    Ok(())
-}
-
-// So many nodes on a line, 1 apart, and the node 1000 where node 1 is.
-fn line_of(alloc: Global, count: u32) -> Result<Map, Fail> {
+// The roads of so many nodes on a line, 1 apart, and one to the node 1000, which is where node 1
+// is.
+fn roads_of(alloc: Global, count: u32) -> Result<Vec<(u32, u32, u32)>, AllocError> {
     let mut roads = Vec::new(alloc);
     roads.push((1, 1000, 0))?;
     for id in 1..count {
         roads.push((id, id + 1, 1))?;
     }
-    let mut nodes = apart(alloc, count)?;
-    nodes.push((1000, 0, 0))?;
-    Ok(map_of(alloc, &nodes, &roads)?)
+    Ok(roads)
 }
 
-// The references over that line, along its ids, where node 1 is the landmark: all codes differ but that of
-// the last node, which is node 1's.
-fn on_a_line(alloc: Global, count: u32) -> Result<Vec<Extra>, Fail> {
+fn line_of(alloc: Global, count: u32) -> Result<Map, MapError> {
+    let roads = roads_of(alloc, count)?;
+    let mut nodes = apart(alloc, count)?;
+    match nodes.push((1000, 0, 0)) {
+        Ok(()) => map_of(alloc, &nodes, &roads),
+        Err(_) => Err(MapError::Memory),
+    }
+}
+
+fn order_of(alloc: Global, count: u32) -> Result<Vec<u32>, AllocError> {
     let mut order = Vec::new(alloc);
     for id in 1..=count {
         order.push(id)?;
     }
     order.push(1000)?;
-    let map = line_of(alloc, count)?;
-    let codes = coded(alloc, &map, &[1], 16)?;
+    Ok(order)
+}
+
+// The codes over that line for the landmark 1: all differ but that of the last node, which is node
+// 1's.
+fn line_codes(alloc: Global, count: u32) -> Result<CodeTable, CodeError> {
+    match line_of(alloc, count) {
+        Ok(map) => codes_over(alloc, &map, &[1], 16),
+        Err(_) => Err(CodeError::Memory),
+    }
+}
+
+// What the nodes say along that line.
+fn line_extras(alloc: Global, count: u32) -> Result<Vec<Extra>, Fail> {
+    let order = order_of(alloc, count)?;
+    let codes = line_codes(alloc, count)?;
     Ok(compress(alloc, &codes, &order, 0)?)
+}
+
+// What the last node refers to.
+fn last_reference(alloc: Global, count: u32) -> Result<Option<(u32, u16)>, Fail> {
+    let extras = line_extras(alloc, count)?;
+    match extras.last() {
+        Some(extra) => Ok(said(extra).1),
+        None => Err(Fail::from("no extra")),
+    }
+}
+
+#[test]
+fn the_last_64_nodes_with_codes_are_candidates(rt: HostRuntime) -> Result<(), Fail> {
+    assert_same(&rt, last_reference(rt.alloc(), 64)?, Some((1, 0)));
+    assert_same(&rt, last_reference(rt.alloc(), 65)?, None);
+    Ok(())
 }

@@ -1,8 +1,11 @@
 //! A table worked out by hand.
+
+use crate::same::assert_same;
 use book_model::PairLeaves;
 use pair_dist::{PairError, pair_leaves};
-use road_map::Map;
-use std::alloc::Global;
+use road_leaf::PairLeaf;
+use road_map::{Map, MapError};
+use std::alloc::{AllocError, Global};
 use std::test::Fail;
 use test_maps::{NODES, ROADS, apart, are_known, map_of};
 
@@ -14,39 +17,65 @@ fn table_of(alloc: Global, map: &Map, ids: &[u32]) -> Result<PairLeaves, PairErr
     pair_leaves(alloc, map, ids)
 }
 
+static TABLE: [PairLeaf; 6] = [
+    PairLeaf {
+        a: 2,
+        b: 3,
+        distance: 5,
+    },
+    PairLeaf {
+        a: 2,
+        b: 4,
+        distance: 7,
+    },
+    PairLeaf {
+        a: 2,
+        b: 5,
+        distance: u64::MAX,
+    },
+    PairLeaf {
+        a: 3,
+        b: 4,
+        distance: 7,
+    },
+    PairLeaf {
+        a: 3,
+        b: 5,
+        distance: u64::MAX,
+    },
+    PairLeaf {
+        a: 4,
+        b: 5,
+        distance: u64::MAX,
+    },
+];
+
 #[test]
 fn each_pair_has_its_distance(rt: HostRuntime) -> Result<(), Fail> {
-    let alloc = rt.alloc();
-    let map = map_of(alloc, &NODES, &ROADS)?;
-    let leaves = table_of(alloc, &map, &[2, 3, 4, 5])?;
-    let mut said = Vec::new(alloc);
-    for leaf in leaves.as_slice() {
-        said.push((leaf.a, leaf.b, leaf.distance))?;
-    }
-    let none = u64::MAX;
-    let table = [
-        (2, 3, 5),
-        (2, 4, 7),
-        (2, 5, none),
-        (3, 4, 7),
-        (3, 5, none),
-        (4, 5, none),
-    ];
-    assert_eq!(rt; said.as_slice(), table.as_slice());
+    let map = map_of(rt.alloc(), &NODES, &ROADS)?;
+    let leaves = table_of(rt.alloc(), &map, &[2, 3, 4, 5])?;
+    assert_same(&rt, leaves.as_slice(), TABLE.as_slice());
     Ok(())
+}
+
+fn ids_to(alloc: Global, last: u32) -> Result<Vec<u32>, AllocError> {
+    let mut ids = Vec::new(alloc);
+    for id in 1..=last {
+        ids.push(id)?;
+    }
+    Ok(ids)
+}
+
+fn map_to(alloc: Global, last: u32) -> Result<Map, MapError> {
+    let nodes = apart(alloc, last)?;
+    map_of(alloc, &nodes, &[])
 }
 
 #[test]
 fn more_than_2048_are_too_many(rt: HostRuntime) -> Result<(), Fail> {
-    let alloc = rt.alloc();
-    let mut ids = Vec::new(alloc);
-    for id in 1..=2049 {
-        ids.push(id)?;
-    }
-    let map = map_of(alloc, &apart(alloc, 2049)?, &[])?;
-    match table_of(alloc, &map, ids.as_slice()) {
-        Ok(_leaves) => assert!(rt; false),
-        Err(error) => assert_eq!(rt; error, PairError::TooMany),
-    }
+    let map = map_to(rt.alloc(), 2049)?;
+    let ids = ids_to(rt.alloc(), 2049)?;
+    let table = table_of(rt.alloc(), &map, ids.as_slice());
+    assert_same(&rt, table.err(), Some(PairError::TooMany));
     Ok(())
 }

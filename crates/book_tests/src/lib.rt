@@ -2,6 +2,8 @@
 #![tactic(auto)]
 
 #[cfg(test)]
+mod books;
+#[cfg(test)]
 mod border_items;
 #[cfg(test)]
 mod codes;
@@ -10,11 +12,15 @@ mod distances;
 #[cfg(test)]
 mod items;
 #[cfg(test)]
+mod judging;
+#[cfg(test)]
 mod plain;
 #[cfg(test)]
 mod plain_items;
 #[cfg(test)]
 mod reaching;
+#[cfg(test)]
+mod same;
 #[cfg(test)]
 mod with_borders;
 #[cfg(test)]

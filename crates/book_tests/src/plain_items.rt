@@ -1,91 +1,86 @@
 //! Verdicts worked out by hand, over a map with two ways from 1 to 3.
-ghost use Rattle.std.specs.Prelude.{◌≤◌, length};
 
-use book_model::{Items, NodeLeaves, Numbers, PairLeaves, Query};
+use crate::judging::items_of;
+use crate::same::assert_row;
+use book_model::{Numbers, Query};
 use plain_judges::{Dij, Full};
 use proof_judge::{Judge, Refusal};
 use road_leaf::PairLeaf;
-use road_map::Ids;
 use std::alloc::Global;
 use test_maps::leaves_of;
 
-// The verdict on a route, over the leaves of some ids and some pairs.
-fn judged<J: Judge>(
-    alloc: Global,
-    ids: &[u32],
-    pairs: &[PairLeaf],
-    route: &[u32],
-    query: Query,
-) -> Result<u64, Refusal>
-    requires { length route.now ≤ 65536 }
-{
-    let items = Items {
-        route: Ids::from_vec(route.to_vec(alloc)?),
-        nodes: NodeLeaves::from_vec(leaves_of(alloc, ids)?),
-        pairs: PairLeaves::from_vec(pairs.to_vec(alloc)?),
-    };
-    let numbers = Numbers {
-        first: 0,
-        second: 0,
-    };
-    J::judge(alloc, numbers, &items, query)
+const NO_NUMBERS: Numbers = Numbers {
+    first: 0,
+    second: 0,
+};
+
+// The verdict of DIJ on a route from 1 to 3, over the leaves of some ids.
+fn by_search(alloc: Global, ids: &[u32], route: &[u32]) -> Result<u64, Refusal> {
+    let leaves = leaves_of(alloc, ids)?;
+    let items = items_of(alloc, route, leaves, &[])?;
+    Dij::judge(alloc, NO_NUMBERS, &items, Query { from: 1, to: 3 })
 }
+
+// The ids whose leaves are at hand, a route, and the verdict.
+type Search = (&'static [u32], &'static [u32], Result<u64, Refusal>);
+
+static SEARCHES: [Search; 9] = [
+    (&[1, 2, 3, 4], &[1, 2, 3], Ok(9)),
+    (&[4, 3, 2, 1], &[1, 2, 3], Ok(9)),
+    (&[1, 2, 3], &[1, 2, 3], Err(Refusal::MissingTuple(4))),
+    (&[1, 3, 4], &[1, 4, 3], Err(Refusal::MissingTuple(2))),
+    (&[1, 2, 3, 4], &[1, 4, 3], Err(Refusal::Shorter(9))),
+    (&[1, 2, 3, 4], &[1, 3], Err(Refusal::BadRoute(1))),
+    (&[1, 2, 3, 4], &[2, 3], Err(Refusal::BadRoute(0))),
+    (&[1, 2, 3, 4], &[1, 2], Err(Refusal::BadRoute(2))),
+    (&[1, 2, 1], &[1, 2], Err(Refusal::RepeatedNode(1))),
+];
 
 #[test]
 fn dij_judges_by_the_search_over_the_items(rt: HostRuntime) {
-    let alloc = rt.alloc();
-    let table: [(&[u32], &[u32], Result<u64, Refusal>); 9] = [
-        (&[1, 2, 3, 4], &[1, 2, 3], Ok(9)),
-        (&[4, 3, 2, 1], &[1, 2, 3], Ok(9)),
-        (&[1, 2, 3], &[1, 2, 3], Err(Refusal::MissingTuple(4))),
-        (&[1, 3, 4], &[1, 4, 3], Err(Refusal::MissingTuple(2))),
-        (&[1, 2, 3, 4], &[1, 4, 3], Err(Refusal::Shorter(9))),
-        (&[1, 2, 3, 4], &[1, 3], Err(Refusal::BadRoute(1))),
-        (&[1, 2, 3, 4], &[2, 3], Err(Refusal::BadRoute(0))),
-        (&[1, 2, 3, 4], &[1, 2], Err(Refusal::BadRoute(2))),
-        (&[1, 2, 1], &[1, 2], Err(Refusal::RepeatedNode(1))),
-    ];
-    for (ids, route, verdict) in table {
-        assert_eq!(rt;
-            judged::<Dij>(alloc, ids, &[], route, Query { from: 1, to: 3 }),
-            verdict,
-            "{route:?} over {ids:?}"
-        );
+    for (ids, route, verdict) in &SEARCHES {
+        assert_row(&rt, *ids, by_search(rt.alloc(), *ids, *route), *verdict);
     }
 }
 
-const NEAR: PairLeaf = PairLeaf {
-    a: 1,
-    b: 2,
-    distance: 4,
-};
+// The verdict of FULL on a route between its own ends, with some pairs.
+fn by_pair(alloc: Global, pairs: &[PairLeaf], route: &[u32]) -> Result<u64, Refusal> {
+    let leaves = leaves_of(alloc, &[1, 2, 3, 4])?;
+    let items = items_of(alloc, route, leaves, pairs)?;
+    let from = route.first().copied().unwrap_or(0);
+    let to = route.last().copied().unwrap_or(0);
+    Full::judge(alloc, NO_NUMBERS, &items, Query { from, to })
+}
 
-const FAR: PairLeaf = PairLeaf {
-    a: 1,
-    b: 3,
-    distance: 9,
-};
+const BOTH: [PairLeaf; 2] = [
+    PairLeaf {
+        a: 1,
+        b: 2,
+        distance: 4,
+    },
+    PairLeaf {
+        a: 1,
+        b: 3,
+        distance: 9,
+    },
+];
+
+// The pairs that are at hand, a route, and the verdict.
+type Pairing = (&'static [PairLeaf], &'static [u32], Result<u64, Refusal>);
+
+static PAIRINGS: [Pairing; 7] = [
+    (&BOTH, &[1, 2, 3], Ok(9)),
+    (&BOTH, &[3, 2, 1], Ok(9)),
+    (&BOTH, &[1, 4, 3], Err(Refusal::Disagrees(9))),
+    (&[], &[3, 2, 1], Err(Refusal::MissingPair(1, 3))),
+    (&BOTH, &[1, 3], Err(Refusal::BadRoute(1))),
+    (&[], &[1], Ok(0)),
+    (&[], &[1, 2, 1], Err(Refusal::Shorter(0))),
+];
 
 #[test]
 fn full_judges_by_the_pair_of_the_ends(rt: HostRuntime) {
-    let alloc = rt.alloc();
-    let both = [NEAR, FAR];
-    let table: [(&[PairLeaf], &[u32], Result<u64, Refusal>); 7] = [
-        (&both, &[1, 2, 3], Ok(9)),
-        (&both, &[3, 2, 1], Ok(9)),
-        (&both, &[1, 4, 3], Err(Refusal::Disagrees(9))),
-        (&[], &[3, 2, 1], Err(Refusal::MissingPair(1, 3))),
-        (&both, &[1, 3], Err(Refusal::BadRoute(1))),
-        (&[], &[1], Ok(0)),
-        (&[], &[1, 2, 1], Err(Refusal::Shorter(0))),
-    ];
-    for (pairs, route, verdict) in table {
-        let from = route.first().copied().unwrap_or(0);
-        let to = route.last().copied().unwrap_or(0);
-        assert_eq!(rt;
-            judged::<Full>(alloc, &[1, 2, 3, 4], pairs, route, Query { from, to }),
-            verdict,
-            "{route:?} with {pairs:?}"
-        );
+    for (pairs, route, verdict) in &PAIRINGS {
+        assert_row(&rt, *route, by_pair(rt.alloc(), *pairs, *route), *verdict);
     }
 }

@@ -1,56 +1,60 @@
 //! What no clause says: calls that succeed, at a small map, and the texts of what is not gathered.
 
+use crate::same::{assert_printed, assert_row, assert_same};
 use book_model::Query;
-use octet_text::NoMemory;
 use proof_method::{GatherError, leaf_adding, reach};
-use road_leaf::Extra;
-use road_map::{Map, MapError};
+use road_leaf::{Extra, NodeLeaf};
+use road_map::Arc;
 use road_search::knows;
 use std::alloc::{AllocError, Global};
+use std::process::Abort;
+use std::test::Fail;
 use test_maps::{NODES, ROADS, map_of};
 
-fn two_ways(alloc: Global) -> Result<Map, MapError> {
-    map_of(alloc, &NODES, &ROADS)
-}
-
 fn reached(alloc: Global, from: u32, to: u32) -> Result<u64, GatherError> {
-    let Ok(map) = two_ways(alloc) else {
+    let Ok(map) = map_of(alloc, &NODES, &ROADS) else {
         return Err(GatherError::Memory);
     };
     let reached = reach(alloc, &map, Query { from, to })?;
     Ok(reached.length)
 }
 
+static ENDS: [(u32, u32, Result<u64, GatherError>); 4] = [
+    (1, 3, Ok(9)),
+    (1, 5, Err(GatherError::NoRoute)),
+    (1, 9, Err(GatherError::UnknownNode(9))),
+    (9, 8, Err(GatherError::UnknownNode(9))),
+];
+
 #[test]
 fn a_shortest_route_is_reached_or_there_is_a_reason(rt: HostRuntime) {
-    let alloc = rt.alloc();
-    assert_eq!(rt; reached(alloc, 1, 3), Ok(9));
-    assert_eq!(rt; reached(alloc, 1, 5), Err(GatherError::NoRoute));
-    assert_eq!(rt; reached(alloc, 1, 9), Err(GatherError::UnknownNode(9)));
-    assert_eq!(rt; reached(alloc, 9, 8), Err(GatherError::UnknownNode(9)));
+    for (from, to, length) in &ENDS {
+        assert_row(&rt, *to, reached(rt.alloc(), *from, *to), *length);
+    }
 }
 
 #[test]
 fn what_is_not_gathered_has_a_text(rt: HostRuntime) -> Result<(), AllocError> {
-    assert_eq!(rt;
-        GatherError::UnknownNode(9).to_string(rt.alloc())?.as_str(),
-        "No node has the id 9."
-    );
-    Ok(())
+    assert_printed(
+        &rt,
+        rt.alloc(),
+        GatherError::UnknownNode(9),
+        "No node has the id 9.",
+    )
+}
+
+static FROM_FOUR: [Arc; 2] = [Arc { to: 1, length: 3 }, Arc { to: 3, length: 7 }];
+
+fn fourth_leaf(rt: &impl Abort, alloc: Global) -> Result<NodeLeaf, Fail> {
+    let map = map_of(alloc, &NODES, &ROADS)?;
+    assert!(rt; knows(&map, 4));
+    Ok(leaf_adding(alloc, &map, 4, Extra::Plain)?)
 }
 
 #[test]
-fn the_leaf_of_a_node_has_its_arcs(rt: HostRuntime) -> Result<(), NoMemory> {
-    let alloc = rt.alloc();
-    let Ok(map) = two_ways(alloc) else {
-        return Err(NoMemory);
-    };
-    assert!(rt; knows(&map, 4));
-    let leaf = leaf_adding(alloc, &map, 4, Extra::Plain)?;
-    assert_eq!(rt; (leaf.id, leaf.x, leaf.y), (4, 10, 10));
-    match leaf.arcs.as_slice().first() {
-        Some(arc) => assert_eq!(rt; (arc.to, arc.length), (1, 3)),
-        None => assert!(rt; false),
-    }
+fn the_leaf_of_a_node_has_its_arcs(rt: HostRuntime) -> Result<(), Fail> {
+    let leaf = fourth_leaf(&rt, rt.alloc())?;
+    assert_same(&rt, (leaf.id, leaf.x, leaf.y), (4, 10, 10));
+    assert_same(&rt, leaf.arcs.as_slice(), FROM_FOUR.as_slice());
     Ok(())
 }

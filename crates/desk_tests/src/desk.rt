@@ -1,176 +1,191 @@
 //! The owner's commands, over objects in memory.
 
+use crate::asserts::{assert_octets, assert_same};
 use command_files::{Conclusion, Fault};
 use mem_io::{MemDisk, MemLibrary, MemSink};
 use mirror_out::MemMirror;
 use owner_commands::{desk, key, links, publish, succeed};
 use road_command::KeyKind;
 use road_io::Disk;
+use std::alloc::Global;
 use std::test::Fail;
 use test_settings::DIJ;
 
-/// The hex digits of 48 zero octets.
-const ZEROS: &str =
-    "000000000000000000000000000000000000000000000000000000000000000000000000000000000000000000000000";
+/// How a command ends.
+type End = Result<Conclusion, Fault>;
 
 /// The public key of the kind h5 that an independent implementation makes of 48 zero octets.
-const PUBLIC: &str =
-    "000000050000000400000000000000000000000000000000829887511085dc8b9946d97b20163fe2ab4385e734979f535139cabe33cd694f";
+const PUBLIC: &[u8] =
+    b"000000050000000400000000000000000000000000000000829887511085dc8b9946d97b20163fe2ab4385e734979f535139cabe33cd694f";
+
+/// The same of 48 octets that are 1.
+const NEXT: &[u8] =
+    b"000000050000000401010101010101010101010101010101599d16861dc9aacdc40b4275991c60ebdf9decfb219eb795df51d5c9a347762a";
+
+/// An owner's files, disk and output.
+#[derive(Drop)]
+struct World {
+    library: MemLibrary,
+    disk: MemDisk,
+    sink: MemSink,
+}
+
+/// An empty disk, and a map of one node.
+fn new_world(alloc: Global) -> Result<World, Fail> {
+    let mut library = MemLibrary::new(alloc, Vec::new(alloc));
+    library.put("map.roads", b"roads 1\nnode 7 -1 2\n")?;
+    Ok(World {
+        library,
+        disk: MemDisk::new(alloc, 33_280, 200_000, Vec::new(alloc), None)?,
+        sink: MemSink::new(alloc, 100_000, 4096, Vec::new(alloc))?,
+    })
+}
+
+/// Puts the secret of one octet again and again.
+fn put_secret(alloc: Global, world: &mut World, octet: u8) -> Result<(), Fail> {
+    let digits = hex::encode(alloc, &[octet; 48])?;
+    world.library.put("secret", digits.as_bytes())?;
+    Ok(())
+}
+
+/// Makes the first key of such a secret.
+fn make_key(alloc: Global, world: &mut World, octet: u8) -> Result<End, Fail> {
+    put_secret(alloc, world, octet)?;
+    Ok(key(
+        alloc,
+        &mut world.library,
+        &mut world.sink,
+        &mut world.disk,
+        "secret",
+        KeyKind::H5,
+    ))
+}
+
+/// Makes the next key of such a secret.
+fn follow(alloc: Global, world: &mut World, octet: u8) -> Result<End, Fail> {
+    put_secret(alloc, world, octet)?;
+    Ok(succeed(
+        alloc,
+        &mut world.library,
+        &mut world.sink,
+        &mut world.disk,
+        "secret",
+        KeyKind::H5,
+    ))
+}
+
+/// Tells what is left of the key.
+fn tell(alloc: Global, world: &mut World) -> End {
+    desk(alloc, &mut world.sink, &mut world.disk)
+}
+
+/// Publishes the map.
+fn publish_map(alloc: Global, world: &mut World) -> End {
+    let mut mirrors: Vec<MemMirror> = Vec::new(alloc);
+    publish(
+        alloc,
+        &mut world.library,
+        &mut world.sink,
+        &mut world.disk,
+        &mut mirrors,
+        "map.roads",
+        &DIJ,
+    )
+}
+
+/// Pieces of a text, one behind the other.
+fn joined(alloc: Global, pieces: &[&[u8]]) -> Result<Vec<u8>, Fail> {
+    let mut text = Vec::new(alloc);
+    for piece in pieces {
+        text.extend_from_slice(piece)?;
+    }
+    Ok(text)
+}
 
 #[test]
 fn a_key_is_made_once(rt: HostRuntime) -> Result<(), Fail> {
     let alloc = rt.alloc();
-    let mut library = MemLibrary::new(alloc, Vec::new(alloc));
-    library.put("secret", ZEROS.as_bytes())?;
-    let mut sink = MemSink::new(alloc, 1000, 1000, Vec::new(alloc))?;
-    let mut disk = MemDisk::new(alloc, 4160, 10_000, Vec::new(alloc), None)?;
-    let before = desk(alloc, &mut sink, &mut disk);
-    assert_eq!(rt; before, Err(Fault::NoKey));
-    let made = key(
-        alloc,
-        &mut library,
-        &mut sink,
-        &mut disk,
-        "secret",
-        KeyKind::H5,
-    );
-    assert_eq!(rt; made, Ok(Conclusion::Done));
-    let again = key(
-        alloc,
-        &mut library,
-        &mut sink,
-        &mut disk,
-        "secret",
-        KeyKind::H5,
-    );
-    assert_eq!(rt; again, Err(Fault::Held));
-    let told = desk(alloc, &mut sink, &mut disk);
-    assert_eq!(rt; told, Ok(Conclusion::Done));
-    let written = format!(in alloc; "{PUBLIC}\n{PUBLIC} 31 31\n")?;
-    assert_eq!(rt; sink.taken(), written.as_bytes());
-    let mut failing = MemDisk::new(alloc, 4160, 10_000, vec![in alloc; 0]?, None)?;
-    let failed = key(
-        alloc,
-        &mut library,
-        &mut sink,
-        &mut failing,
-        "secret",
-        KeyKind::H5,
-    );
-    assert_eq!(rt; failed, Err(Fault::Disk));
+    let mut world = new_world(alloc)?;
+    assert_same(&rt, &tell(alloc, &mut world), &Err(Fault::NoKey));
+    assert_same(&rt, &make_key(alloc, &mut world, 0)?, &Ok(Conclusion::Done));
+    assert_same(&rt, &make_key(alloc, &mut world, 0)?, &Err(Fault::Held));
+    assert_same(&rt, &tell(alloc, &mut world), &Ok(Conclusion::Done));
+    let written = joined(alloc, &[PUBLIC, b"\n", PUBLIC, b" 31 31\n"])?;
+    assert_octets(&rt, world.sink.taken(), &written);
     Ok(())
 }
-
-/// The hex digits of 48 octets that are 1.
-const ONES: &str =
-    "010101010101010101010101010101010101010101010101010101010101010101010101010101010101010101010101";
-
-/// The public key of the kind h5 that an independent implementation makes of them.
-const NEXT: &str =
-    "000000050000000401010101010101010101010101010101599d16861dc9aacdc40b4275991c60ebdf9decfb219eb795df51d5c9a347762a";
 
 #[test]
 fn a_key_is_followed_by_the_next(rt: HostRuntime) -> Result<(), Fail> {
     let alloc = rt.alloc();
-    let mut library = MemLibrary::new(alloc, Vec::new(alloc));
-    library.put("zeros", ZEROS.as_bytes())?;
-    library.put("ones", ONES.as_bytes())?;
-    let mut sink = MemSink::new(alloc, 1000, 1000, Vec::new(alloc))?;
-    let mut disk = MemDisk::new(alloc, 8320, 100_000, Vec::new(alloc), None)?;
-    let early = succeed(
-        alloc,
-        &mut library,
-        &mut sink,
-        &mut disk,
-        "ones",
-        KeyKind::H5,
-    );
-    assert_eq!(rt; early, Err(Fault::NoKey));
-    let made = key(
-        alloc,
-        &mut library,
-        &mut sink,
-        &mut disk,
-        "zeros",
-        KeyKind::H5,
-    );
-    assert_eq!(rt; made, Ok(Conclusion::Done));
-    let again = succeed(
-        alloc,
-        &mut library,
-        &mut sink,
-        &mut disk,
-        "zeros",
-        KeyKind::H5,
-    );
-    assert_eq!(rt; again, Err(Fault::SameSecret));
-    let followed = succeed(
-        alloc,
-        &mut library,
-        &mut sink,
-        &mut disk,
-        "ones",
-        KeyKind::H5,
-    );
-    assert_eq!(rt; followed, Ok(Conclusion::Done));
-    assert_eq!(rt; disk.len(), Ok(8320));
-    let told = desk(alloc, &mut sink, &mut disk);
-    assert_eq!(rt; told, Ok(Conclusion::Done));
-    let written = format!(in alloc; "{PUBLIC}\n{NEXT}\n{NEXT} 31 31\n")?;
-    assert_eq!(rt; sink.taken(), written.as_bytes());
+    let mut world = new_world(alloc)?;
+    assert_same(&rt, &follow(alloc, &mut world, 1)?, &Err(Fault::NoKey));
+    assert_same(&rt, &make_key(alloc, &mut world, 0)?, &Ok(Conclusion::Done));
+    assert_same(&rt, &follow(alloc, &mut world, 0)?, &Err(Fault::SameSecret));
+    assert_same(&rt, &follow(alloc, &mut world, 1)?, &Ok(Conclusion::Done));
+    assert_same(&rt, &tell(alloc, &mut world), &Ok(Conclusion::Done));
+    let written = joined(alloc, &[PUBLIC, b"\n", NEXT, b"\n", NEXT, b" 31 31\n"])?;
+    assert_octets(&rt, world.sink.taken(), &written);
+    assert_same(&rt, &world.disk.len(), &Ok(8320));
+    Ok(())
+}
+
+/// The chain file of an owner whose second key is made of ones.
+fn chain_of_two(alloc: Global) -> Result<Vec<u8>, Fail> {
+    let mut world = new_world(alloc)?;
+    make_key(alloc, &mut world, 0)??;
+    follow(alloc, &mut world, 1)??;
     let mut sink = MemSink::new(alloc, 4096, 4096, Vec::new(alloc))?;
-    let chained = links(alloc, &mut sink, &mut disk);
-    assert_eq!(rt; chained, Ok(Conclusion::Done));
-    let mut key = [0; 56];
-    hex::decode_to_slice(NEXT, &mut key).expect(&rt, "the digits spell a key");
-    let chain = sink.taken();
-    assert_eq!(rt; chain.len(), 1354);
-    assert_eq!(rt; &chain[..4], b"RPL1".as_slice());
-    assert_eq!(rt; &chain[4..60], key.as_slice());
+    links(alloc, &mut sink, &mut world.disk)?;
+    Ok(sink.taken().to_vec(alloc)?)
+}
+
+#[test]
+fn a_chain_has_a_link_to_the_next_key(rt: HostRuntime) -> Result<(), Fail> {
+    let alloc = rt.alloc();
+    let chain = chain_of_two(alloc)?;
+    assert_same(&rt, &chain.len(), &1354);
+    let key = hex::decode(alloc, NEXT)?;
+    let front = joined(alloc, &[b"RPL1", &key])?;
+    assert_octets(&rt, chain.get(..60).unwrap_or(&[]), &front);
+    Ok(())
+}
+
+#[test]
+fn a_disk_holds_eight_keys_at_most(rt: HostRuntime) -> Result<(), Fail> {
+    let alloc = rt.alloc();
+    let mut world = new_world(alloc)?;
+    assert_same(&rt, &make_key(alloc, &mut world, 0)?, &Ok(Conclusion::Done));
+    for octet in 1..8 {
+        assert_same(
+            &rt,
+            &follow(alloc, &mut world, octet)?,
+            &Ok(Conclusion::Done),
+        );
+    }
+    assert_same(
+        &rt,
+        &follow(alloc, &mut world, 8)?,
+        &Err(Fault::TooManyKeys),
+    );
+    assert_same(&rt, &world.disk.len(), &Ok(33_280));
     Ok(())
 }
 
 #[test]
 fn each_one_time_key_signs_once(rt: HostRuntime) -> Result<(), Fail> {
     let alloc = rt.alloc();
-    let mut library = MemLibrary::new(alloc, Vec::new(alloc));
-    library.put("secret", ZEROS.as_bytes())?;
-    library.put("map.roads", b"roads 1\nnode 7 -1 2\n")?;
-    let mut disk = MemDisk::new(alloc, 4160, 100_000, Vec::new(alloc), None)?;
-    let mut sink = MemSink::new(alloc, 4096, 4096, Vec::new(alloc))?;
-    let made = key(
-        alloc,
-        &mut library,
-        &mut sink,
-        &mut disk,
-        "secret",
-        KeyKind::H5,
-    );
-    assert_eq!(rt; made, Ok(Conclusion::Done));
-    let mut mirrors: Vec<MemMirror> = Vec::new(alloc);
-    for slot in 0..31u8 {
-        let mut sink = MemSink::new(alloc, 4096, 4096, Vec::new(alloc))?;
-        let ended = publish(
-            alloc,
-            &mut library,
-            &mut sink,
-            &mut disk,
-            &mut mirrors,
-            "map.roads",
-            &DIJ,
-        );
-        assert_eq!(rt; ended, Ok(Conclusion::Done));
-        assert_eq!(rt; sink.taken().get(113).copied(), Some(slot));
+    let mut world = new_world(alloc)?;
+    assert_same(&rt, &make_key(alloc, &mut world, 0)?, &Ok(Conclusion::Done));
+    for slot in 0..31 {
+        world.sink = MemSink::new(alloc, 4096, 4096, Vec::new(alloc))?;
+        assert_same(&rt, &publish_map(alloc, &mut world), &Ok(Conclusion::Done));
+        assert_same(&rt, &world.sink.taken().get(113).copied(), &Some(slot));
     }
-    let ended = publish(
-        alloc,
-        &mut library,
-        &mut sink,
-        &mut disk,
-        &mut mirrors,
-        "map.roads",
-        &DIJ,
+    assert_same(
+        &rt,
+        &publish_map(alloc, &mut world),
+        &Err(Fault::KeysUsedUp),
     );
-    assert_eq!(rt; ended, Err(Fault::KeysUsedUp));
     Ok(())
 }

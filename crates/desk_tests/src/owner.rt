@@ -1,5 +1,6 @@
 //! A map of five nodes, published from a disk in memory.
 
+use crate::asserts::assert_same;
 use book_model::{PlanError, Settings};
 use key_desk::Desk;
 use lms_tree::verify;
@@ -7,42 +8,52 @@ use mem_io::MemDisk;
 use octet_text::Sha;
 use route_owner::{PublishError, publish};
 use route_server::BuildError;
+use std::alloc::Global;
 use std::test::Fail;
 use test_maps::{NODES, ROADS, parts_of};
 use test_settings::DIJ;
 
-#[test]
-fn what_is_published_is_signed(rt: HostRuntime) -> Result<(), Fail> {
-    let alloc = rt.alloc();
+/// An owner's disk, its public key, and the octets of the publication that its desk has signed.
+#[derive(Drop)]
+pub(crate) struct Signed {
+    pub disk: MemDisk,
+    pub key: [u8; 56],
+    pub text: Vec<u8>,
+}
+
+/// The five nodes in this version, which a new desk signs first.
+pub(crate) fn published(alloc: Global, version: u64) -> Result<Signed, Fail> {
     let mut disk = MemDisk::new(alloc, 4160, 100_000, Vec::new(alloc), None)?;
     let mut desk = Desk::create(alloc, &mut disk, 5, &[0; 48])?;
     let parts = parts_of(alloc, &NODES, &ROADS)?;
-    let publication = publish::<Sha, MemDisk>(alloc, &mut desk, &mut disk, parts, &DIJ)?;
+    let settings = Settings { version, ..DIJ };
+    let publication = publish::<Sha, MemDisk>(alloc, &mut desk, &mut disk, parts, &settings)?;
+    let key = desk.public();
     let text = publication.write(alloc)?;
-    assert_eq!(rt; text.len(), 1550);
-    assert_eq!(rt;
-        verify(&desk.public(), &text[4..108], &text[110..1402]),
-        Ok(())
-    );
+    Ok(Signed { disk, key, text })
+}
+
+#[test]
+fn what_is_published_is_signed(rt: HostRuntime) -> Result<(), Fail> {
+    let published = published(rt.alloc(), 3)?;
+    assert_same(&rt, &published.text.len(), &1550);
+    let header = published.text.get(4..108).unwrap_or(&[]);
+    let signature = published.text.get(110..1402).unwrap_or(&[]);
+    let verdict = verify(&published.key, header, signature);
+    assert_same(&rt, &verdict, &Ok(()));
     Ok(())
 }
 
 #[test]
-fn what_has_no_book_is_not_signed(rt: HostRuntime) -> Result<(), Fail> {
+fn what_has_no_book_is_not_published(rt: HostRuntime) -> Result<(), Fail> {
     let alloc = rt.alloc();
     let mut disk = MemDisk::new(alloc, 4160, 100_000, Vec::new(alloc), None)?;
     let mut desk = Desk::create(alloc, &mut disk, 5, &[0; 48])?;
     let parts = parts_of(alloc, &NODES, &ROADS)?;
+    // A parameter that DIJ does not have.
     let other = Settings { p3: 1, ..DIJ };
     let refused = publish::<Sha, MemDisk>(alloc, &mut desk, &mut disk, parts, &other);
-    let Err(refused) = refused else {
-        assert!(rt; false, "a parameter that DIJ does not have");
-        return Ok(());
-    };
-    assert_eq!(rt;
-        refused,
-        PublishError::Build(BuildError::Plan(PlanError::Settings(5)))
-    );
-    assert!(rt; !desk.signed(&mut disk, &[0; 104])?);
+    let no_plan = PublishError::Build(BuildError::Plan(PlanError::Settings(5)));
+    assert_same(&rt, &refused.err(), &Some(no_plan));
     Ok(())
 }

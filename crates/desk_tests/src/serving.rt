@@ -1,5 +1,6 @@
 //! What no clause says: worked inputs, from their octets to those of their replies, and calls that
 //! succeed with ample memory.
+use crate::asserts::{assert_octets, assert_same};
 use book_model::Settings;
 use mem_io::{MemSink, MemSource};
 use octet_frame::next_frame;
@@ -80,8 +81,17 @@ fn serve_octets(
     Ok(serve(alloc, &mut service, source, sink, MOST_OCTETS, MOST_FRAMES))
 }
 
-// Serves an input whose read of this number fails, if any, compares how it ends, and answers what was
-// written.
+// The numbers of the reads that fail: this one, if any.
+fn plan(alloc: Global, fails: Option<u64>) -> Result<Vec<u64>, Fail> {
+    let mut planned = Vec::new(alloc);
+    if let Some(call) = fails {
+        planned.push(call)?;
+    }
+    Ok(planned)
+}
+
+// Serves an input whose read of this number fails, if any, compares how it ends, and answers what
+// was written.
 fn served(
     rt: &impl Abort,
     alloc: Global,
@@ -89,14 +99,10 @@ fn served(
     fails: Option<u64>,
     end: Result<(), ServeError>,
 ) -> Result<Vec<u8>, Fail> {
-    let mut planned = Vec::new(alloc);
-    if let Some(call) = fails {
-        planned.push(call)?;
-    }
-    let mut source = MemSource::new(input, 4096, planned);
+    let mut source = MemSource::new(input, 4096, plan(alloc, fails)?);
     let mut sink = MemSink::new(alloc, 100_000, 4096, Vec::new(alloc))?;
     let ended = serve_octets(alloc, &mut source, &mut sink)?;
-    assert_eq!(rt; ended, end);
+    assert_same(rt, &ended, &end);
     Ok(sink.taken().to_vec(alloc)?)
 }
 
@@ -105,32 +111,67 @@ fn ask(session: u8) -> [u8; 10] {
     [2, session, 0, 0, 0, 1, 0, 0, 0, 3]
 }
 
-// Compares the next reply; of an answer its session, its kind 0 and the last octet of its version.
-fn assert_next(rt: &impl Abort, replies: &mut MemSource, reply: &mut Vec<u8>, wanted: &[u8]) {
-    assert_eq!(rt; next_frame(replies, MOST_OCTETS, reply), Ok(true));
-    match reply.as_slice() {
-        [0x82, session, kind, rest @ ..] => {
-            assert_eq!(rt;
-                [0x82, *session, *kind].as_slice(),
-                wanted.get(..3).unwrap_or(&[])
-            );
-            assert_eq!(rt; rest.get(15).copied(), wanted.get(3).copied());
-        }
-        other => assert_eq!(rt; other, wanted),
+// A body, and its reply; of an answer its session, its kind 0 and the last octet of its version.
+type Row<'a> = (&'a [u8], &'a [u8]);
+
+// The bodies of rows as frames.
+fn framed(alloc: Global, rows: &[Row<'_>]) -> Result<Vec<u8>, Fail> {
+    let mut input = Vec::new(alloc);
+    for (body, _) in rows {
+        put_frame(&mut input, body)?;
     }
+    Ok(input)
+}
+
+// The first three octets, or zeros.
+fn first_three(octets: &[u8]) -> [u8; 3] {
+    match octets {
+        [first, second, third, ..] => [*first, *second, *third],
+        _ => [0; 3],
+    }
+}
+
+// Compares a reply.
+fn assert_reply(rt: &impl Abort, reply: &[u8], wanted: &[u8]) {
+    if reply.first().copied() == Some(0x82) {
+        assert_octets(rt, &first_three(reply), &first_three(wanted));
+        let version = reply.get(18).copied();
+        assert_same(rt, &version, &wanted.get(3).copied());
+    } else {
+        assert_octets(rt, reply, wanted);
+    }
+}
+
+// Compares the replies in what was written, one to a row.
+fn assert_replies(rt: &impl Abort, alloc: Global, octets: Vec<u8>, rows: &[Row<'_>]) {
+    let mut replies = MemSource::new(octets, 4096, Vec::new(alloc));
+    let mut reply = Vec::new(alloc);
+    for (_, wanted) in rows {
+        let is_there = next_frame(&mut replies, MOST_OCTETS, &mut reply);
+        assert_same(rt, &is_there, &Ok(true));
+        assert_reply(rt, &reply, wanted);
+    }
+    let is_there = next_frame(&mut replies, MOST_OCTETS, &mut reply);
+    assert_same(rt, &is_there, &Ok(false));
+}
+
+// Serves the bodies of rows and three octets more, and compares the replies.
+fn assert_served(rt: &impl Abort, alloc: Global, rows: &[Row<'_>]) -> Result<(), Fail> {
+    let mut input = framed(alloc, rows)?;
+    put_octets(&mut input, &[0, 0, 0])?;
+    let cut = Err(ServeError::TruncatedFrame);
+    let octets = served(rt, alloc, input, None, cut)?;
+    assert_replies(rt, alloc, octets, rows);
+    Ok(())
 }
 
 #[test]
 fn each_body_gets_its_reply(rt: HostRuntime) -> Result<(), Fail> {
-    let alloc = rt.alloc();
-    let second = install(alloc, 2)?;
-    let mut longer = install(alloc, 3)?;
+    let second = install(rt.alloc(), 2)?;
+    let mut longer = install(rt.alloc(), 3)?;
     longer.push(0)?;
-    let rows = [
-        (
-            b"\x01\x00".as_slice(),
-            b"\x81\x00\x00\x00\x00\x00\x00\x00\x00\x01".as_slice(),
-        ),
+    let rows: [Row<'_>; 14] = [
+        (b"\x01\x00", b"\x81\x00\x00\x00\x00\x00\x00\x00\x00\x01"),
         (&second, b"\x84\x00\x00\x00\x00\x00\x00\x00\x02"),
         (b"\x01\x01", b"\x81\x01\x00\x00\x00\x00\x00\x00\x00\x02"),
         (&ask(0), b"\x82\x00\x00\x01"),
@@ -145,42 +186,23 @@ fn each_body_gets_its_reply(rt: HostRuntime) -> Result<(), Fail> {
         (&longer, b"\xe5\x01"),
         (b"\x04", b"\xe5\x01"),
     ];
-    let mut input = Vec::new(alloc);
-    for (body, _) in rows {
-        put_frame(&mut input, body)?;
-    }
-    put_octets(&mut input, &[0, 0, 0])?;
-    let cut = Err(ServeError::TruncatedFrame);
-    let octets = served(&rt, alloc, input, None, cut)?;
-    let mut replies = MemSource::new(octets, 4096, Vec::new(alloc));
-    let mut reply = Vec::new(alloc);
-    for (_, wanted) in rows {
-        assert_next(&rt, &mut replies, &mut reply, wanted);
-    }
-    assert_eq!(rt;
-        next_frame(&mut replies, MOST_OCTETS, &mut reply),
-        Ok(false)
-    );
-    Ok(())
+    assert_served(&rt, rt.alloc(), &rows)
 }
 
 #[test]
 fn runs_end_with_the_replies_before(rt: HostRuntime) -> Result<(), Fail> {
     let alloc = rt.alloc();
-    let rows = [
-        ([0, 0, 0, 0, 0, 0x40, 0, 1], None, ServeError::FrameTooLong),
-        ([0, 0, 0, 0, 0, 0, 0, 0], Some(1), ServeError::Source),
-    ];
-    for (input, fails, why) in rows {
-        let octets = served(&rt, alloc, input.to_vec(alloc)?, fails, Err(why))?;
-        assert_eq!(rt; octets.as_slice(), b"\x00\x00\x00\x01\xe1".as_slice());
-    }
+    let long = [0, 0, 0, 0, 0, 0x40, 0, 1].to_vec(alloc)?;
+    let octets = served(&rt, alloc, long, None, Err(ServeError::FrameTooLong))?;
+    assert_octets(&rt, &octets, b"\x00\x00\x00\x01\xe1");
+    let unread = [0; 8].to_vec(alloc)?;
+    let octets = served(&rt, alloc, unread, Some(1), Err(ServeError::Source))?;
+    assert_octets(&rt, &octets, b"\x00\x00\x00\x01\xe1");
     Ok(())
 }
 
-#[test]
-fn each_session_keeps_its_version(rt: HostRuntime) -> Result<(), Fail> {
-    let alloc = rt.alloc();
+// Begins each of the 16 sessions with a version of its own, and asks in each.
+fn sessions(alloc: Global) -> Result<Vec<u8>, Fail> {
     let mut input = Vec::new(alloc);
     for session in 0..16u8 {
         put_frame(&mut input, &[1, session])?;
@@ -190,20 +212,30 @@ fn each_session_keeps_its_version(rt: HostRuntime) -> Result<(), Fail> {
     for session in 0..16u8 {
         put_frame(&mut input, &ask(session))?;
     }
-    let octets = served(&rt, alloc, input, None, Ok(()))?;
+    Ok(input)
+}
+
+// Compares the replies to the sessions: 32 to what begins and installs, and an answer to each
+// question.
+fn assert_sessions(rt: &impl Abort, alloc: Global, octets: Vec<u8>) {
     let mut replies = MemSource::new(octets, 4096, Vec::new(alloc));
     let mut reply = Vec::new(alloc);
     for _ in 0..32u8 {
-        assert_eq!(rt; next_frame(&mut replies, MOST_OCTETS, &mut reply), Ok(true));
+        let is_there = next_frame(&mut replies, MOST_OCTETS, &mut reply);
+        assert_same(rt, &is_there, &Ok(true));
         assert!(rt; matches!(reply.first(), Some(0x81 | 0x84)));
     }
     for session in 0..16u8 {
-        assert_next(
-            &rt,
-            &mut replies,
-            &mut reply,
-            &[0x82, session, 0, session + 1],
-        );
+        let is_there = next_frame(&mut replies, MOST_OCTETS, &mut reply);
+        assert_same(rt, &is_there, &Ok(true));
+        assert_reply(rt, &reply, &[0x82, session, 0, session + 1]);
     }
+}
+
+#[test]
+fn each_session_keeps_its_version(rt: HostRuntime) -> Result<(), Fail> {
+    let input = sessions(rt.alloc())?;
+    let octets = served(&rt, rt.alloc(), input, None, Ok(()))?;
+    assert_sessions(&rt, rt.alloc(), octets);
     Ok(())
 }

@@ -4,14 +4,17 @@ ghost use Rattle.std.specs.Bool.{OnTrue};
 ghost use Rattle.octet_text.specs.Toy.{toy_digest as toy_hash};
 ghost use Rattle.merkle_cover.specs.Trees.{tree_of};
 
+use crate::asserts::{assert_octets, assert_same};
 use merkle_cover::{
     Cut, CutTexts, FoldError, Texts, Tree, TreeError, TwoTexts, are_in, are_rising, clash, fold,
 };
 use octet_text::{Digest32, Hasher, NoMemory, Sha, Toy};
-use std::alloc::{AllocError, Global};
+use std::alloc::Global;
 use std::process::Abort;
+use std::test::Fail;
 
-// The roots of five leaves with fan-out 2 and 3, and the cover's digest where the last is not chosen.
+// The roots of five leaves with fan-out 2 and 3, and the cover's digest where the last is not
+// chosen.
 const ROOT_BY_TWO: Digest32 = [
     0xe5, 0xf7, 0xde, 0xf0, 0x31, 0x06, 0xc0, 0xda, 0x43, 0x71, 0x21, 0xc9, 0xf9, 0x67, 0x93, 0x96,
     0xd7, 0x74, 0x65, 0x95, 0xcd, 0x2a, 0x3c, 0x28, 0xfd, 0x80, 0x83, 0xdd, 0xd7, 0xde, 0x68, 0x06,
@@ -94,104 +97,77 @@ fn folded<H: Hasher>(
     fold::<H>(5, fan, places, texts, cover)
 }
 
+// The root of five leaves, and the cover of the first four.
+fn root_and_cover<H: Hasher>(
+    rt: &impl Abort,
+    alloc: Global,
+    fan: u8,
+) -> Result<(Digest32, Vec<Digest32>), Fail> {
+    let leaves = five_leaves(alloc)?;
+    let tree = Tree::<H>::build(alloc, &leaves, fan)?;
+    let places = [0, 1, 2, 3];
+    assert!(rt; are_rising(tree.leaves(), &places));
+    let cover = tree.cover(alloc, &places)?;
+    Ok((tree.root(), cover))
+}
+
+// Compares what the first four texts fold to at these places of five.
+fn assert_folds<H: Hasher>(
+    rt: &impl Abort,
+    fan: u8,
+    places: &[u32],
+    cover: &[Digest32],
+    wanted: Result<Digest32, FoldError>,
+) {
+    let texts = texts_at(rt, &FIRST_FOUR);
+    assert_same(rt, &folded::<H>(rt, fan, places, &texts, cover), &wanted);
+}
+
 // What the cover of the first four of five leaves is, and what it folds to.
 fn covers_and_folds<H: Hasher>(
     rt: &impl Abort,
     alloc: Global,
     fan: u8,
-    digest: &Digest32,
-    root: &Digest32,
-) -> Result<(), NoMemory> {
-    let leaves = five_leaves(alloc)?;
-    match Tree::<H>::build(alloc, &leaves, fan) {
-        Ok(tree) => {
-            assert_eq!(rt; tree.root(), *root);
-            let places = [0, 1, 2, 3];
-            assert!(rt; are_rising(tree.leaves(), &places));
-            let cover = tree.cover(alloc, &places)?;
-            assert_eq!(rt; cover.as_slice(), [*digest].as_slice());
-            let texts = texts_at(rt, &FIRST_FOUR);
-            assert_eq!(rt; folded::<H>(rt, fan, &places, &texts, &cover), Ok(*root));
-            assert_eq!(rt;
-                folded::<H>(rt, fan, &places, &texts, &[]),
-                Err(FoldError::CoverShort)
-            );
-            let two = [*digest, *digest];
-            assert_eq!(rt;
-                folded::<H>(rt, fan, &places, &texts, &two),
-                Err(FoldError::CoverLong)
-            );
-            let falling = [1, 1, 2, 3];
-            assert_eq!(rt;
-                folded::<H>(rt, fan, &falling, &texts, &cover),
-                Err(FoldError::Place(1))
-            );
-            let above = [0, 1, 2, 5];
-            assert_eq!(rt;
-                folded::<H>(rt, fan, &above, &texts, &cover),
-                Err(FoldError::Place(3))
-            );
-        }
-        Err(_) => assert!(rt; false),
-    }
+    digest: Digest32,
+    root: Digest32,
+) -> Result<(), Fail> {
+    let (found, cover) = root_and_cover::<H>(rt, alloc, fan)?;
+    assert_same(rt, &found, &root);
+    assert_same(rt, &cover.as_slice(), &[digest].as_slice());
+    assert_folds::<H>(rt, fan, &[0, 1, 2, 3], &cover, Ok(root));
+    assert_folds::<H>(rt, fan, &[0, 1, 2, 3], &[], Err(FoldError::CoverShort));
+    let two = [digest, digest];
+    assert_folds::<H>(rt, fan, &[0, 1, 2, 3], &two, Err(FoldError::CoverLong));
+    assert_folds::<H>(rt, fan, &[1, 1, 2, 3], &cover, Err(FoldError::Place(1)));
+    assert_folds::<H>(rt, fan, &[0, 1, 2, 5], &cover, Err(FoldError::Place(3)));
     Ok(())
 }
 
 #[test]
-fn covers_of_five_leaves_fold_to_the_root(rt: HostRuntime) -> Result<(), NoMemory> {
+fn covers_of_five_leaves_fold_to_the_root(rt: HostRuntime) -> Result<(), Fail> {
     let alloc = rt.alloc();
-    covers_and_folds::<Sha>(&rt, alloc, 2, &COVER_BY_TWO, &ROOT_BY_TWO)?;
-    covers_and_folds::<Sha>(&rt, alloc, 3, &COVER_BY_THREE, &ROOT_BY_THREE)?;
-    covers_and_folds::<Toy>(&rt, alloc, 2, &toy_digest(105), &toy_digest(194))?;
-    covers_and_folds::<Toy>(&rt, alloc, 3, &toy_digest(103), &toy_digest(191))
+    covers_and_folds::<Sha>(&rt, alloc, 2, COVER_BY_TWO, ROOT_BY_TWO)?;
+    covers_and_folds::<Sha>(&rt, alloc, 3, COVER_BY_THREE, ROOT_BY_THREE)?;
+    covers_and_folds::<Toy>(&rt, alloc, 2, toy_digest(105), toy_digest(194))?;
+    covers_and_folds::<Toy>(&rt, alloc, 3, toy_digest(103), toy_digest(191))
+}
+
+// The root of a tree.
+fn root_of(alloc: Global, leaves: &Texts, fan: u8) -> Result<Digest32, TreeError> {
+    let tree = Tree::<Sha>::build(alloc, leaves, fan)?;
+    Ok(tree.root())
 }
 
 #[test]
-fn a_tree_of_one_leaf_has_its_digest(rt: HostRuntime) -> Result<(), NoMemory> {
+fn a_tree_of_one_leaf_has_its_digest(rt: HostRuntime) -> Result<(), Fail> {
     let alloc = rt.alloc();
     let leaves = texts_of(alloc, &[&ONE_NODE])?;
-    assert_eq!(rt; leaves.total(), 15);
-    assert_eq!(rt;
-        Tree::<Sha>::build(alloc, &leaves, 2).map(|tree| tree.root()),
-        Ok(ROOT_OF_ONE_NODE)
-    );
-    assert_eq!(rt;
-        Tree::<Sha>::build(alloc, &leaves, 1).err(),
-        Some(TreeError::Fan)
-    );
-    assert_eq!(rt;
-        Tree::<Sha>::build(alloc, &leaves, 33).err(),
-        Some(TreeError::Fan)
-    );
-    assert_eq!(rt;
-        Tree::<Sha>::build(alloc, &Texts::new(alloc), 2).err(),
-        Some(TreeError::Empty)
-    );
-    Ok(())
-}
-
-#[test]
-fn texts_with_one_sum_clash(rt: HostRuntime) -> Result<(), NoMemory> {
-    let alloc = rt.alloc();
-    let leaves = five_leaves(alloc)?;
-    let places = [1, 3];
-    match Tree::<Toy>::build(alloc, &leaves, 2) {
-        Ok(tree) => {
-            assert!(rt; are_rising(tree.leaves(), &places));
-            let cover = tree.cover(alloc, &places)?;
-            let own = texts_at(&rt, &SECOND_AND_FOURTH);
-            assert!(rt; clash_of(&rt, alloc, &tree, &leaves, &places, &own, &cover)?.is_none());
-            let other = texts_at(&rt, &ANOTHER_FOURTH);
-            match clash_of(&rt, alloc, &tree, &leaves, &places, &other, &cover)? {
-                Some(two) => {
-                    assert_eq!(rt; two.left.as_slice(), b"\0def".as_slice());
-                    assert_eq!(rt; two.right.as_slice(), b"\0fed".as_slice());
-                }
-                None => assert!(rt; false),
-            }
-        }
-        Err(_) => assert!(rt; false),
-    }
+    assert_same(&rt, &leaves.total(), &15);
+    assert_same(&rt, &root_of(alloc, &leaves, 2), &Ok(ROOT_OF_ONE_NODE));
+    assert_same(&rt, &root_of(alloc, &leaves, 1), &Err(TreeError::Fan));
+    assert_same(&rt, &root_of(alloc, &leaves, 33), &Err(TreeError::Fan));
+    let none = Texts::new(alloc);
+    assert_same(&rt, &root_of(alloc, &none, 2), &Err(TreeError::Empty));
     Ok(())
 }
 
@@ -227,18 +203,44 @@ fn is_root(digest: &Result<Digest32, FoldError>, root: &Digest32) -> bool
     }
 }
 
+// The clash of the sums of five leaves with two texts at the places of the second and the fourth.
+fn clash_with(rt: &impl Abort, alloc: Global, cuts: &[Cut]) -> Result<Option<TwoTexts>, Fail> {
+    let leaves = five_leaves(alloc)?;
+    let tree = Tree::<Toy>::build(alloc, &leaves, 2)?;
+    let places = [1, 3];
+    assert!(rt; are_rising(tree.leaves(), &places));
+    let cover = tree.cover(alloc, &places)?;
+    let texts = texts_at(rt, cuts);
+    Ok(clash_of(rt, alloc, &tree, &leaves, &places, &texts, &cover)?)
+}
+
 #[test]
-fn refusals_are_whole_sentences(rt: HostRuntime) -> Result<(), AllocError> {
-    let alloc = rt.alloc();
+fn texts_with_one_sum_clash(rt: HostRuntime) -> Result<(), Fail> {
+    let own = clash_with(&rt, rt.alloc(), &SECOND_AND_FOURTH)?;
+    assert_same(&rt, &own.is_none(), &true);
+    let other = clash_with(&rt, rt.alloc(), &ANOTHER_FOURTH)?;
+    match other {
+        Some(two) => {
+            assert_octets(&rt, two.left.as_slice(), b"\0def");
+            assert_octets(&rt, two.right.as_slice(), b"\0fed");
+        }
+        None => assert!(rt; false),
+    }
+    Ok(())
+}
+
+#[test]
+fn refusals_are_whole_sentences(rt: HostRuntime) -> Result<(), Fail> {
     let place = FoldError::Place(3);
-    assert_eq!(rt;
-        format!(in alloc; "{place}")?.as_str(),
-        "The place at index 3 is no leaf, or does not exceed the one before."
-    );
+    let said = format!(in rt.alloc(); "{place}")?;
+    let wanted = "The place at index 3 is no leaf, or does not exceed the one before.";
+    assert_octets(&rt, said.as_bytes(), wanted.as_bytes());
     let fan = TreeError::Fan;
-    assert_eq!(rt;
-        format!(in alloc; "{fan}")?.as_str(),
-        "The fan-out of a tree is from 2 to 32."
+    let said = format!(in rt.alloc(); "{fan}")?;
+    assert_octets(
+        &rt,
+        said.as_bytes(),
+        b"The fan-out of a tree is from 2 to 32.",
     );
     Ok(())
 }

@@ -1,13 +1,14 @@
 //! What no clause says: octets worked out by hand, and calls that succeed.
-ghost use Rattle.std.specs.Prelude.{◌≡◌, ◌<◌, ◌^◌, length, IfOk};
 
-use book_model::{Numbers, Settings};
+use crate::asserts::{assert_octets, assert_same};
+use book_model::{Items, Numbers, Settings};
 use octet_text::{Malformed, ReadError};
 use proof_octets::{Answer, Header, Publication, Reply};
-use road_leaf::{Extra, PairLeaf};
-use road_map::{Node, Road};
-use std::alloc::{AllocError, Global};
+use road_leaf::{Extra, NodeLeaf, PairLeaf};
+use road_map::{Node, Parts, Road};
+use std::alloc::Global;
 use std::process::Abort;
+use std::test::Fail;
 
 // HYP in Hilbert order with fan-out 4: five nodes and three pairs in a grid of 2 by 2.
 const HEADER: [u8; 104] = [
@@ -19,7 +20,8 @@ const HEADER: [u8; 104] = [
     0x22, 0x22, 0, 0, 0, 0, 0, 0, 0, 0x02, 0, 0, 0, 0, 0, 0, 0, 0x02,
 ];
 
-// The route 1 3: nodes 1 and 3 at places 0 and 4, their pair at place 1, and one digest of the node cover.
+// The route 1 3: nodes 1 and 3 at places 0 and 4, their pair at place 1, and one digest of the node
+// cover.
 const REPLY: [u8; 251] = [
     0, 0x52, 0x50, 0x46, 0x31, 0x04, 0x03, 0x04, 0, 0, 0, 0, 0, 0, 0, 0, 0x07, 0, 0, 0, 0x05, 0x11,
     0x11, 0x11, 0x11, 0x11, 0x11, 0x11, 0x11, 0x11, 0x11, 0x11, 0x11, 0x11, 0x11, 0x11, 0x11, 0x11,
@@ -66,20 +68,19 @@ const WRITTEN: Header = Header {
 };
 
 // The octets with another octet at a place.
-fn changed(alloc: Global, octets: &[u8], place: usize, octet: u8) -> Result<Vec<u8>, AllocError>
-    ensures { IfOk result (λ v. length v.items ≡ length octets.now) }
-{
-    let mut other = Vec::from_slice(alloc, octets)?;
+fn changed(alloc: Global, octets: &[u8], place: usize, octet: u8) -> Result<Vec<u8>, Fail> {
+    let mut other = octets.to_vec(alloc)?;
     if place < other.len() {
         other[place] = octet;
     }
     Ok(other)
 }
 
-// The place of the first field that can't be read.
-fn bad_place(alloc: Global, octets: &[u8]) -> Option<u32>
-    requires { length octets.now < 2 ^ 32 }
-{
+// The place of the first field of a reply that can't be read.
+fn bad_place(alloc: Global, octets: &[u8]) -> Option<u32> {
+    if octets.len() > 1000 {
+        return None;
+    }
     match Reply::read(alloc, octets) {
         Err(ReadError::Malformed(Malformed { at })) => Some(at),
         _ => None,
@@ -88,15 +89,35 @@ fn bad_place(alloc: Global, octets: &[u8]) -> Option<u32>
 
 #[test]
 fn a_header_has_one_octet_for_each_place(rt: HostRuntime) {
-    assert_eq!(rt; WRITTEN.write(), HEADER);
-    assert_eq!(rt; Header::read(&HEADER), Ok(WRITTEN));
-    assert_eq!(rt; Header::read(&HEADER[..103]), Err(Malformed { at: 96 }));
-    assert_eq!(rt; Header::read(&REPLY), Err(Malformed { at: 0 }));
-    assert_eq!(rt; Header::read(&REPLY[1..]), Err(Malformed { at: 104 }));
+    assert_octets(&rt, &WRITTEN.write(), &HEADER);
+    assert_same(&rt, &Header::read(&HEADER), &Ok(WRITTEN));
+    let cut = Header::read(&HEADER[..103]);
+    assert_same(&rt, &cut, &Err(Malformed { at: 96 }));
+    let other = Header::read(&REPLY);
+    assert_same(&rt, &other, &Err(Malformed { at: 0 }));
+    let longer = Header::read(&REPLY[1..]);
+    assert_same(&rt, &longer, &Err(Malformed { at: 104 }));
+}
+
+// The header with another octet at a place can't be read from a place on.
+fn assert_unread(
+    rt: &impl Abort,
+    alloc: Global,
+    place: usize,
+    octet: u8,
+    at: u32,
+) -> Result<(), Fail> {
+    let header = changed(alloc, &HEADER, place, octet)?;
+    let read = match header.len() {
+        104 => Header::read(&header),
+        _ => Ok(WRITTEN),
+    };
+    assert_same(rt, &read, &Err(Malformed { at }));
+    Ok(())
 }
 
 #[test]
-fn a_field_out_of_its_range_is_named_by_its_place(rt: HostRuntime) -> Result<(), AllocError> {
+fn a_field_out_of_its_range_is_named_by_its_place(rt: HostRuntime) -> Result<(), Fail> {
     let changes = [
         (0, 0x51, 0),
         (3, 0x32, 0),
@@ -116,29 +137,40 @@ fn a_field_out_of_its_range_is_named_by_its_place(rt: HostRuntime) -> Result<(),
         (103, 0, 96),
     ];
     for (place, octet, at) in changes {
-        let header = changed(rt.alloc(), &HEADER, place, octet)?;
-        if header.len() == 104 {
-            assert_eq!(rt;
-                Header::read(&header),
-                Err(Malformed { at }),
-                "{place} {octet}"
-            );
-        }
+        assert_unread(&rt, rt.alloc(), place, octet, at)?;
     }
     Ok(())
 }
 
 #[test]
-fn malformed_replies_are_named_by_their_place(rt: HostRuntime) -> Result<(), AllocError> {
+fn cut_replies_are_named_by_their_place(rt: HostRuntime) {
     let alloc = rt.alloc();
-    assert_eq!(rt; bad_place(alloc, &[]), Some(0));
-    assert_eq!(rt; bad_place(alloc, &[3]), Some(0));
-    assert_eq!(rt; bad_place(alloc, &[1, 0]), Some(1));
-    assert_eq!(rt; bad_place(alloc, &[1]), None);
-    assert_eq!(rt; bad_place(alloc, &[0]), Some(1));
-    assert_eq!(rt; bad_place(alloc, &REPLY[..250]), Some(247));
-    assert_eq!(rt; bad_place(alloc, &REPLY[..200]), Some(194));
-    assert_eq!(rt; bad_place(alloc, &REPLY[..140]), Some(132));
+    assert_same(&rt, &bad_place(alloc, &[]), &Some(0));
+    assert_same(&rt, &bad_place(alloc, &[3]), &Some(0));
+    assert_same(&rt, &bad_place(alloc, &[1, 0]), &Some(1));
+    assert_same(&rt, &bad_place(alloc, &[1]), &None);
+    assert_same(&rt, &bad_place(alloc, &[0]), &Some(1));
+    assert_same(&rt, &bad_place(alloc, &REPLY[..250]), &Some(247));
+    assert_same(&rt, &bad_place(alloc, &REPLY[..200]), &Some(194));
+    assert_same(&rt, &bad_place(alloc, &REPLY[..140]), &Some(132));
+}
+
+// The reply with another octet at a place can't be read from a place on.
+fn assert_bad(
+    rt: &impl Abort,
+    alloc: Global,
+    place: usize,
+    octet: u8,
+    at: u32,
+) -> Result<(), Fail> {
+    let reply = changed(alloc, &REPLY, place, octet)?;
+    assert_same(rt, &bad_place(alloc, &reply), &Some(at));
+    Ok(())
+}
+
+#[test]
+fn malformed_replies_are_named_by_their_place(rt: HostRuntime) -> Result<(), Fail> {
+    let alloc = rt.alloc();
     let changes = [
         (106, 2, 109),
         (113, 0, 110),
@@ -150,60 +182,93 @@ fn malformed_replies_are_named_by_their_place(rt: HostRuntime) -> Result<(), All
         (250, 1, 251),
     ];
     for (place, octet, at) in changes {
-        let reply = changed(alloc, &REPLY, place, octet)?;
-        assert_eq!(rt; bad_place(alloc, &reply), Some(at), "{place} {octet}");
+        assert_bad(&rt, alloc, place, octet, at)?;
     }
-    let mut longer = Vec::from_slice(alloc, &REPLY)?;
+    let mut longer = REPLY.to_vec(alloc)?;
     longer.push(0)?;
-    assert_eq!(rt; bad_place(alloc, &longer), Some(251));
+    assert_same(&rt, &bad_place(alloc, &longer), &Some(251));
     Ok(())
 }
 
-fn says_what_is_written(rt: &impl Abort, answer: &Answer) {
-    assert_eq!(rt; answer.header, WRITTEN);
-    assert_eq!(rt; answer.signature.as_slice(), [9, 8, 7].as_slice());
-    assert_eq!(rt; answer.items.route.as_slice(), [1, 3].as_slice());
-    assert_eq!(rt; answer.node_places.as_slice(), [0, 4].as_slice());
-    assert_eq!(rt; answer.pair_places.as_slice(), [1].as_slice());
-    assert_eq!(rt; answer.node_cover.as_slice(), [[0x33; 32]].as_slice());
-    assert_eq!(rt; answer.pair_cover.as_slice().len(), 0);
+// Compares the leaf of node 1, a border of the cell 3.
+fn assert_first(rt: &impl Abort, leaf: &NodeLeaf) {
+    assert_same(rt, &(leaf.id, leaf.x, leaf.y), &(1, -1, 2));
+    match leaf.extra {
+        Extra::Cell { cell, border } => assert_same(rt, &(cell, border), &(3, true)),
+        _ => assert!(rt; false),
+    }
+}
+
+// Compares the items: the route 1 3, the leaves of its ends and their pair.
+fn assert_items(rt: &impl Abort, items: &Items) {
+    assert_same(rt, &items.route.as_slice(), &[1, 3].as_slice());
     let pair = PairLeaf {
         a: 1,
         b: 3,
         distance: 9,
     };
-    assert_eq!(rt; answer.items.pairs.as_slice(), [pair].as_slice());
-    let nodes = answer.items.nodes.as_slice();
-    assert_eq!(rt; nodes.len(), 2);
-    if nodes.len() == 2 {
-        assert_eq!(rt; (nodes[0].id, nodes[0].x, nodes[0].y), (1, -1, 2));
-        assert_eq!(rt; nodes[1].id, 3);
-        match nodes[0].extra {
-            Extra::Cell { cell, border } => assert_eq!(rt; (cell, border), (3, true)),
-            _ => assert!(rt; false),
+    assert_same(rt, &items.pairs.as_slice(), &[pair].as_slice());
+    match items.nodes.as_slice() {
+        [first, second] => {
+            assert_first(rt, first);
+            assert_same(rt, &second.id, &3);
         }
+        _ => assert!(rt; false),
     }
 }
 
-#[test]
-fn an_answer_is_read_and_written_again(rt: HostRuntime) {
-    match Reply::read(rt.alloc(), &REPLY) {
-        Ok(reply) => {
-            match reply.write(rt.alloc()) {
-                Ok(octets) => assert_eq!(rt; octets.as_slice(), REPLY.as_slice()),
-                Err(_) => assert!(rt; false),
-            }
-            match &reply {
-                Reply::Answer(answer) => says_what_is_written(&rt, answer),
-                _ => assert!(rt; false),
-            }
-        }
-        Err(_) => assert!(rt; false),
-    }
+// Compares what an answer has beside its items.
+fn assert_answer(rt: &impl Abort, answer: &Answer) {
+    assert_same(rt, &answer.header, &WRITTEN);
+    assert_octets(rt, answer.signature.as_slice(), &[9, 8, 7]);
+    assert_same(rt, &answer.node_places.as_slice(), &[0, 4].as_slice());
+    assert_same(rt, &answer.pair_places.as_slice(), &[1].as_slice());
+    assert_same(rt, &answer.node_cover.as_slice(), &[[0x33; 32]].as_slice());
+    assert_same(rt, &answer.pair_cover.as_slice().len(), &0);
+}
+
+// The reply that the octets spell, and its octets when it is written again.
+fn rewritten(alloc: Global) -> Result<(Reply, Vec<u8>), Fail> {
+    let reply = Reply::read(alloc, &REPLY)?;
+    let octets = reply.write(alloc)?;
+    Ok((reply, octets))
 }
 
 #[test]
-fn a_publication_is_read_and_written_again(rt: HostRuntime) {
+fn an_answer_is_read_and_written_again(rt: HostRuntime) -> Result<(), Fail> {
+    let (reply, octets) = rewritten(rt.alloc())?;
+    assert_octets(&rt, &octets, &REPLY);
+    match &reply {
+        Reply::Answer(answer) => {
+            assert_answer(&rt, answer);
+            assert_items(&rt, &answer.items);
+        }
+        _ => assert!(rt; false),
+    }
+    Ok(())
+}
+
+// Compares the last node and the road of a publication.
+fn assert_parts(rt: &impl Abort, parts: &Parts) {
+    let node = Node { id: 3, x: 4, y: 5 };
+    assert_same(rt, &parts.nodes.as_slice().last(), &Some(&node));
+    let road = Road {
+        a: 1,
+        b: 3,
+        length: 5,
+    };
+    assert_same(rt, &parts.roads.as_slice(), &[road].as_slice());
+}
+
+// The publication that the octets spell, and its octets when it is written again.
+fn rewritten_publication(alloc: Global) -> Result<(Publication, Vec<u8>), Fail> {
+    let publication = Publication::read(alloc, &PUBLICATION)?;
+    let octets = publication.write(alloc)?;
+    Ok((publication, octets))
+}
+
+#[test]
+fn a_publication_is_read_and_written_again(rt: HostRuntime) -> Result<(), Fail> {
     let settings = Settings {
         method: 4,
         version: 7,
@@ -214,24 +279,12 @@ fn a_publication_is_read_and_written_again(rt: HostRuntime) {
         p2: 2,
         p3: 0,
     };
-    match Publication::read(rt.alloc(), &PUBLICATION) {
-        Ok(publication) => {
-            match publication.write(rt.alloc()) {
-                Ok(octets) => assert_eq!(rt; octets.as_slice(), PUBLICATION.as_slice()),
-                Err(_) => assert!(rt; false),
-            }
-            assert_eq!(rt; publication.header, WRITTEN);
-            assert_eq!(rt; publication.settings, settings);
-            let last = Node { id: 3, x: 4, y: 5 };
-            assert_eq!(rt; publication.parts.nodes.as_slice().last(), Some(&last));
-            let road = Road {
-                a: 1,
-                b: 3,
-                length: 5,
-            };
-            assert_eq!(rt; publication.parts.roads.as_slice(), [road].as_slice());
-        }
-        Err(_) => assert!(rt; false),
-    }
-    assert!(rt; Publication::read(rt.alloc(), &PUBLICATION[..106]).is_err());
+    let (publication, octets) = rewritten_publication(rt.alloc())?;
+    assert_octets(&rt, &octets, &PUBLICATION);
+    assert_same(&rt, &publication.header, &WRITTEN);
+    assert_same(&rt, &publication.settings, &settings);
+    assert_parts(&rt, &publication.parts);
+    let cut = Publication::read(rt.alloc(), &PUBLICATION[..106]);
+    assert_same(&rt, &cut.is_err(), &true);
+    Ok(())
 }

@@ -1,6 +1,9 @@
-//! Tests of trees, of formats and of publications in pieces: worked rows, outside vectors, and what no clause says.
+//! Tests of trees, of formats and of publications in pieces: worked rows, outside vectors, and what
+//! no clause says.
 #![tactic(auto)]
 
+#[cfg(test)]
+mod asserts;
 #[cfg(test)]
 mod covers;
 #[cfg(test)]

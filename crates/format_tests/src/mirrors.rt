@@ -1,6 +1,8 @@
 //! What no clause says: calls that succeed, and real files.
 
+use crate::asserts::{assert_octets, assert_same};
 use mirror_out::{FileMirror, MemMirror, Mirror, Spreader};
+use std::alloc::Global;
 use std::fs;
 use std::fs::OpenOptions;
 use std::process::Abort;
@@ -14,41 +16,66 @@ fn three_pieces<M: Mirror>(rt: &impl Abort, spreader: &mut Spreader, mirrors: &m
     }
 }
 
+// Compares the only mirror that is lost, and the only one that is left, with what it tells that it
+// holds.
+fn assert_left<M: Mirror>(
+    rt: &impl Abort,
+    spreader: &Spreader,
+    mirrors: &[M],
+    lost: u32,
+    left: u32,
+    held: &[u8],
+) {
+    assert_same(rt, &spreader.lost().first().copied(), &Some(lost));
+    assert_same(rt, &spreader.lost().len(), &1);
+    match mirrors {
+        [mirror] => {
+            assert_same(rt, &mirror.label(), &left);
+            assert_octets(rt, mirror.held().unwrap_or(&[]), held);
+        }
+        _ => assert!(rt; false),
+    }
+}
+
+// The mirrors 1 and 2, of which the second fails at its third put.
+fn two_mirrors(alloc: Global) -> Result<Vec<MemMirror>, Fail> {
+    let mut mirrors: Vec<MemMirror> = Vec::new(alloc);
+    mirrors.push(MemMirror::new(alloc, 1, 6, Vec::new(alloc))?)?;
+    mirrors.push(MemMirror::new(alloc, 2, 6, vec![in alloc; 2]?)?)?;
+    Ok(mirrors)
+}
+
 #[test]
 fn a_mirror_that_fails_at_its_third_put_is_lost(rt: HostRuntime) -> Result<(), Fail> {
     let alloc = rt.alloc();
-    let mut mirrors: Vec<MemMirror> = Vec::new(alloc);
-    let first = MemMirror::new(alloc, 1, 6, Vec::new(alloc))?;
-    mirrors.push(first)?;
-    let second = MemMirror::new(alloc, 2, 6, vec![in alloc; 2]?)?;
-    mirrors.push(second)?;
+    let mut mirrors = two_mirrors(alloc)?;
     let mut spreader = Spreader::new(alloc, &mirrors)?;
     three_pieces(&rt, &mut spreader, &mut mirrors);
-    assert_eq!(rt; spreader.lost(), [2].as_slice());
-    assert_eq!(rt; mirrors.len(), 1);
-    assert_eq!(rt; mirrors[0].label(), 1);
-    assert_eq!(rt; mirrors[0].held(), Some(b"abcdef".as_slice()));
+    assert_left(&rt, &spreader, &mirrors, 2, 1, b"abcdef");
     Ok(())
+}
+
+const NAME: &str = "files_take_pieces.txt";
+
+// A mirror that only reads a file, and one that adds to it.
+fn two_files(rt: HostRuntime) -> Result<Vec<FileMirror>, Fail> {
+    let mut mirrors: Vec<FileMirror> = Vec::new(rt.alloc());
+    let read_alone = fs::open(&rt, NAME)?;
+    mirrors.push(FileMirror::new(7, read_alone))?;
+    let appended = OpenOptions::new().append(true).open(&rt, NAME)?;
+    mirrors.push(FileMirror::new(8, appended))?;
+    Ok(mirrors)
 }
 
 #[test]
 fn files_take_pieces_behind_what_they_held(rt: HostRuntime) -> Result<(), Fail> {
-    let alloc = rt.alloc();
-    fs::write(&rt, "files_take_pieces.txt", "old ")?;
-    let mut mirrors: Vec<FileMirror> = Vec::new(alloc);
-    let read_alone = fs::open(&rt, "files_take_pieces.txt")?;
-    mirrors.push(FileMirror::new(7, read_alone))?;
-    let appended = OpenOptions::new()
-        .append(true)
-        .open(&rt, "files_take_pieces.txt")?;
-    mirrors.push(FileMirror::new(8, appended))?;
-    let mut spreader = Spreader::new(alloc, &mirrors)?;
+    fs::write(&rt, NAME, "old ")?;
+    let mut mirrors = two_files(rt)?;
+    let mut spreader = Spreader::new(rt.alloc(), &mirrors)?;
     three_pieces(&rt, &mut spreader, &mut mirrors);
-    assert_eq!(rt; spreader.lost(), [7].as_slice());
-    assert_eq!(rt; mirrors.len(), 1);
-    assert_eq!(rt; mirrors[0].held(), None);
-    let text = fs::read_to_string(&rt, "files_take_pieces.txt")?;
-    assert_eq!(rt; text.as_str(), "old abcdef");
-    fs::remove_file(&rt, "files_take_pieces.txt")?;
+    assert_left(&rt, &spreader, &mirrors, 7, 8, b"");
+    let text = fs::read_to_string(&rt, NAME)?;
+    assert_octets(&rt, text.as_bytes(), b"old abcdef");
+    fs::remove_file(&rt, NAME)?;
     Ok(())
 }

@@ -1,11 +1,12 @@
 //! What no clause says: a publication worked out by hand, cut into pieces of seven octets.
-ghost use Rattle.std.specs.Prelude.{◌≡◌, ◌<◌, ◌^◌, length};
 
+use crate::asserts::{assert_octets, assert_same};
 use crate::publications::{octets_before_nodes, put_numbers};
 use octet_text::NoMemory;
 use proof_octets::Publication;
 use publication_pieces::pieces_of;
 use std::alloc::Global;
+use std::process::Abort;
 use std::test::Fail;
 
 // Five nodes and four roads under DIJ, with a signature of 1,292 octets.
@@ -52,12 +53,10 @@ const NUMBERS: [u32; 29] = [
     7,
 ];
 
-#[test]
-fn a_publication_is_given_in_pieces_of_seven(rt: HostRuntime) -> Result<(), Fail> {
-    let alloc = rt.alloc();
-    let text = publication_text(alloc)?;
-    assert_eq!(rt; text.len(), 1550);
-    let publication = Publication::read(alloc, &text)?;
+// What a publication gives in 300 calls of seven octets, and in how many calls it gave any.
+fn joined(rt: &impl Abort, alloc: Global, text: &[u8]) -> Result<(Vec<u8>, u32), Fail> {
+    assert!(rt; text.len() == 1550);
+    let publication = Publication::read(alloc, text)?;
     let mut pieces = pieces_of(&publication);
     let mut joined = Vec::new(alloc);
     let mut piece = [0; 7];
@@ -70,7 +69,14 @@ fn a_publication_is_given_in_pieces_of_seven(rt: HostRuntime) -> Result<(), Fail
         }
         joined.extend_from_slice(&piece[..count])?;
     }
-    assert_eq!(rt; calls, 222);
-    assert_eq!(rt; joined.as_slice(), text.as_slice());
+    Ok((joined, calls))
+}
+
+#[test]
+fn a_publication_is_given_in_pieces_of_seven(rt: HostRuntime) -> Result<(), Fail> {
+    let text = publication_text(rt.alloc())?;
+    let (joined, calls) = joined(&rt, rt.alloc(), &text)?;
+    assert_same(&rt, &calls, &222);
+    assert_octets(&rt, &joined, &text);
     Ok(())
 }

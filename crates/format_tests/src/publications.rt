@@ -5,7 +5,7 @@ use std::alloc::Global;
 
 /// What stands before the nodes: the header of this version over so many nodes, in four octets, the
 /// signature, and the settings.
-pub fn octets_before_nodes(
+pub(crate) fn octets_before_nodes(
     alloc: Global,
     version: u8,
     nodes: [u8; 4],
@@ -30,7 +30,7 @@ pub fn octets_before_nodes(
 }
 
 /// Adds numbers of four octets each.
-pub fn put_numbers(text: &mut Vec<u8>, numbers: &[u32]) -> Result<(), NoMemory> {
+pub(crate) fn put_numbers(text: &mut Vec<u8>, numbers: &[u32]) -> Result<(), NoMemory> {
     for number in numbers {
         put_u32(text, *number)?;
     }

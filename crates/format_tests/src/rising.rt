@@ -1,11 +1,14 @@
 //! What no clause says: published digests, calls that succeed, and texts of refusals.
 
+use crate::asserts::{assert_octets, assert_same};
 use octet_text::{Digest32, Hasher, Sha, Toy};
 use rising_tree::{Risen, Rising, RisingError};
-use std::alloc::{AllocError, Global};
+use std::alloc::Global;
 use std::process::Abort;
+use std::test::Fail;
 
-// The roots of five leaves with fan-out 2 and 3, and the cover's digest where the last is not chosen.
+// The roots of five leaves with fan-out 2 and 3, and the cover's digest where the last is not
+// chosen.
 const ROOT_BY_TWO: Digest32 = [
     0xe5, 0xf7, 0xde, 0xf0, 0x31, 0x06, 0xc0, 0xda, 0x43, 0x71, 0x21, 0xc9, 0xf9, 0x67, 0x93, 0x96,
     0xd7, 0x74, 0x65, 0x95, 0xcd, 0x2a, 0x3c, 0x28, 0xfd, 0x80, 0x83, 0xdd, 0xd7, 0xde, 0x68, 0x06,
@@ -45,43 +48,63 @@ fn raised<H: Hasher>(
     for (text, count) in texts.iter().zip(held) {
         assert!(rt; rising.pushed() < rising.leaves());
         rising.push(text);
-        assert_eq!(rt; rising.held(), *count);
+        assert_same(rt, &rising.held(), count);
     }
     assert!(rt; rising.pushed() == rising.leaves());
     Ok(rising.end())
 }
 
-#[test]
-fn five_leaves_rise_to_the_root_of_their_tree(rt: HostRuntime) -> Result<(), RisingError> {
-    let alloc = rt.alloc();
-    let places = [0, 1, 2, 3];
-    let by_two = raised::<Sha>(&rt, alloc, 2, &places, &[1, 1, 2, 1, 0])?;
-    assert_eq!(rt; by_two.root, ROOT_BY_TWO);
-    assert_eq!(rt; by_two.cover.as_slice(), [COVER_BY_TWO].as_slice());
-    let by_three = raised::<Sha>(&rt, alloc, 3, &places, &[1, 2, 1, 2, 0])?;
-    assert_eq!(rt; by_three.root, ROOT_BY_THREE);
-    assert_eq!(rt; by_three.cover.as_slice(), [COVER_BY_THREE].as_slice());
-    let by_sums = raised::<Toy>(&rt, alloc, 2, &[], &[1, 1, 2, 1, 0])?;
-    assert_eq!(rt; by_sums.root, toy_digest(194));
-    assert!(rt; by_sums.cover.as_slice().is_empty());
-    for (leaves, fan, refused) in [
-        (5, 2, RisingError::Place(1)),
-        (0, 2, RisingError::Empty),
-        (2_097_153, 2, RisingError::TooMany),
-        (0, 33, RisingError::Fan),
-    ] {
-        let rising = Rising::<Sha>::new(alloc, leaves, fan, &[2, 2]);
-        assert_eq!(rt; rising.err(), Some(refused));
-    }
+// Compares the root and the only digest of the cover of the first four leaves.
+fn assert_risen<H: Hasher>(
+    rt: &impl Abort,
+    alloc: Global,
+    fan: u8,
+    held: &[u32],
+    root: &Digest32,
+    digest: &Digest32,
+) -> Result<(), Fail> {
+    let risen = raised::<H>(rt, alloc, fan, &[0, 1, 2, 3], held)?;
+    assert_same(rt, &risen.root, root);
+    assert_same(rt, &risen.cover.as_slice().first().copied(), &Some(*digest));
+    assert_same(rt, &risen.cover.as_slice().len(), &1);
     Ok(())
 }
 
 #[test]
-fn refusals_are_whole_sentences(rt: HostRuntime) -> Result<(), AllocError> {
-    let place = RisingError::Place(3);
-    assert_eq!(rt;
-        format!(in rt.alloc(); "{place}")?.as_str(),
-        "The place at index 3 is no leaf, or does not exceed the one before."
+fn five_leaves_rise_to_the_root_of_their_tree(rt: HostRuntime) -> Result<(), Fail> {
+    let alloc = rt.alloc();
+    let (by_two, by_three) = ([1, 1, 2, 1, 0], [1, 2, 1, 2, 0]);
+    assert_risen::<Sha>(&rt, alloc, 2, &by_two, &ROOT_BY_TWO, &COVER_BY_TWO)?;
+    assert_risen::<Sha>(&rt, alloc, 3, &by_three, &ROOT_BY_THREE, &COVER_BY_THREE)?;
+    let by_sums = raised::<Toy>(&rt, alloc, 2, &[], &by_two)?;
+    assert_same(&rt, &by_sums.root, &toy_digest(194));
+    assert_same(&rt, &by_sums.cover.as_slice().len(), &0);
+    Ok(())
+}
+
+// Why a tree can't rise where the place 2 is chosen twice.
+fn refusal(alloc: Global, leaves: u32, fan: u8) -> Option<RisingError> {
+    Rising::<Sha>::new(alloc, leaves, fan, &[2, 2]).err()
+}
+
+#[test]
+fn what_has_no_tree_does_not_rise(rt: HostRuntime) {
+    let alloc = rt.alloc();
+    assert_same(&rt, &refusal(alloc, 5, 2), &Some(RisingError::Place(1)));
+    assert_same(&rt, &refusal(alloc, 0, 2), &Some(RisingError::Empty));
+    assert_same(
+        &rt,
+        &refusal(alloc, 2_097_153, 2),
+        &Some(RisingError::TooMany),
     );
+    assert_same(&rt, &refusal(alloc, 0, 33), &Some(RisingError::Fan));
+}
+
+#[test]
+fn refusals_are_whole_sentences(rt: HostRuntime) -> Result<(), Fail> {
+    let place = RisingError::Place(3);
+    let said = format!(in rt.alloc(); "{place}")?;
+    let wanted = "The place at index 3 is no leaf, or does not exceed the one before.";
+    assert_octets(&rt, said.as_bytes(), wanted.as_bytes());
     Ok(())
 }

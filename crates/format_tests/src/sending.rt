@@ -1,5 +1,6 @@
 //! What no clause says: a publication of 15,362 octets, handed to a sink and two mirrors.
 
+use crate::asserts::{assert_octets, assert_same};
 use crate::publications::{octets_before_nodes, put_numbers};
 use mem_io::MemSink;
 use mirror_out::{MemMirror, Mirror, Spreader};
@@ -9,6 +10,7 @@ use publication_out::send;
 use publication_pieces::pieces_of;
 use road_io::Failed;
 use std::alloc::Global;
+use std::process::Abort;
 use std::test::Fail;
 
 // 400 nodes and 760 roads under DIJ, with a signature of 1,292 octets.
@@ -28,43 +30,61 @@ fn publication_text(alloc: Global) -> Result<Vec<u8>, NoMemory> {
 // The mirrors 1 and 2, of which the second fails at its third put.
 fn two_mirrors(alloc: Global) -> Result<Vec<MemMirror>, Fail> {
     let mut mirrors: Vec<MemMirror> = Vec::new(alloc);
-    let first = MemMirror::new(alloc, 1, 15_362, Vec::new(alloc))?;
-    mirrors.push(first)?;
-    let second = MemMirror::new(alloc, 2, 15_362, vec![in alloc; 2]?)?;
-    mirrors.push(second)?;
+    mirrors.push(MemMirror::new(alloc, 1, 15_362, Vec::new(alloc))?)?;
+    mirrors.push(MemMirror::new(alloc, 2, 15_362, vec![in alloc; 2]?)?)?;
     Ok(mirrors)
 }
 
 #[test]
 fn the_last_piece_has_what_is_left(rt: HostRuntime) -> Result<(), Fail> {
-    let alloc = rt.alloc();
-    let text = publication_text(alloc)?;
-    assert_eq!(rt; text.len(), 15_362);
-    let publication = Publication::read(alloc, &text)?;
+    let text = publication_text(rt.alloc())?;
+    assert!(rt; text.len() == 15_362);
+    let publication = Publication::read(rt.alloc(), &text)?;
     let mut pieces = pieces_of(&publication);
     let mut buffer = [0; 4096];
     for count in [4096, 4096, 4096, 3074, 0] {
-        assert_eq!(rt; pieces.next(&mut buffer), count);
+        let found = pieces.next(&mut buffer);
+        assert_same(&rt, &found, &count);
     }
     Ok(())
+}
+
+// Sends the publication of a text to a sink and two mirrors: how it ends, and the first mirror that
+// is lost.
+fn sent(
+    rt: &impl Abort,
+    alloc: Global,
+    text: &[u8],
+    sink: &mut MemSink,
+    mirrors: &mut Vec<MemMirror>,
+) -> Result<(Result<(), Failed>, Option<u32>), Fail> {
+    assert!(rt; text.len() == 15_362);
+    let publication = Publication::read(alloc, text)?;
+    let mut spreader = Spreader::new(alloc, mirrors)?;
+    assert!(rt; spreader.is_for(mirrors));
+    let ended = send(&publication, sink, &mut spreader, mirrors);
+    Ok((ended, spreader.lost().first().copied()))
+}
+
+// Compares what a mirror holds, and its label 1.
+fn assert_first(rt: &impl Abort, mirror: &MemMirror, held: &[u8]) {
+    assert_same(rt, &mirror.label(), &1);
+    assert_octets(rt, mirror.held().unwrap_or(&[]), held);
 }
 
 #[test]
 fn a_mirror_is_lost_and_the_others_have_all(rt: HostRuntime) -> Result<(), Fail> {
     let alloc = rt.alloc();
     let text = publication_text(alloc)?;
-    assert_eq!(rt; text.len(), 15_362);
-    let publication = Publication::read(alloc, &text)?;
     let mut sink = MemSink::new(alloc, 15_362, 4096, Vec::new(alloc))?;
     let mut mirrors = two_mirrors(alloc)?;
-    let mut spreader = Spreader::new(alloc, &mirrors)?;
-    assert!(rt; spreader.is_for(&mirrors));
-    send(&publication, &mut sink, &mut spreader, &mut mirrors)?;
-    assert_eq!(rt; sink.taken(), text.as_slice());
-    assert_eq!(rt; spreader.lost(), [2].as_slice());
-    assert_eq!(rt; mirrors.len(), 1);
-    assert_eq!(rt; mirrors[0].label(), 1);
-    assert_eq!(rt; mirrors[0].held(), Some(text.as_slice()));
+    let ended = sent(&rt, alloc, &text, &mut sink, &mut mirrors)?;
+    assert_same(&rt, &ended, &(Ok(()), Some(2)));
+    assert_octets(&rt, sink.taken(), &text);
+    match mirrors.as_slice() {
+        [first] => assert_first(&rt, first, &text),
+        _ => assert!(rt; false),
+    }
     Ok(())
 }
 
@@ -72,18 +92,14 @@ fn a_mirror_is_lost_and_the_others_have_all(rt: HostRuntime) -> Result<(), Fail>
 fn a_sink_that_fails_leaves_a_front_with_the_mirrors(rt: HostRuntime) -> Result<(), Fail> {
     let alloc = rt.alloc();
     let text = publication_text(alloc)?;
-    assert_eq!(rt; text.len(), 15_362);
-    let publication = Publication::read(alloc, &text)?;
     let mut sink = MemSink::new(alloc, 15_362, 4096, vec![in alloc; 1]?)?;
     let mut mirrors = two_mirrors(alloc)?;
-    let mut spreader = Spreader::new(alloc, &mirrors)?;
-    assert!(rt; spreader.is_for(&mirrors));
-    assert_eq!(rt;
-        send(&publication, &mut sink, &mut spreader, &mut mirrors),
-        Err(Failed)
-    );
-    assert_eq!(rt; sink.taken().len(), 4096);
-    assert_eq!(rt; mirrors.len(), 2);
-    assert_eq!(rt; mirrors[0].held(), Some(sink.taken()));
+    let ended = sent(&rt, alloc, &text, &mut sink, &mut mirrors)?;
+    assert_same(&rt, &ended, &(Err(Failed), None));
+    assert_same(&rt, &sink.taken().len(), &4096);
+    match mirrors.as_slice() {
+        [first, _] => assert_first(&rt, first, sink.taken()),
+        _ => assert!(rt; false),
+    }
     Ok(())
 }

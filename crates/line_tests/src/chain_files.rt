@@ -1,12 +1,13 @@
 //! How chain files are read.
 
+use crate::same::assert_row;
 use command_files::{Fault, load_chain};
 use mem_io::MemLibrary;
+use std::alloc::Global;
 use std::test::Fail;
 
-#[test]
-fn a_chain_file_is_its_links(rt: HostRuntime) -> Result<(), Fail> {
-    let alloc = rt.alloc();
+// A library with the file of a chain of one link, and with one that is cut short.
+fn library_of(alloc: Global) -> Result<MemLibrary, Fail> {
     let mut octets = Vec::from_slice(alloc, b"RPL1")?;
     octets.extend_from_slice(&[0; 56])?;
     octets.extend_from_slice(&[0, 3, 7, 8, 9])?;
@@ -14,11 +15,27 @@ fn a_chain_file_is_its_links(rt: HostRuntime) -> Result<(), Fail> {
     let mut library = MemLibrary::new(alloc, Vec::new(alloc));
     library.put("chain", &octets)?;
     library.put("cut", cut)?;
-    for (name, count) in [(None, 0), (Some("chain"), 1)] {
-        let links = load_chain(alloc, &mut library, name)?;
-        assert_eq!(rt; links.as_slice().len(), count);
+    Ok(library)
+}
+
+// How many links the chain of a name has.
+fn links_of(alloc: Global, library: &mut MemLibrary, name: Option<&str>) -> Result<usize, Fault> {
+    let links = load_chain(alloc, library, name)?;
+    Ok(links.as_slice().len())
+}
+
+static CHAINS: [(Option<&str>, Result<usize, Fault>); 3] = [
+    (None, Ok(0)),
+    (Some("chain"), Ok(1)),
+    (Some("cut"), Err(Fault::Malformed(62))),
+];
+
+#[test]
+fn a_chain_file_is_its_links(rt: HostRuntime) -> Result<(), Fail> {
+    let mut library = library_of(rt.alloc())?;
+    for (name, count) in &CHAINS {
+        let found = links_of(rt.alloc(), &mut library, *name);
+        assert_row(&rt, *name, found, *count);
     }
-    let refused = load_chain(alloc, &mut library, Some("cut"));
-    assert_eq!(rt; refused.err(), Some(Fault::Malformed(62)));
     Ok(())
 }

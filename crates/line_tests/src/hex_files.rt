@@ -1,46 +1,58 @@
 //! How files of hex digits are read, and how faults read.
 
+use crate::same::{assert_printed, assert_row};
 use command_files::{Fault, load_hex};
 use mem_io::MemLibrary;
+use octet_text::NoMemory;
 use road_map::MapError;
-use std::test::Fail;
+use std::alloc::{AllocError, Global};
+
+// The two octets that a text spells, which is put into a library.
+fn spelled(
+    alloc: Global,
+    library: &mut MemLibrary,
+    text: &str,
+) -> Result<Result<[u8; 2], Fault>, NoMemory> {
+    library.put("hex", text.as_bytes())?;
+    Ok(load_hex(alloc, library, "hex"))
+}
+
+static TEXTS: [(&str, Result<[u8; 2], Fault>); 10] = [
+    ("00fF", Ok([0, 255])),
+    ("00fF\n", Ok([0, 255])),
+    ("00fF\r\n", Ok([0, 255])),
+    ("00fF\r", Err(Fault::BadHex)),
+    ("00fF\n\n", Err(Fault::BadHex)),
+    ("00fF ", Err(Fault::BadHex)),
+    ("00fF0", Err(Fault::BadHex)),
+    ("00fg", Err(Fault::BadHex)),
+    ("00f", Err(Fault::BadHex)),
+    ("", Err(Fault::BadHex)),
+];
 
 #[test]
-fn hex_files_are_exactly_their_digits(rt: HostRuntime) -> Result<(), Fail> {
-    let alloc = rt.alloc();
-    let mut library = MemLibrary::new(alloc, Vec::new(alloc));
-    for (text, spelled) in [
-        ("00fF", Ok([0, 255])),
-        ("00fF\n", Ok([0, 255])),
-        ("00fF\r\n", Ok([0, 255])),
-        ("00fF\r", Err(Fault::BadHex)),
-        ("00fF\n\n", Err(Fault::BadHex)),
-        ("00fF ", Err(Fault::BadHex)),
-        ("00fF0", Err(Fault::BadHex)),
-        ("00fg", Err(Fault::BadHex)),
-        ("00f", Err(Fault::BadHex)),
-        ("", Err(Fault::BadHex)),
-    ] {
-        library.put("hex", text.as_bytes())?;
-        let read: Result<[u8; 2], Fault> = load_hex(alloc, &mut library, "hex");
-        assert_eq!(rt; read, spelled, "at {text}");
+fn hex_files_are_exactly_their_digits(rt: HostRuntime) -> Result<(), NoMemory> {
+    let mut library = MemLibrary::new(rt.alloc(), Vec::new(rt.alloc()));
+    for (text, octets) in &TEXTS {
+        let found = spelled(rt.alloc(), &mut library, *text)?;
+        assert_row(&rt, *text, found, *octets);
     }
     Ok(())
 }
 
+static FAULTS: [(Fault, &str); 3] = [
+    (Fault::UnknownNode(9), "The map has no node 9."),
+    (
+        Fault::Map(MapError::SelfRoad(4)),
+        "The road at index 4 joins a node to itself.",
+    ),
+    (Fault::Missing, "There is no file of that name."),
+];
+
 #[test]
-fn faults_read_as_sentences(rt: HostRuntime) -> Result<(), Fail> {
-    let alloc = rt.alloc();
-    for (fault, text) in [
-        (Fault::UnknownNode(9), "The map has no node 9."),
-        (
-            Fault::Map(MapError::SelfRoad(4)),
-            "The road at index 4 joins a node to itself.",
-        ),
-        (Fault::Missing, "There is no file of that name."),
-    ] {
-        let shown = format!(in alloc; "{fault}")?;
-        assert_eq!(rt; shown.as_str(), text);
+fn faults_read_as_sentences(rt: HostRuntime) -> Result<(), AllocError> {
+    for (fault, text) in &FAULTS {
+        assert_printed(&rt, rt.alloc(), *fault, *text)?;
     }
     Ok(())
 }

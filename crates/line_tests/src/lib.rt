@@ -10,4 +10,6 @@ mod near_lines;
 #[cfg(test)]
 mod route_lines;
 #[cfg(test)]
+mod same;
+#[cfg(test)]
 mod told;

@@ -1,5 +1,6 @@
 //! Printed lines.
 
+use crate::same::assert_same;
 use lms_tree::SealError;
 use proof_judge::Refusal;
 use road_line::{
@@ -10,38 +11,45 @@ use route_client::{CheckError, CoverFault};
 use std::test::Fail;
 
 #[test]
-fn routes_and_verdicts_are_printed(rt: HostRuntime) -> Result<(), Fail> {
+fn routes_are_printed(rt: HostRuntime) -> Result<(), Fail> {
     let line = line_of_route(rt.alloc(), 9, &[1, 2, 3])?;
-    assert_eq!(rt; line.as_slice(), b"9: 1 2 3\n".as_slice());
+    assert_same(&rt, line.as_slice(), b"9: 1 2 3\n".as_slice());
     let line = line_of_accepted(rt.alloc(), 0, &[4_294_967_295])?;
-    assert_eq!(rt; line.as_slice(), b"accepted 0: 4294967295\n".as_slice());
-    for (why, words) in [
-        (CheckError::NotAnswer(2), "refused NotAnswer 2\n"),
-        (CheckError::Malformed(1611), "refused Malformed 1611\n"),
-        (CheckError::Stale(3), "refused Stale 3\n"),
-        (
-            CheckError::BadChain(0, SealError::NoMatch),
-            "refused BadChain 0 NoMatch\n",
-        ),
-        (
-            CheckError::BadSignature(SealError::NoMatch),
-            "refused BadSignature NoMatch\n",
-        ),
-        (
-            CheckError::BadCover(1, CoverFault::Differs),
-            "refused BadCover 1 Differs\n",
-        ),
-        (
-            CheckError::Judged(Refusal::MissingPair(1, 3)),
-            "refused MissingPair 1 3\n",
-        ),
-        (
-            CheckError::Judged(Refusal::Shorter(9)),
-            "refused Shorter 9\n",
-        ),
-    ] {
-        let line = line_of_refused(rt.alloc(), why)?;
-        assert_eq!(rt; line.as_slice(), words.as_bytes());
+    assert_same(&rt, line.as_slice(), b"accepted 0: 4294967295\n".as_slice());
+    Ok(())
+}
+
+static REFUSED: [(CheckError, &[u8]); 8] = [
+    (CheckError::NotAnswer(2), b"refused NotAnswer 2\n"),
+    (CheckError::Malformed(1611), b"refused Malformed 1611\n"),
+    (CheckError::Stale(3), b"refused Stale 3\n"),
+    (
+        CheckError::BadChain(0, SealError::NoMatch),
+        b"refused BadChain 0 NoMatch\n",
+    ),
+    (
+        CheckError::BadSignature(SealError::NoMatch),
+        b"refused BadSignature NoMatch\n",
+    ),
+    (
+        CheckError::BadCover(1, CoverFault::Differs),
+        b"refused BadCover 1 Differs\n",
+    ),
+    (
+        CheckError::Judged(Refusal::MissingPair(1, 3)),
+        b"refused MissingPair 1 3\n",
+    ),
+    (
+        CheckError::Judged(Refusal::Shorter(9)),
+        b"refused Shorter 9\n",
+    ),
+];
+
+#[test]
+fn refusals_are_printed(rt: HostRuntime) -> Result<(), Fail> {
+    for (why, words) in &REFUSED {
+        let line = line_of_refused(rt.alloc(), *why)?;
+        assert_same(&rt, line.as_slice(), *words);
     }
     Ok(())
 }
@@ -49,20 +57,21 @@ fn routes_and_verdicts_are_printed(rt: HostRuntime) -> Result<(), Fail> {
 #[test]
 fn findings_are_printed(rt: HostRuntime) -> Result<(), Fail> {
     let line = line_of_right(rt.alloc())?;
-    assert_eq!(rt; line.as_slice(), b"right\n".as_slice());
+    assert_same(&rt, line.as_slice(), b"right\n".as_slice());
     let line = line_of_collision(rt.alloc(), &[0, 255], &[1])?;
-    assert_eq!(rt; line.as_slice(), b"collision 00ff 01\n".as_slice());
+    assert_same(&rt, line.as_slice(), b"collision 00ff 01\n".as_slice());
     let line = line_of_forged(rt.alloc(), &[82], &[])?;
-    assert_eq!(rt; line.as_slice(), b"forged 52 \n".as_slice());
+    assert_same(&rt, line.as_slice(), b"forged 52 \n".as_slice());
     Ok(())
 }
+
+const DIGITS: &str = "afafafafafafafafafafafafafafafafafafafafafafafafafafafaf\
+     afafafafafafafafafafafafafafafafafafafafafafafafafafafaf";
 
 #[test]
 fn a_desk_is_printed(rt: HostRuntime) -> Result<(), Fail> {
     let line = line_of_desk(rt.alloc(), &[175; 56], 31, 1024)?;
-    let digits =
-        "afafafafafafafafafafafafafafafafafafafafafafafafafafafafafafafafafafafafafafafafafafafafafafafafafafafafafafafaf";
-    let wanted = format!(in rt.alloc(); "{digits} 31 1024\n")?;
-    assert_eq!(rt; line.as_slice(), wanted.as_bytes());
+    let wanted = format!(in rt.alloc(); "{DIGITS} 31 1024\n")?;
+    assert_same(&rt, line.as_slice(), wanted.as_bytes());
     Ok(())
 }

@@ -1,5 +1,6 @@
 //! A table of messages.
 
+use crate::same::{assert_printed, assert_row, assert_same};
 use dimacs_reader::DimacsError;
 use lms_tree::SealError;
 use near_client::NearError;
@@ -11,7 +12,7 @@ use road_tell::{
     wrong_words,
 };
 use route_client::CheckError;
-use std::alloc::Global;
+use std::alloc::{AllocError, Global};
 use std::process::Abort;
 use std::test::Fail;
 
@@ -24,270 +25,302 @@ fn words_of(rt: &impl Abort, alloc: Global, line: &str) -> Result<Words, Fail> {
     Ok(words)
 }
 
+// What is told of words that are wrong.
+fn told_of(alloc: Global, words: &Words) -> Result<String, Fail> {
+    match wrong_words(words) {
+        None => Err(Fail::from("no word is wrong")),
+        Some(wrong) => Ok(format!(in alloc; "{wrong}")?),
+    }
+}
+
+static WRONG: [(&str, &str); 11] = [
+    (
+        "rout map.roads 1 3",
+        "road_proof: rout: There is no such command. `road_proof help` lists them.",
+    ),
+    (
+        "route map.roads 1",
+        "road_proof: route: It takes 3 words behind it, and here are 2.",
+    ),
+    (
+        "desk owner.desk",
+        "road_proof: desk: It takes 0 words behind it, and here are 1.",
+    ),
+    (
+        "route map.roads -1 3",
+        "road_proof: -1: S must be a node's id, a whole number from 0 to 4294967295.",
+    ),
+    (
+        "root map.roads 33",
+        "road_proof: 33: FAN must be a whole number from 2 to 32.",
+    ),
+    (
+        "key secret h6",
+        "road_proof: h6: KIND must be h5, for 31 publications, or h10, for 1023.",
+    ),
+    (
+        "publish m dijkstra 1 id 0 2 0 0 0",
+        "road_proof: dijkstra: METHOD must be dij, full, ldm or hyp.",
+    ),
+    (
+        "reach m.pub 1 -4",
+        "road_proof: -4: RADIUS must be a whole number from 0 to 18446744073709551615.",
+    ),
+    (
+        "publish m dij 1 id 0 2 0 0 x",
+        "road_proof: x: P3 must be a whole number from 0 to 18446744073709551615.",
+    ),
+    (
+        "help",
+        "road_proof: help: Each command stands with what it does.",
+    ),
+    ("--version", "road_proof: version: This is version 0.1.0."),
+];
+
+fn assert_wrong(rt: &impl Abort, alloc: Global, line: &str, message: &str) -> Result<(), Fail> {
+    let words = words_of(rt, alloc, line)?;
+    assert_row(rt, line, command_of(&words), None);
+    let text = told_of(alloc, &words)?;
+    assert_row(rt, line, text.lines().next(), Some(message));
+    Ok(())
+}
+
 #[test]
 fn the_wrong_word_is_named(rt: HostRuntime) -> Result<(), Fail> {
-    let alloc = rt.alloc();
-    for (line, message) in [
-        (
-            "rout map.roads 1 3",
-            "rout: There is no such command. `road_proof help` lists them.",
-        ),
-        (
-            "route map.roads 1",
-            "route: It takes 3 words behind it, and here are 2.",
-        ),
-        (
-            "desk owner.desk",
-            "desk: It takes 0 words behind it, and here are 1.",
-        ),
-        (
-            "route map.roads -1 3",
-            "-1: S must be a node's id, a whole number from 0 to 4294967295.",
-        ),
-        (
-            "root map.roads 33",
-            "33: FAN must be a whole number from 2 to 32.",
-        ),
-        (
-            "key secret h6",
-            "h6: KIND must be h5, for 31 publications, or h10, for 1023.",
-        ),
-        (
-            "publish m dijkstra 1 id 0 2 0 0 0",
-            "dijkstra: METHOD must be dij, full, ldm or hyp.",
-        ),
-        (
-            "reach m.pub 1 -4",
-            "-4: RADIUS must be a whole number from 0 to 18446744073709551615.",
-        ),
-        (
-            "publish m dij 1 id 0 2 0 0 x",
-            "x: P3 must be a whole number from 0 to 18446744073709551615.",
-        ),
-        ("help", "help: Each command stands with what it does."),
-        ("--version", "version: This is version 0.1.0."),
-    ] {
-        let words = words_of(&rt, alloc, line)?;
-        assert_eq!(rt; command_of(&words), None, "at {line}");
-        let Some(wrong) = wrong_words(&words) else {
-            return Err(Fail::from("no word is wrong"));
-        };
-        let text = format!(in alloc; "{wrong}")?;
-        let wanted = format!(in alloc; "road_proof: {message}")?;
-        assert_eq!(rt; text.lines().next(), Some(wanted.as_str()), "at {line}");
+    for (line, message) in &WRONG {
+        assert_wrong(&rt, rt.alloc(), *line, *message)?;
     }
     Ok(())
 }
 
 #[test]
-fn a_commands_line_and_the_table_are_printed(rt: HostRuntime) -> Result<(), Fail> {
-    let alloc = rt.alloc();
-    let words = words_of(&rt, alloc, "prove m1.pub 1")?;
-    let Some(wrong) = wrong_words(&words) else {
-        return Err(Fail::from("no word is wrong"));
-    };
-    let text = format!(in alloc; "{wrong}")?;
-    assert!(rt;
-        text.ends_with(
-            "\n  prove PUB S T\n      writes a reply that shows a shortest route from S to T"
-        )
-    );
-    let nothing = Words::new(alloc);
-    let Some(asked) = wrong_words(&nothing) else {
-        return Err(Fail::from("no words are no question"));
-    };
-    let text = format!(in alloc; "{asked}")?;
-    assert!(rt;
-        text.starts_with(
-            "road_proof: help: Each command stands with what it does.\ncommands:\n  route ROADS S T\n"
-        )
-    );
+fn a_commands_line_is_printed(rt: HostRuntime) -> Result<(), Fail> {
+    let words = words_of(&rt, rt.alloc(), "prove m1.pub 1")?;
+    let text = told_of(rt.alloc(), &words)?;
+    let end = "\n  prove PUB S T\n      writes a reply that shows a shortest route from S to T";
+    assert_row(&rt, text.as_str(), text.ends_with(end), true);
     Ok(())
 }
 
 #[test]
+fn the_table_of_commands_is_printed(rt: HostRuntime) -> Result<(), Fail> {
+    let text = told_of(rt.alloc(), &Words::new(rt.alloc()))?;
+    let start =
+        "road_proof: help: Each command stands with what it does.\ncommands:\n  route ROADS S T\n";
+    assert_row(&rt, text.as_str(), text.starts_with(start), true);
+    Ok(())
+}
+
+static FILES: [(DimacsError, &str); 4] = [
+    (DimacsError::Range(1, 6), "graph"),
+    (DimacsError::Range(2, 6), "places"),
+    (DimacsError::Repeated(1), "places"),
+    (DimacsError::Unpaired(2), "graph"),
+];
+
+#[test]
 fn a_fault_of_two_files_is_said_of_one(rt: HostRuntime) {
-    for (fault, file) in [
-        (DimacsError::Range(1, 6), "graph"),
-        (DimacsError::Range(2, 6), "places"),
-        (DimacsError::Repeated(1), "places"),
-        (DimacsError::Unpaired(2), "graph"),
-    ] {
-        assert_eq!(rt; faulty_file("graph", "places", fault), file);
+    for (fault, file) in &FILES {
+        assert_row(&rt, *fault, faulty_file("graph", "places", *fault), *file);
     }
 }
 
 /// A road file with skipped lines, and a fault of each kind when its last lines are added.
 const ROADS: &str = "# a map\nroads 1\n\nnode 1 0 0\n\tnode  2 0 0\r\nroad 1 2 4\nroad 2 1 4\n";
 
+static PLACES: [(&str, MapError, &str); 5] = [
+    (
+        "road 9 2 1",
+        MapError::UnknownEnd(2),
+        "Line 8 has a road to 9, and no line lists a node 9.",
+    ),
+    (
+        "road 2 8 1",
+        MapError::UnknownEnd(2),
+        "Line 8 has a road to 8, and no line lists a node 8.",
+    ),
+    (
+        "road 2 2 1",
+        MapError::SelfRoad(2),
+        "Line 8 has a road from the node 2 to itself.",
+    ),
+    (
+        "node 02 5 5",
+        MapError::RepeatedNode(2),
+        "Line 8 lists the node 2, which line 5 has listed already.",
+    ),
+    (
+        "node 3 5 5",
+        MapError::Crowded(3),
+        "The node 3 of line 8 has more than 255 neighbours.",
+    ),
+];
+
+fn assert_place(
+    rt: &impl Abort,
+    alloc: Global,
+    line: &str,
+    fault: MapError,
+    message: &str,
+) -> Result<(), Fail> {
+    let text = format!(in alloc; "{ROADS}{line}\n")?;
+    match place_of(text.as_bytes(), fault) {
+        None => Err(Fail::from("the place is not found")),
+        Some(place) => Ok(assert_printed(rt, alloc, place, message)?),
+    }
+}
+
 #[test]
 fn a_road_file_is_told_by_line_and_id(rt: HostRuntime) -> Result<(), Fail> {
-    let alloc = rt.alloc();
-    for (line, fault, message) in [
-        (
-            "road 9 2 1",
-            MapError::UnknownEnd(2),
-            "Line 8 has a road to 9, and no line lists a node 9.",
-        ),
-        (
-            "road 2 8 1",
-            MapError::UnknownEnd(2),
-            "Line 8 has a road to 8, and no line lists a node 8.",
-        ),
-        (
-            "road 2 2 1",
-            MapError::SelfRoad(2),
-            "Line 8 has a road from the node 2 to itself.",
-        ),
-        (
-            "node 02 5 5",
-            MapError::RepeatedNode(2),
-            "Line 8 lists the node 2, which line 5 has listed already.",
-        ),
-        (
-            "node 3 5 5",
-            MapError::Crowded(3),
-            "The node 3 of line 8 has more than 255 neighbours.",
-        ),
-    ] {
-        let text = format!(in alloc; "{ROADS}{line}\n")?;
-        let Some(place) = place_of(text.as_bytes(), fault) else {
-            return Err(Fail::from("the place is not found"));
-        };
-        let told = format!(in alloc; "{place}")?;
-        assert_eq!(rt; told.as_str(), message);
+    for (line, fault, message) in &PLACES {
+        assert_place(&rt, rt.alloc(), *line, *fault, *message)?;
     }
-    assert_eq!(rt; place_of(ROADS.as_bytes(), MapError::Empty), None);
+    assert_same(&rt, place_of(ROADS.as_bytes(), MapError::Empty), None);
     Ok(())
 }
 
+static DIGITS: [(&str, Option<usize>, &str); 6] = [
+    (
+        "0aF\r\n",
+        Some(4),
+        "There are 3 hex digits, and 4 are wanted.",
+    ),
+    ("", Some(4), "There are 0 hex digits, and 4 are wanted."),
+    (
+        "0a0g",
+        Some(4),
+        "The octet at place 3 is no hex digit, \
+         and the file must be 4 of them and at most one line end.",
+    ),
+    (
+        "0a0b\n\n",
+        Some(4),
+        "The octet at place 4 is no hex digit, \
+         and the file must be 4 of them and at most one line end.",
+    ),
+    (
+        "0aF\r\n",
+        None,
+        "There are 3 hex digits, and an even number of them is wanted.",
+    ),
+    (
+        "0a 0",
+        None,
+        "The octet at place 2 is no hex digit, \
+         and the file must be an even number of them and at most one line end.",
+    ),
+];
+
 #[test]
-fn hex_is_told_by_its_digits(rt: HostRuntime) -> Result<(), Fail> {
-    let alloc = rt.alloc();
-    for (text, wanted, message) in [
-        (
-            "0aF\r\n",
-            Some(4),
-            "There are 3 hex digits, and 4 are wanted.",
-        ),
-        ("", Some(4), "There are 0 hex digits, and 4 are wanted."),
-        (
-            "0a0g",
-            Some(4),
-            "The octet at place 3 is no hex digit, and the file must be 4 of them and at most one line end.",
-        ),
-        (
-            "0a0b\n\n",
-            Some(4),
-            "The octet at place 4 is no hex digit, and the file must be 4 of them and at most one line end.",
-        ),
-        (
-            "0aF\r\n",
-            None,
-            "There are 3 hex digits, and an even number of them is wanted.",
-        ),
-        (
-            "0a 0",
-            None,
-            "The octet at place 2 is no hex digit, and the file must be an even number of them and at most one line end.",
-        ),
-    ] {
+fn hex_is_told_by_its_digits(rt: HostRuntime) -> Result<(), AllocError> {
+    for (text, wanted, message) in &DIGITS {
         let wrong = WrongHex {
             text: text.as_bytes(),
-            wanted,
+            wanted: *wanted,
         };
-        let told = format!(in alloc; "{wrong}")?;
-        assert_eq!(rt; told.as_str(), message);
+        assert_printed(&rt, rt.alloc(), wrong, *message)?;
+    }
+    Ok(())
+}
+
+static LOOKS: [(&[u8], Option<Look>); 9] = [
+    (b"", Some(Look::Empty)),
+    (b"\x1f\x8b\x08", Some(Look::Gzip)),
+    (b"\xef\xbb\xbfroads 1", Some(Look::ByteOrderMark)),
+    (b"roads 1\n", Some(Look::RoadFile)),
+    (b"RPP1RPF1", Some(Look::Publication)),
+    (b"\x00RPF1", Some(Look::Reply)),
+    (b"\x02", Some(Look::Reply)),
+    (b"RPN1RPF1", Some(Look::NearReply)),
+    (b"\x02\x02", None),
+];
+
+#[test]
+fn files_are_known_by_their_first_octets(rt: HostRuntime) {
+    for (text, look) in &LOOKS {
+        assert_row(&rt, *text, look_of(*text), *look);
+    }
+}
+
+#[test]
+fn looks_and_settings_are_printed(rt: HostRuntime) -> Result<(), AllocError> {
+    let wanted = "It looks like a gzip file, which must be unpacked first.";
+    assert_printed(&rt, rt.alloc(), Look::Gzip, wanted)?;
+    assert_same(&rt, setting_name(3), "P1");
+    assert_same(&rt, plan_rule(1, 3), "Under dij and full it is 0.");
+    let wanted = "Under ldm it is the bits of a code, from 1 to 16.";
+    assert_same(&rt, plan_rule(3, 4), wanted);
+    Ok(())
+}
+
+static ROUTES: [(CheckError, &str); 5] = [
+    (
+        CheckError::NotAnswer(2),
+        "The route is not to be used: \
+         there is none, and the server says, without proof, that no route joins the two ends.",
+    ),
+    (
+        CheckError::Stale(3),
+        "The route is not to be used: \
+         the reply is of version 3 of the map, which is older than LEAST asks for.",
+    ),
+    (
+        CheckError::BadChain(0, SealError::NoMatch),
+        "The route is not to be used: \
+         link 0 of the chain, counted from 0 on, is not signed by the key before it.",
+    ),
+    (
+        CheckError::BadSignature(SealError::NoMatch),
+        "The route is not to be used: \
+         the reply is not signed under this public key, \
+         nor under a key of the chain where one is named.",
+    ),
+    (
+        CheckError::Judged(Refusal::Shorter(9)),
+        "The route is not to be used: \
+         the signed roads have a walk of length 9, which is shorter.",
+    ),
+];
+
+#[test]
+fn refused_routes_are_told_to_planners(rt: HostRuntime) -> Result<(), AllocError> {
+    for (why, message) in &ROUTES {
+        assert_printed(&rt, rt.alloc(), Unusable::Route(*why), *message)?;
+    }
+    Ok(())
+}
+
+static NEARS: [(NearError, &str); 2] = [
+    (
+        NearError::Malformed(0),
+        "The nodes are not to be used: \
+         the file is no reply on a radius, and can't be read from place 0 on.",
+    ),
+    (
+        NearError::MissingTuple(4),
+        "The nodes are not to be used: \
+         the reply leaves out the node 4, which its roads show to be within the radius.",
+    ),
+];
+
+#[test]
+fn refused_nodes_are_told_to_planners(rt: HostRuntime) -> Result<(), AllocError> {
+    for (why, message) in &NEARS {
+        assert_printed(&rt, rt.alloc(), Unusable::Nodes(*why), *message)?;
     }
     Ok(())
 }
 
 #[test]
-fn files_are_known_by_their_first_octets(rt: HostRuntime) -> Result<(), Fail> {
-    let alloc = rt.alloc();
-    for (text, look) in [
-        (b"".as_slice(), Some(Look::Empty)),
-        (b"\x1f\x8b\x08".as_slice(), Some(Look::Gzip)),
-        (b"\xef\xbb\xbfroads 1".as_slice(), Some(Look::ByteOrderMark)),
-        (b"roads 1\n".as_slice(), Some(Look::RoadFile)),
-        (b"RPP1RPF1".as_slice(), Some(Look::Publication)),
-        (b"\x00RPF1".as_slice(), Some(Look::Reply)),
-        (b"\x02".as_slice(), Some(Look::Reply)),
-        (b"RPN1RPF1".as_slice(), Some(Look::NearReply)),
-        (b"\x02\x02".as_slice(), None),
-    ] {
-        assert_eq!(rt; look_of(text), look);
-    }
-    let told = format!(in alloc; "{}", Look::Gzip)?;
-    assert_eq!(rt;
-        told.as_str(),
-        "It looks like a gzip file, which must be unpacked first."
-    );
-    assert_eq!(rt; setting_name(3), "P1");
-    assert_eq!(rt; plan_rule(1, 3), "Under dij and full it is 0.");
-    assert_eq!(rt;
-        plan_rule(3, 4),
-        "Under ldm it is the bits of a code, from 1 to 16."
-    );
-    Ok(())
-}
-
-#[test]
-fn refusals_are_sentences_for_planners(rt: HostRuntime) -> Result<(), Fail> {
-    let alloc = rt.alloc();
-    for (why, message) in [
-        (
-            CheckError::NotAnswer(2),
-            "there is none, and the server says, without proof, that no route joins the two ends.",
-        ),
-        (
-            CheckError::Stale(3),
-            "the reply is of version 3 of the map, which is older than LEAST asks for.",
-        ),
-        (
-            CheckError::BadChain(0, SealError::NoMatch),
-            "link 0 of the chain, counted from 0 on, is not signed by the key before it.",
-        ),
-        (
-            CheckError::BadSignature(SealError::NoMatch),
-            "the reply is not signed under this public key, nor under a key of the chain where one is named.",
-        ),
-        (
-            CheckError::Judged(Refusal::Shorter(9)),
-            "the signed roads have a walk of length 9, which is shorter.",
-        ),
-    ] {
-        let told = format!(in alloc; "{}", Unusable::Route(why))?;
-        let wanted = format!(in alloc; "The route is not to be used: {message}")?;
-        assert_eq!(rt; told.as_str(), wanted.as_str());
-    }
-    for (why, message) in [
-        (
-            NearError::Malformed(0),
-            "the file is no reply on a radius, and can't be read from place 0 on.",
-        ),
-        (
-            NearError::MissingTuple(4),
-            "the reply leaves out the node 4, which its roads show to be within the radius.",
-        ),
-    ] {
-        let told = format!(in alloc; "{}", Unusable::Nodes(why))?;
-        let wanted = format!(in alloc; "The nodes are not to be used: {message}")?;
-        assert_eq!(rt; told.as_str(), wanted.as_str());
-    }
-    Ok(())
-}
-
-#[test]
-fn the_keys_of_a_file_are_counted(rt: HostRuntime) -> Result<(), Fail> {
+fn the_keys_of_a_file_are_counted(rt: HostRuntime) {
     let mut image = [0; 4160];
-    assert_eq!(rt; keys_left(&image), None);
+    assert_same(&rt, keys_left(&image), None);
     image[0] = 1;
     image[4] = 5;
     image[64] = 1;
     image[4032] = 1;
-    assert_eq!(rt; keys_left(&image), Some(30), "the last slot is kept");
+    // The last slot is kept.
+    assert_same(&rt, keys_left(&image), Some(30));
     image[4] = 6;
-    assert_eq!(rt; keys_left(&image), None);
-    Ok(())
+    assert_same(&rt, keys_left(&image), None);
 }

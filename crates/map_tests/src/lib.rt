@@ -16,6 +16,8 @@ mod orders;
 #[cfg(test)]
 mod road_files;
 #[cfg(test)]
+mod same;
+#[cfg(test)]
 mod searches;
 #[cfg(test)]
 mod words;

@@ -3,12 +3,13 @@ ghost use Rattle.std.specs.Prelude.{ℕ, ◌≡◌};
 ghost use Rattle.std.specs.Int.{w16, to_be_bytes};
 ghost use Rattle.octet_text.specs.Format.{u16, any};
 
+use crate::same::{assert_printed, assert_same};
 use octet_text::{
     Cursor, Digest32, Digests, Hasher, Malformed, NoMemory, Octets, PutRow, ReadError, Row, Sha,
     Short, Toy, digest_of_pieces, digest_of_two, put_i32, put_octets, put_rows, put_u8, put_u16,
     put_u32, put_u64, read_rows,
 };
-use std::alloc::Global;
+use std::alloc::{AllocError, Global};
 
 const OF_NOTHING: Digest32 = [
     0xe3, 0xb0, 0xc4, 0x42, 0x98, 0xfc, 0x1c, 0x14, 0x9a, 0xfb, 0xf4, 0xc8, 0x99, 0x6f, 0xb9, 0x24,
@@ -37,37 +38,47 @@ fn toy_digest(last: u8) -> Digest32 {
 
 #[test]
 fn hashes_give_the_published_digests(rt: HostRuntime) {
-    assert_eq!(rt; digest_by_octets::<Sha>(b""), OF_NOTHING);
-    assert_eq!(rt; digest_by_octets::<Sha>(b"abc"), OF_ABC);
-    assert_eq!(rt; digest_of_two::<Sha>(b"a", b"bc"), OF_ABC);
-    assert_eq!(rt; digest_of_two::<Toy>(&[200], &[50, 50]), toy_digest(44));
-    assert_eq!(rt; digest_by_octets::<Toy>(&[255, 255]), toy_digest(254));
-    assert_eq!(rt;
-        digest_of_pieces::<Toy>(1, &[[1; 32], [2; 32]]),
-        toy_digest(97)
-    );
+    assert_same(&rt, digest_by_octets::<Sha>(b""), OF_NOTHING);
+    assert_same(&rt, digest_by_octets::<Sha>(b"abc"), OF_ABC);
+    assert_same(&rt, digest_of_two::<Sha>(b"a", b"bc"), OF_ABC);
 }
 
 #[test]
-fn takes_read_to_the_end_of_the_octets(rt: HostRuntime) {
-    let octets = [
-        0x4e, 7, 1, 2, 0, 0, 1, 0, 0xff, 0xff, 0xff, 0xfe, 0, 0, 0, 0, 0, 0, 2, 0, 9,
-    ];
-    let mut cursor = Cursor::new(&octets);
-    assert_eq!(rt; cursor.name(b"O"), Err(Malformed { at: 0 }));
-    assert_eq!(rt; cursor.name(b"N"), Ok(()));
-    assert_eq!(rt; cursor.take_u8(), Ok(7));
-    assert_eq!(rt; cursor.u16_in(1, 257), Err(Malformed { at: 2 }));
-    assert_eq!(rt; cursor.take_u16(), Ok(258));
-    assert_eq!(rt; cursor.u32_in(256, 256), Ok(256));
-    assert_eq!(rt; cursor.take_i32(), Ok(-2));
-    assert_eq!(rt; cursor.take_u64(), Ok(512));
-    assert_eq!(rt; cursor.at(), 20);
-    assert_eq!(rt; cursor.take_u16(), Err(Short { at: 20 }));
-    assert_eq!(rt; cursor.take_digest(), Err(Short { at: 20 }));
-    assert_eq!(rt; cursor.take_octets(1), Ok(&octets[20..21]));
-    assert_eq!(rt; cursor.left(), 0);
-    assert_eq!(rt; cursor.take_u8(), Err(Short { at: 21 }));
+fn a_toy_hash_adds_the_octets(rt: HostRuntime) {
+    let two = digest_of_two::<Toy>(&[200], &[50, 50]);
+    assert_same(&rt, two, toy_digest(44));
+    assert_same(&rt, digest_by_octets::<Toy>(&[255, 255]), toy_digest(254));
+    let pieces = digest_of_pieces::<Toy>(1, &[[1; 32], [2; 32]]);
+    assert_same(&rt, pieces, toy_digest(97));
+}
+
+const OCTETS: [u8; 21] = [
+    0x4e, 7, 1, 2, 0, 0, 1, 0, 0xff, 0xff, 0xff, 0xfe, 0, 0, 0, 0, 0, 0, 2, 0, 9,
+];
+
+#[test]
+fn takes_read_on_from_place_to_place(rt: HostRuntime) {
+    let mut cursor = Cursor::new(&OCTETS);
+    assert_same(&rt, cursor.name(b"O"), Err(Malformed { at: 0 }));
+    assert_same(&rt, cursor.name(b"N"), Ok(()));
+    assert_same(&rt, cursor.take_u8(), Ok(7));
+    assert_same(&rt, cursor.u16_in(1, 257), Err(Malformed { at: 2 }));
+    assert_same(&rt, cursor.take_u16(), Ok(258));
+    assert_same(&rt, cursor.u32_in(256, 256), Ok(256));
+    assert_same(&rt, cursor.take_i32(), Ok(-2));
+    assert_same(&rt, cursor.take_u64(), Ok(512));
+    assert_same(&rt, cursor.at(), 20);
+}
+
+#[test]
+fn takes_are_short_at_the_end_of_the_octets(rt: HostRuntime) {
+    let mut cursor = Cursor::new(&OCTETS);
+    assert_same(&rt, cursor.take_octets(20), Ok(&OCTETS[..20]));
+    assert_same(&rt, cursor.take_u16(), Err(Short { at: 20 }));
+    assert_same(&rt, cursor.take_digest(), Err(Short { at: 20 }));
+    assert_same(&rt, cursor.take_octets(1), Ok(&OCTETS[20..]));
+    assert_same(&rt, cursor.left(), 0);
+    assert_same(&rt, cursor.take_u8(), Err(Short { at: 21 }));
 }
 
 // Numbers of two octets.
@@ -101,56 +112,54 @@ impl PutRow for Numbers {
     }
 }
 
+static PUT: [u8; 22] = [
+    0x4e, 1, 2, 3, 4, 5, 6, 7, 8, 9, 10, 11, 12, 13, 14, 0xff, 0xff, 0xff, 0xfe, b'e', b'n', b'd',
+];
+
 #[test]
 fn puts_append_big_endian(rt: HostRuntime) {
     let mut out = Vec::new(rt.alloc());
-    assert_eq!(rt; put_u8(&mut out, 0x4e), Ok(()));
-    assert_eq!(rt; put_u16(&mut out, 0x0102), Ok(()));
-    assert_eq!(rt; put_u32(&mut out, 0x0304_0506), Ok(()));
-    assert_eq!(rt; put_u64(&mut out, 0x0708_090a_0b0c_0d0e), Ok(()));
-    assert_eq!(rt; put_i32(&mut out, -2), Ok(()));
-    assert_eq!(rt; put_octets(&mut out, b"end"), Ok(()));
-    let want = [
-        0x4e, 1, 2, 3, 4, 5, 6, 7, 8, 9, 10, 11, 12, 13, 14, 0xff, 0xff, 0xff, 0xfe, b'e', b'n',
-        b'd',
-    ];
-    assert_eq!(rt; out.as_slice(), want.as_slice());
+    assert_same(&rt, put_u8(&mut out, 0x4e), Ok(()));
+    assert_same(&rt, put_u16(&mut out, 0x0102), Ok(()));
+    assert_same(&rt, put_u32(&mut out, 0x0304_0506), Ok(()));
+    assert_same(&rt, put_u64(&mut out, 0x0708_090a_0b0c_0d0e), Ok(()));
+    assert_same(&rt, put_i32(&mut out, -2), Ok(()));
+    assert_same(&rt, put_octets(&mut out, b"end"), Ok(()));
+    assert_same(&rt, out.as_slice(), PUT.as_slice());
 }
 
+// The spelling of 1 and 258.
+const TWO: [u8; 4] = [0, 1, 1, 2];
+
 #[test]
-fn rows_are_written_and_read_again(rt: HostRuntime) {
+fn rows_are_written(rt: HostRuntime) {
     let mut out = Vec::new(rt.alloc());
-    assert_eq!(rt; put_rows::<Numbers>(&mut out, &[1, 258]), Ok(()));
-    assert_eq!(rt; out.as_slice(), [0, 1, 1, 2].as_slice());
-    let mut cursor = Cursor::new(&[0, 1, 1, 2]);
-    match read_rows(rt.alloc(), &Numbers, 2, &mut cursor) {
-        Ok(rows) => assert_eq!(rt; rows.as_slice(), [1, 258].as_slice()),
-        Err(_) => assert!(rt; false),
-    }
-    match read_rows(rt.alloc(), &Numbers, 1, &mut cursor) {
-        Ok(_) => assert!(rt; false),
-        Err(error) => assert_eq!(rt; error, ReadError::Malformed(Malformed { at: 4 })),
-    }
-    assert_eq!(rt; Octets::from_vec(out).as_slice(), [0, 1, 1, 2].as_slice());
+    assert_same(&rt, put_rows::<Numbers>(&mut out, &[1, 258]), Ok(()));
+    assert_same(&rt, out.as_slice(), TWO.as_slice());
+    let octets = Octets::from_vec(out);
+    assert_same(&rt, octets.as_slice(), TWO.as_slice());
     let digests = Digests::from_vec(Vec::new(rt.alloc()));
-    assert!(rt; digests.as_slice().is_empty());
+    assert_same(&rt, digests.as_slice().len(), 0);
 }
 
 #[test]
-fn refusals_are_whole_sentences(rt: HostRuntime) -> Result<(), std::alloc::AllocError> {
-    let alloc = rt.alloc();
-    assert_eq!(rt;
-        format!(in alloc; "{}", Short { at: 3 })?.as_str(),
-        "Too few octets are left at place 3."
-    );
-    let read = ReadError::Malformed(Malformed { at: 4 });
-    assert_eq!(rt;
-        format!(in alloc; "{read}")?.as_str(),
-        "The field at place 4 can't be read."
-    );
-    assert_eq!(rt;
-        format!(in alloc; "{NoMemory}")?.as_str(),
-        "No memory was found."
-    );
+fn rows_are_read(rt: HostRuntime) -> Result<(), ReadError> {
+    let mut cursor = Cursor::new(&TWO);
+    let rows = read_rows(rt.alloc(), &Numbers, 2, &mut cursor)?;
+    assert_same(&rt, rows.as_slice(), [1, 258].as_slice());
+    let none = read_rows(rt.alloc(), &Numbers, 1, &mut cursor);
+    let error = ReadError::Malformed(Malformed { at: 4 });
+    assert_same(&rt, none.err(), Some(error));
     Ok(())
+}
+
+#[test]
+fn refusals_are_whole_sentences(rt: HostRuntime) -> Result<(), AllocError> {
+    let short = Short { at: 3 };
+    let wanted = "Too few octets are left at place 3.";
+    assert_printed(&rt, rt.alloc(), short, wanted)?;
+    let read = ReadError::Malformed(Malformed { at: 4 });
+    let wanted = "The field at place 4 can't be read.";
+    assert_printed(&rt, rt.alloc(), read, wanted)?;
+    assert_printed(&rt, rt.alloc(), NoMemory, "No memory was found.")
 }

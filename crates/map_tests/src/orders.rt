@@ -2,38 +2,44 @@
 
 ghost use Rattle.std.specs.Prelude.{◌≤◌};
 
-use road_map::Map;
+use crate::same::assert_row;
+use road_map::{Ids, Map};
 use road_order::{OrderError, order};
 use std::alloc::Global;
 use std::test::Fail;
 use test_maps::{NODES, ROADS, map_of};
 
+static ORDERS: [(u8, [u32; 5]); 5] = [
+    (0, [1, 2, 3, 4, 5]),
+    (1, [1, 2, 4, 3, 5]),
+    (2, [1, 2, 3, 4, 5]),
+    (3, [1, 4, 2, 3, 5]),
+    (4, [1, 2, 4, 3, 5]),
+];
+
+/// The ids of the five nodes in an order.
+fn ordered(alloc: Global, kind: u8) -> Result<Ids, OrderError> {
+    match map_of(alloc, &NODES, &ROADS) {
+        Ok(map) => order(alloc, &map, kind, 7),
+        Err(_) => Err(OrderError::Memory),
+    }
+}
+
 #[test]
-fn orders_of_five_nodes(rt: HostRuntime) -> Result<(), Fail> {
-    let map = map_of(rt.alloc(), &NODES, &ROADS)?;
-    for (kind, want) in [
-        (0, [1, 2, 3, 4, 5]),
-        (1, [1, 2, 4, 3, 5]),
-        (2, [1, 2, 3, 4, 5]),
-        (3, [1, 4, 2, 3, 5]),
-        (4, [1, 2, 4, 3, 5]),
-    ] {
-        let ids = order(rt.alloc(), &map, kind, 7)?;
-        assert_eq!(rt; ids.as_slice(), want.as_slice(), "order {kind}");
+fn orders_of_five_nodes(rt: HostRuntime) -> Result<(), OrderError> {
+    for (kind, wanted) in &ORDERS {
+        let ids = ordered(rt.alloc(), *kind)?;
+        assert_row(&rt, *kind, ids.as_slice(), wanted.as_slice());
     }
     Ok(())
 }
 
 #[test]
-fn unknown_kinds_are_refused(rt: HostRuntime) -> Result<(), Fail> {
-    let map = map_of(rt.alloc(), &NODES, &ROADS)?;
+fn unknown_kinds_are_refused(rt: HostRuntime) {
     for kind in [6, 7, 255] {
-        match order(rt.alloc(), &map, kind, 0) {
-            Err(OrderError::Kind) => {}
-            _ => assert!(rt; false, "order {kind}"),
-        }
+        let ids = ordered(rt.alloc(), kind);
+        assert_row(&rt, kind, ids.err(), Some(OrderError::Kind));
     }
-    Ok(())
 }
 
 /// The nodes from 1 to a count, scattered, with the roads of a ring.
@@ -56,7 +62,7 @@ fn large_maps_are_ordered(rt: HostRuntime) -> Result<(), Fail> {
     let map = ring_of(rt.alloc(), 65536)?;
     for kind in 0..6 {
         let ids = order(rt.alloc(), &map, kind, 7)?;
-        assert_eq!(rt; ids.as_slice().len(), 65536, "order {kind}");
+        assert_row(&rt, kind, ids.as_slice().len(), 65536);
     }
     Ok(())
 }

@@ -1,10 +1,10 @@
 //! Road files that are read, refused and printed, and the grid of a seed.
+
+use crate::same::{assert_printed, assert_row, assert_same};
 use road_map::{Node, Road};
-use road_reader::{
-    Draw, GridError, RoadError, grid_laws, grid_roads, print_roads, printed_roads_are_read,
-    read_roads,
-};
+use road_reader::{Draw, GridError, RoadError, grid_roads, print_roads, read_roads};
 use std::alloc::{AllocError, Global};
+use std::process::Abort;
 use std::test::Fail;
 
 /// A map of five nodes and four roads, but for its last line.
@@ -36,26 +36,117 @@ road 2 3\t\t5\r
 road 1 4 3\r
 road 4 3 000000000000000000000000000007";
 
-fn node(id: u32, x: i32, y: i32) -> Node {
-    Node { id, x, y }
-}
-
-fn road(a: u32, b: u32, length: u32) -> Road {
-    Road { a, b, length }
-}
-
 fn joined(alloc: Global, front: &[u8], last: &[u8]) -> Result<Vec<u8>, AllocError> {
     let mut text = Vec::from_slice(alloc, front)?;
     text.extend_from_slice(last)?;
     Ok(text)
 }
 
-fn repeated(alloc: Global, line: &[u8], count: u32) -> Result<Vec<u8>, AllocError> {
-    let mut text = Vec::from_slice(alloc, b"roads 1\n")?;
-    for _ in 0..count {
-        text.extend_from_slice(line)?;
+/// What is printed of the parts that a text of a test's size lists.
+fn printed(alloc: Global, text: &[u8]) -> Result<Vec<u8>, Fail> {
+    if text.len() > 1000 {
+        return Err(Fail::from("a long text"));
     }
-    Ok(text)
+    let parts = read_roads(alloc, text)?;
+    Ok(print_roads(alloc, &parts)?)
+}
+
+fn assert_again(rt: &impl Abort, alloc: Global, text: &[u8], wanted: &[u8]) -> Result<(), Fail> {
+    let again = printed(alloc, text)?;
+    assert_same(rt, again.as_slice(), wanted);
+    Ok(())
+}
+
+#[test]
+fn a_map_is_read_and_printed_again(rt: HostRuntime) -> Result<(), Fail> {
+    let text = joined(rt.alloc(), FRONT, LAST)?;
+    assert_again(&rt, rt.alloc(), text.as_slice(), text.as_slice())?;
+    assert_again(&rt, rt.alloc(), SPELLED_OTHERWISE, text.as_slice())
+}
+
+/// What a text of a test's size lists: nodes by id, x and y, and roads by their two ends and
+/// length.
+fn assert_listed(
+    rt: &impl Abort,
+    alloc: Global,
+    text: &[u8],
+    nodes: &[Node],
+    roads: &[Road],
+) -> Result<(), RoadError> {
+    assert!(rt; text.len() <= 1000);
+    let parts = read_roads(alloc, text)?;
+    assert_same(rt, parts.nodes.as_slice(), nodes);
+    assert_same(rt, parts.roads.as_slice(), roads);
+    Ok(())
+}
+
+static NODES: [Node; 5] = [
+    Node { id: 1, x: 0, y: 0 },
+    Node { id: 2, x: 10, y: 0 },
+    Node { id: 3, x: 20, y: 0 },
+    Node {
+        id: 4,
+        x: 10,
+        y: 10,
+    },
+    Node {
+        id: 5,
+        x: 50,
+        y: 50,
+    },
+];
+
+static ROADS: [Road; 4] = [
+    Road {
+        a: 1,
+        b: 2,
+        length: 4,
+    },
+    Road {
+        a: 2,
+        b: 3,
+        length: 5,
+    },
+    Road {
+        a: 1,
+        b: 4,
+        length: 3,
+    },
+    Road {
+        a: 4,
+        b: 3,
+        length: 7,
+    },
+];
+
+#[test]
+fn a_text_lists_nodes_and_roads(rt: HostRuntime) -> Result<(), Fail> {
+    let text = joined(rt.alloc(), FRONT, LAST)?;
+    assert_listed(&rt, rt.alloc(), text.as_slice(), &NODES, &ROADS)?;
+    assert_listed(&rt, rt.alloc(), b"roads 1", &[], &[])?;
+    Ok(())
+}
+
+/// A text with the ends of the ranges.
+const ENDS: &[u8] =
+    b"roads 1\nnode 4294967295 -2147483648 2147483647\nroad 0 4294967295 4294967295\n";
+
+const LAST_NODE: Node = Node {
+    id: 4294967295,
+    x: -2147483648,
+    y: 2147483647,
+};
+
+const LONGEST_ROAD: Road = Road {
+    a: 0,
+    b: 4294967295,
+    length: 4294967295,
+};
+
+#[test]
+fn the_ends_of_the_ranges_are_read_and_printed(rt: HostRuntime) -> Result<(), Fail> {
+    assert_listed(&rt, rt.alloc(), ENDS, &[LAST_NODE], &[LONGEST_ROAD])?;
+    assert_again(&rt, rt.alloc(), ENDS, ENDS)
 }
 
 /// The fault of a text of a test's size.
@@ -66,131 +157,92 @@ fn fault_of(alloc: Global, text: &[u8]) -> Option<RoadError> {
     read_roads(alloc, text).err()
 }
 
-#[test]
-fn a_map_is_read_and_printed_again(rt: HostRuntime) -> Result<(), Fail> {
-    let nodes = [
-        node(1, 0, 0),
-        node(2, 10, 0),
-        node(3, 20, 0),
-        node(4, 10, 10),
-        node(5, 50, 50),
-    ];
-    let roads = [road(1, 2, 4), road(2, 3, 5), road(1, 4, 3), road(4, 3, 7)];
-    let text = joined(rt.alloc(), FRONT, LAST)?;
-    assert!(rt; text.len() < 1000);
-    let parts = read_roads(rt.alloc(), text.as_slice())?;
-    assert_eq!(rt; parts.nodes.as_slice(), nodes.as_slice());
-    assert_eq!(rt; parts.roads.as_slice(), roads.as_slice());
-    let printed = print_roads(rt.alloc(), &parts)?;
-    assert_eq!(rt; printed.as_slice(), text.as_slice());
-    let other = read_roads(rt.alloc(), SPELLED_OTHERWISE)?;
-    let printed = print_roads(rt.alloc(), &other)?;
-    assert_eq!(rt; printed.as_slice(), text.as_slice(), "spelled otherwise");
-    Ok(())
-}
+static FAULTS: [(&[u8], RoadError); 15] = [
+    (b"road 4", RoadError::BadLine(10)),
+    (b"road 4 3 4294967296", RoadError::BadNumber(10)),
+    (b"road 4294967296 3 7", RoadError::BadNumber(10)),
+    (b"road 4 3 -7", RoadError::BadNumber(10)),
+    (b"road 4 3 +7", RoadError::BadNumber(10)),
+    (b"road 4 3 7 # long", RoadError::BadLine(10)),
+    (b"Road 4 3 7", RoadError::BadLine(10)),
+    (b"node 4294967296 0 0", RoadError::BadNumber(10)),
+    (b"node 6 2147483648 0", RoadError::BadNumber(10)),
+    (b"node 6 0 -2147483649", RoadError::BadNumber(10)),
+    (b"node 6 - 0", RoadError::BadNumber(10)),
+    (b"node 6 --1 0", RoadError::BadNumber(10)),
+    (b"node 6 0\r 0", RoadError::BadNumber(10)),
+    (b"node 6 0 0\r\r\n", RoadError::BadNumber(10)),
+    (b"# skipped\n\nnode x 0\nnode y 0 0", RoadError::BadLine(12)),
+];
 
 #[test]
-fn the_ends_of_the_ranges_are_read_and_printed(rt: HostRuntime) -> Result<(), Fail> {
-    let text = b"roads 1\nnode 4294967295 -2147483648 2147483647\nroad 0 4294967295 4294967295\n";
-    let parts = read_roads(rt.alloc(), text)?;
-    let nodes = [node(4294967295, -2147483648, 2147483647)];
-    let roads = [road(0, 4294967295, 4294967295)];
-    assert_eq!(rt; parts.nodes.as_slice(), nodes.as_slice());
-    assert_eq!(rt; parts.roads.as_slice(), roads.as_slice());
-    let printed = print_roads(rt.alloc(), &parts)?;
-    assert_eq!(rt; printed.as_slice(), text.as_slice());
-    let empty = read_roads(rt.alloc(), b"roads 1")?;
-    assert!(rt; empty.nodes.as_slice().is_empty() && empty.roads.as_slice().is_empty());
-    Ok(())
-}
-
-#[test]
-fn the_first_faulty_line_is_named(rt: HostRuntime) -> Result<(), Fail> {
-    let table: [(&[u8], RoadError); 15] = [
-        (b"road 4", RoadError::BadLine(10)),
-        (b"road 4 3 4294967296", RoadError::BadNumber(10)),
-        (b"road 4294967296 3 7", RoadError::BadNumber(10)),
-        (b"road 4 3 -7", RoadError::BadNumber(10)),
-        (b"road 4 3 +7", RoadError::BadNumber(10)),
-        (b"road 4 3 7 # long", RoadError::BadLine(10)),
-        (b"Road 4 3 7", RoadError::BadLine(10)),
-        (b"node 4294967296 0 0", RoadError::BadNumber(10)),
-        (b"node 6 2147483648 0", RoadError::BadNumber(10)),
-        (b"node 6 0 -2147483649", RoadError::BadNumber(10)),
-        (b"node 6 - 0", RoadError::BadNumber(10)),
-        (b"node 6 --1 0", RoadError::BadNumber(10)),
-        (b"node 6 0\r 0", RoadError::BadNumber(10)),
-        (b"node 6 0 0\r\r\n", RoadError::BadNumber(10)),
-        (b"# skipped\n\nnode x 0\nnode y 0 0", RoadError::BadLine(12)),
-    ];
-    for (last, fault) in table {
-        let text = joined(rt.alloc(), FRONT, last)?;
-        assert_eq!(rt;
+fn the_first_faulty_line_is_named(rt: HostRuntime) -> Result<(), AllocError> {
+    for (last, fault) in &FAULTS {
+        let text = joined(rt.alloc(), FRONT, *last)?;
+        assert_row(
+            &rt,
+            *last,
             fault_of(rt.alloc(), text.as_slice()),
-            Some(fault),
-            "{last:?}"
+            Some(*fault),
         );
     }
     Ok(())
 }
+
+static UNTITLED: [&[u8]; 6] = [
+    b"",
+    b"\n# roads 1\n \n",
+    b"roads",
+    b"roads 01",
+    b"roads 1 x",
+    b"node 1 0 0\nroads 1",
+];
 
 #[test]
 fn a_file_begins_with_its_title(rt: HostRuntime) {
-    let table: [&[u8]; 6] = [
-        b"",
-        b"\n# roads 1\n \n",
-        b"roads",
-        b"roads 01",
-        b"roads 1 x",
-        b"node 1 0 0\nroads 1",
-    ];
-    for text in table {
-        assert_eq!(rt;
-            fault_of(rt.alloc(), text),
+    for text in &UNTITLED {
+        assert_row(
+            &rt,
+            *text,
+            fault_of(rt.alloc(), *text),
             Some(RoadError::NoTitle),
-            "{text:?}"
         );
     }
 }
 
+/// The fault of a text of so many equal lines.
+fn fault_of_lines(alloc: Global, line: &[u8], count: u32) -> Result<Option<RoadError>, AllocError> {
+    let mut text = Vec::from_slice(alloc, b"roads 1\n")?;
+    for _ in 0..count {
+        text.extend_from_slice(line)?;
+    }
+    Ok(fault_of(alloc, text.as_slice()))
+}
+
 #[test]
-fn no_more_than_the_most_are_read(rt: HostRuntime) -> Result<(), Fail> {
-    let nodes = repeated(rt.alloc(), b"node 1 0 0\n", 65_537)?;
-    assert_eq!(rt;
-        fault_of(rt.alloc(), nodes.as_slice()),
-        Some(RoadError::TooMany(65_538))
-    );
-    let roads = repeated(rt.alloc(), b"road 1 2 3\n", 262_145)?;
-    assert_eq!(rt;
-        fault_of(rt.alloc(), roads.as_slice()),
-        Some(RoadError::TooMany(262_146))
-    );
+fn no_more_than_the_most_are_read(rt: HostRuntime) -> Result<(), AllocError> {
+    let nodes = fault_of_lines(rt.alloc(), b"node 1 0 0\n", 65_537)?;
+    assert_same(&rt, nodes, Some(RoadError::TooMany(65_538)));
+    let roads = fault_of_lines(rt.alloc(), b"road 1 2 3\n", 262_145)?;
+    assert_same(&rt, roads, Some(RoadError::TooMany(262_146)));
     Ok(())
 }
 
 #[test]
-fn faults_are_whole_sentences(rt: HostRuntime) -> Result<(), Fail> {
-    let text = RoadError::BadLine(10).to_string(rt.alloc())?;
-    let expected = "Line 10 of the road file is neither `node ID X Y` nor `road A B LENGTH`.";
-    assert_eq!(rt; text.as_str(), expected);
-    printed_roads_are_read();
-    Ok(())
+fn faults_are_whole_sentences(rt: HostRuntime) -> Result<(), AllocError> {
+    let wanted = "Line 10 of the road file is neither `node ID X Y` nor `road A B LENGTH`.";
+    assert_printed(&rt, rt.alloc(), RoadError::BadLine(10), wanted)
 }
 
 #[test]
 fn draws_are_those_of_the_standard_generator(rt: HostRuntime) {
-    let drawn = [16838, 5758, 10113, 17515, 31051, 5627, 23010, 7419];
     let mut draw = Draw::new(1);
-    for number in drawn {
-        assert_eq!(rt; draw.next(), number);
+    for number in [16838, 5758, 10113, 17515, 31051, 5627, 23010, 7419] {
+        assert_same(&rt, draw.next(), number);
     }
 }
 
-#[test]
-fn a_grid_of_two_by_two_is_printed(rt: HostRuntime) -> Result<(), Fail> {
-    let parts = grid_roads(rt.alloc(), 2, 0)?;
-    let printed = print_roads(rt.alloc(), &parts)?;
-    let expected = b"roads 1
+const TWO_BY_TWO: &[u8] = b"roads 1
 node 1 0 0
 node 2 1 0
 node 3 0 1
@@ -200,18 +252,23 @@ road 1 3 469
 road 2 4 989
 road 3 4 118
 ";
-    assert_eq!(rt; printed.as_slice(), expected.as_slice());
+
+#[test]
+fn a_grid_of_two_by_two_is_printed(rt: HostRuntime) -> Result<(), Fail> {
+    let parts = grid_roads(rt.alloc(), 2, 0)?;
+    let text = print_roads(rt.alloc(), &parts)?;
+    assert_same(&rt, text.as_slice(), TWO_BY_TWO);
+    Ok(())
+}
+
+#[test]
+fn grids_are_2_to_256_wide(rt: HostRuntime) -> Result<(), Fail> {
+    let parts = grid_roads(rt.alloc(), 256, 7)?;
+    assert_same(&rt, parts.nodes.as_slice().len(), 65_536);
+    assert_same(&rt, parts.roads.as_slice().len(), 130_560);
     for width in [1, 257] {
-        assert_eq!(rt;
-            grid_roads(rt.alloc(), width, 0).err(),
-            Some(GridError::Width)
-        );
+        let parts = grid_roads(rt.alloc(), width, 0);
+        assert_row(&rt, width, parts.err(), Some(GridError::Width));
     }
-    let widest = grid_roads(rt.alloc(), 256, 7)?;
-    assert_eq!(rt;
-        (widest.nodes.as_slice().len(), widest.roads.as_slice().len()),
-        (65_536, 130_560)
-    );
-    grid_laws();
     Ok(())
 }

@@ -1,9 +1,11 @@
 //! Searches against a plain slow program, and the routes of small maps.
 
+use crate::same::{assert_row, assert_same};
 use octet_text::NoMemory;
-use road_map::{Arc, Arcs, Map};
-use road_search::{Ground, Path, distances_to, knows, search, shortest};
+use road_map::{Arc, Arcs, Map, MapError};
+use road_search::{Ground, Labels, Path, distances_to, knows, search, shortest};
 use std::alloc::{AllocError, Global};
+use std::process::Abort;
 use std::test::Fail;
 use test_maps::{ROADS, apart, map_of};
 
@@ -38,6 +40,19 @@ impl Ground for Barred<'_> {
     ghost lets_shorter = { λ g. lets_below_shorter g.id g.bar };
 }
 
+/// Keeps a length to an id where it is less than the one that is kept.
+fn lower(best: &mut [Option<u64>], id: u32, length: u64) {
+    if let Some(old) = best.get_mut(id as usize) {
+        let falls = match *old {
+            None => true,
+            Some(old) => length < old,
+        };
+        if falls {
+            *old = Some(length);
+        }
+    }
+}
+
 /// Takes each arc out of an id once, and keeps what falls.
 fn relax(ground: &Barred, best: &mut [Option<u64>], id: u32, limit: u64) {
     let Some(Some(length)) = best.get(id as usize).copied() else {
@@ -51,15 +66,32 @@ fn relax(ground: &Barred, best: &mut [Option<u64>], id: u32, limit: u64) {
     };
     for arc in arcs {
         let sum = length.saturating_add(u64::from(arc.length));
-        if let Some(old) = best.get_mut(arc.to as usize) {
-            let falls = match *old {
-                None => true,
-                Some(old) => sum < old,
-            };
-            if sum < limit && falls {
-                *old = Some(sum);
-            }
+        if sum < limit {
+            lower(best, arc.to, sum);
         }
+    }
+}
+
+/// How many ids there are in a case.
+const IDS: u32 = 7;
+
+/// The length 0 at the start, if the limit lets it, and no other.
+fn started(alloc: Global, from: u32, limit: u64) -> Result<Vec<Option<u64>>, AllocError> {
+    let mut best = Vec::new(alloc);
+    for id in 0..IDS {
+        best.push(if id == from && limit > 0 {
+            Some(0)
+        } else {
+            None
+        })?;
+    }
+    Ok(best)
+}
+
+/// Relaxes every arc once.
+fn relax_all(ground: &Barred, best: &mut [Option<u64>], limit: u64) {
+    for id in 0..IDS {
+        relax(ground, best, id, limit);
     }
 }
 
@@ -67,23 +99,12 @@ fn relax(ground: &Barred, best: &mut [Option<u64>], id: u32, limit: u64) {
 fn relaxed(
     alloc: Global,
     ground: &Barred,
-    ids: u32,
     from: u32,
     limit: u64,
 ) -> Result<Vec<Option<u64>>, AllocError> {
-    let mut best = Vec::new(alloc);
-    for id in 0..ids {
-        let start = if id == from && limit > 0 {
-            Some(0)
-        } else {
-            None
-        };
-        best.push(start)?;
-    }
-    for _round in 0..ids {
-        for id in 0..ids {
-            relax(ground, best.as_mut_slice(), id, limit);
-        }
+    let mut best = started(alloc, from, limit)?;
+    for _round in 0..IDS {
+        relax_all(ground, best.as_mut_slice(), limit);
     }
     Ok(best)
 }
@@ -97,8 +118,8 @@ fn length_in(best: &[Option<u64>], id: u32) -> Option<u64> {
 }
 
 /// The least id from here on that has a length.
-fn missing_in(best: &[Option<u64>], entries: u32, ids: u32) -> Option<u32> {
-    for id in entries..ids {
+fn missing_in(best: &[Option<u64>], entries: u32) -> Option<u32> {
+    for id in entries..IDS {
         if length_in(best, id).is_some() {
             return Some(id);
         }
@@ -124,89 +145,114 @@ fn rows_of(alloc: Global, count: u32, arcs: &[(u32, u32, u32)]) -> Result<Vec<Ar
     Ok(rows)
 }
 
+/// Arcs, each from an id to an id, and a length.
+type Triples = &'static [(u32, u32, u32)];
+
 /// A case: arcs, how many ids have an entry, the id that bars and its bar, the start and the limit.
-type Case<'a> = (&'a [(u32, u32, u32)], u32, u32, u64, u32, u64);
+type Case = (Triples, u32, u32, u64, u32, u64);
+
+const SQUARE: Triples = &[
+    (0, 1, 4),
+    (1, 0, 4),
+    (1, 2, 5),
+    (2, 1, 5),
+    (0, 3, 3),
+    (3, 0, 3),
+    (3, 2, 7),
+    (2, 3, 7),
+];
+
+const PARALLEL: Triples = &[
+    (0, 1, 9),
+    (0, 1, 2),
+    (1, 2, 8),
+    (1, 2, 1),
+    (2, 0, 0),
+    (0, 2, 3),
+    (0, 2, 4),
+];
+
+const ZERO: Triples = &[
+    (0, 1, 0),
+    (1, 2, 0),
+    (2, 3, 0),
+    (3, 0, 0),
+    (0, 3, 0),
+    (3, 4, 1),
+];
+
+const DETOUR: Triples = &[
+    (0, 1, 1),
+    (1, 2, 1),
+    (2, 3, 1),
+    (3, 4, 1),
+    (0, 4, 9),
+    (4, 5, 2),
+    (2, 6, 100),
+];
+
+const LOOPS: Triples = &[
+    (0, 0, 0),
+    (0, 1, 3),
+    (1, 1, 1),
+    (1, 0, 3),
+    (1, 5, 4_294_967_295),
+];
+
+static CASES: [Case; 14] = [
+    (SQUARE, 4, 6, 0, 0, u64::MAX),
+    (SQUARE, 4, 6, 0, 2, 8),
+    (SQUARE, 4, 6, 0, 2, 7),
+    (SQUARE, 4, 1, 4, 0, u64::MAX),
+    (SQUARE, 4, 1, 5, 0, u64::MAX),
+    (SQUARE, 2, 6, 0, 0, u64::MAX),
+    (PARALLEL, 3, 6, 0, 0, u64::MAX),
+    (PARALLEL, 3, 1, 2, 0, 4),
+    (ZERO, 5, 6, 0, 0, 1),
+    (ZERO, 4, 2, 0, 0, u64::MAX),
+    (ZERO, 3, 6, 0, 5, 0),
+    (DETOUR, 4, 2, 2, 0, u64::MAX),
+    (DETOUR, 4, 2, 3, 0, 103),
+    (LOOPS, 2, 6, 0, 0, u64::MAX),
+];
+
+/// Asserts that labels have these lengths, and a route where there is a length.
+fn assert_labels(
+    rt: &impl Abort,
+    alloc: Global,
+    labels: &Labels,
+    best: &[Option<u64>],
+) -> Result<(), NoMemory> {
+    for id in 0..IDS {
+        let length = length_in(best, id);
+        assert_row(rt, id, labels.get(id), length);
+        let route = labels.route(alloc, id)?;
+        assert_row(rt, id, route.is_some(), length.is_some());
+    }
+    assert_same(rt, labels.get(IDS), None);
+    Ok(())
+}
+
+fn assert_relaxed(rt: &impl Abort, alloc: Global, case: &Case) -> Result<(), Fail> {
+    let (arcs, entries, id, bar, from, limit) = *case;
+    let rows = rows_of(alloc, entries, arcs)?;
+    let ground = Barred {
+        rows: rows.as_slice(),
+        id,
+        bar,
+    };
+    let labels = search(alloc, &ground, from, limit)?;
+    let best = relaxed(alloc, &ground, from, limit)?;
+    assert_labels(rt, alloc, &labels, best.as_slice())?;
+    let missing = missing_in(best.as_slice(), entries);
+    assert_row(rt, *case, labels.missing(), missing);
+    Ok(())
+}
 
 #[test]
 fn searches_agree_with_relaxing(rt: HostRuntime) -> Result<(), Fail> {
-    let ids = 7;
-    let square = [
-        (0, 1, 4),
-        (1, 0, 4),
-        (1, 2, 5),
-        (2, 1, 5),
-        (0, 3, 3),
-        (3, 0, 3),
-        (3, 2, 7),
-        (2, 3, 7),
-    ];
-    let parallel = [
-        (0, 1, 9),
-        (0, 1, 2),
-        (1, 2, 8),
-        (1, 2, 1),
-        (2, 0, 0),
-        (0, 2, 3),
-        (0, 2, 4),
-    ];
-    let zero = [
-        (0, 1, 0),
-        (1, 2, 0),
-        (2, 3, 0),
-        (3, 0, 0),
-        (0, 3, 0),
-        (3, 4, 1),
-    ];
-    let detour = [
-        (0, 1, 1),
-        (1, 2, 1),
-        (2, 3, 1),
-        (3, 4, 1),
-        (0, 4, 9),
-        (4, 5, 2),
-        (2, 6, 100),
-    ];
-    let loops = [
-        (0, 0, 0),
-        (0, 1, 3),
-        (1, 1, 1),
-        (1, 0, 3),
-        (1, 5, 4_294_967_295),
-    ];
-    let table: [Case; 14] = [
-        (&square, 4, 6, 0, 0, u64::MAX),
-        (&square, 4, 6, 0, 2, 8),
-        (&square, 4, 6, 0, 2, 7),
-        (&square, 4, 1, 4, 0, u64::MAX),
-        (&square, 4, 1, 5, 0, u64::MAX),
-        (&square, 2, 6, 0, 0, u64::MAX),
-        (&parallel, 3, 6, 0, 0, u64::MAX),
-        (&parallel, 3, 1, 2, 0, 4),
-        (&zero, 5, 6, 0, 0, 1),
-        (&zero, 4, 2, 0, 0, u64::MAX),
-        (&zero, 3, 6, 0, 5, 0),
-        (&detour, 4, 2, 2, 0, u64::MAX),
-        (&detour, 4, 2, 3, 0, 103),
-        (&loops, 2, 6, 0, 0, u64::MAX),
-    ];
-    for (case, (arcs, entries, id, bar, from, limit)) in table.iter().enumerate() {
-        let rows = rows_of(rt.alloc(), *entries, *arcs)?;
-        let ground = Barred {
-            rows: rows.as_slice(),
-            id: *id,
-            bar: *bar,
-        };
-        let labels = search(rt.alloc(), &ground, *from, *limit)?;
-        let best = relaxed(rt.alloc(), &ground, ids, *from, *limit)?;
-        for id in 0..ids {
-            let length = length_in(best.as_slice(), id);
-            assert_eq!(rt; labels.get(id), length, "case {case} at {id}");
-            let route = labels.route(rt.alloc(), id)?;
-            assert_eq!(rt; route.is_some(), length.is_some(), "case {case} at {id}");
-        }
-        let missing = missing_in(best.as_slice(), *entries, ids);
-        assert_eq!(rt; labels.missing(), missing, "case {case}");
-        assert_eq!(rt; labels.get(ids), None);
+    for case in &CASES {
+        assert_relaxed(&rt, rt.alloc(), case)?;
     }
     Ok(())
 }
@@ -227,68 +273,98 @@ fn length_of(path: &Option<Path>) -> Option<u64> {
     }
 }
 
-/// A map, its two ends, and the length and the ids of the one shortest route.
-type Worked<'a> = (u32, &'a [(u32, u32, u32)], u32, u32, Option<u64>, &'a [u32]);
+/// How many nodes a map has, its roads, its two ends, and the length and the ids of the one
+/// shortest route.
+type Worked = (u32, Triples, u32, u32, Option<u64>, &'static [u32]);
+
+static ROUTES: [Worked; 10] = [
+    (5, &ROADS, 1, 3, Some(9), &[1, 2, 3]),
+    (5, &ROADS, 3, 1, Some(9), &[3, 2, 1]),
+    (5, &ROADS, 1, 1, Some(0), &[1]),
+    (5, &ROADS, 1, 5, None, &[]),
+    (5, &ROADS, 1, 9, None, &[]),
+    (5, &ROADS, 9, 8, None, &[]),
+    (
+        5,
+        &[(1, 2, 4), (2, 3, 5), (1, 4, 3), (4, 3, 7), (2, 1, 2)],
+        1,
+        3,
+        Some(7),
+        &[1, 2, 3],
+    ),
+    (3, &[(1, 2, 0), (2, 3, 0)], 1, 3, Some(0), &[1, 2, 3]),
+    (
+        5,
+        &[(1, 2, 10), (2, 3, 10), (3, 4, 10), (4, 5, 10)],
+        3,
+        5,
+        Some(20),
+        &[3, 4, 5],
+    ),
+    (
+        4,
+        &[(1, 2, 1), (1, 3, 469), (2, 4, 989), (3, 4, 118)],
+        1,
+        4,
+        Some(587),
+        &[1, 3, 4],
+    ),
+];
+
+/// The map of so many nodes at one place.
+fn map_to(alloc: Global, count: u32, roads: &[(u32, u32, u32)]) -> Result<Map, MapError> {
+    let nodes = apart(alloc, count)?;
+    map_of(alloc, &nodes, roads)
+}
+
+fn path_of(alloc: Global, row: &Worked) -> Result<Option<Path>, Fail> {
+    let map = map_to(alloc, row.0, row.1)?;
+    Ok(shortest(alloc, &map, row.2, row.3)?)
+}
+
+fn assert_shortest(rt: &impl Abort, alloc: Global, row: &Worked) -> Result<(), Fail> {
+    let path = path_of(alloc, row)?;
+    assert_row(rt, *row, length_of(&path), row.4);
+    assert_row(rt, *row, ids_of(&path), row.5);
+    Ok(())
+}
 
 #[test]
 fn shortest_routes_are_those_of_the_maps(rt: HostRuntime) -> Result<(), Fail> {
-    let parallel = [(1, 2, 4), (2, 3, 5), (1, 4, 3), (4, 3, 7), (2, 1, 2)];
-    let zero = [(1, 2, 0), (2, 3, 0)];
-    let chain = [(1, 2, 10), (2, 3, 10), (3, 4, 10), (4, 5, 10)];
-    let grid = [(1, 2, 1), (1, 3, 469), (2, 4, 989), (3, 4, 118)];
-    let table: [Worked; 10] = [
-        (5, &ROADS, 1, 3, Some(9), &[1, 2, 3]),
-        (5, &ROADS, 3, 1, Some(9), &[3, 2, 1]),
-        (5, &ROADS, 1, 1, Some(0), &[1]),
-        (5, &ROADS, 1, 5, None, &[]),
-        (5, &ROADS, 1, 9, None, &[]),
-        (5, &ROADS, 9, 8, None, &[]),
-        (5, &parallel, 1, 3, Some(7), &[1, 2, 3]),
-        (3, &zero, 1, 3, Some(0), &[1, 2, 3]),
-        (5, &chain, 3, 5, Some(20), &[3, 4, 5]),
-        (4, &grid, 1, 4, Some(587), &[1, 3, 4]),
-    ];
-    for (count, roads, from, to, length, ids) in table {
-        let map = map_of(rt.alloc(), &apart(rt.alloc(), count)?, roads)?;
-        let path = shortest(rt.alloc(), &map, from, to)?;
-        assert_eq!(rt; length_of(&path), length, "from {from} to {to}");
-        assert_eq!(rt; ids_of(&path), ids, "from {from} to {to}");
+    for row in &ROUTES {
+        assert_shortest(&rt, rt.alloc(), row)?;
     }
     Ok(())
 }
 
-/// A length to an end, and the ids that are at most so far, rising; none where the start is no node's.
-type Near = Option<(Option<u64>, Vec<u32>)>;
+const SIX: [(u32, u32, u32); 4] = [(1, 2, 4), (2, 3, 0), (2, 4, 5), (1, 6, 0)];
 
-/// What a search to an end finds up to a length.
-fn near_of(alloc: Global, map: &Map, from: u32, to: u32, most: u64) -> Result<Near, NoMemory> {
-    if !knows(map, from) {
-        return Ok(None);
-    }
+/// Two ends, the length between them, a length, and the ids that are at most so far, rising.
+type Near = (u32, u32, Option<u64>, u64, &'static [u32]);
+
+static NEAR_ENDS: [Near; 4] = [
+    (1, 2, Some(4), 4, &[1, 2, 3, 6]),
+    (1, 1, Some(0), 0, &[1, 6]),
+    (1, 4, Some(9), 9, &[1, 2, 3, 4, 6]),
+    (1, 5, None, 9, &[1, 2, 3, 4, 6]),
+];
+
+fn assert_near(rt: &impl Abort, alloc: Global, map: &Map, row: &Near) -> Result<(), Fail> {
+    let (from, to, length, most, ids) = *row;
+    assert!(rt; knows(map, from));
     let labels = distances_to(alloc, map, from, to)?;
-    let mut ids = labels.near(alloc, most)?;
-    ids.sort_unstable();
-    Ok(Some((labels.get(to), ids)))
+    assert_row(rt, *row, labels.get(to), length);
+    let mut near = labels.near(alloc, most)?;
+    near.sort_unstable();
+    assert_row(rt, *row, near.as_slice(), ids);
+    Ok(())
 }
 
 #[test]
 fn all_that_is_as_near_as_the_end_is_found(rt: HostRuntime) -> Result<(), Fail> {
-    let roads = [(1, 2, 4), (2, 3, 0), (2, 4, 5), (1, 6, 0)];
-    let map = map_of(rt.alloc(), &apart(rt.alloc(), 6)?, &roads)?;
-    let table: [(u32, u32, Option<u64>, u64, &[u32]); 4] = [
-        (1, 2, Some(4), 4, &[1, 2, 3, 6]),
-        (1, 1, Some(0), 0, &[1, 6]),
-        (1, 4, Some(9), 9, &[1, 2, 3, 4, 6]),
-        (1, 5, None, 9, &[1, 2, 3, 4, 6]),
-    ];
-    for (from, to, length, most, ids) in table {
-        match near_of(rt.alloc(), &map, from, to, most)? {
-            None => assert!(rt; false, "from {from}"),
-            Some((found, near)) => {
-                assert_eq!(rt; found, length, "to {to}");
-                assert_eq!(rt; near.as_slice(), ids, "to {to}");
-            }
-        }
+    let map = map_to(rt.alloc(), 6, &SIX)?;
+    for row in &NEAR_ENDS {
+        assert_near(&rt, rt.alloc(), &map, row)?;
     }
     Ok(())
 }

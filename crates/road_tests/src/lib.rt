@@ -1,9 +1,16 @@
-//! Tests of the server: books, replies on routes and on radii over one map. Each shows what no clause says.
+//! Tests of the server: books, replies on routes and on radii over one map. Each shows what no
+//! clause says.
 #![tactic(auto)]
 
 #[cfg(test)]
+mod holding;
+#[cfg(test)]
 mod octets;
 #[cfg(test)]
+mod over_line;
+#[cfg(test)]
 mod reach;
+#[cfg(test)]
+mod same;
 #[cfg(test)]
 mod server;

@@ -1,12 +1,36 @@
 //! Octets in tests.
 
+use crate::same::assert_same;
+use octet_text::{Hasher, Sha};
 use std::alloc::Global;
 use std::process::Abort;
 use std::test::Fail;
 
-/// Whether octets are these in hex.
-pub fn assert_hex(rt: &impl Abort, alloc: Global, octets: &[u8], wanted: &str) -> Result<(), Fail> {
+/// Asserts that octets are these in hex.
+pub(crate) fn assert_hex(
+    rt: &impl Abort,
+    alloc: Global,
+    octets: &[u8],
+    wanted: &str,
+) -> Result<(), Fail> {
     let text = hex::encode(alloc, octets)?;
-    assert_eq!(rt; text.as_str(), wanted);
+    assert_same(rt, text.as_str(), wanted);
     Ok(())
+}
+
+fn digest(octets: &[u8]) -> [u8; 32] {
+    let mut hasher = Sha::start();
+    hasher.add(octets);
+    hasher.end()
+}
+
+/// Asserts that octets have this digest.
+pub(crate) fn assert_digest(
+    rt: &impl Abort,
+    alloc: Global,
+    octets: &[u8],
+    wanted: &str,
+) -> Result<(), Fail> {
+    let digest = digest(octets);
+    assert_hex(rt, alloc, &digest, wanted)
 }

@@ -1,6 +1,7 @@
 ghost use Rattle.std.specs.Prelude.{◌≡◌, length};
 ghost use Rattle.lms_tree.specs.Signatures.{height_of, seal_len};
 
+use crate::asserts::{assert_octets, assert_same};
 use lms_tree::{Key, KeyError, SealError, sig_len, verify};
 use sha2::{Digest, Sha256};
 use std::alloc::Global;
@@ -101,16 +102,16 @@ fn is_signed_as(
     let (slot, text, digest) = row;
     assert!(rt; slot < key.slots());
     key.sign_into(slot, text.as_bytes(), out);
-    assert_eq!(rt; verify(&key.public(), text.as_bytes(), out), Ok(()));
+    assert_same(rt, &verify(&key.public(), text.as_bytes(), out), &Ok(()));
     let found = hex(alloc, &Sha256::digest(out))?;
-    assert_eq!(rt; found.as_str(), digest, "slot {slot}");
+    assert_octets(rt, found.as_bytes(), digest.as_bytes());
     Ok(())
 }
 
 // The public key in hex.
 fn has_public(rt: &impl Abort, alloc: Global, key: &Key, public: &str) -> Result<(), Fail> {
     let found = hex(alloc, &key.public())?;
-    assert_eq!(rt; found.as_str(), public);
+    assert_octets(rt, found.as_bytes(), public.as_bytes());
     Ok(())
 }
 
@@ -151,32 +152,39 @@ fn the_standards_key_is_made(rt: HostRuntime) -> Result<(), Fail> {
     has_public(&rt, rt.alloc(), &key, public)
 }
 
-// What a client says of "abc" and such a signature under a key.
-fn verdict(public: &[u8], sig: &[u8]) -> Result<(), SealError> {
-    verify(public, b"abc", sig)
+// The signature of "abc" by the last slot of a key of zero octets, and its public key.
+fn sealed(alloc: Global) -> Result<([u8; 56], [u8; 1292]), Fail> {
+    let key = Key::build(alloc, 5, &[0; 16], &[0; 32])?;
+    let mut sig = [0; 1292];
+    key.sign_into(31, b"abc", &mut sig);
+    Ok((key.public(), sig))
+}
+
+// Compares what a client says of "abc" and such a signature under a key.
+fn says(rt: &impl Abort, public: &[u8], sig: &[u8], verdict: Result<(), SealError>) {
+    assert_same(rt, &verify(public, b"abc", sig), &verdict);
 }
 
 #[test]
 fn each_fault_has_its_answer(rt: HostRuntime) -> Result<(), Fail> {
-    let key = Key::build(rt.alloc(), 5, &[0; 16], &[0; 32])?;
-    let public = key.public();
-    let mut sig = [0; 1292];
-    key.sign_into(31, b"abc", &mut sig);
-    assert_eq!(rt; verdict(&public, &sig), Ok(()));
-    assert_eq!(rt; verify(&public, b"abd", &sig), Err(SealError::NoMatch));
-    assert_eq!(rt; verdict(&public, &[0; 1291]), Err(SealError::BadForm));
-    assert_eq!(rt; verdict(&[0; 55], &sig), Err(SealError::BadKey));
+    let (public, mut sig) = sealed(rt.alloc())?;
+    says(&rt, &public, &sig, Ok(()));
+    let other_text = verify(&public, b"abd", &sig);
+    assert_same(&rt, &other_text, &Err(SealError::NoMatch));
+    says(&rt, &public, &[0; 1291], Err(SealError::BadForm));
+    says(&rt, &[0; 55], &sig, Err(SealError::BadKey));
     // The number 32 of no leaf.
     sig[3] = 0x20;
-    assert_eq!(rt; verdict(&public, &sig), Err(SealError::BadForm));
+    says(&rt, &public, &sig, Err(SealError::BadForm));
     Ok(())
 }
 
 #[test]
 fn keys_are_of_two_kinds(rt: HostRuntime) -> Result<(), Fail> {
     let key = Key::build(rt.alloc(), 5, &[0; 16], &[0; 32])?;
-    assert_eq!(rt; (key.kind(), key.slots(), sig_len(5)), (5, 32, Some(1292)));
-    assert_eq!(rt; sig_len(7), None);
+    assert_same(&rt, &(key.kind(), key.slots()), &(5, 32));
+    assert_same(&rt, &sig_len(5), &Some(1292));
+    assert_same(&rt, &sig_len(7), &None);
     let unknown = Key::build(rt.alloc(), 7, &[0; 16], &[0; 32]);
     assert!(rt; matches!(&unknown, Err(KeyError::Kind)));
     Ok(())

@@ -1,0 +1,103 @@
+//! An owner of the five nodes, in memory: what it publishes, what its desk signs, and what is
+//! signed past it. The hash sums octets, so that two leaves have one digest where their octets are
+//! in another order.
+ghost use Rattle.std.specs.Prelude.{IfOk};
+ghost use Rattle.key_desk.specs.Desk.{Fits};
+
+use book_model::Settings;
+use key_desk::Desk;
+use lms_tree::Key;
+use mem_io::MemDisk;
+use octet_text::{Octets, Toy};
+use proof_octets::{Header, Publication};
+use road_io::Disk;
+use route_server::Held;
+use std::alloc::Global;
+use std::test::Fail;
+use test_maps::{NODES, ROADS, parts_of};
+use test_settings::DIJ;
+
+/// The text that is hashed for the leaf of node 2, which stands at (10, 0).
+pub(crate) const SECOND: [u8; 32] = [
+    0, 0x4e, 0, 0, 0, 2, 0, 0, 0, 10, 0, 0, 0, 0, 0, 2, 0, 0, 0, 1, 0, 0, 0, 4, 0, 0, 0, 3, 0, 0,
+    0, 5,
+];
+
+/// The same where node 2 stands at (0, 10).
+pub(crate) const SECOND_MOVED: [u8; 32] = [
+    0, 0x4e, 0, 0, 0, 2, 0, 0, 0, 0, 0, 0, 0, 10, 0, 2, 0, 0, 0, 1, 0, 0, 0, 4, 0, 0, 0, 3, 0, 0,
+    0, 5,
+];
+
+/// DIJ in a version.
+fn settings(version: u64) -> Settings {
+    Settings { version, ..DIJ }
+}
+
+/// The header of a version.
+pub(crate) fn header_of(alloc: Global, version: u64) -> Result<Header, Fail> {
+    let held = Held::<Toy>::build(alloc, parts_of(alloc, &NODES, &ROADS)?, &settings(version))?;
+    Ok(held.header())
+}
+
+/// The publication of a version with this signature.
+pub(crate) fn publication(
+    alloc: Global,
+    version: u64,
+    signature: Vec<u8>,
+) -> Result<Publication, Fail> {
+    Ok(Publication {
+        header: header_of(alloc, version)?,
+        signature: Octets::from_vec(signature),
+        settings: settings(version),
+        parts: parts_of(alloc, &NODES, &ROADS)?,
+    })
+}
+
+/// The publication of a version with this signature, installed.
+pub(crate) fn installed(
+    alloc: Global,
+    version: u64,
+    signature: Vec<u8>,
+) -> Result<Held<Toy>, Fail> {
+    let publication = publication(alloc, version, signature)?;
+    Ok(Held::install(alloc, publication)?)
+}
+
+/// The desk over a new key of zero octets, and its disk.
+pub(crate) fn owner(alloc: Global) -> Result<(Desk, MemDisk), Fail>
+    ensures { IfOk result (λ both. Fits ⟦<MemDisk as Disk>⟧ both.0 both.1) }
+{
+    let mut disk = MemDisk::new(alloc, 8320, 100_000, Vec::new(alloc), None)?;
+    let desk = Desk::create(alloc, &mut disk, 5, &[0; 48])?;
+    Ok((desk, disk))
+}
+
+/// The desk's signature of the header of a version.
+pub(crate) fn sealed<D: Disk>(
+    alloc: Global,
+    desk: &mut Desk,
+    disk: &mut D,
+    version: u64,
+) -> Result<Vec<u8>, Fail>
+    requires { Fits D.Disk desk.old disk.old }
+    ensures { Fits D.Disk desk.new disk.new }
+{
+    let header = header_of(alloc, version)?;
+    let mut signature = Vec::from_elem(alloc, 0u8, desk.sig_len() as usize)?;
+    desk.sign(disk, &header.write(), &mut signature)?;
+    Ok(signature)
+}
+
+/// The public key of the key whose secret is one octet again and again, and the signature of a text
+/// by its last one-time key.
+pub(crate) fn signed_past(
+    alloc: Global,
+    secret: u8,
+    text: &[u8],
+) -> Result<([u8; 56], Vec<u8>), Fail> {
+    let key = Key::build(alloc, 5, &[secret; 16], &[secret; 32])?;
+    let mut signature = Vec::from_elem(alloc, 0u8, 1292)?;
+    key.sign_into(31, text, &mut signature);
+    Ok((key.public(), signature))
+}

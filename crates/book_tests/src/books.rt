@@ -1,0 +1,55 @@
+//! Books of small maps, and what they gather.
+
+use crate::same::{assert_row, assert_same};
+use book_model::{PlanError, Query, Settings};
+use proof_method::{GatherError, MethodBook, ids_by_id};
+use std::alloc::Global;
+use std::process::Abort;
+use test_maps::map_of;
+
+/// A method, and its three parameters.
+pub(crate) fn settings_of(method: u8, p1: u64, p2: u64, p3: u64) -> Settings {
+    Settings {
+        method,
+        version: 3,
+        order: 0,
+        seed: 0,
+        fan: 2,
+        p1,
+        p2,
+        p3,
+    }
+}
+
+/// The book of the map of rows, or why there is none.
+pub(crate) fn book_of<B: MethodBook>(
+    alloc: Global,
+    nodes: &[(u32, i32, i32)],
+    roads: &[(u32, u32, u32)],
+    settings: &Settings,
+) -> Result<B, PlanError> {
+    let Ok(map) = map_of(alloc, nodes, roads) else {
+        return Err(PlanError::Memory);
+    };
+    let order = ids_by_id(alloc, &map)?;
+    B::plan(alloc, map, settings, order.as_slice())
+}
+
+/// Two ends, and what is gathered for them: the ids of the route and of the leaves, and the places
+/// of the pairs.
+pub(crate) type Gathered = (u32, u32, &'static [u32], &'static [u32], &'static [u32]);
+
+/// Asserts that a book gathers that.
+pub(crate) fn assert_gathered<B: MethodBook>(
+    rt: &impl Abort,
+    alloc: Global,
+    book: &B,
+    row: &Gathered,
+) -> Result<(), GatherError> {
+    let (from, to, route, nodes, pairs) = *row;
+    let found = book.gather(alloc, Query { from, to })?;
+    assert_same(rt, found.route.as_slice(), route);
+    assert_row(rt, route, found.nodes.as_slice(), nodes);
+    assert_row(rt, route, found.pairs.as_slice(), pairs);
+    Ok(())
+}

@@ -1,0 +1,27 @@
+//! What tests give a judge.
+ghost use Rattle.std.specs.Prelude.{◌≤◌, length, IfOk};
+
+use book_model::{Items, NodeLeaves, PairLeaves};
+use proof_judge::Refusal;
+use road_leaf::{NodeLeaf, PairLeaf};
+use road_map::Ids;
+use std::alloc::Global;
+
+/// The items of a route of a test's length, of leaves and of pairs.
+pub(crate) fn items_of(
+    alloc: Global,
+    route: &[u32],
+    leaves: Vec<NodeLeaf>,
+    pairs: &[PairLeaf],
+) -> Result<Items, Refusal>
+    ensures { IfOk result (λ items. length items.route ≤ 65536) }
+{
+    if route.len() > 65_536 {
+        return Err(Refusal::Memory);
+    }
+    Ok(Items {
+        route: Ids::from_vec(route.to_vec(alloc)?),
+        nodes: NodeLeaves::from_vec(leaves),
+        pairs: PairLeaves::from_vec(pairs.to_vec(alloc)?),
+    })
+}

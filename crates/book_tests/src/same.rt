@@ -1,0 +1,32 @@
+//! Assertions as calls: a test of calls is proved far sooner than one with assertions written out.
+
+use std::alloc::{AllocError, Global};
+use std::fmt::{Debug, Display};
+use std::process::Abort;
+
+/// Asserts that two values are equal.
+pub(crate) fn assert_same<T: PartialEq + Debug + Drop>(rt: &impl Abort, found: T, wanted: T) {
+    assert_eq!(rt; found, wanted);
+}
+
+/// Asserts that two values are equal, and else names the row of a table.
+pub(crate) fn assert_row<A: Debug + Drop, T: PartialEq + Debug + Drop>(
+    rt: &impl Abort,
+    row: A,
+    found: T,
+    wanted: T,
+) {
+    assert_eq!(rt; found, wanted, "at {row:?}");
+}
+
+/// Asserts that a value is printed so.
+pub(crate) fn assert_printed<T: Display + Drop>(
+    rt: &impl Abort,
+    alloc: Global,
+    value: T,
+    wanted: &str,
+) -> Result<(), AllocError> {
+    let printed = format!(in alloc; "{value}")?;
+    assert_same(rt, printed.as_str(), wanted);
+    Ok(())
+}

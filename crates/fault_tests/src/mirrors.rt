@@ -1,0 +1,89 @@
+//! The second of two mirrors fails at each of its puts.
+
+use crate::parties::disk_with_key;
+use book_model::Settings;
+use command_files::{Conclusion, Fault};
+use mem_io::{MemDisk, MemLibrary, MemSink};
+use mirror_out::{MemMirror, Mirror};
+use owner_commands::publish;
+use road_reader::{grid_roads, print_roads};
+use std::alloc::Global;
+use std::process::Abort;
+use std::test::Fail;
+use test_settings::DIJ;
+
+/// The octets of the publication of a grid of width 20, and the pieces that it goes in.
+const OCTETS: usize = 15_362;
+
+const PIECES: u64 = 4;
+
+/// Version 1.
+const SETTINGS: Settings = Settings { version: 1, ..DIJ };
+
+/// A library with the grid's road file.
+fn grid(alloc: Global) -> Result<MemLibrary, Fail> {
+    let roads = grid_roads(alloc, 20, 0)?;
+    let mut library = MemLibrary::new(alloc, Vec::new(alloc));
+    library.put("grid", &print_roads(alloc, &roads)?)?;
+    Ok(library)
+}
+
+/// The mirrors 1 and 2, of which the second fails at this put.
+fn mirrors(alloc: Global, put: u64) -> Result<Vec<MemMirror>, Fail> {
+    let mut mirrors: Vec<MemMirror> = Vec::new(alloc);
+    mirrors.push(MemMirror::new(alloc, 1, OCTETS, Vec::new(alloc))?)?;
+    mirrors.push(MemMirror::new(alloc, 2, OCTETS, vec![in alloc; put]?)?)?;
+    Ok(mirrors)
+}
+
+/// A mirror has this label and holds these octets.
+fn holds(rt: &impl Abort, mirror: Option<&MemMirror>, label: u32, octets: &[u8]) {
+    let Some(mirror) = mirror else {
+        assert!(rt; false, "no mirror {label}");
+        return;
+    };
+    assert_eq!(rt; mirror.label(), label);
+    assert_eq!(rt; mirror.held(), Some(octets));
+}
+
+/// Publishes to the two mirrors, of which so many stay: the output and what stays have all octets.
+fn publishes(
+    rt: &impl Abort,
+    alloc: Global,
+    library: &mut MemLibrary,
+    disk: &mut MemDisk,
+    put: u64,
+    wanted: (Result<Conclusion, Fault>, usize),
+) -> Result<(), Fail> {
+    let mut sink = MemSink::new(alloc, OCTETS, 4096, Vec::new(alloc))?;
+    let mut mirrors = mirrors(alloc, put)?;
+    let end = publish(
+        alloc,
+        library,
+        &mut sink,
+        disk,
+        &mut mirrors,
+        "grid",
+        &SETTINGS,
+    );
+    assert_eq!(rt; (end, mirrors.len()), wanted, "at {put}");
+    assert_eq!(rt; sink.taken().len(), OCTETS);
+    holds(rt, mirrors.get(0), 1, sink.taken());
+    if wanted.1 == 2 {
+        holds(rt, mirrors.get(1), 2, sink.taken());
+    }
+    Ok(())
+}
+
+#[test]
+fn a_mirror_is_lost_at_the_put_that_fails(rt: HostRuntime) -> Result<(), Fail> {
+    let alloc = rt.alloc();
+    let (mut disk, _key) = disk_with_key(&rt, alloc)?;
+    let mut library = grid(alloc)?;
+    let lost = (Err(Fault::MirrorLost), 1);
+    for put in 0..PIECES {
+        publishes(&rt, alloc, &mut library, &mut disk, put, lost)?;
+    }
+    let whole = (Ok(Conclusion::Done), 2);
+    publishes(&rt, alloc, &mut library, &mut disk, PIECES, whole)
+}

@@ -1,0 +1,238 @@
+//! The disk stops at each call of `key`, `publish` and `succeed`, and a crash leaves each of four
+//! images.
+
+use crate::disks::{MANY, disk_of, image_of, stopped};
+use crate::owner::{Command, done, played};
+use command_files::{Conclusion, Fault};
+use mem_io::Pick;
+use std::alloc::Global;
+use std::process::Abort;
+use std::test::Fail;
+
+/// The lines of `desk` over the public keys of the kind h5 that an independent implementation makes
+/// of the zeros and of the ones, with no slot spent.
+const FIRST: &[u8] =
+    b"000000050000000400000000000000000000000000000000829887511085dc8b9946d97b20163fe2ab4385e734979f535139cabe33cd694f 31 31\n";
+
+const NEXT: &[u8] =
+    b"000000050000000401010101010101010101010101010101599d16861dc9aacdc40b4275991c60ebdf9decfb219eb795df51d5c9a347762a 31 31\n";
+
+/// The command that publishes.
+const PUBLISH: Command = Command::Publish(3);
+
+/// The image of a disk after a command that ends well over this one.
+fn image_after(
+    rt: &impl Abort,
+    alloc: Global,
+    image: &[u8],
+    command: Command,
+) -> Result<Vec<u8>, Fail> {
+    let mut disk = disk_of(alloc, image, MANY)?;
+    done(rt, alloc, &mut disk, command)?;
+    image_of(alloc, &mut disk)
+}
+
+/// Where the gate stands that a command opens last: that of the key, of its second slot, of its
+/// last slot.
+fn gate_of(command: Command) -> usize {
+    match command {
+        Command::Key => 0,
+        Command::Publish(_) => 64 + 128,
+        _ => 64 + 128 * 31,
+    }
+}
+
+/// Whether that gate is open.
+fn is_open(image: &[u8], command: Command) -> bool {
+    image.len() >= 64 && matches!(image.get(gate_of(command)), Some(1..))
+}
+
+/// Publishes over an image, by a slot of the area that begins at this place, which was free.
+fn publishes(rt: &impl Abort, alloc: Global, image: &[u8], area: u16) -> Result<(), Fail> {
+    let mut disk = disk_of(alloc, image, MANY)?;
+    let publication = done(rt, alloc, &mut disk, PUBLISH)?;
+    let slot = publication.get(113).copied().unwrap_or(255);
+    let gate = usize::from(area) + 64 + 128 * usize::from(slot);
+    assert_eq!(rt; image.get(gate).copied(), Some(0), "slot {slot}");
+    Ok(())
+}
+
+/// What `desk` writes over an image, or nothing where it holds no key.
+fn desk_line(rt: &impl Abort, alloc: Global, image: &[u8]) -> Result<Vec<u8>, Fail> {
+    let mut disk = disk_of(alloc, image, MANY)?;
+    let (end, line) = played(alloc, &mut disk, Command::Desk)?;
+    let wanted = if line.is_empty() {
+        Err(Fault::NoKey)
+    } else {
+        Ok(Conclusion::Done)
+    };
+    assert_eq!(rt; end, wanted);
+    Ok(line)
+}
+
+/// An image holds this key, with no slot spent, or none.
+fn has_key(rt: &impl Abort, alloc: Global, image: &[u8], key: &[u8]) -> Result<(), Fail> {
+    let line = desk_line(rt, alloc, image)?;
+    assert_eq!(rt; line.as_slice(), key);
+    Ok(())
+}
+
+/// What a stopped `key` left holds the whole key or none, as its gate says, and what comes next
+/// succeeds.
+fn look_at_key(rt: &impl Abort, alloc: Global, image: &[u8]) -> Result<(), Fail> {
+    if is_open(image, Command::Key) {
+        has_key(rt, alloc, image, FIRST)?;
+        return publishes(rt, alloc, image, 0);
+    }
+    has_key(rt, alloc, image, b"")?;
+    let made = image_after(rt, alloc, image, Command::Key)?;
+    has_key(rt, alloc, &made, FIRST)
+}
+
+/// What a stopped `succeed` left has the next key or the one before, as the gate of its last slot
+/// says, and what comes next succeeds.
+fn look_at_next(rt: &impl Abort, alloc: Global, image: &[u8]) -> Result<(), Fail> {
+    if is_open(image, Command::Succeed) {
+        has_key(rt, alloc, image, NEXT)?;
+        return publishes(rt, alloc, image, 4160);
+    }
+    has_key(rt, alloc, image, FIRST)?;
+    publishes(rt, alloc, image, 0)?;
+    let made = image_after(rt, alloc, image, Command::Succeed)?;
+    has_key(rt, alloc, &made, NEXT)
+}
+
+/// Looks at what a stopped command left.
+fn look(rt: &impl Abort, alloc: Global, command: Command, image: &[u8]) -> Result<(), Fail> {
+    match command {
+        Command::Key => look_at_key(rt, alloc, image),
+        Command::Succeed => look_at_next(rt, alloc, image),
+        _ => publishes(rt, alloc, image, 0),
+    }
+}
+
+/// Looks at an image, unless it is one of those that were looked at.
+fn look_once(
+    rt: &impl Abort,
+    alloc: Global,
+    command: Command,
+    image: Vec<u8>,
+    seen: &mut Vec<Vec<u8>>,
+) -> Result<(), Fail> {
+    if seen.contains(&image) {
+        return Ok(());
+    }
+    look(rt, alloc, command, &image)?;
+    seen.push(image)?;
+    Ok(())
+}
+
+/// After so many calls a crash of this kind leaves the gate open or closed.
+fn leaves(
+    rt: &impl Abort,
+    alloc: Global,
+    entry: &[u8],
+    command: Command,
+    calls: u64,
+    pick: Pick,
+    gate: bool,
+    seen: &mut Vec<Vec<u8>>,
+) -> Result<(), Fail> {
+    let (_, image) = stopped(rt, alloc, entry, command, calls, pick)?;
+    assert_eq!(rt;
+        is_open(&image, command),
+        gate,
+        "{pick:?} after {calls} calls"
+    );
+    look_once(rt, alloc, command, image, seen)
+}
+
+/// Stops a command after so many calls, and answers whether it ended, and whether its gate had been
+/// written: it is then open in what a crash leaves, unless what was written is lost or turned to
+/// zeros.
+fn stop(
+    rt: &impl Abort,
+    alloc: Global,
+    entry: &[u8],
+    command: Command,
+    calls: u64,
+    seen: &mut Vec<Vec<u8>>,
+) -> Result<(bool, bool), Fail> {
+    let (is_done, image) = stopped(rt, alloc, entry, command, calls, Pick::New)?;
+    let gate = is_open(&image, command);
+    if image.as_slice() != entry {
+        look_once(rt, alloc, command, image, seen)?;
+        leaves(rt, alloc, entry, command, calls, Pick::Old, is_done, seen)?;
+        leaves(
+            rt,
+            alloc,
+            entry,
+            command,
+            calls,
+            Pick::Fill(0),
+            is_done,
+            seen,
+        )?;
+        leaves(
+            rt,
+            alloc,
+            entry,
+            command,
+            calls,
+            Pick::Fill(0x7f),
+            gate,
+            seen,
+        )?;
+    }
+    Ok((is_done, gate))
+}
+
+/// Looks at an image, and stops a command over it after no call, after one, and so on, until it
+/// ends. Answers after how many calls its gate had been written, and after how many it ended.
+fn stops(
+    rt: &impl Abort,
+    alloc: Global,
+    entry: &[u8],
+    command: Command,
+) -> Result<(u64, u64), Fail> {
+    let mut seen: Vec<Vec<u8>> = Vec::new(alloc);
+    look_once(rt, alloc, command, entry.to_vec(alloc)?, &mut seen)?;
+    let mut first = MANY;
+    for calls in 0..MANY {
+        let (is_done, gate) = stop(rt, alloc, entry, command, calls, &mut seen)?;
+        if gate {
+            first = first.min(calls);
+        }
+        if is_done {
+            return Ok((first, calls));
+        }
+    }
+    Err(Fail::from("no run ends without a stop"))
+}
+
+#[test]
+fn a_stopped_key_is_whole_or_not_there(rt: HostRuntime) -> Result<(), Fail> {
+    let alloc = rt.alloc();
+    let (gate, calls) = stops(&rt, alloc, &[], Command::Key)?;
+    assert_eq!(rt; (gate, calls), (9, 10));
+    Ok(())
+}
+
+#[test]
+fn a_stopped_publish_uses_its_slot_or_none(rt: HostRuntime) -> Result<(), Fail> {
+    let alloc = rt.alloc();
+    let key = image_after(&rt, alloc, &[], Command::Key)?;
+    let entry = image_after(&rt, alloc, &key, PUBLISH)?;
+    let (gate, calls) = stops(&rt, alloc, &entry, PUBLISH)?;
+    assert_eq!(rt; gate.saturating_add(1), calls);
+    Ok(())
+}
+
+#[test]
+fn a_stopped_next_key_is_whole_or_not_there(rt: HostRuntime) -> Result<(), Fail> {
+    let alloc = rt.alloc();
+    let entry = image_after(&rt, alloc, &[], Command::Key)?;
+    let (gate, calls) = stops(&rt, alloc, &entry, Command::Succeed)?;
+    assert_eq!(rt; gate.saturating_add(1), calls);
+    Ok(())
+}

@@ -1,0 +1,154 @@
+//! Books of rows of nodes and roads, held with signatures of zeros, and what they answer.
+
+use book_model::{Query, Settings};
+use octet_text::{Hasher, NoMemory, Octets, Sha};
+use proof_octets::{Answer, Header, Publication, Reply};
+use route_server::{BuildError, Held, InstallError};
+use std::alloc::Global;
+use std::test::Fail;
+use test_maps::{NODES, ROADS, parts_of};
+use test_settings::DIJ;
+
+pub(crate) const FULL: Settings = Settings { method: 2, ..DIJ };
+
+/// One landmark and codes of two bits.
+pub(crate) const CODES: Settings = Settings {
+    method: 3,
+    p1: 1,
+    p2: 2,
+    ..DIJ
+};
+
+/// Three columns and one row.
+pub(crate) const CELLS: Settings = Settings {
+    method: 4,
+    p1: 3,
+    p2: 1,
+    ..DIJ
+};
+
+/// The book over rows.
+fn built<H: Hasher>(
+    alloc: Global,
+    nodes: &[(u32, i32, i32)],
+    roads: &[(u32, u32, u32)],
+    settings: &Settings,
+) -> Result<Held<H>, BuildError> {
+    let Ok(parts) = parts_of(alloc, nodes, roads) else {
+        return Err(BuildError::Memory);
+    };
+    Held::build(alloc, parts, settings)
+}
+
+/// The header of the book over rows.
+pub(crate) fn header_of<H: Hasher>(
+    alloc: Global,
+    nodes: &[(u32, i32, i32)],
+    roads: &[(u32, u32, u32)],
+    settings: &Settings,
+) -> Result<Header, BuildError> {
+    let held = built::<H>(alloc, nodes, roads, settings)?;
+    Ok(held.header())
+}
+
+/// The book over rows, installed with a header and a signature of zeros as long as one of a key of
+/// height 5.
+fn installed_with(
+    alloc: Global,
+    nodes: &[(u32, i32, i32)],
+    roads: &[(u32, u32, u32)],
+    settings: &Settings,
+    header: Header,
+) -> Result<Held<Sha>, InstallError> {
+    let Ok(parts) = parts_of(alloc, nodes, roads) else {
+        return Err(InstallError::Memory);
+    };
+    let Ok(zeros) = Vec::from_elem(alloc, 0, 1292) else {
+        return Err(InstallError::Memory);
+    };
+    let publication = Publication {
+        header,
+        signature: Octets::from_vec(zeros),
+        settings: *settings,
+        parts,
+    };
+    Held::install(alloc, publication)
+}
+
+/// The book over rows, installed with its own header.
+fn installed_over(
+    alloc: Global,
+    nodes: &[(u32, i32, i32)],
+    roads: &[(u32, u32, u32)],
+    settings: &Settings,
+) -> Result<Held<Sha>, InstallError> {
+    let header = header_of::<Sha>(alloc, nodes, roads, settings)?;
+    installed_with(alloc, nodes, roads, settings, header)
+}
+
+/// The book of the five nodes, installed with its own header.
+pub(crate) fn installed(alloc: Global, settings: &Settings) -> Result<Held<Sha>, InstallError> {
+    installed_over(alloc, &NODES, &ROADS, settings)
+}
+
+fn reply(alloc: Global, held: &Held<Sha>, from: u32, to: u32) -> Result<Vec<u8>, InstallError> {
+    if held.signature().len() > 1452 {
+        return Err(InstallError::Memory);
+    }
+    match held.answer(alloc, Query { from, to }) {
+        Ok(octets) => Ok(octets),
+        Err(NoMemory) => Err(InstallError::Memory),
+    }
+}
+
+/// What the book over rows answers on a route.
+pub(crate) fn reply_over(
+    alloc: Global,
+    nodes: &[(u32, i32, i32)],
+    roads: &[(u32, u32, u32)],
+    settings: &Settings,
+    ends: (u32, u32),
+) -> Result<Vec<u8>, InstallError> {
+    let held = installed_over(alloc, nodes, roads, settings)?;
+    reply(alloc, &held, ends.0, ends.1)
+}
+
+/// What the book of the five nodes answers on a route.
+pub(crate) fn first_reply(
+    alloc: Global,
+    settings: &Settings,
+    from: u32,
+    to: u32,
+) -> Result<Vec<u8>, InstallError> {
+    reply_over(alloc, &NODES, &ROADS, settings, (from, to))
+}
+
+/// Why rows and settings have no book.
+pub(crate) fn refusal_of(
+    alloc: Global,
+    nodes: &[(u32, i32, i32)],
+    roads: &[(u32, u32, u32)],
+    settings: &Settings,
+) -> Option<BuildError> {
+    built::<Sha>(alloc, nodes, roads, settings).err()
+}
+
+/// Why the book of the five nodes is not installed with a header.
+pub(crate) fn refusal_with(
+    alloc: Global,
+    settings: &Settings,
+    header: Header,
+) -> Option<InstallError> {
+    installed_with(alloc, &NODES, &ROADS, settings, header).err()
+}
+
+/// The answer that octets of a test's size spell.
+pub(crate) fn read_answer(alloc: Global, octets: &[u8]) -> Result<Answer, Fail> {
+    if octets.len() > 10_000 {
+        return Err(Fail::from("many octets"));
+    }
+    match Reply::read(alloc, octets) {
+        Ok(Reply::Answer(answer)) => Ok(answer),
+        _ => Err(Fail::from("no answer")),
+    }
+}

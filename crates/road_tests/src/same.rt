@@ -1,0 +1,19 @@
+//! Assertions as calls: a test of calls is proved far sooner than one with assertions written out.
+
+use std::fmt::Debug;
+use std::process::Abort;
+
+/// Asserts that two values are equal.
+pub(crate) fn assert_same<T: PartialEq + Debug + Drop>(rt: &impl Abort, found: T, wanted: T) {
+    assert_eq!(rt; found, wanted);
+}
+
+/// Asserts that two values are equal, and else names the row of a table.
+pub(crate) fn assert_row<A: Debug + Drop, T: PartialEq + Debug + Drop>(
+    rt: &impl Abort,
+    row: A,
+    found: T,
+    wanted: T,
+) {
+    assert_eq!(rt; found, wanted, "at {row:?}");
+}

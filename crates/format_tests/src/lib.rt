@@ -1,5 +1,5 @@
-//! Tests of trees, of formats and of publications in pieces: worked rows, outside vectors, and what
-//! no clause says.
+//! Tests of trees, of formats, of publications in pieces, and of what they come from and go to:
+//! worked rows, outside vectors, and what no clause says.
 #![tactic(auto)]
 
 #[cfg(test)]
@@ -9,12 +9,18 @@ mod covers;
 #[cfg(test)]
 mod formats;
 #[cfg(test)]
+mod in_memory;
+#[cfg(test)]
 mod mirrors;
 #[cfg(test)]
 mod pieces;
 #[cfg(test)]
 mod publications;
 #[cfg(test)]
+mod real_files;
+#[cfg(test)]
 mod rising;
 #[cfg(test)]
 mod sending;
+#[cfg(test)]
+mod streams;

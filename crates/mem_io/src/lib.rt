@@ -8,8 +8,6 @@ mod disk;
 mod library;
 mod sink;
 mod source;
-#[cfg(test)]
-mod tests;
 
 pub use disk::{MemDisk, Pick};
 pub use library::MemLibrary;

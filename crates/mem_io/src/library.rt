@@ -113,30 +113,3 @@ impl Library for MemLibrary {
         }
     }
 }
-
-#[cfg(test)]
-mod tests {
-    use super::*;
-    use std::test::Fail;
-
-    #[test]
-    fn files_are_found_by_name(rt: HostRuntime) -> Result<(), Fail> {
-        let alloc = rt.alloc();
-        let fails = vec![in alloc; 3]?;
-        let mut library = MemLibrary::new(alloc, fails);
-        library.put("a", b"first")?;
-        library.put("b", b"other")?;
-        library.put("a", b"second")?;
-        let found = library.load(alloc, "a", 6)?;
-        assert_eq!(rt; found.as_slice(), b"second".as_slice());
-        let too_long = library.load(alloc, "a", 5);
-        assert!(rt; matches!(&too_long, Err(LoadError::TooLong)));
-        let missing = library.load(alloc, "c", 5);
-        assert!(rt; matches!(&missing, Err(LoadError::Missing)));
-        let failed = library.load(alloc, "b", 5);
-        assert!(rt; matches!(&failed, Err(LoadError::Failed)));
-        let after = library.load(alloc, "b", 5)?;
-        assert_eq!(rt; after.as_slice(), b"other".as_slice());
-        Ok(())
-    }
-}

@@ -1,5 +1,5 @@
 //! The frames of a source.
-ghost use Rattle.std.specs.Prelude.{◌≡◌, ◌≤◌, ◌∷◌, [], Err};
+ghost use Rattle.std.specs.Prelude.{◌≡◌, ◌≤◌, ◌∷◌, [], Err, OnOk};
 ghost use Rattle.std.specs.Int.{w32, to_be_bytes};
 ghost use Rattle.road_io.specs.Causes.{Rose};
 ghost use Rattle.octet_frame.specs.Taking.{TakesFrame};
@@ -38,6 +38,9 @@ pub fn next_frame<S: Source>(
     ensures later { S.faults source.old ≤ S.faults source.new }
     ensures source { result ≡ Err FrameError.Source →
         Rose (S.faults source.old) (S.faults source.new) }
+    ensures kept { OnOk result (S.faults source.new ≡ S.faults source.old) }
+    ensures memory { result ≡ Err FrameError.Memory →
+        S.faults source.new ≡ S.faults source.old }
 {
     let size = match read_head(source) {
         Ok(Some(size)) => size,
@@ -70,6 +73,9 @@ fn read_body<S: Source>(source: &mut S, size: usize, body: &mut Vec<u8>) -> Resu
     ensures later { S.faults source.old ≤ S.faults source.new }
     ensures source { result ≡ Err BodyError.Source →
         Rose (S.faults source.old) (S.faults source.new) }
+    ensures kept { OnOk result (S.faults source.new ≡ S.faults source.old) }
+    ensures memory { result ≡ Err BodyError.Memory →
+        S.faults source.new ≡ S.faults source.old }
 {
     if body.resize(size, 0).is_err() {
         return Err(BodyError::Memory);
@@ -94,6 +100,7 @@ fn read_head<S: Source>(source: &mut S) -> Result<Option<u32>, HeadError>
     ensures later { S.faults source.old ≤ S.faults source.new }
     ensures source { result ≡ Err HeadError.Source →
         Rose (S.faults source.old) (S.faults source.new) }
+    ensures kept { OnOk result (S.faults source.new ≡ S.faults source.old) }
 {
     let mut head = [0u8; 4];
     match read_whole(source, &mut head) {

@@ -45,21 +45,3 @@ impl<R: Input> Source for StdSource<R> {
         }
     }
 }
-
-#[cfg(test)]
-mod tests {
-    use super::*;
-    use crate::read_whole;
-    use std::test::Fail;
-
-    #[test]
-    fn standard_input_ends(rt: HostRuntime) -> Result<(), Fail> {
-        let mut source = StdSource::new(&rt);
-        let mut none = [0u8; 0];
-        assert_eq!(rt; source.read(&mut none), Ok(0));
-        let mut four = [0u8; 4];
-        assert_eq!(rt; read_whole(&mut source, &mut four), Ok(0));
-        assert_eq!(rt; source.faults, 0);
-        Ok(())
-    }
-}

@@ -54,6 +54,9 @@ pub fn serve<H: Hasher, S: Source, K: Sink>(
     ensures source { result ≡ Err ServeError.Source →
         Rose (S.faults source.old) (S.faults source.new) }
     ensures sink { result ≡ Err ServeError.Sink → Rose (K.faults sink.old) (K.faults sink.new) }
+    ensures source_kept { result ≡ Err ServeError.Memory →
+        S.faults source.new ≡ S.faults source.old }
+    ensures sink_kept { result ≡ Err ServeError.Memory → K.faults sink.new ≡ K.faults sink.old }
     ensures source_later { S.faults source.old ≤ S.faults source.new }
     ensures sink_later { K.faults sink.old ≤ K.faults sink.new }
 {
@@ -75,6 +78,9 @@ fn turns<H: Hasher, S: Source, K: Sink>(
     ensures source { result ≡ Err ServeError.Source →
         Rose (S.faults source.old) (S.faults source.new) }
     ensures sink { result ≡ Err ServeError.Sink → Rose (K.faults sink.old) (K.faults sink.new) }
+    ensures source_kept { result ≡ Err ServeError.Memory →
+        S.faults source.new ≡ S.faults source.old }
+    ensures sink_kept { result ≡ Err ServeError.Memory → K.faults sink.new ≡ K.faults sink.old }
     ensures source_later { S.faults source.old ≤ S.faults source.new }
     ensures sink_later { K.faults sink.old ≤ K.faults sink.new }
 {

@@ -1,4 +1,4 @@
-use Rattle.std.proofs.Common.{refl, [], arith}
+use Rattle.std.proofs.Common.{refl, [], arith, ◌∙◌}
 use Rattle.route_service.specs.Sessions.{state_of}
 use Rattle.route_service.proofs.Isolated.{isolated}
 use Rattle.road_io.proofs.ReadLemmas.{Consumes-none}
@@ -9,8 +9,8 @@ pub loop-served-init : goal.loop-served-init
 loop-served-init g c = record {
   within = omega arith;
   served = record { frames = []; replies = []; took = Consumes-none _; wrote = Appends-none _; run = refl; isolated = isolated _ _ _ _ [] [] refl; short = tt; number = refl };
-  source_later = omega arith;
-  sink_later = omega arith;
+  source_kept = refl;
+  sink_kept = refl;
 }
 
 pub loop-served-preserved : goal.loop-served-preserved
@@ -21,8 +21,8 @@ loop-served-preserved g c =
     record {
       within = omega (arith, c.loop-served-test.true);
       served = served-more _ _ _ _ _ _ _ _ _ _ _ _ _ c.next_frame.new.body.items c.in-Ok.reply.items c.loop-served.invariant.served takes.1 takes.0 step wrote;
-      source_later = omega (arith, c.next_frame.ensures.later);
-      sink_later = omega (arith, c.write_frame.ensures.cause.later);
+      source_kept = c.in-Ok-true.ensures.kept ∙ c.loop-served.invariant.source_kept;
+      sink_kept = c.in-Ok-write_frame.ensures.kept ∙ c.loop-served.invariant.sink_kept;
     }
 
 pub returns-in-Err-clause-serves : goal.returns-in-Err-clause-serves

@@ -2,3 +2,4 @@ pub mod Written
 pub mod OneEnd
 pub mod OneMap
 pub mod Ends
+mod Worked

@@ -4,10 +4,15 @@ use Rattle.std.specs.declared.option.Option.{Option}
 use Rattle.std.specs.declared.result.Result.{Result}
 use Rattle.std.specs.declared.result.Result.TheVariants.{Ok, Err}
 use Rattle.command_files.specs.Endings.{Ending, EndsReading, Answered}
-use Rattle.command_files.specs.Exact.{IsExact, HasOneEnd}
+use Rattle.command_files.specs.Exact.{IsExact}
 use Rattle.command_files.specs.declared.fault.Fault.{Fault}
 use Rattle.command_files.specs.declared.fault.Fault.TheVariants.{TruncatedFrame, FrameTooLong, Library, Source, Sink, Disk, Memory, UnknownNode, NoRoute, TooManyFrames, MirrorLost}
 use Rattle.command_files.specs.declared.ended.Conclusion.{Conclusion}
+
+-- they call for one outcome at most
+abbrev pub HasOneEnd : Ending → Type 0
+HasOneEnd Ends = (one other : Result Conclusion Fault) (text other_text : List ℕ) → Ends one text →
+    Ends other other_text → one ≡ other
 
 -- what a file says, or its first fault, makes the one end
 pub one_reading : {X : Type 0} (read : Result X Fault) (E : X → Ending) → ((x : X) → HasOneEnd (E x)) → HasOneEnd (EndsReading read E)

@@ -1,5 +1,5 @@
 -- Files, and what they say: a value, or the first fault.
-use Rattle.std.specs.Prelude.{◌≡◌, ◌≢◌, ◌≤◌, ℕ, nat_lt, List, [], length, IfSome, IfNone, IfErr, if◌then◌else◌}
+use Rattle.std.specs.Prelude.{◌≡◌, ◌≢◌, ◌≤◌, ℕ, nat_lt, List, [], length, IfSome, IfNone, IfErr, OnOk, if◌then◌else◌}
 use Rattle.std.specs.declared.option.Option.{Option}
 use Rattle.std.specs.declared.option.Option.TheVariants.{None, Some}
 use Rattle.std.specs.declared.result.Result.{Result}
@@ -114,6 +114,8 @@ pub record Loads {X Y : Type 0} (view : X → Y) (meaning : Folder → Result Y 
   pub missing : IfNone files (result ≡ Err Missing → Rose before now)
   pub too_long : IfNone files (result ≡ Err TooLong → Rose before now)
   pub library : result ≡ Err Library → Rose before now
+  pub kept : OnOk result (now ≡ before)
+  pub short : result ≡ Err Memory → now ≡ before
   pub others : IfErr result IsOfFiles
   pub later : before ≤ now
 
@@ -124,4 +126,6 @@ pub record LoadsMap (meaning : Folder → Result Parts Fault) (files : Option Fo
   pub missing : IfNone files (result ≡ Err Missing → Rose before now)
   pub too_long : IfNone files (result ≡ Err TooLong → Rose before now)
   pub library : result ≡ Err Library → Rose before now
+  pub kept : OnOk result (now ≡ before)
+  pub short : result ≡ Err Memory → now ≡ before
   pub others : IfErr result IsOfMaps

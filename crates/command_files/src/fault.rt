@@ -39,8 +39,8 @@ pub enum Fault {
     /// A hex file is not exactly its digits and one line end at most.
     #[error("The file is not exactly the hex digits that it should have.")]
     BadHex,
-    /// A public key is not that of the key on the owner's disk.
-    #[error("The public key is not that of the owner's key.")]
+    /// A public key is none of those on the owner's disk.
+    #[error("The public key is none of the owner's.")]
     OtherKey,
     /// The input ends within a frame.
     #[error("The input ends within a frame.")]

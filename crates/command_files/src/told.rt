@@ -1,6 +1,7 @@
 //! What a command writes.
 
 ghost use Rattle.command_files.specs.Endings.{Writes};
+ghost use Rattle.command_files.specs.Exact.{HidesNone};
 
 use crate::ended::Conclusion;
 use crate::fault::Fault;
@@ -17,8 +18,9 @@ pub struct Told {
 
 /// Writes a text, with which the work is done, or the sink failed.
 pub fn write_text<K: Sink>(sink: &mut K, text: &[u8]) -> Result<Conclusion, Fault>
-    ensures { Writes (Ok Conclusion.Done) text.now (K.taken sink.old) (K.taken sink.new)
+    ensures writes { Writes (Ok Conclusion.Done) text.now (K.taken sink.old) (K.taken sink.new)
         (K.faults sink.old) (K.faults sink.new) result }
+    ensures hides { HidesNone result (K.faults sink.old) (K.faults sink.new) }
 {
     match write_all(sink, text) {
         Ok(()) => Ok(Conclusion::Done),
@@ -28,8 +30,9 @@ pub fn write_text<K: Sink>(sink: &mut K, text: &[u8]) -> Result<Conclusion, Faul
 
 /// Writes what a command tells. It ends as is told, or by the sink's failure.
 pub fn write_told<K: Sink>(sink: &mut K, told: &Told) -> Result<Conclusion, Fault>
-    ensures { Writes told.now.end told.now.text.items (K.taken sink.old) (K.taken sink.new)
+    ensures writes { Writes told.now.end told.now.text.items (K.taken sink.old) (K.taken sink.new)
         (K.faults sink.old) (K.faults sink.new) result }
+    ensures hides { HidesNone result (K.faults sink.old) (K.faults sink.new) }
 {
     match write_all(sink, &told.text) {
         Ok(()) => told.end,

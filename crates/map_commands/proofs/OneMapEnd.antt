@@ -8,14 +8,13 @@ use Rattle.road_map.specs.Laws.{ArcLaws}
 use Rattle.road_map.specs.declared.parts.Parts.{Parts}
 use Rattle.command_files.specs.Reading.{parts_at}
 use Rattle.command_files.specs.TwoEnds.{IsFirstUnknown, AreApart}
-use Rattle.command_files.specs.Exact.{HasOneEnd}
 use Rattle.command_files.specs.declared.fault.Fault.{Fault}
 use Rattle.command_files.specs.declared.fault.Fault.TheVariants.{Map, UnknownNode, NoRoute}
 use Rattle.command_files.specs.declared.ended.Conclusion.{Conclusion}
 use Rattle.command_files.specs.declared.ended.Conclusion.TheVariants.{Done}
 use Rattle.command_files.proofs.Ends.{both_known, one_unknown, shortest_joins}
 use Rattle.command_files.proofs.OneMap.{Faults, not_map, one_map_fault}
-use Rattle.command_files.proofs.OneEnd.{one_reading}
+use Rattle.command_files.proofs.OneEnd.{HasOneEnd, one_reading}
 use Rattle.map_commands.specs.RouteLine.{IsRouteLine, EndsRoute, ends_route}
 use Rattle.map_commands.specs.RootLine.{EndsRoot, ends_root}
 use Rattle.map_commands.specs.DimacsFiles.{EndsDimacs, dimacs_at, ends_dimacs}

@@ -2,6 +2,7 @@
 
 ghost use Rattle.command_files.specs.Reading.{Loads};
 ghost use Rattle.command_files.specs.Endings.{Promises, TellsNone, NoDisk};
+ghost use Rattle.command_files.specs.Exact.{HidesNone};
 ghost use Rattle.map_commands.specs.DimacsFiles.{dimacs_at, ends_dimacs};
 
 use command_files::{Conclusion, Fault, load_file, write_text};
@@ -19,9 +20,11 @@ pub fn dimacs<L: Library, K: Sink>(
     graph: &str,
     places: &str,
 ) -> Result<Conclusion, Fault>
-    ensures { Promises (ends_dimacs graph.now places.now) TellsNone NoDisk
+    ensures promised { Promises (ends_dimacs graph.now places.now) TellsNone NoDisk
         (L.files library.old) (L.faults library.old) (L.faults library.new)
         (K.taken sink.old) (K.taken sink.new) (K.faults sink.old) (K.faults sink.new) result }
+    ensures library { HidesNone result (L.faults library.old) (L.faults library.new) }
+    ensures sink { HidesNone result (K.faults sink.old) (K.faults sink.new) }
 {
     let parts = load_dimacs(alloc, library, graph, places)?;
     let Ok(text) = print_roads(alloc, &parts) else {

@@ -1,6 +1,7 @@
 //! The command `route`.
 
 ghost use Rattle.command_files.specs.Endings.{Promises, TellsNone, NoDisk};
+ghost use Rattle.command_files.specs.Exact.{HidesNone};
 ghost use Rattle.map_commands.specs.RouteLine.{GivesLine, ends_route};
 
 use command_files::{Conclusion, Fault, load_map, write_text};
@@ -19,9 +20,11 @@ pub fn route<L: Library, K: Sink>(
     from: u32,
     to: u32,
 ) -> Result<Conclusion, Fault>
-    ensures { Promises (ends_route roads.now from to) TellsNone NoDisk
+    ensures promised { Promises (ends_route roads.now from to) TellsNone NoDisk
         (L.files library.old) (L.faults library.old) (L.faults library.new)
         (K.taken sink.old) (K.taken sink.new) (K.faults sink.old) (K.faults sink.new) result }
+    ensures library { HidesNone result (L.faults library.old) (L.faults library.new) }
+    ensures sink { HidesNone result (K.faults sink.old) (K.faults sink.new) }
 {
     let map = load_map(alloc, library, roads)?;
     let line = shortest_line(alloc, &map, from, to)?;

@@ -14,10 +14,9 @@ use Rattle.desk_areas.specs.Keys.{key_at}
 use Rattle.desk_areas.specs.Faults.{IsUsable, TooShort, Alone, SameName}
 use Rattle.command_files.specs.HexFiles.{public_key_at, hex_text_at}
 use Rattle.command_files.specs.Endings.{Ending, EndsReading}
-use Rattle.command_files.specs.Exact.{HasOneEnd}
 use Rattle.command_files.specs.declared.fault.Fault.{Fault}
 use Rattle.command_files.specs.declared.ended.Conclusion.{Conclusion}
-use Rattle.command_files.proofs.OneEnd.{one_reading}
+use Rattle.command_files.proofs.OneEnd.{HasOneEnd, one_reading}
 use Rattle.command_desks.specs.Opening.{EndsOpening}
 use Rattle.command_desks.proofs.Openings.{one_opening}
 use Rattle.reduce_commands.specs.Reducing.{HasSigned, HasSpent, IsKeyIn, TellsReduced, EndsReducing, EndsReduce, ends_reduce, slot_named}

@@ -7,6 +7,7 @@ ghost use Rattle.road_io.specs.Disk.{Stays};
 ghost use Rattle.road_io.specs.Moments.{AtEachMoment};
 ghost use Rattle.key_desk.specs.Desk.{Fits, key_of};
 ghost use Rattle.command_files.specs.Endings.{Promises, TellsNone, MayEnd, WhyNot};
+ghost use Rattle.command_files.specs.Exact.{HidesNone};
 ghost use Rattle.reduce_commands.specs.Reducing.{EndsReduce, TellsReduced, TellsSlot, ends_reduce};
 ghost use Rattle.reduce_commands.specs.Unreleased.{RestsOnReduced, WritesReduced};
 
@@ -40,6 +41,8 @@ pub fn reduce<L: Library, K: Sink, D: Disk>(
         (Rose (D.faults disk.old) (D.faults disk.new))
         (L.files library.old) (L.faults library.old) (L.faults library.new)
         (K.taken sink.old) (K.taken sink.new) (K.faults sink.old) (K.faults sink.new) result }
+    ensures library { HidesNone result (L.faults library.old) (L.faults library.new) }
+    ensures sink { HidesNone result (K.faults sink.old) (K.faults sink.new) }
     ensures unreleased { WritesReduced D.Disk disk.new (K.taken sink.old)
         (K.taken sink.new) result }
     ensures unfaulted { result ≢ Err Fault.Disk → D.faults disk.new ≡ D.faults disk.old }

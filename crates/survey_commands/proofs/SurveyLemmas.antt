@@ -7,7 +7,7 @@ use Rattle.std.specs.declared.result.Result.TheVariants.{Ok, Err}
 use Rattle.road_io.specs.Contents.{Folder}
 use Rattle.book_model.specs.declared.settings.PlanError.{PlanError}
 use Rattle.command_files.specs.Endings.{NoDisk, PromisesWithoutFiles, TellsNone, WhyNot, Writes}
-use Rattle.command_files.specs.Exact.{HasOneEnd}
+use Rattle.command_files.proofs.OneEnd.{HasOneEnd}
 use Rattle.command_files.specs.declared.fault.Fault.{Fault}
 use Rattle.command_files.specs.declared.fault.Fault.TheVariants.{Memory, Plan}
 use Rattle.command_files.specs.declared.ended.Conclusion.{Conclusion}

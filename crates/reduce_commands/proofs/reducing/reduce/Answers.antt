@@ -15,7 +15,7 @@ pub returns-clause-promised : goal.returns-clause-promised
 returns-clause-promised g c =
     reduce_told (g.L.Library.files c.args.library.now) (g.D.Disk.content c.args.disk.now) c.args.key.now c.args.text.now c.args.signature.now _ c.deref.result.now c.deref-2.result.now
     c.in_ok-public.ensures.loads.read (hex_as _ _ _ _ _ _ c.in_ok-public.ensures.same refl c.deref.ensures.value c.in_ok-text.ensures.loads.read)
-    (hex_as _ _ _ _ _ _ c.in_ok-text.ensures.same c.in_ok-public.ensures.same c.deref-2.ensures.value c.in_ok-sig.ensures.loads.read) _ _ _ _ _ _ _ _ _ _ c.in_ok-told.ensures.verdict c.in_ok-told.ensures.told c.write_told.ensures
+    (hex_as _ _ _ _ _ _ c.in_ok-text.ensures.same c.in_ok-public.ensures.same c.deref-2.ensures.value c.in_ok-sig.ensures.loads.read) _ _ _ _ _ _ _ _ _ _ c.in_ok-told.ensures.verdict c.in_ok-told.ensures.told c.write_told.ensures.writes
 
 pub returns-in_err-public-clause-unreleased : goal.returns-in_err-public-clause-unreleased
 returns-in_err-public-clause-unreleased g c =
@@ -38,4 +38,4 @@ returns-in_err-told-clause-unreleased g c =
     rw p.1 tt
 
 pub returns-clause-unreleased : goal.returns-clause-unreleased
-returns-clause-unreleased g c = reduced_written g.D.Disk c.find.new.disk _ _ _ _ _ _ _ c.in_ok-told.ensures.rests c.write_told.ensures
+returns-clause-unreleased g c = reduced_written g.D.Disk c.find.new.disk _ _ _ _ _ _ _ c.in_ok-told.ensures.rests c.write_told.ensures.writes

@@ -297,6 +297,8 @@ impl Desk {
         ensures was_free { IfOk result
             (λ q. EachImage D.Disk disk.old (λ i. gate_of i (slot_here self.old q) ≡ 0)) }
         ensures early { IfOk result (λ q. q + 1 < slots_of self.old.key.kind) }
+        ensures lowest { IfOk result
+            (λ q. (s : ℕ) → s < q → count_at self.old s ≢ Count.Free) }
         ensures signature { IfOk result (λ q. IsSignature self.new.key q text.now out.new) }
         ensures out { IsErr result → out.new ≡ out.old }
         ensures same { SameAreas self.old self.new }

@@ -13,12 +13,11 @@ use Rattle.desk_areas.specs.Layout.{slots_of, slots_at, base_of, gate_of}
 use Rattle.desk_areas.proofs.Growth.{one_current}
 use Rattle.command_files.specs.Reading.{parts_at}
 use Rattle.command_files.specs.HexFiles.{secret_at}
-use Rattle.command_files.specs.Exact.{HasOneEnd}
 use Rattle.command_files.specs.declared.fault.Fault.{Fault}
 use Rattle.command_files.specs.declared.fault.Fault.TheVariants.{KeysUsedUp, Held}
 use Rattle.command_files.specs.declared.ended.Conclusion.{Conclusion}
 use Rattle.command_files.specs.declared.ended.Conclusion.TheVariants.{Done}
-use Rattle.command_files.proofs.OneEnd.{one_reading}
+use Rattle.command_files.proofs.OneEnd.{HasOneEnd, one_reading}
 use Rattle.command_desks.proofs.Openings.{one_opening}
 use Rattle.command_books.specs.Installing.{EndsBuilding}
 use Rattle.command_books.proofs.OneBuilding.{OneMaking, one_building}

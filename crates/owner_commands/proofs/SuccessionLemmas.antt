@@ -32,12 +32,11 @@ use Rattle.command_desks.specs.Opening.{IsKeyOn, HasBlocks, EndsOpening}
 use Rattle.command_desks.proofs.Openings.{key_on, shut, one_opening}
 use Rattle.command_files.specs.HexFiles.{secret_at}
 use Rattle.command_files.specs.Endings.{NoEnd, Promises, PromisesWithoutFiles, TellsNone, WhyNot, Writes}
-use Rattle.command_files.specs.Exact.{HasOneEnd}
 use Rattle.command_files.specs.declared.fault.Fault.{Fault}
 use Rattle.command_files.specs.declared.fault.Fault.TheVariants.{Memory}
 use Rattle.command_files.specs.declared.ended.Conclusion.{Conclusion}
 use Rattle.command_files.specs.declared.ended.Conclusion.TheVariants.{Done}
-use Rattle.command_files.proofs.OneEnd.{one_reading}
+use Rattle.command_files.proofs.OneEnd.{HasOneEnd, one_reading}
 use Rattle.command_files.proofs.Written.{CallsFor, over, over_any, reads, refused, written_done, why_map}
 use Rattle.owner_commands.specs.NextKey.{fault_of, EndsSuccession, ends_succession, MakesNext, LinksFile, AddsKey}
 use Rattle.owner_commands.specs.Signing.{StaysRefused}

@@ -1,5 +1,5 @@
 -- What the words of the owner's promises say at some ends, so that a weaker word is seen.
-use Rattle.std.proofs.Common.{◌≡◌, ◌≢◌, ◌⊎◌, inl, inr, ℕ, ◌+◌, ◌<◌, ◌≤◌, List, length, arith, refl, sym, ◌∙◌, subst}
+use Rattle.std.proofs.Common.{◌≡◌, ◌≢◌, ◌⊎◌, inl, inr, ℕ, suc, ◌+◌, ◌-◌, ◌<◌, ◌≤◌, List, [], ◌∷◌, length, arith, refl, sym, ap, ◌∙◌, subst}
 use Rattle.std.specs.declared.option.Option.{Option}
 use Rattle.std.specs.declared.option.Option.TheVariants.{Some}
 use Rattle.std.specs.declared.result.Result.{Result}
@@ -7,7 +7,7 @@ use Rattle.std.specs.declared.result.Result.TheVariants.{Ok, Err}
 use Rattle.std.specs.Io.KnownBytes.{Appends, Keeps}
 use Rattle.road_io.specs.declared.disk.Disk.{Ghosts}
 use Rattle.road_io.specs.Disk.{Stays}
-use Rattle.road_io.specs.Moments.{AtEachMoment}
+use Rattle.road_io.specs.Moments.{EachImage, AtEachMoment}
 use Rattle.road_io.specs.Contents.{Folder, AppendsFront}
 use Rattle.proof_octets.specs.Publications.{publication_text}
 use Rattle.publication_out.specs.Sent.{pieces_in}
@@ -22,13 +22,19 @@ use Rattle.command_files.specs.declared.ended.Conclusion.{Conclusion}
 use Rattle.command_files.specs.declared.ended.Conclusion.TheVariants.{Done}
 use Rattle.desk_areas.specs.Blank.{IsBlank}
 use Rattle.desk_areas.specs.Keys.{key_from}
-use Rattle.desk_areas.specs.Layout.{IsOpen}
+use Rattle.desk_areas.specs.Layout.{slots_of, IsOpen, IsSigned}
+use Rattle.lms_tree.specs.Signatures.{KeyOf, public_key}
+use Rattle.lms_tree.specs.Links.{IsLink, link_text}
+use Rattle.key_desk.specs.Stands.{key_in}
+use Rattle.proof_octets.specs.declared.publication.Publication.{Publication}
+use Rattle.proof_octets.specs.Headers.{header_text}
 use Rattle.command_files.specs.HexFiles.{secret_at}
 use Rattle.owner_commands.specs.OwnerKey.{KeepsKey, MakesByFile}
 use Rattle.owner_commands.specs.NextKey.{AddsKey}
 use Rattle.owner_commands.specs.Publishing.{TellsLost}
 use Rattle.owner_commands.specs.Signing.{StaysRefused, Wrote, WroteSealed, SealsWhatItWrites, SealsWhatItMirrors, SpreadSealed}
-use Rattle.owner_commands.specs.StandingKeys.{WroteChain, ChainsWhatItWrites}
+use Rattle.owner_commands.specs.StandingKeys.{KeysStand, last_of, next_text, WroteChain, ChainsWhatItWrites}
+use Rattle.owner_commands.specs.Releases.{Release, header_release, link_release, AreApart, AllApart, AllStand}
 
 -- ---- what was refused changes no image
 
@@ -129,3 +135,50 @@ module _ {M : Type 0} (octets : M → Option (List ℕ)) (label puts room : M �
   -- and they are as they were where nothing was written
   mirrors_still : SealsWhatItMirrors octets label puts room g old new taken_before taken_now before now (Err Disk) → now ≡ before
   mirrors_still h = h.still
+
+-- ---- what went out
+
+module _ (a b : Release) where
+  -- two texts by one one-time key are not apart, nor are two signatures by it
+  two_texts_of_one_slot : a.slot ≡ b.slot → (a.text ≡ b.text → ⊥) → AreApart a b → ⊥
+  two_texts_of_one_slot same other (inl slots) = slots same
+  two_texts_of_one_slot same other (inr (equal, link)) = other (ap (λ (r : Release). r.text) equal)
+
+  two_signatures_of_one_slot : a.slot ≡ b.slot → (a.octets ≡ b.octets → ⊥) → AreApart a b → ⊥
+  two_signatures_of_one_slot same other (inl slots) = slots same
+  two_signatures_of_one_slot same other (inr (equal, link)) = other (ap (λ (r : Release). r.octets) equal)
+
+  -- and no header is signed twice by it
+  a_header_twice : a.slot ≡ b.slot → (IsLink a.text → ⊥) → AreApart a b → ⊥
+  a_header_twice same header (inl slots) = slots same
+  a_header_twice same header (inr (equal, link)) = header link
+
+  each_pair_is_apart : AllApart (a ∷ b ∷ []) → AreApart a b
+  each_pair_is_apart h = h.0 0 b (omega arith)
+
+  each_stands : (i : List ℕ) → AllStand (a ∷ b ∷ []) i → IsSigned i b.slot b.text
+  each_stands i h = h 1 b (omega arith)
+
+-- the key of an area signs the link to the next by its last one-time key
+last_is : (keys : ℕ → KeyOf) (area : ℕ) → last_of keys area ≡ record { area = area; number = slots_of (keys area).kind - 1 }
+last_is keys area = refl
+
+next_is : (keys : ℕ → KeyOf) (area : ℕ) → next_text keys area ≡ link_text (public_key (keys (suc area)))
+next_is keys area = refl
+
+by_the_last : (keys : ℕ → KeyOf) (area : ℕ) → (link_release keys area).slot ≡ last_of keys area
+by_the_last keys area = refl
+
+on_the_next : (keys : ℕ → KeyOf) (area : ℕ) → (link_release keys area).text ≡ next_text keys area
+on_the_next keys area = refl
+
+on_its_header : (area : ℕ) (p : Publication) → (header_release area p).text ≡ header_text p.header
+on_its_header area p = refl
+
+-- what stands of keys: up to the last, and each link before it
+module _ {D : Type 0} (g : Ghosts D) (disk : D) (last : ℕ) (keys : ℕ → KeyOf) where
+  last_key_stands : KeysStand g disk last keys → EachImage g disk (λ i. key_in i last ≡ keys last)
+  last_key_stands h i now = h.held i now last (omega arith)
+
+  first_link_stands : KeysStand g disk last keys → 0 < last → EachImage g disk (λ i. IsSigned i (last_of keys 0) (next_text keys 0))
+  first_link_stands h more i now = h.linked i now 0 more

@@ -22,7 +22,12 @@ use Rattle.proof_octets.specs.Headers.{header_text}
 use Rattle.proof_octets.specs.Publications.{publication, publication_text}
 use Rattle.proof_octets.specs.Good.{IsGoodPublication, IsGoodNode, IsGoodRoad, IsGoodHeader}
 use Rattle.route_server.specs.Headers.{HasHeader, header_of}
-use Rattle.route_owner.specs.Published.{HasSettingWidths, IsPublication, IsSealed, IsSignable, SignsInSlot, SignsHeader, publication_with}
+use Rattle.route_owner.specs.Published.{HasSettingWidths, IsPublication, IsSealed, IsSignable, SignsInSlot, SignsHeader}
+
+-- the publication of these
+abbrev pub publication_with : Header → Parts → Settings → List ℕ → Publication
+publication_with header parts s signature =
+    record { header = header; signature = signature; settings = s; parts = parts }
 
 -- a header that was made can be signed
 pub signable : (hash : List ℕ → List ℕ) (parts left : Parts) (s : Settings) (h : Header) → left ≡ parts → HasHeader hash sha256 parts s h → (s.version < 2 ^ 64 → IsGoodHeader h)

@@ -1,7 +1,7 @@
 -- What publishing promises.
 -- Source: Yiu, Lin and Mouratidis, ICDE 2010: the data owner signs the roots of the trees and hands
 -- them out with the map.
-use Rattle.std.specs.Prelude.{◌≡◌, ◌≢◌, ◌⊎◌, ◌≤◌, ◌+◌, ◌<◌, ◌^◌, ℕ, true, false, List, ◌++◌, All, length, take, drop}
+use Rattle.std.specs.Prelude.{◌≡◌, ◌≢◌, ◌⊎◌, ◌≤◌, ◌+◌, ◌<◌, ◌^◌, ℕ, true, false, List, All, length}
 use Rattle.std.specs.declared.result.Result.{Result}
 use Rattle.std.specs.declared.result.Result.TheVariants.{Ok, Err}
 use Rattle.sha2.specs.Sha256.{sha256}
@@ -18,7 +18,7 @@ use Rattle.desk_areas.specs.Layout.{SlotId, slots_of, slots_at, base_of, gate_of
 use Rattle.proof_octets.specs.declared.header.Header.{Header}
 use Rattle.proof_octets.specs.declared.publication.Publication.{Publication}
 use Rattle.proof_octets.specs.Headers.{header_text}
-use Rattle.proof_octets.specs.Publications.{publication, publication_text}
+use Rattle.proof_octets.specs.Publications.{publication}
 use Rattle.proof_octets.specs.Good.{IsGoodHeader, IsGoodNode, IsGoodRoad}
 use Rattle.route_server.specs.Headers.{HasHeader, Makes}
 use Rattle.route_server.specs.declared.errors.BuildError.{BuildError}
@@ -148,8 +148,3 @@ pub record CanPublish (hash : List ℕ → List ℕ) (parts : Parts) (s : Settin
   pub number : ℕ
   pub early : number + 1 < slots_of desk.key.kind
   pub free : count_at desk number ≡ Free
-
--- the publication of these
-abbrev pub publication_with : Header → Parts → Settings → List ℕ → Publication
-publication_with header parts s signature =
-    record { header = header; signature = signature; settings = s; parts = parts }

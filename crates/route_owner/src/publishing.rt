@@ -1,6 +1,6 @@
 //! Publishing a map.
 
-ghost use Rattle.std.specs.Prelude.{◌≡◌, ◌≢◌, ◌⊎◌, ℕ, Some, slice_set, List, Ok, Err, IfOk, IfErr, IsOk, ◌≤◌, true, false, length};
+ghost use Rattle.std.specs.Prelude.{◌≡◌, ◌≢◌, ◌⊎◌, ℕ, Some, slice_set, List, Ok, Err, IfOk, IfErr, IsOk, ◌<◌, ◌≤◌, true, false, length};
 ghost use Rattle.sha2.specs.Sha256.{sha256};
 ghost use Rattle.road_io.specs.Causes.{Rose};
 ghost use Rattle.desk_areas.specs.declared.area.Count.TheVariants.{Free, Spent};
@@ -77,6 +77,8 @@ pub fn publish<H: Hasher, D: Disk>(
     ensures unsigned { (e : DeskError) → result ≡ Err (PublishError.Desk e) →
         e ≢ desk_errors.DiskFault → (desk.new ≡ desk.old) × (disk.new ≡ disk.old) }
     ensures known { KeepsAllKnown D.Disk desk.old disk.old desk.new disk.new }
+    ensures lowest { IfOk result
+        (λ p. (s : ℕ) → s < slot_of p → count_at desk.old s ≢ Free) }
     ensures stays_open { IsOk result → desk.new.is_open ≡ true }
     ensures closes { result ≡ Err (PublishError.Desk desk_errors.DiskFault) →
         desk.new.is_open ≡ false }

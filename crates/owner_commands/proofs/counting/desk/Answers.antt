@@ -10,4 +10,4 @@ returns-in_err-line-clause-promised g c =
 
 pub returns-clause-promised : goal.returns-clause-promised
 returns-clause-promised g c =
-    desk_written _ _ _ _ _ _ _ _ _ c.in_ok-line.ensures.usable c.in_ok-line.ensures.line c.deref.ensures.value c.write_text.ensures
+    desk_written _ _ _ _ _ _ _ _ _ c.in_ok-line.ensures.usable c.in_ok-line.ensures.line c.deref.ensures.value c.write_text.ensures.writes

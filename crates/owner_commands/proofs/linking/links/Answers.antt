@@ -14,7 +14,7 @@ returns-in_err-chain-clause-promised g c =
 
 pub returns-clause-promised : goal.returns-clause-promised
 returns-clause-promised g c =
-    links_written _ _ _ _ _ _ _ _ _ c.in_ok-chain.ensures.usable c.in_ok-chain.ensures.chain c.deref.ensures.value c.write_text.ensures
+    links_written _ _ _ _ _ _ _ _ _ c.in_ok-chain.ensures.usable c.in_ok-chain.ensures.chain c.deref.ensures.value c.write_text.ensures.writes
 
 pub returns-in_err-chain-clause-sealed : goal.returns-in_err-chain-clause-sealed
 returns-in_err-chain-clause-sealed g c =
@@ -24,4 +24,4 @@ returns-in_err-chain-clause-sealed g c =
 
 pub returns-clause-sealed : goal.returns-clause-sealed
 returns-clause-sealed g c =
-    chain_written g.D.Disk c.chain_on.new.disk _ _ _ _ _ _ _ c.deref.ensures.value c.in_ok-chain.ensures.stand c.write_text.ensures
+    chain_written g.D.Disk c.chain_on.new.disk _ _ _ _ _ _ _ c.deref.ensures.value c.in_ok-chain.ensures.stand c.write_text.ensures.writes

@@ -20,7 +20,7 @@ returns-in_err-line-clause-promised g c =
 
 pub returns-clause-promised : goal.returns-clause-promised
 returns-clause-promised g c =
-    key_told _ _ _ _ _ _ _ _ _ _ c.in_ok-secret.ensures.loads.read _ _ _ _ _ refl c.in_ok-line.ensures.line c.write_text.ensures
+    key_told _ _ _ _ _ _ _ _ _ _ c.in_ok-secret.ensures.loads.read _ _ _ _ _ refl c.in_ok-line.ensures.line c.write_text.ensures.writes
 
 pub returns-clause-made : goal.returns-clause-made
 returns-clause-made g c =
@@ -49,4 +49,4 @@ pub returns-clause-moments : goal.returns-clause-moments
 returns-clause-moments g c = inr (record { secret = c.in_ok-secret.secret; of_file = c.in_ok-secret.ensures.loads.read; turns = c.make_key.ensures.moments })
 
 pub returns-clause-untouched : goal.returns-clause-untouched
-returns-clause-untouched g c = written_stays g.D.Disk c.args.disk.now c.make_key.new.disk _ _ _ _ _ _ c.write_text.ensures
+returns-clause-untouched g c = written_stays g.D.Disk c.args.disk.now c.make_key.new.disk _ _ _ _ _ _ c.write_text.ensures.writes

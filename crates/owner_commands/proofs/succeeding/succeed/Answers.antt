@@ -48,7 +48,7 @@ returns-in_err-line-clause-adds g c =
 
 pub returns-clause-promised : goal.returns-clause-promised
 returns-clause-promised g c =
-    next_told _ _ _ _ _ _ _ _ _ _ c.in_ok-secret.ensures.loads.read _ _ _ _ _ refl c.in_ok-line.ensures.line c.write_text.ensures
+    next_told _ _ _ _ _ _ _ _ _ _ c.in_ok-secret.ensures.loads.read _ _ _ _ _ refl c.in_ok-line.ensures.line c.write_text.ensures.writes
 
 pub returns-clause-adds : goal.returns-clause-adds
 returns-clause-adds g c = record {
@@ -56,5 +56,5 @@ returns-clause-adds g c = record {
   links = inr (links_file _ _ _ (g.D.Disk.content c.args.disk.now) _ (Unit {0}) 0 0 0 0 c.in_ok-secret.ensures.loads.read (g.D.Disk.content c.args.disk.now) g.D.Disk c.args.disk.now c.make_next.new.disk c.make_next.ensures.links);
   keys = c.make_next.ensures.keys;
   follows = on_writing c.write_text.result _ (record { secret = c.in_ok-secret.secret; of_file = c.in_ok-secret.ensures.loads.read; follows = c.in_ok-line.ensures.follows });
-  untouched = written_stays g.D.Disk c.args.disk.now c.make_next.new.disk _ _ _ _ _ _ c.write_text.ensures;
+  untouched = written_stays g.D.Disk c.args.disk.now c.make_next.new.disk _ _ _ _ _ _ c.write_text.ensures.writes;
 }

@@ -49,3 +49,6 @@ pub returns-in-Err-clause-succeeds : goal.returns-in-Err-clause-succeeds
 returns-in-Err-clause-succeeds g c can still =
     let other : c.in-Err.fault ≢ build_errors.Memory = search rules in
     absurd (no_reason c.server_laws.ensures g.H.Hasher.hash c.args.parts c.args.settings.now c.args.desk.now can.header c.in-Err.fault can.has (c.in-Err.ensures.refused, other))
+
+pub returns-in-Ok-sign-clause-lowest : goal.returns-in-Ok-sign-clause-lowest
+returns-in-Ok-sign-clause-lowest g c s before = c.in-Ok-sign.ensures.lowest s (subst (λ (n : ℕ). s < n) (ap (λ x. number_at x 0) (signature_is g c) ∙ c.in-Ok-sign.ensures.signature.number_is) before)

@@ -86,6 +86,7 @@ fn is_signed<D: Disk>(desk: &mut Desk, disk: &mut D, text: &[u8]) -> Result<bool
     ensures stays { OnOk result (desk.new ≡ desk.old) }
     ensures left { IsLeft D.Disk desk.old disk.old desk.new disk.new }
     ensures kept { result ≢ Err DeskError.DiskFault → D.faults disk.new ≡ D.faults disk.old }
+    ensures closes { result ≡ Err DeskError.DiskFault → desk.new.is_open ≡ false }
     ensures closed { desk.old.is_open ≡ false → result ≡ Err DeskError.Closed }
 {
     desk.signed(disk, text)
@@ -111,6 +112,8 @@ pub fn look<D: Disk>(
     ensures left { IsLeft D.Disk desk.old disk.old desk.new disk.new }
     ensures kept { result ≢ Err (LookError.Desk DeskError.DiskFault) →
         D.faults disk.new ≡ D.faults disk.old }
+    ensures closes { result ≡ Err (LookError.Desk DeskError.DiskFault) →
+        desk.new.is_open ≡ false }
     ensures closed { desk.old.is_open ≡ false → result ≡ Err (LookError.Desk DeskError.Closed) }
 {
     match is_signed(desk, disk, header) {

@@ -1,5 +1,5 @@
 -- What the steps of an audit come to.
-use Rattle.std.proofs.Common.{◌≡◌, ◌≢◌, ℕ, List, Result, Ok, Err, refl, sym, ap, subst, arith, ◌∙◌}
+use Rattle.std.proofs.Common.{◌≡◌, ◌≢◌, ℕ, List, Result, Ok, Err, false, refl, sym, ap, subst, arith, ◌∙◌}
 use Rattle.road_map.specs.declared.parts.Parts.{Parts}
 use Rattle.book_model.specs.declared.settings.Settings.{Settings}
 use Rattle.lms_tree.specs.declared.links.Link.{Link}
@@ -120,6 +120,18 @@ found_late kind hash sha look key links k q a (Err (Desk e)) P found = tt
 found_late kind hash sha look key links k q a (Err OtherPublication) P found = tt
 found_late kind hash sha look key links k q a (Err Memory) P found = tt
 
+abbrev unfound : {E : Type 0} → AuditError E → Result Finding (AuditError E)
+unfound e = Err e
+
+-- where a publication is not installed, no disk failed
+pub not_installed_desk : {E : Type 0} (hash sha : List ℕ → List ℕ) (p : Publication) (e : AuditError E) → IsNotInstalled hash sha p e → unfound e ≢ Err (Desk desk_errors.DiskFault)
+not_installed_desk hash sha p (Install e) is = λ same. cc
+not_installed_desk hash sha p Memory is = λ same. cc
+not_installed_desk hash sha p OtherKey is = absurd is
+not_installed_desk hash sha p (Refused e) is = absurd is
+not_installed_desk hash sha p (Desk e) is = absurd is
+not_installed_desk hash sha p OtherPublication is = absurd is
+
 -- what holds, holds before the look
 before_any : {E : Type 0} (r : Result Finding (AuditError E)) (P : Type 0) → P → BeforeLook r P
 before_any (Ok finding) P h = tt
@@ -132,22 +144,25 @@ before_any (Err Memory) P h = tt
 
 module _ {Q A X E : Type 0} (kind : ReplyKind Q A X E) (laws : AreReplies kind) (hash : List ℕ → List ℕ) (made : OneMade hash sha256) {D : Type 0} (g : Ghosts D) (desk : TheDesk) (disk : D) (fits : Fits g desk disk) (u : Audited Q) where
   -- an audit that ends before the look
-  pub audits_before : (r : Result Finding (AuditError E)) → Finds kind hash sha256 (look_at g desk disk disk) u r → Audits kind hash sha256 g desk disk desk disk u r
-  audits_before r found = record {
+  pub audits_before : (r : Result Finding (AuditError E)) → r ≢ Err (Desk desk_errors.DiskFault) → Finds kind hash sha256 (look_at g desk disk disk) u r → Audits kind hash sha256 g desk disk desk disk u r
+  audits_before r other found = record {
     finds = found;
     comes = λ c opened steady. comes kind laws hash sha256 (look_at g desk disk disk) u made (works g desk disk disk opened steady) r c found;
     untouched = before_any r ((desk ≡ desk) × (disk ≡ disk)) (refl, refl);
     left = left_alone g desk disk fits;
+    closes = λ is. absurd (other is);
     kept = λ other. refl;
   }
 
   -- an audit that looked
-  pub audits_after : (new_desk : TheDesk) (new : D) (r : Result Finding (AuditError E)) → Finds kind hash sha256 (look_at g desk disk new) u r → BeforeLook r ((new_desk ≡ desk) × (new ≡ disk)) → IsLeft g desk disk new_desk new → (r ≢ Err (Desk desk_errors.DiskFault) → g.faults new ≡ g.faults disk)
+  pub audits_after : (new_desk : TheDesk) (new : D) (r : Result Finding (AuditError E)) → Finds kind hash sha256 (look_at g desk disk new) u r → BeforeLook r ((new_desk ≡ desk) × (new ≡ disk)) → IsLeft g desk disk new_desk new → (r ≡ Err (Desk desk_errors.DiskFault) → new_desk.is_open ≡ false)
+      → (r ≢ Err (Desk desk_errors.DiskFault) → g.faults new ≡ g.faults disk)
       → Audits kind hash sha256 g desk disk new_desk new u r
-  audits_after new_desk new r found late left kept = record {
+  audits_after new_desk new r found late left closes kept = record {
     finds = found;
     comes = λ c opened steady. comes kind laws hash sha256 (look_at g desk disk new) u made (works g desk disk new opened steady) r c found;
     untouched = late;
     left = left;
+    closes = closes;
     kept = kept;
   }

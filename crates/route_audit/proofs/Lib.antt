@@ -4,3 +4,4 @@ pub mod Judged
 pub mod Signed
 pub mod FindingLemmas
 pub mod RouteLemmas
+mod Worked

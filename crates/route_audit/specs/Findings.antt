@@ -1,5 +1,5 @@
 -- The order of findings, and what each of them means.
-use Rattle.std.specs.Prelude.{◌≡◌, ◌≢◌, ℕ, List, Result, Ok, Err, true}
+use Rattle.std.specs.Prelude.{◌≡◌, ◌≢◌, ℕ, List, Result, Ok, Err, true, false}
 use Rattle.lms_tree.specs.declared.links.Link.{Link}
 use Rattle.road_io.specs.declared.disk.Disk.{Ghosts}
 use Rattle.road_io.specs.Causes.{Rose}
@@ -123,7 +123,8 @@ BeforeLook r P = Unit {0}
 -- What an audit of octets by a desk answers, and what it leaves: the first step that holds is
 -- answered; what is auditable comes to a finding where the desk is open and its disk doesn't fail;
 -- before the look at the slots nothing is touched, and afterwards the desk and the disk are left as
--- they were; a fault of the disk is always answered, also where memory runs out.
+-- they were, but that a fault of the disk closes the desk; such a fault is always answered, also
+-- where memory runs out.
 pub record Audits {Q A X E : Type 0} (kind : ReplyKind Q A X E) (hash sha : List ℕ → List ℕ)
     {D : Type 0} (g : Ghosts D) (old_desk : TheDesk) (old : D) (new_desk : TheDesk) (new : D)
     (u : Audited Q) (answer : Result Finding (AuditError E)) : Type 0 where
@@ -133,4 +134,5 @@ pub record Audits {Q A X E : Type 0} (kind : ReplyKind Q A X E) (hash sha : List
       → Comes (kind.header auditable.answer) u.publication.header answer
   pub untouched : BeforeLook answer ((new_desk ≡ old_desk) × (new ≡ old))
   pub left : IsLeft g old_desk old new_desk new
+  pub closes : answer ≡ Err (Desk desk_errors.DiskFault) → new_desk.is_open ≡ false
   pub kept : answer ≢ Err (Desk desk_errors.DiskFault) → g.faults new ≡ g.faults old

@@ -48,6 +48,8 @@ fn find_in<R: Replies, H: Hasher, D: Disk>(
     ensures left { IsLeft D.Disk desk.old disk.old desk.new disk.new }
     ensures kept { result ≢ Err (AuditError.Desk desk_errors.DiskFault) →
         D.faults disk.new ≡ D.faults disk.old }
+    ensures closes { result ≡ Err (AuditError.Desk desk_errors.DiskFault) →
+        desk.new.is_open ≡ false }
     ensures closed { desk.old.is_open ≡ false →
         result ≡ Err (AuditError.Desk desk_errors.Closed) }
 {

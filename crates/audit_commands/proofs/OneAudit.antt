@@ -16,8 +16,7 @@ use Rattle.road_io.specs.Contents.{Folder}
 use Rattle.command_files.specs.Reading.{octets_at, publication_at, chain_at}
 use Rattle.command_files.specs.HexFiles.{public_key_at}
 use Rattle.command_files.specs.Endings.{Ending, EndsReading}
-use Rattle.command_files.specs.Exact.{HasOneEnd}
-use Rattle.command_files.proofs.OneEnd.{one_reading}
+use Rattle.command_files.proofs.OneEnd.{HasOneEnd, one_reading}
 use Rattle.command_desks.proofs.Openings.{one_opening}
 use Rattle.command_books.specs.Installing.{EndsInstalling}
 use Rattle.command_books.proofs.OneBuilding.{OneMaking, one_installing}

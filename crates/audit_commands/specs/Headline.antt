@@ -22,6 +22,7 @@ use Rattle.route_server.specs.Headers.{HasHeader}
 use Rattle.route_audit.specs.Kinds.{ReplyKind}
 use Rattle.road_line.specs.EvidenceLine.{right_line, collision_line, forged_line}
 use Rattle.command_files.specs.Endings.{Promises, TellsNone}
+use Rattle.command_files.specs.Exact.{HidesNone}
 use Rattle.command_files.specs.Reading.{octets_at, publication_at, chain_at}
 use Rattle.command_files.specs.HexFiles.{public_key_at}
 use Rattle.command_files.specs.declared.fault.Fault.{Fault}
@@ -188,8 +189,8 @@ AuditsAccepted kind g content disk key publication reply q chain None old new ou
 -- ---- the command
 
 -- what the command promises over its files, its sink and the owner's disk: its end is one that they
--- call for, what its line rests on, the headline, that no image of the disk changes, and that a
--- fault of the disk is always answered
+-- call for, what its line rests on, the headline, that no image of the disk changes, that a fault
+-- of the disk is always answered, and that want of memory hides none of library and sink
 pub record AuditsFiles {Q A X E : Type 0} (kind : ReplyKind Q A X E) (line : E → List ℕ) {D : Type 0}
     (g : Ghosts D) (disk new_disk : D) (key publication reply : List ℕ) (q : Q)
     (chain : Option (List ℕ)) (files : Option Folder) (loads new_loads : ℕ)
@@ -204,3 +205,5 @@ pub record AuditsFiles {Q A X E : Type 0} (kind : ReplyKind Q A X E) (line : E �
       taken new_taken outcome
   pub stays : AtEachMoment g disk new_disk Stays
   pub unfaulted : outcome ≢ Err Disk → g.faults new_disk ≡ g.faults disk
+  pub library : HidesNone outcome loads new_loads
+  pub sink : HidesNone outcome writes new_writes

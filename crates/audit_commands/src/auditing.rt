@@ -7,6 +7,7 @@ ghost use Rattle.road_io.specs.Disk.{Stays};
 ghost use Rattle.road_io.specs.Moments.{AtEachMoment};
 ghost use Rattle.road_line.specs.VerdictLine.{refused_line};
 ghost use Rattle.command_files.specs.Endings.{Promises, TellsNone, MayEnd, WhyNot};
+ghost use Rattle.command_files.specs.Exact.{HidesNone};
 ghost use Rattle.route_audit.specs.Routes.{routes};
 ghost use Rattle.audit_commands.specs.Auditing.{EndsAudit, ends_audit};
 ghost use Rattle.audit_commands.specs.Headline.{AuditsFiles, IsBrought, RestsOn, WritesFindings};
@@ -105,6 +106,8 @@ fn write_findings<T: Telling, L: Library, K: Sink, D: Disk>(
         (Rose (D.faults disk.old) (D.faults disk.new))
         (L.files library.old) (L.faults library.old) (L.faults library.new)
         (K.taken sink.old) (K.taken sink.new) (K.faults sink.old) (K.faults sink.new) result }
+    ensures library { HidesNone result (L.faults library.old) (L.faults library.new) }
+    ensures sink { HidesNone result (K.faults sink.old) (K.faults sink.new) }
     ensures finds { WritesFindings D.Disk disk.new (IsBrought T.Kind.kind) key.now reply.now
         (option_map (λ name. name.now) chain.entry) (L.files library.old)
         (K.taken sink.old) (K.taken sink.new) result }

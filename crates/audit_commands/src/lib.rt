@@ -1,8 +1,11 @@
-//! The auditor's command: what a reply is evidence of. It is one for every kind of replies; `audit` is that on routes.
+//! The auditor's command: what a reply is evidence of. It is one for every kind of replies; `audit`
+//! is that on routes, and `audit_reach` that on the nodes within a radius.
 #![tactic(auto)]
 
 pub use auditing::{audit, audit_files};
+pub use near_auditing::audit_reach;
 pub use telling::{RouteTelling, Telling};
 
 mod auditing;
+mod near_auditing;
 mod telling;

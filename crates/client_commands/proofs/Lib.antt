@@ -1,2 +1,3 @@
-pub mod CheckLemmas
+pub mod CheckFiles
 pub mod OneCheck
+pub mod OneNearCheck

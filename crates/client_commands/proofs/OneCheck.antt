@@ -1,4 +1,4 @@
--- Over their files, `check` has one end.
+-- Over their files, `check` has one end, which is no fault where they were read.
 use Rattle.std.proofs.Common.{◌≡◌, List, ℕ, refl}
 use Rattle.std.specs.declared.option.Option.{Option}
 use Rattle.std.specs.declared.result.Result.{Result}
@@ -10,15 +10,13 @@ use Rattle.route_client.specs.declared.accepted.Accepted.{Accepted}
 use Rattle.route_client.specs.declared.errors.CheckError.{CheckError}
 use Rattle.route_client.specs.Verdicts.{IsVerdict}
 use Rattle.lms_tree.specs.declared.links.Link.{Link}
-use Rattle.command_files.specs.Reading.{octets_at, chain_at}
-use Rattle.command_files.specs.HexFiles.{public_key_at}
-use Rattle.command_files.specs.Endings.{EndsReading}
-use Rattle.command_files.specs.Exact.{HasOneEnd}
+use Rattle.command_files.specs.Endings.{TellsNone, MayEnd}
+use Rattle.command_files.proofs.OneEnd.{HasOneEnd}
 use Rattle.command_files.specs.declared.fault.Fault.{Fault}
 use Rattle.command_files.specs.declared.ended.Conclusion.{Conclusion}
 use Rattle.command_files.specs.declared.ended.Conclusion.TheVariants.{Done, Refused}
-use Rattle.command_files.proofs.OneEnd.{one_reading}
 use Rattle.client_commands.specs.Checking.{EndsCheck, ends_check}
+use Rattle.client_commands.proofs.CheckFiles.{one_over_files}
 
 -- octets have one verdict at most
 abbrev pub OneVerdict : Type 0
@@ -41,6 +39,9 @@ one_check one key links octets q least o e s t h k = absurd h
 -- and so over its files
 pub only_check : OneVerdict → (key reply : List ℕ) (q : Query) (least : ℕ) (chain : Option (List ℕ)) (folder : Folder) → HasOneEnd (ends_check key reply q least chain folder)
 only_check one key reply q least chain folder =
-    one_reading (public_key_at folder key) (λ k. EndsReading (octets_at folder reply) (λ octets. EndsReading (chain_at folder chain) (λ links. EndsCheck k links octets q least)))
-    (λ k. one_reading (octets_at folder reply) (λ octets. EndsReading (chain_at folder chain) (λ links. EndsCheck k links octets q least))
-    (λ octets. one_reading (chain_at folder chain) (λ links. EndsCheck k links octets q least) (λ links. one_check one k links octets q least)))
+    one_over_files (λ k links octets. EndsCheck k links octets q least) (λ k links octets. one_check one k links octets q least) key reply chain folder
+
+-- that end is no fault
+pub no_fault : (key : List ℕ) (links : List Link) (octets : List ℕ) (q : Query) (least : ℕ) (o : Result Conclusion Fault) (text : List ℕ) → EndsCheck key links octets q least o text → MayEnd TellsNone o
+no_fault key links octets q least (Ok v) text h = tt
+no_fault key links octets q least (Err f) text h = absurd h

@@ -3,6 +3,7 @@
 ghost use Rattle.std.specs.Prelude.{IfOk, length, ◌<◌, ◌≤◌, ◌^◌};
 ghost use Rattle.std.specs.Option.{option_map};
 ghost use Rattle.command_files.specs.Endings.{Promises, TellsNone, NoDisk};
+ghost use Rattle.command_files.specs.Exact.{HidesNone};
 ghost use Rattle.client_commands.specs.Checking.{EndsCheck, ends_check};
 
 use book_model::Query;
@@ -26,10 +27,12 @@ pub fn check<L: Library, K: Sink>(
     least: u64,
     chain: Option<&str>,
 ) -> Result<Conclusion, Fault>
-    ensures { Promises (ends_check key.now reply.now query least
+    ensures promised { Promises (ends_check key.now reply.now query least
         (option_map (λ word. word.now) chain.entry)) TellsNone NoDisk
         (L.files library.old) (L.faults library.old) (L.faults library.new)
         (K.taken sink.old) (K.taken sink.new) (K.faults sink.old) (K.faults sink.new) result }
+    ensures library { HidesNone result (L.faults library.old) (L.faults library.new) }
+    ensures sink { HidesNone result (K.faults sink.old) (K.faults sink.new) }
 {
     let key: [u8; 56] = load_hex(alloc, library, key)?;
     let reply = load_file(alloc, library, reply)?;

@@ -2,3 +2,5 @@ pub mod ProveLemmas
 pub mod OneProve
 pub mod ServeCommand
 pub mod OneServe
+pub mod NearReachLemmas
+pub mod OneNearReach

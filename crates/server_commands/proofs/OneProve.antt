@@ -6,13 +6,12 @@ use Rattle.road_io.specs.Contents.{Folder}
 use Rattle.book_model.specs.declared.items.Query.{Query}
 use Rattle.proof_octets.specs.declared.publication.Publication.{Publication}
 use Rattle.command_files.specs.Reading.{publication_at}
-use Rattle.command_files.specs.Exact.{HasOneEnd}
 use Rattle.command_files.specs.declared.fault.Fault.{Fault}
 use Rattle.command_files.specs.declared.fault.Fault.TheVariants.{UnknownNode, NoRoute}
 use Rattle.command_files.specs.declared.ended.Conclusion.{Conclusion}
 use Rattle.command_files.specs.declared.ended.Conclusion.TheVariants.{Done}
 use Rattle.command_files.proofs.Ends.{both_known, one_unknown}
-use Rattle.command_files.proofs.OneEnd.{one_reading}
+use Rattle.command_files.proofs.OneEnd.{HasOneEnd, one_reading}
 use Rattle.command_books.proofs.OneBuilding.{OneMaking, one_installing}
 use Rattle.server_commands.specs.Proving.{EndsReply, EndsProve, ends_prove}
 

@@ -8,11 +8,11 @@ use Rattle.road_io.specs.Causes.{Rose}
 use Rattle.road_io.specs.Contents.{Folder}
 use Rattle.route_serving.specs.Inputs.{Input, split}
 use Rattle.command_files.specs.Reading.{publication_at}
-use Rattle.command_files.specs.Exact.{NoneFailed, IsExact, HasOneEnd}
+use Rattle.command_files.specs.Exact.{NoneFailed, IsExact}
 use Rattle.command_files.specs.declared.fault.Fault.{Fault}
 use Rattle.command_files.specs.declared.fault.Fault.TheVariants.{TruncatedFrame, FrameTooLong, Library, Source, Sink, Memory, TooManyFrames}
 use Rattle.command_files.specs.declared.ended.Conclusion.{Conclusion}
-use Rattle.command_files.proofs.OneEnd.{one_reading}
+use Rattle.command_files.proofs.OneEnd.{HasOneEnd, one_reading}
 use Rattle.command_books.proofs.OneBuilding.{OneMaking, one_installing}
 use Rattle.server_commands.specs.Serving.{EndsFrames, EndsServe, ends_serving, AnswersFrames, ServesFrames, most_octets, most_frames}
 

@@ -1,3 +1,4 @@
 pub mod Proving
 pub mod Serving
 pub mod ServingEnds
+pub mod NearReaching

@@ -1,8 +1,11 @@
-//! The server's commands: the reply to a query over a publication, and the service over frames.
+//! The server's commands: the reply to a query over a publication, on a route or on a radius, and
+//! the service over frames.
 #![tactic(auto)]
 
 pub use proving::prove;
+pub use reaching::reach;
 pub use serving::serve;
 
 mod proving;
+mod reaching;
 mod serving;

@@ -6,6 +6,7 @@ ghost use Rattle.sha2.specs.Sha256.{sha256};
 ghost use Rattle.route_server.specs.Honesty.{IsHonest};
 ghost use Rattle.route_server.specs.Keeping.{publication_in};
 ghost use Rattle.command_files.specs.Endings.{Promises, NoDisk, NoEnd, WhyNot};
+ghost use Rattle.command_files.specs.Exact.{HidesNone};
 ghost use Rattle.command_books.specs.Installing.{EndsInstalling, IsInstallable};
 ghost use Rattle.server_commands.specs.Proving.{EndsReply, TellsEnds, ends_prove};
 
@@ -28,9 +29,11 @@ pub fn prove<L: Library, K: Sink>(
     publication: &str,
     query: Query,
 ) -> Result<Conclusion, Fault>
-    ensures { Promises (ends_prove publication.now query) TellsEnds NoDisk
+    ensures promised { Promises (ends_prove publication.now query) TellsEnds NoDisk
         (L.files library.old) (L.faults library.old) (L.faults library.new)
         (K.taken sink.old) (K.taken sink.new) (K.faults sink.old) (K.faults sink.new) result }
+    ensures library { HidesNone result (L.faults library.old) (L.faults library.new) }
+    ensures sink { HidesNone result (K.faults sink.old) (K.faults sink.new) }
 {
     range_laws();
     let publication = load_publication(alloc, library, publication)?;

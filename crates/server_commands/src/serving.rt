@@ -4,6 +4,7 @@ ghost use Rattle.std.specs.Prelude.{◌≡◌, ◌≤◌, length, IfOk, IfErr, O
 ghost use Rattle.route_service.specs.Machine.{first_state};
 ghost use Rattle.route_service.specs.Sessions.{state_of};
 ghost use Rattle.command_files.specs.Endings.{Promises, NoDisk, NoEnd, WhyNot};
+ghost use Rattle.command_files.specs.Exact.{HidesNone};
 ghost use Rattle.command_books.specs.Installing.{EndsInstalling, IsInstallable};
 ghost use Rattle.server_commands.specs.Serving.{ServesFrames, TellsFrames, ends_serve};
 ghost use Rattle.server_commands.specs.ServingEnds.{ended_serving};
@@ -34,6 +35,9 @@ pub fn serve<L: Library, S: Source, K: Sink>(
     ensures promised { Promises (ends_serve publication.now) TellsFrames NoDisk
         (L.files library.old) (L.faults library.old) (L.faults library.new)
         (K.taken sink.old) (K.taken sink.new) (K.faults sink.old) (K.faults sink.new) result }
+    ensures library { HidesNone result (L.faults library.old) (L.faults library.new) }
+    ensures source { HidesNone result (S.faults source.old) (S.faults source.new) }
+    ensures sink { HidesNone result (K.faults sink.old) (K.faults sink.new) }
     ensures serves { ServesFrames publication.now (L.files library.old)
         (S.left source.old) (S.left source.new) (S.faults source.old) (S.faults source.new)
         (K.taken sink.old) (K.taken sink.new) result }

@@ -9,4 +9,6 @@ returns g c = record {
       _ _ _ _ _ _ _ _ _ _ c.write_findings.ensures.promised.mirror c.write_findings.ensures.promised.answered c.write_findings.ensures.finds;
   stays = c.write_findings.ensures.stays;
   unfaulted = c.write_findings.ensures.unfaulted;
+  library = c.write_findings.ensures.library;
+  sink = c.write_findings.ensures.sink;
 }

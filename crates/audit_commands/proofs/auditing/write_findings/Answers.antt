@@ -19,7 +19,7 @@ returns-clause-promised g c =
     audit_told g.T.Kind.Replies.kind g.T.Telling.refused (g.L.Library.files c.args.library.now) (g.D.Disk.content c.args.disk.now) c.args.key.now c.args.publication.now c.args.reply.now _ _ c.deref.result.now c.as_slice.result.now _ c.args.query
     c.in_ok-key.ensures.loads.read (moved _ _ _ c.in_ok-key.ensures.same c.in_ok-publication.ensures.loads.read)
     (reply_as _ _ _ _ _ _ c.in_ok-publication.ensures.same c.in_ok-key.ensures.same c.deref.ensures.value c.in_ok-reply.ensures.loads.read)
-    (chain_as _ _ _ _ _ (c.in_ok-reply.ensures.same ∙ c.in_ok-publication.ensures.same ∙ c.in_ok-key.ensures.same) c.as_slice.ensures c.in_ok-links.ensures.loads.read) _ _ _ _ _ _ _ _ _ _ c.in_ok-told.ensures.verdict c.in_ok-told.ensures.told c.write_told.ensures
+    (chain_as _ _ _ _ _ (c.in_ok-reply.ensures.same ∙ c.in_ok-publication.ensures.same ∙ c.in_ok-key.ensures.same) c.as_slice.ensures c.in_ok-links.ensures.loads.read) _ _ _ _ _ _ _ _ _ _ c.in_ok-told.ensures.verdict c.in_ok-told.ensures.told c.write_told.ensures.writes
 
 pub returns-in_err-key-clause-finds : goal.returns-in_err-key-clause-finds
 returns-in_err-key-clause-finds g c =
@@ -53,4 +53,4 @@ pub returns-clause-finds : goal.returns-clause-finds
 returns-clause-finds g c =
     found (g.L.Library.files c.args.library.now) c.args.key.now c.args.reply.now _ _ c.deref.result.now c.as_slice.result.now c.in_ok-key.ensures.loads.read
     (reply_as _ _ _ _ _ _ c.in_ok-publication.ensures.same c.in_ok-key.ensures.same c.deref.ensures.value c.in_ok-reply.ensures.loads.read)
-    (chain_as _ _ _ _ _ (c.in_ok-reply.ensures.same ∙ c.in_ok-publication.ensures.same ∙ c.in_ok-key.ensures.same) c.as_slice.ensures c.in_ok-links.ensures.loads.read) g.D.Disk c.find.new.disk (IsBrought g.T.Kind.Replies.kind) _ _ _ _ _ _ _ c.in_ok-told.ensures.rests c.in_ok-told.ensures.verdict c.write_told.ensures
+    (chain_as _ _ _ _ _ (c.in_ok-reply.ensures.same ∙ c.in_ok-publication.ensures.same ∙ c.in_ok-key.ensures.same) c.as_slice.ensures c.in_ok-links.ensures.loads.read) g.D.Disk c.find.new.disk (IsBrought g.T.Kind.Replies.kind) _ _ _ _ _ _ _ c.in_ok-told.ensures.rests c.in_ok-told.ensures.verdict c.write_told.ensures.writes

@@ -1,5 +1,6 @@
+use Rattle.std.proofs.Common.{sym, ◌∙◌}
 use Rattle.std.proofs.lemmas.Result.{err_from_is_err_and}
-use Rattle.server_commands.proofs.ServeCommand.{unread_serves, serve_refused, refused_serves, serve_ends, serves_frames}
+use Rattle.server_commands.proofs.ServeCommand.{unread_serves, serve_refused, refused_serves, serve_ends, serves_frames, memory_served}
 use Rattle.server_commands.proofs.serving.serve.Goals as goal
 
 pub returns-in_err-publication-clause-serves : goal.returns-in_err-publication-clause-serves
@@ -29,3 +30,9 @@ returns-clause-serves g c =
     rw c.ended_serving.ensures (serves_frames _ _ _ (g.L.Library.faults c.args.library.now) (g.L.Library.faults c.args.library.now) (g.K.Sink.faults c.args.sink.now) (g.K.Sink.faults c.args.sink.now)
     c.in_ok-publication.ensures.loads.read c.in_ok-service.ensures.installable _ _ _ _ _ _ c.serve-served.result _ _
     c.in_ok-service.ensures.starts c.serve-served.ensures.input c.serve-served.ensures.serves c.serve-served.ensures.source)
+
+pub returns-clause-source : goal.returns-clause-source
+returns-clause-source g c is = c.serve-served.ensures.source_kept (memory_served c.serve-served.result (sym c.ended_serving.ensures ∙ is))
+
+pub returns-clause-sink : goal.returns-clause-sink
+returns-clause-sink g c is = c.serve-served.ensures.sink_kept (memory_served c.serve-served.result (sym c.ended_serving.ensures ∙ is))

@@ -7,9 +7,9 @@ use Rattle.route_server.specs.Keeping.{publication_in}
 use Rattle.command_files.specs.Endings.{NoDisk, WhyNot}
 use Rattle.command_files.specs.declared.ended.Conclusion.TheVariants.{Done}
 use Rattle.command_books.proofs.Installings.{installed}
-use Rattle.near_server_commands.specs.NearReaching.{EndsNear, EndsReach}
-use Rattle.near_server_commands.proofs.NearReachLemmas.{if_err, why_behind, why_before}
-use Rattle.near_server_commands.proofs.reaching.reply_over.Goals as goal
+use Rattle.server_commands.specs.NearReaching.{EndsNear, EndsReach}
+use Rattle.server_commands.proofs.NearReachLemmas.{if_err, why_behind, why_before}
+use Rattle.server_commands.proofs.reaching.reply_over.Goals as goal
 
 pub returns-in-Ok-clause-replied : goal.returns-in-Ok-clause-replied
 returns-in-Ok-clause-replied c =

@@ -6,14 +6,13 @@ use Rattle.road_io.specs.Contents.{Folder}
 use Rattle.proof_octets.specs.declared.publication.Publication.{Publication}
 use Rattle.near_model.specs.declared.query.NearQuery.{NearQuery}
 use Rattle.command_files.specs.Reading.{publication_at}
-use Rattle.command_files.specs.Exact.{HasOneEnd}
 use Rattle.command_files.specs.declared.fault.Fault.{Fault}
 use Rattle.command_files.specs.declared.fault.Fault.TheVariants.{UnknownNode}
 use Rattle.command_files.specs.declared.ended.Conclusion.{Conclusion}
 use Rattle.command_files.specs.declared.ended.Conclusion.TheVariants.{Done}
-use Rattle.command_files.proofs.OneEnd.{one_reading}
+use Rattle.command_files.proofs.OneEnd.{HasOneEnd, one_reading}
 use Rattle.command_books.proofs.OneBuilding.{OneMaking, one_installing}
-use Rattle.near_server_commands.specs.NearReaching.{EndsNear, EndsReach, ends_reach}
+use Rattle.server_commands.specs.NearReaching.{EndsNear, EndsReach, ends_reach}
 
 -- over an installed publication, `reach` has one end
 one_near : (p : Publication) (q : NearQuery) (o e : Result Conclusion Fault) (s t : List ℕ) → EndsNear q p o s → EndsNear q p e t → o ≡ e

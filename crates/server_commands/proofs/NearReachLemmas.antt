@@ -14,7 +14,7 @@ use Rattle.command_files.specs.declared.ended.Conclusion.TheVariants.{Done}
 use Rattle.command_files.proofs.Written.{CallsFor, over, reads, refused, written, why_map}
 use Rattle.command_books.specs.Installing.{EndsInstalling, IsInstallable}
 use Rattle.command_books.proofs.Installings.{installed, not_installed}
-use Rattle.near_server_commands.specs.NearReaching.{EndsNear, EndsReach, ends_reach}
+use Rattle.server_commands.specs.NearReaching.{EndsNear, EndsReach, ends_reach}
 
 module _ (files : Option Folder) (name : List ℕ) (p : Publication) (q : NearQuery) (l l' k k' : ℕ) (read : IfSome files (λ folder. publication_at folder name ≡ Ok p)) (old : Option (List ℕ)) where
   -- what the file of a publication calls for

@@ -1,4 +1,4 @@
--- Over their files, `check-reach` has one end.
+-- Over their files, `check-reach` has one end, which is no fault where they were read.
 use Rattle.std.proofs.Common.{◌≡◌, List, ℕ, refl}
 use Rattle.std.specs.declared.option.Option.{Option}
 use Rattle.std.specs.declared.result.Result.{Result}
@@ -10,15 +10,13 @@ use Rattle.near_client.specs.declared.within.Within.{Within}
 use Rattle.near_client.specs.declared.errors.NearError.{NearError}
 use Rattle.near_client.specs.NearVerdicts.{IsNearVerdict}
 use Rattle.lms_tree.specs.declared.links.Link.{Link}
-use Rattle.command_files.specs.Reading.{octets_at, chain_at}
-use Rattle.command_files.specs.HexFiles.{public_key_at}
-use Rattle.command_files.specs.Endings.{EndsReading}
-use Rattle.command_files.specs.Exact.{HasOneEnd}
+use Rattle.command_files.specs.Endings.{TellsNone, MayEnd}
+use Rattle.command_files.proofs.OneEnd.{HasOneEnd}
 use Rattle.command_files.specs.declared.fault.Fault.{Fault}
 use Rattle.command_files.specs.declared.ended.Conclusion.{Conclusion}
 use Rattle.command_files.specs.declared.ended.Conclusion.TheVariants.{Done, Refused}
-use Rattle.command_files.proofs.OneEnd.{one_reading}
-use Rattle.near_client_commands.specs.NearChecking.{EndsCheckReach, ends_check_reach}
+use Rattle.client_commands.specs.NearChecking.{EndsCheckReach, ends_check_reach}
+use Rattle.client_commands.proofs.CheckFiles.{one_over_files}
 
 -- octets have one verdict at most
 abbrev pub OneNearVerdict : Type 0
@@ -41,6 +39,9 @@ one_check_reach one key links octets q least o e s t h k = absurd h
 -- and so over its files
 pub only_check_reach : OneNearVerdict → (key reply : List ℕ) (q : NearQuery) (least : ℕ) (chain : Option (List ℕ)) (folder : Folder) → HasOneEnd (ends_check_reach key reply q least chain folder)
 only_check_reach one key reply q least chain folder =
-    one_reading (public_key_at folder key) (λ k. EndsReading (octets_at folder reply) (λ octets. EndsReading (chain_at folder chain) (λ links. EndsCheckReach k links octets q least)))
-    (λ k. one_reading (octets_at folder reply) (λ octets. EndsReading (chain_at folder chain) (λ links. EndsCheckReach k links octets q least))
-    (λ octets. one_reading (chain_at folder chain) (λ links. EndsCheckReach k links octets q least) (λ links. one_check_reach one k links octets q least)))
+    one_over_files (λ k links octets. EndsCheckReach k links octets q least) (λ k links octets. one_check_reach one k links octets q least) key reply chain folder
+
+-- that end is no fault
+pub no_fault : (key : List ℕ) (links : List Link) (octets : List ℕ) (q : NearQuery) (least : ℕ) (o : Result Conclusion Fault) (text : List ℕ) → EndsCheckReach key links octets q least o text → MayEnd TellsNone o
+no_fault key links octets q least (Ok v) text h = tt
+no_fault key links octets q least (Err f) text h = absurd h

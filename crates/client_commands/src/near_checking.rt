@@ -3,7 +3,8 @@
 ghost use Rattle.std.specs.Prelude.{IfOk, length, ◌<◌, ◌≤◌, ◌^◌};
 ghost use Rattle.std.specs.Option.{option_map};
 ghost use Rattle.command_files.specs.Endings.{Promises, TellsNone, NoDisk};
-ghost use Rattle.near_client_commands.specs.NearChecking.{EndsCheckReach, ends_check_reach};
+ghost use Rattle.command_files.specs.Exact.{HidesNone};
+ghost use Rattle.client_commands.specs.NearChecking.{EndsCheckReach, ends_check_reach};
 
 use command_files::{Conclusion, Fault, Told, load_chain, load_file, load_hex, write_told};
 use lms_tree::Link;
@@ -26,10 +27,12 @@ pub fn check_reach<L: Library, K: Sink>(
     least: u64,
     chain: Option<&str>,
 ) -> Result<Conclusion, Fault>
-    ensures { Promises (ends_check_reach key.now reply.now query least
+    ensures promised { Promises (ends_check_reach key.now reply.now query least
         (option_map (λ word. word.now) chain.entry)) TellsNone NoDisk
         (L.files library.old) (L.faults library.old) (L.faults library.new)
         (K.taken sink.old) (K.taken sink.new) (K.faults sink.old) (K.faults sink.new) result }
+    ensures library { HidesNone result (L.faults library.old) (L.faults library.new) }
+    ensures sink { HidesNone result (K.faults sink.old) (K.faults sink.new) }
 {
     let key: [u8; 56] = load_hex(alloc, library, key)?;
     let reply = load_file(alloc, library, reply)?;

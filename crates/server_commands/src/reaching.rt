@@ -2,10 +2,11 @@
 
 ghost use Rattle.std.specs.Prelude.{◌≡◌, ◌≤◌, length, IfOk, IfErr, Ok};
 ghost use Rattle.command_files.specs.Endings.{Promises, TellsNone, NoDisk, WhyNot};
+ghost use Rattle.command_files.specs.Exact.{HidesNone};
 ghost use Rattle.command_files.specs.declared.ended.Conclusion.TheVariants.{Done};
 ghost use Rattle.sha2.specs.Sha256.{sha256};
 ghost use Rattle.route_server.specs.Keeping.{publication_in};
-ghost use Rattle.near_server_commands.specs.NearReaching.{EndsNear, EndsReach, ends_reach};
+ghost use Rattle.server_commands.specs.NearReaching.{EndsNear, EndsReach, ends_reach};
 
 use command_books::install;
 use command_files::{Conclusion, Fault, load_publication, write_text};
@@ -25,9 +26,11 @@ pub fn reach<L: Library, K: Sink>(
     publication: &str,
     query: NearQuery,
 ) -> Result<Conclusion, Fault>
-    ensures { Promises (ends_reach publication.now query) TellsNone NoDisk
+    ensures promised { Promises (ends_reach publication.now query) TellsNone NoDisk
         (L.files library.old) (L.faults library.old) (L.faults library.new)
         (K.taken sink.old) (K.taken sink.new) (K.faults sink.old) (K.faults sink.new) result }
+    ensures library { HidesNone result (L.faults library.old) (L.faults library.new) }
+    ensures sink { HidesNone result (K.faults sink.old) (K.faults sink.new) }
 {
     range_laws();
     let publication = load_publication(alloc, library, publication)?;

@@ -6,7 +6,8 @@ ghost use Rattle.near_line.specs.WithinLine.{refused_near_line};
 ghost use Rattle.near_audit.specs.Radii.{radii};
 ghost use Rattle.audit_commands.specs.Headline.{AuditsFiles};
 
-use audit_commands::{Telling, audit_files};
+use crate::auditing::audit_files;
+use crate::telling::Telling;
 use command_files::{Conclusion, Fault};
 use near_audit::Radii;
 use near_client::NearError;

@@ -1,2 +1,0 @@
-pub mod NearCheckLemmas
-pub mod OneNearCheck

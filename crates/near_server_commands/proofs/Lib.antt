@@ -1,2 +1,0 @@
-pub mod NearReachLemmas
-pub mod OneNearReach

@@ -1,25 +1,22 @@
 //! Gogbetiku: shortest routes over road maps that prove themselves.
 //!
-//! `run` does all that the program does, over any library, source, sink, disk and mirrors. `main` hands it the real ones.
+//! `run` (`road_run`) does all that the program does, over any library, source, sink, disk and
+//! mirrors. `main` hands it the real ones, and writes to standard error what `road_tell` says of
+//! its end.
 #![tactic(auto)]
 
-mod again;
-mod laws;
 mod mirror_files;
-mod program;
-mod tell;
 
-use again::look_again;
-pub use laws::no_key_signs_twice;
-use mirror_files::{is_lost, labels_of, mirrors_here};
-pub use program::run;
+use mirror_files::{is_lost, labelled_mirrors};
+use mirror_out::FileMirror;
 use road_command::{MOST_WORDS, Words};
 use road_io::{FileDisk, FileLibrary, StdSink, StdSource};
+use road_run::run;
+use road_tell::{Facts, look_again, message_on};
 use std::alloc::Global;
 use std::env;
 use std::io::ErrorKind;
 use std::process::ExitCode;
-use tell::{Facts, message_on};
 
 /// The words after the program's name, or the status of a run that can't have them.
 fn words_of(rt: HostRuntime, alloc: Global) -> Result<Words, u8> {
@@ -37,31 +34,35 @@ fn words_of(rt: HostRuntime, alloc: Global) -> Result<Words, u8> {
     Ok(words)
 }
 
+/// Says why a run could not begin, and answers its status.
+fn not_begun(rt: HostRuntime, status: u8) -> ExitCode {
+    let _ = match status {
+        9 => eprintln!(rt; "road_proof: memory: There is not enough of it."),
+        _ => eprintln!(rt; "road_proof: words: One of them is no text in UTF-8."),
+    };
+    ExitCode::from(status)
+}
+
+/// Names the mirrors that were lost.
+fn tell_lost(rt: HostRuntime, labels: &[u32], mirrors: &Vec<FileMirror>) {
+    for label in labels.iter().filter(|label| is_lost(mirrors, **label)) {
+        let _ = eprintln!(rt; "lost mirror {label}");
+    }
+}
+
 fn main(rt: HostRuntime) -> ExitCode {
     let alloc = rt.alloc();
     let words = match words_of(rt, alloc) {
         Ok(words) => words,
-        Err(9) => {
-            let _ = eprintln!(rt; "road_proof: memory: There is not enough of it.");
-            return ExitCode::from(9);
-        }
-        Err(status) => {
-            let _ = eprintln!(rt; "road_proof: words: One of them is no text in UTF-8.");
-            return ExitCode::from(status);
-        }
+        Err(status) => return not_begun(rt, status),
+    };
+    let Ok((mut mirrors, labels)) = labelled_mirrors(rt, alloc) else {
+        return not_begun(rt, 9);
     };
     let mut library = FileLibrary::new(rt);
     let mut source = StdSource::new(&rt);
     let mut sink = StdSink::new(rt);
     let mut disk = FileDisk::new(rt, "owner.desk");
-    let Ok(mut mirrors) = mirrors_here(rt, alloc) else {
-        let _ = eprintln!(rt; "road_proof: memory: There is not enough of it.");
-        return ExitCode::from(9);
-    };
-    let Ok(labels) = labels_of(alloc, &mirrors) else {
-        let _ = eprintln!(rt; "road_proof: memory: There is not enough of it.");
-        return ExitCode::from(9);
-    };
     let ended = run(
         alloc,
         &words,
@@ -71,9 +72,7 @@ fn main(rt: HostRuntime) -> ExitCode {
         &mut disk,
         &mut mirrors,
     );
-    for label in labels.iter().filter(|label| is_lost(&mirrors, **label)) {
-        let _ = eprintln!(rt; "lost mirror {label}");
-    }
+    tell_lost(rt, &labels, &mirrors);
     let name = library.last_name().unwrap_or("file");
     let again = look_again(alloc, &mut FileLibrary::new(rt), &words, ended, name);
     let facts = Facts {
@@ -91,12 +90,3 @@ fn main(rt: HostRuntime) -> ExitCode {
     }
     ExitCode::from(ended.status)
 }
-
-#[cfg(test)]
-mod asserts;
-#[cfg(test)]
-mod parties_tests;
-#[cfg(test)]
-mod status_tests;
-#[cfg(test)]
-mod tell_tests;

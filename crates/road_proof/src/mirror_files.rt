@@ -10,7 +10,7 @@ const MOST: u32 = 8;
 
 /// A mirror in each of the files that exists, labelled by its number. What it takes goes behind what the file
 /// held.
-pub fn mirrors_here(rt: HostRuntime, alloc: Global) -> Result<Vec<FileMirror>, NoMemory> {
+fn mirrors_here(rt: HostRuntime, alloc: Global) -> Result<Vec<FileMirror>, NoMemory> {
     let mut mirrors: Vec<FileMirror> = Vec::new(alloc);
     for label in 1..=MOST {
         let name = format!(in alloc; "mirror-{label}")?;
@@ -22,12 +22,22 @@ pub fn mirrors_here(rt: HostRuntime, alloc: Global) -> Result<Vec<FileMirror>, N
 }
 
 /// The labels of mirrors.
-pub fn labels_of(alloc: Global, mirrors: &Vec<FileMirror>) -> Result<Vec<u32>, NoMemory> {
+fn labels_of(alloc: Global, mirrors: &Vec<FileMirror>) -> Result<Vec<u32>, NoMemory> {
     let mut labels = Vec::new(alloc);
     for mirror in mirrors {
         labels.push(mirror.label())?;
     }
     Ok(labels)
+}
+
+/// The mirrors that are here, and their labels.
+pub fn labelled_mirrors(
+    rt: HostRuntime,
+    alloc: Global,
+) -> Result<(Vec<FileMirror>, Vec<u32>), NoMemory> {
+    let mirrors = mirrors_here(rt, alloc)?;
+    let labels = labels_of(alloc, &mirrors)?;
+    Ok((mirrors, labels))
 }
 
 /// Tells whether no mirror has this label.

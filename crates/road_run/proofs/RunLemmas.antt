@@ -1,0 +1,208 @@
+-- What each command promises, joined to what a run promises.
+use Rattle.std.proofs.Common.{◌≡◌, ℕ, List, refl, subst, IfSome}
+use Rattle.std.specs.declared.option.Option.{Option}
+use Rattle.std.specs.declared.option.Option.TheVariants.{None, Some}
+use Rattle.std.specs.declared.result.Result.{Result}
+use Rattle.std.specs.declared.result.Result.TheVariants.{Ok, Err}
+use Rattle.road_io.specs.declared.disk.Disk.{Ghosts}
+use Rattle.road_io.specs.Causes.{Rose}
+use Rattle.road_io.specs.Contents.{Folder}
+use Rattle.road_io.specs.Disk.{Stays}
+use Rattle.road_io.specs.Moments.{AtEachMoment}
+use Rattle.road_map.specs.Laws.{ArcLaws}
+use Rattle.road_map.specs.declared.parts.Parts.{Parts}
+use Rattle.key_desk.specs.Stands.{KeepsStanding}
+use Rattle.key_desk.proofs.Standing.{standing_same}
+use Rattle.road_command.specs.Requests.{Request, Route, Root, Dimacs, Key, Succeed, Links, Desk, Publish, Prove, Serve, Check, Audit, Survey, Reach, CheckReach, AuditReach, Reduce}
+use Rattle.command_files.specs.Endings.{Answered, Ending, NoDisk, Promises}
+use Rattle.command_files.specs.Exact.{NoneFailed, IsExact}
+use Rattle.command_files.specs.declared.fault.Fault.{Fault}
+use Rattle.command_files.specs.declared.fault.Fault.TheVariants.{Words, Source, Library, Sink, Disk, MirrorLost}
+use Rattle.command_files.specs.declared.ended.Conclusion.{Conclusion}
+use Rattle.command_files.specs.declared.ended.Conclusion.TheVariants.{Done}
+use Rattle.command_files.proofs.OneEnd.{HasOneEnd, exact_end}
+use Rattle.command_files.proofs.OneMap.{Faults}
+use Rattle.command_files.proofs.Written.{beside_disk, keeps_same}
+use Rattle.command_desks.proofs.Disks.{no_moment, no_step}
+use Rattle.command_books.proofs.OneBuilding.{OneMaking}
+use Rattle.client_commands.proofs.OneCheck.{only_check}
+use Rattle.map_commands.proofs.OneMapEnd.{only_route, only_root, only_dimacs}
+use Rattle.server_commands.proofs.OneProve.{only_prove}
+use Rattle.server_commands.proofs.OneServe.{exact_serve}
+use Rattle.server_commands.specs.Serving.{ServesFrames}
+use Rattle.owner_commands.proofs.OneOwner.{only_key, only_desk, only_publish}
+use Rattle.owner_commands.proofs.SuccessionLemmas.{only_succession, only_links}
+use Rattle.audit_commands.proofs.OneAudit.{only_audit}
+use Rattle.reduce_commands.proofs.OneReduce.{only_reduce}
+use Rattle.survey_commands.proofs.SurveyLemmas.{only_survey}
+use Rattle.client_commands.proofs.OneNearCheck.{only_check_reach}
+use Rattle.server_commands.proofs.OneNearReach.{only_reach}
+use Rattle.near_audit.specs.Radii.{radii}
+use Rattle.near_audit.proofs.RadiusLemmas as radius
+use Rattle.near_line.specs.WithinLine.{refused_near_line}
+use Rattle.road_line.specs.VerdictLine.{refused_line}
+use Rattle.route_audit.specs.Routes.{routes}
+use Rattle.route_audit.proofs.RouteLemmas as route
+use Rattle.road_run.specs.Accepting.{AcceptsHonest, RepliesAreTaken}
+use Rattle.road_run.specs.Commands.{Ends, IsTold, LeavesUnused, TellsClient, OnDisk, RunPromises, but_for_mirrors}
+use Rattle.road_run.specs.Sources.{IfServe, UnlessServe, RunTakes, IsExactServing}
+use Rattle.road_run.proofs.HonestLemmas.{Verdicts, AcceptedLaws, accepts_honest}
+use Rattle.road_run.proofs.TakenLemmas.{RefusedLaws, replies_taken}
+
+module _ {D : Type 0} (g : Ghosts D) (old new : D) (asked : Option Request) (files : Option Folder) (l l' : ℕ) (taken_before taken_now : Option (List ℕ)) (k k' : ℕ) (o : Result Conclusion Fault) where
+  -- what is promised of a request is promised of the words that ask for it
+  pub run_promises : (request : Request) → Some request ≡ asked → Promises (Ends (g.content old) request) (TellsClient request) (Rose (g.faults old) (g.faults new)) files l l' taken_before taken_now k k' o
+      → OnDisk g old new request files taken_before taken_now o → KeepsStanding g old new → RunPromises g old new asked files l l' taken_before taken_now k k' o
+  run_promises request is promised on_disk stands = subst (λ (a : Option Request). RunPromises g old new a files l l' taken_before taken_now k k' o) is (record {
+    words = (λ e. absurd (promised.words e), λ e. absurd (cc));
+    nothing = tt;
+    command = promised;
+    on_disk = on_disk;
+    stands = stands;
+  })
+
+  -- the same where the disk stays
+  pub run_stays : (request : Request) → Some request ≡ asked → Promises (Ends (g.content old) request) (TellsClient request) (Rose (g.faults old) (g.faults new)) files l l' taken_before taken_now k k' o
+      → OnDisk g old new request files taken_before taken_now o → AtEachMoment g old new Stays → RunPromises g old new asked files l l' taken_before taken_now k k' o
+  run_stays request is promised on_disk stays = run_promises request is promised on_disk (standing_same g old new stays)
+
+module _ {D : Type 0} (g : Ghosts D) (disk : D) (asked : Option Request) (files : Option Folder) (l l' : ℕ) (taken_before taken_now : Option (List ℕ)) (k k' : ℕ) (o : Result Conclusion Fault) where
+  -- the same for a command without a disk
+  pub run_without_disk : (request : Request) → Some request ≡ asked → (AtEachMoment g disk disk Stays → OnDisk g disk disk request files taken_before taken_now o)
+      → Promises (Ends (g.content disk) request) (TellsClient request) NoDisk files l l' taken_before taken_now k k' o → RunPromises g disk disk asked files l l' taken_before taken_now k k' o
+  run_without_disk request is on_disk promised =
+      run_promises g disk disk asked files l l' taken_before taken_now k k' o request is
+      (beside_disk (Ends (g.content disk) request) (TellsClient request) (Rose (g.faults disk) (g.faults disk)) files l l' k k' taken_before taken_now o promised)
+      (on_disk (no_moment g disk)) (no_step g disk)
+
+-- words that ask for nothing
+pub run_nothing : {D : Type 0} (g : Ghosts D) (disk : D) (asked : Option Request) (files : Option Folder) (l : ℕ) (taken : Option (List ℕ)) (k : ℕ) → None ≡ asked → RunPromises g disk disk asked files l l taken taken k k (Err Words)
+run_nothing g disk asked files l taken k is = subst (λ (a : Option Request). RunPromises g disk disk a files l l taken taken k k (Err Words)) is (record {
+  words = (λ e. refl, λ e. refl);
+  nothing = record { silent = keeps_same taken; disk = no_moment g disk };
+  command = tt;
+  on_disk = tt;
+  stands = no_step g disk;
+})
+
+-- ---- one end
+
+-- the files, and the disk where it must be told, let a command end in one way
+one_end : Faults → ((parts : Parts) (u : ℕ) → ArcLaws parts u) → OneMaking → Verdicts → (content : Option (List ℕ)) (request : Request) → IsTold request content → (folder : Folder) → HasOneEnd (Ends content request folder)
+one_end faults arcs makings verdicts content (Route roads from to) told folder o p s t = only_route faults arcs roads from to folder o p s t
+one_end faults arcs makings verdicts content (Root roads fan) told folder o p s t = only_root faults roads fan folder o p s t
+one_end faults arcs makings verdicts content (Dimacs graph places) told folder o p s t = only_dimacs graph places folder o p s t
+one_end faults arcs makings verdicts (Some content) (Key file kind) told folder o p s t = only_key content file kind folder o p s t
+one_end faults arcs makings verdicts None (Key file kind) told folder o p s t = absurd (told refl)
+one_end faults arcs makings verdicts (Some content) (Succeed file kind) told folder o p s t = only_succession content file kind folder o p s t
+one_end faults arcs makings verdicts None (Succeed file kind) told folder o p s t = absurd (told refl)
+one_end faults arcs makings verdicts (Some content) Links told folder o p s t = only_links content o p s t
+one_end faults arcs makings verdicts None Links told folder o p s t = absurd (told refl)
+one_end faults arcs makings verdicts (Some content) Desk told folder o p s t = only_desk content o p s t
+one_end faults arcs makings verdicts None Desk told folder o p s t = absurd (told refl)
+one_end faults arcs makings verdicts (Some content) (Publish roads settings) told folder o p s t = only_publish makings content roads settings folder o p s t
+one_end faults arcs makings verdicts None (Publish roads settings) told folder o p s t = absurd (told refl)
+one_end faults arcs makings verdicts content (Prove file q) told folder o p s t = only_prove makings file q folder o p s t
+one_end faults arcs makings verdicts content (Serve publication) told folder o p s t = absurd told
+one_end faults arcs makings verdicts content (Check key reply q least chain) told folder o p s t = only_check verdicts.one key reply q least chain folder o p s t
+one_end faults arcs makings verdicts (Some content) (Audit key publication reply q chain) told folder o p s t = only_audit routes refused_line (route.are_replies verdicts.one verdicts.accepted) makings content key publication reply q chain folder o p s t
+one_end faults arcs makings verdicts None (Audit key publication reply q chain) told folder o p s t = absurd (told refl)
+one_end faults arcs makings verdicts content (Survey width seed method queries) told folder o p s t = only_survey width seed method queries o p s t
+one_end faults arcs makings verdicts content (Reach file q) told folder o p s t = only_reach makings file q folder o p s t
+one_end faults arcs makings verdicts content (CheckReach key reply q least chain) told folder o p s t = only_check_reach verdicts.near_one key reply q least chain folder o p s t
+one_end faults arcs makings verdicts (Some content) (AuditReach key publication reply q chain) told folder o p s t = only_audit radii refused_near_line (radius.are_replies verdicts.near_one verdicts.near_accepted) makings content key publication reply q chain folder o p s t
+one_end faults arcs makings verdicts None (AuditReach key publication reply q chain) told folder o p s t = absurd (told refl)
+one_end faults arcs makings verdicts (Some content) (Reduce key text signature) told folder o p s t = only_reduce content key text signature folder o p s t
+one_end faults arcs makings verdicts None (Reduce key text signature) told folder o p s t = absurd (told refl)
+
+-- an answer is exact but for the mirrors, where no other object outside failed
+exact_but : (E : Ending) → HasOneEnd E → (before now : Option (List ℕ)) (o : Result Conclusion Fault) → Answered E before now o → (o ≡ Err Library → ⊥) → (o ≡ Err Sink → ⊥) → (o ≡ Err Disk → ⊥) → IsExact E (but_for_mirrors o)
+exact_but E one before now (Err MirrorLost) a library sink disk = exact_end E one before now (Ok Done) a (λ e. cc) (λ e. cc) (λ e. cc) (λ e. cc)
+exact_but E one before now o a library sink disk = exact_end E one before now o a library sink disk (λ e. cc)
+
+module _ {D : Type 0} (g : Ghosts D) (old new : D) (asked : Option Request) (files : Option Folder) (l l' : ℕ) (taken_before taken_now : Option (List ℕ)) (k k' : ℕ) (o : Result Conclusion Fault) where
+  -- what a run promises is exact where no object outside failed
+  pub exact_run : Faults → ((parts : Parts) (u : ℕ) → ArcLaws parts u) → OneMaking → Verdicts → RunPromises g old new asked files l l' taken_before taken_now k k' o
+      → NoneFailed l l' k k' (g.faults old) (g.faults new) → IfSome asked (λ request. IfSome files (λ folder. IsTold request (g.content old) → IsExact (Ends (g.content old) request folder) (but_for_mirrors o)))
+  exact_run faults arcs makings verdicts r n = by asked r.command
+    where
+      of : (request : Request) (files : Option Folder) → Promises (Ends (g.content old) request) (TellsClient request) (Rose (g.faults old) (g.faults new)) files l l' taken_before taken_now k k' o
+          → IfSome files (λ folder. IsTold request (g.content old) → IsExact (Ends (g.content old) request folder) (but_for_mirrors o))
+      of request None p = tt
+      of request (Some folder) p = λ told.
+          exact_but (Ends (g.content old) request folder) (one_end faults arcs makings verdicts (g.content old) request told folder) taken_before taken_now o p.answered
+          (λ e. n.library_stays (p.library e)) (λ e. n.sink_stays (p.sink e)) (λ e. n.disk_stays (p.disk e))
+
+      by : (asked : Option Request) → IfSome asked (λ request. Promises (Ends (g.content old) request) (TellsClient request) (Rose (g.faults old) (g.faults new)) files l l' taken_before taken_now k k' o)
+          → IfSome asked (λ request. IfSome files (λ folder. IsTold request (g.content old) → IsExact (Ends (g.content old) request folder) (but_for_mirrors o)))
+      by None p = tt
+      by (Some request) p = of request files p
+
+  -- and accepts honest replies
+  pub honest_run : Verdicts → AcceptedLaws → RunPromises g old new asked files l l' taken_before taken_now k k' o
+      → IfSome asked (λ request. AcceptsHonest request files taken_before taken_now o)
+  honest_run verdicts laws r = by asked r.command
+    where
+      by : (asked : Option Request) → IfSome asked (λ request. Promises (Ends (g.content old) request) (TellsClient request) (Rose (g.faults old) (g.faults new)) files l l' taken_before taken_now k k' o)
+          → IfSome asked (λ request. AcceptsHonest request files taken_before taken_now o)
+      by None p = tt
+      by (Some request) p = accepts_honest verdicts laws request files (g.content old) taken_before taken_now o p.answered p.mirror
+
+  -- and what it writes as a reply is accepted, or is no answer
+  pub taken_run : AcceptedLaws → RefusedLaws → RunPromises g old new asked files l l' taken_before taken_now k k' o
+      → IfSome asked (λ request. RepliesAreTaken request files taken_before taken_now o)
+  taken_run laws refused r = by asked r.command
+    where
+      by : (asked : Option Request) → IfSome asked (λ request. Promises (Ends (g.content old) request) (TellsClient request) (Rose (g.faults old) (g.faults new)) files l l' taken_before taken_now k k' o)
+          → IfSome asked (λ request. RepliesAreTaken request files taken_before taken_now o)
+      by None p = tt
+      by (Some request) p = replies_taken laws refused request files (g.content old) taken_before taken_now o p.answered
+
+-- ---- the source
+
+-- what is taken for a request is taken for the words that ask for it
+pub run_takes : (asked : Option Request) (files : Option Folder) (left rest : Option (List ℕ)) (s s' : ℕ) (taken_before taken_now : Option (List ℕ)) (o : Result Conclusion Fault) (request : Request) → Some request ≡ asked
+    → IfServe (Some request) (λ file. ServesFrames file files left rest s s' taken_before taken_now o) → UnlessServe (Some request) (rest ≡ left) → (o ≡ Err Source → Rose s s')
+    → RunTakes asked files left rest s s' taken_before taken_now o
+run_takes asked files left rest s s' taken_before taken_now o request is serves kept source =
+    subst (λ (a : Option Request). RunTakes a files left rest s s' taken_before taken_now o) is (record { serves = serves; kept = kept; source = source })
+
+-- what a request has no use for, words have none for that ask for it
+pub unused : (asked : Option Request) (library source sink disk : Type 0) (request : Request) → Some request ≡ asked → LeavesUnused (Some request) library source sink disk → LeavesUnused asked library source sink disk
+unused asked library source sink disk request is h = subst (λ (a : Option Request). LeavesUnused a library source sink disk) is h
+
+-- words that ask for nothing use nothing
+pub nothing_used : (asked : Option Request) (library source sink disk : Type 0) → None ≡ asked → library × source × sink × disk → LeavesUnused asked library source sink disk
+nothing_used asked library source sink disk is h = subst (λ (a : Option Request). LeavesUnused a library source sink disk) is h
+
+-- words that ask for nothing take nothing
+pub run_takes_nothing : (asked : Option Request) (files : Option Folder) (left : Option (List ℕ)) (s : ℕ) (taken_before taken_now : Option (List ℕ)) → None ≡ asked → RunTakes asked files left left s s taken_before taken_now (Err Words)
+run_takes_nothing asked files left s taken_before taken_now is =
+    subst (λ (a : Option Request). RunTakes a files left left s s taken_before taken_now (Err Words)) is (record { serves = tt; kept = refl; source = λ e. absurd (cc) })
+
+-- what was served is exact where no object outside failed
+pub exact_serving : {D : Type 0} (g : Ghosts D) (old new : D) → OneMaking → (asked : Option Request) (files : Option Folder) (left rest : Option (List ℕ)) (l l' s s' : ℕ) (taken_before taken_now : Option (List ℕ)) (k k' : ℕ) (o : Result Conclusion Fault)
+    → RunPromises g old new asked files l l' taken_before taken_now k k' o → RunTakes asked files left rest s s' taken_before taken_now o
+    → ¬ Rose s s' → NoneFailed l l' k k' (g.faults old) (g.faults new) → IfServe asked (λ file. IsExactServing file files left o)
+exact_serving g old new makings asked files left rest l l' s s' taken_before taken_now k k' o r t none n = by asked r.command t.serves
+  where
+    by : (asked : Option Request) → IfSome asked (λ request. Promises (Ends (g.content old) request) (TellsClient request) (Rose (g.faults old) (g.faults new)) files l l' taken_before taken_now k k' o)
+        → IfServe asked (λ file. ServesFrames file files left rest s s' taken_before taken_now o) → IfServe asked (λ file. IsExactServing file files left o)
+    by (Some (Serve file)) p a = exact_serve makings file files left rest taken_before taken_now o l l' s s' k k' (g.faults old) (g.faults new) a p.library p.sink none n
+    by (Some (Route roads from to)) p a = tt
+    by (Some (Root roads fan)) p a = tt
+    by (Some (Dimacs graph places)) p a = tt
+    by (Some (Key secret kind)) p a = tt
+    by (Some (Succeed secret kind)) p a = tt
+    by (Some Links) p a = tt
+    by (Some Desk) p a = tt
+    by (Some (Publish roads settings)) p a = tt
+    by (Some (Prove publication q)) p a = tt
+    by (Some (Check key reply q least chain)) p a = tt
+    by (Some (Audit key publication reply q chain)) p a = tt
+    by (Some (Survey width seed method queries)) p a = tt
+    by (Some (Reach publication q)) p a = tt
+    by (Some (CheckReach key reply q least chain)) p a = tt
+    by (Some (AuditReach key publication reply q chain)) p a = tt
+    by (Some (Reduce key text signature)) p a = tt
+    by None p a = tt

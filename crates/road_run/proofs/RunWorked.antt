@@ -1,0 +1,72 @@
+-- What the words of a run's promises say of small cases.
+use Rattle.std.proofs.Common.{◌≡◌, ℕ, Bool, true, false, List, [], ◌∷◌, if◌then◌else◌, refl, sym, subst}
+use Rattle.std.specs.declared.option.Option.{Option}
+use Rattle.std.specs.declared.option.Option.TheVariants.{None, Some}
+use Rattle.std.specs.declared.result.Result.{Result}
+use Rattle.std.specs.declared.result.Result.TheVariants.{Ok, Err}
+use Rattle.road_io.specs.declared.disk.Disk.{Ghosts}
+use Rattle.road_io.specs.Disk.{Stays}
+use Rattle.road_io.specs.Moments.{AtEachMoment}
+use Rattle.road_io.specs.Causes.{Rose}
+use Rattle.road_io.specs.Contents.{Folder}
+use Rattle.book_model.specs.declared.items.Query.{Query}
+use Rattle.proof_octets.specs.declared.publication.Publication.{Publication}
+use Rattle.route_service.specs.Forms.{form_of}
+use Rattle.route_service.specs.Machine.{State, after, MayReply}
+use Rattle.route_service.specs.Isolation.{is_form_of, is_kept, IsIsolated}
+use Rattle.road_command.specs.Requests.{Route}
+use Rattle.command_files.specs.declared.fault.Fault.{Fault}
+use Rattle.command_files.specs.declared.fault.Fault.TheVariants.{Source, UnknownNode, NoRoute}
+use Rattle.command_files.specs.declared.ended.Conclusion.{Conclusion}
+use Rattle.command_files.specs.declared.ended.Conclusion.TheVariants.{Done}
+use Rattle.road_run.specs.Accepting.{IsTaken, IsNoAnswer, WritesReply}
+use Rattle.road_run.specs.Commands.{LeavesAll}
+use Rattle.road_run.specs.Sources.{RunTakes}
+
+-- ---- words that ask for nothing
+
+module _ {D : Type 0} (g : Ghosts D) (old new : D) where
+  -- the sink takes nothing
+  nothing_is_written : (before now : List ℕ) → LeavesAll g old new (Some before) (Some now) → now ≡ before
+  nothing_is_written before now h = h.silent
+
+  -- and no image changes
+  no_image_changes : (before now : Option (List ℕ)) → LeavesAll g old new before now → AtEachMoment g old new Stays
+  no_image_changes before now h = h.disk
+
+-- ---- the source
+
+module _ (files : Option Folder) (s s' : ℕ) (before now : Option (List ℕ)) where
+  -- `route` takes nothing from the source
+  nothing_is_taken : (roads : List ℕ) (from to : ℕ) (left rest : List ℕ) (o : Result Conclusion Fault) → RunTakes (Some (Route roads from to)) files (Some left) (Some rest) s s' before now o → Some rest ≡ Some left
+  nothing_is_taken roads from to left rest o h = h.kept
+
+  -- a source that is blamed has failed
+  blame_has_a_cause : (roads : List ℕ) (from to : ℕ) (left rest : Option (List ℕ)) → RunTakes (Some (Route roads from to)) files left rest s s' before now (Err Source) → Rose s s'
+  blame_has_a_cause roads from to left rest h = h.source refl
+
+-- ---- a reply
+
+module _ (p : Publication) (q : Query) (octets : List ℕ) where
+  -- what was written with status 0 is what clients take
+  reply_is_taken : WritesReply p q (Some []) (Some octets) (Ok Done) → IsTaken p q octets
+  reply_is_taken h = subst (IsTaken p q) (sym h.2) h.1
+
+  -- with an unknown node it is the reply of kind 1, and with no route that of kind 2
+  unknown_is_told : (id : ℕ) → WritesReply p q (Some []) (Some octets) (Err (UnknownNode id)) → IsNoAnswer 1 q octets
+  unknown_is_told id h = subst (IsNoAnswer 1 q) (sym h.2) h.1
+
+  no_route_is_told : WritesReply p q (Some []) (Some octets) (Err NoRoute) → IsNoAnswer 2 q octets
+  no_route_is_told h = subst (IsNoAnswer 2 q) (sym h.2) h.1
+
+-- ---- sessions
+
+module _ (hash sha : List ℕ → List ℕ) (first : State) (i : ℕ) (mine told reply : List ℕ) (own : is_form_of i (form_of mine) ≡ true) where
+  -- the reply to a session's first body is one that the first state may give
+  alone : IsIsolated hash sha first (mine ∷ []) (reply ∷ []) → MayReply hash sha first mine reply
+  alone h = h i [] [] mine [] reply [] refl refl refl own
+
+  -- also behind a body of another session
+  behind_another : (other : List ℕ) → is_kept hash sha i first other ≡ false → IsIsolated hash sha first (other ∷ mine ∷ []) (told ∷ reply ∷ []) → MayReply hash sha first mine reply
+  behind_another other strange h =
+      subst (λ (b : Bool). MayReply hash sha (after hash sha first (if b then other ∷ [] else [])) mine reply) strange (h i (other ∷ []) [] mine (told ∷ []) reply [] refl refl refl own)

@@ -1,0 +1,122 @@
+-- What `prove` and `reach` write is accepted, or is the reply that is no answer.
+use Rattle.std.proofs.Common.{◌≡◌, ◌⊎◌, inl, inr, ℕ, List, sym, subst, IfSome}
+use Rattle.std.proofs.lemmas.Bool.{cases_eq}
+use Rattle.std.specs.declared.option.Option.{Option}
+use Rattle.std.specs.declared.option.Option.TheVariants.{None, Some}
+use Rattle.std.specs.declared.result.Result.{Result}
+use Rattle.std.specs.declared.result.Result.TheVariants.{Ok, Err}
+use Rattle.sha2.specs.Sha256.{sha256}
+use Rattle.road_io.specs.Contents.{Folder}
+use Rattle.road_map.specs.Walks.{Knows}
+use Rattle.book_model.specs.declared.items.Query.{Query}
+use Rattle.proof_octets.specs.declared.header.Header.{Header}
+use Rattle.proof_octets.specs.declared.publication.Publication.{Publication}
+use Rattle.route_server.specs.declared.errors.BuildError.{BuildError}
+use Rattle.route_server.specs.declared.errors.BuildError.TheVariants as build
+use Rattle.route_laws.specs.Honest.{UnknownNodesAreTold, NoRoutesAreTold}
+use Rattle.road_command.specs.Requests.{Request, Route, Root, Dimacs, Key, Succeed, Links, Desk, Publish, Prove, Serve, Check, Audit, Survey, Reach, CheckReach, AuditReach, Reduce}
+use Rattle.command_files.specs.Reading.{publication_at}
+use Rattle.command_files.specs.TwoEnds.{IsFirstUnknown}
+use Rattle.command_files.specs.Endings.{Ending, Answered}
+use Rattle.command_files.specs.declared.fault.Fault.{Fault}
+use Rattle.command_files.specs.declared.fault.Fault.TheVariants.{UnknownNode, NoRoute}
+use Rattle.command_files.specs.declared.ended.Conclusion.{Conclusion}
+use Rattle.command_files.specs.declared.ended.Conclusion.TheVariants.{Done, Refused, Evidence}
+use Rattle.command_files.proofs.Written.{read_as}
+use Rattle.command_books.specs.Installing.{AfterBuild, IfInstalled, EndsInstalling}
+use Rattle.server_commands.specs.Proving.{EndsReply, EndsProve, ends_prove}
+use Rattle.near_model.specs.declared.query.NearQuery.{NearQuery}
+use Rattle.server_commands.specs.NearReaching.{EndsNear, EndsReach, ends_reach}
+use Rattle.road_run.specs.Commands.{Ends}
+use Rattle.road_run.specs.Accepting.{IsTaken, WritesReply, WritesNearReply, RepliesAreTaken}
+use Rattle.road_run.proofs.HonestLemmas.{AcceptedLaws}
+
+-- honest replies without an answer say so
+pub record RefusedLaws : Type 0 where
+  pub unknown : UnknownNodesAreTold
+  pub apart : NoRoutesAreTold
+
+-- ---- an end that comes only behind the installing
+
+-- an end that no fault of installing is
+abbrev pub IsBehind : Result Conclusion Fault → Type 0
+IsBehind (Ok verdict) = Unit {0}
+IsBehind (Err (UnknownNode id)) = Unit {0}
+IsBehind (Err NoRoute) = Unit {0}
+IsBehind (Err fault) = ⊥
+
+behind : (p : Publication) (Next : Ending) (o : Result Conclusion Fault) (t : List ℕ) → IsBehind o → EndsInstalling p Next o t → Next o t
+behind p Next o t late h = by h.made h.follows
+  where
+    installed : (header : Header) → IfInstalled p Next header o t → Next o t
+    installed header (inl k) = k.1
+    installed header (inr k) = absurd (subst IsBehind k.1 late)
+
+    by : (made : Result Header BuildError) → AfterBuild (IfInstalled p Next) made o t → Next o t
+    by (Ok header) k = installed header k
+    by (Err build.Memory) k = absurd k
+    by (Err (build.Map e)) k = absurd (subst IsBehind k.0 late)
+    by (Err (build.Plan e)) k = absurd (subst IsBehind k.0 late)
+
+module _ (laws : AcceptedLaws) (refused : RefusedLaws) (folder : Folder) (file : List ℕ) (q : Query) (p : Publication) (read : publication_at folder file ≡ Ok p) where
+  ends : (o : Result Conclusion Fault) (t : List ℕ) → IsBehind o → ends_prove file q folder o t → EndsReply q p o t
+  ends o t late h = behind p (EndsReply q p) o t late (read_as (publication_at folder file) p (EndsProve q) o t read h)
+
+  unknown : (id : ℕ) → IsFirstUnknown p.parts q.from q.to id → (¬ Knows p.parts q.from) ⊎ (¬ Knows p.parts q.to)
+  unknown id is = elim (cases_eq id q.from) [
+    | inl e ↦ inl (λ k. is.unknown (subst (λ n. Knows p.parts n) (sym e) k))
+    | inr n ↦ inr (λ k. is.unknown (subst (λ n. Knows p.parts n) (sym (is.first n).0) k))
+  ]
+
+  -- what is written where the work was done
+  pub taken : (t : List ℕ) → ends_prove file q folder (Ok Done) t → IsTaken p q t
+  taken t h =
+      let e = ends (Ok Done) t tt h in
+      λ signer key links least signed leads fresh. laws.answers sha256 sha256 signer key links t p q least signed leads fresh (record { from = e.0.walk.known; to = e.0.end; length = e.0.length; joins = e.0.walk }) e.1
+
+  writes : (old new : Option (List ℕ)) (o : Result Conclusion Fault) → Answered (ends_prove file q folder) old new o → WritesReply p q old new o
+  writes old new (Ok Done) a = (a.0, taken a.0 a.1, a.2)
+  writes old new (Ok Refused) a = absurd (ends (Ok Refused) a.0 tt a.1)
+  writes old new (Ok Evidence) a = absurd (ends (Ok Evidence) a.0 tt a.1)
+  writes old new (Err (UnknownNode id)) a =
+      let e = ends (Err (UnknownNode id)) a.0 tt a.1 in
+      (a.0, (λ key links least. refused.unknown sha256 sha256 key links a.0 p q least (unknown id e.0) e.1), a.2)
+  writes old new (Err NoRoute) a =
+      let e = ends (Err NoRoute) a.0 tt a.1 in
+      (a.0, (λ key links least. refused.apart sha256 sha256 key links a.0 p q least e.0.start e.0.end e.0.apart e.1), a.2)
+  writes old new (Err fault) a = tt
+
+module _ (laws : AcceptedLaws) (folder : Folder) (file : List ℕ) (q : NearQuery) (p : Publication) (read : publication_at folder file ≡ Ok p) where
+  near_ends : (o : Result Conclusion Fault) (t : List ℕ) → IsBehind o → ends_reach file q folder o t → EndsNear q p o t
+  near_ends o t late h = behind p (EndsNear q p) o t late (read_as (publication_at folder file) p (EndsReach q) o t read h)
+
+  near_writes : (old new : Option (List ℕ)) (o : Result Conclusion Fault) → Answered (ends_reach file q folder) old new o → WritesNearReply p q old new o
+  near_writes old new (Ok Done) a =
+      let e = near_ends (Ok Done) a.0 tt a.1 in
+      (a.0, (λ signer key links least signed leads fresh. laws.near_replies sha256 sha256 signer key links a.0 p q least signed leads fresh e), a.2)
+  near_writes old new (Ok Refused) a = absurd (near_ends (Ok Refused) a.0 tt a.1)
+  near_writes old new (Ok Evidence) a = absurd (near_ends (Ok Evidence) a.0 tt a.1)
+  near_writes old new (Err fault) a = tt
+
+-- the same for a request and the library of a run
+pub replies_taken : AcceptedLaws → RefusedLaws → (request : Request) (files : Option Folder) (content : Option (List ℕ)) (old new : Option (List ℕ)) (o : Result Conclusion Fault)
+    → IfSome files (λ folder. Answered (Ends content request folder) old new o) → RepliesAreTaken request files old new o
+replies_taken laws refused (Prove file q) (Some folder) content old new o a = λ p read. writes laws refused folder file q p read old new o a
+replies_taken laws refused (Prove file q) None content old new o a = tt
+replies_taken laws refused (Reach file q) (Some folder) content old new o a = λ p read. near_writes laws folder file q p read old new o a
+replies_taken laws refused (Reach file q) None content old new o a = tt
+replies_taken laws refused (Route roads from to) files content old new o a = tt
+replies_taken laws refused (Root roads fan) files content old new o a = tt
+replies_taken laws refused (Dimacs graph places) files content old new o a = tt
+replies_taken laws refused (Key secret kind) files content old new o a = tt
+replies_taken laws refused (Succeed secret kind) files content old new o a = tt
+replies_taken laws refused Links files content old new o a = tt
+replies_taken laws refused Desk files content old new o a = tt
+replies_taken laws refused (Publish roads settings) files content old new o a = tt
+replies_taken laws refused (Serve publication) files content old new o a = tt
+replies_taken laws refused (Check key reply q least chain) files content old new o a = tt
+replies_taken laws refused (Audit key publication reply q chain) files content old new o a = tt
+replies_taken laws refused (Survey width seed method queries) files content old new o a = tt
+replies_taken laws refused (CheckReach key reply q least chain) files content old new o a = tt
+replies_taken laws refused (AuditReach key publication reply q chain) files content old new o a = tt
+replies_taken laws refused (Reduce key text signature) files content old new o a = tt

@@ -1,0 +1,75 @@
+-- When a run does its work: nothing outside fails, and nothing that the files, the disk or the source
+-- hold hinders it.
+use Rattle.std.specs.Prelude.{◌≡◌, ◌≢◌, ◌⊎◌, ℕ, List, length, Contains}
+use Rattle.std.specs.declared.option.Option.{Option}
+use Rattle.std.specs.declared.option.Option.TheVariants.{None, Some}
+use Rattle.std.specs.declared.result.Result.{Result}
+use Rattle.std.specs.declared.result.Result.TheVariants.{Ok}
+use Rattle.std.specs.Io.KnownBytes.{Appends}
+use Rattle.road_io.specs.Contents.{Folder}
+use Rattle.mirror_out.specs.Mirrors.{PromisedLess}
+use Rattle.publication_out.specs.Sent.{pieces_in}
+use Rattle.proof_octets.specs.declared.publication.Publication.{Publication}
+use Rattle.route_serving.specs.Inputs.{split}
+use Rattle.road_command.specs.Requests.{Request, Prove, Serve}
+use Rattle.command_books.specs.Installing.{IsInstallable}
+use Rattle.command_files.specs.Reading.{publication_at}
+use Rattle.command_files.specs.TwoEnds.{AreJoined}
+use Rattle.command_files.specs.Endings.{Ending, NoEnd}
+use Rattle.command_files.specs.Outcomes.{status_of}
+use Rattle.command_files.specs.declared.fault.Fault.{Fault}
+use Rattle.command_files.specs.declared.ended.Conclusion.{Conclusion}
+use Rattle.server_commands.specs.Serving.{ends_serving, most_octets, most_frames}
+use Rattle.road_run.specs.Commands.{Ends, IsTold}
+use Rattle.road_run.specs.Accepting.{IsTaken, WritesAccepted}
+
+-- with which outcome a publication's file and what is left in the source call for an end of `serve`
+abbrev pub ServesLeft : Option (List ℕ) → List ℕ → Folder → Ending
+ServesLeft (Some text) file folder = ends_serving file (split most_octets most_frames text) folder
+ServesLeft None file folder = NoEnd
+
+-- with which outcome the files, the disk and what is left in the source call for an end
+abbrev pub CallsFor : Option (List ℕ) → Option (List ℕ) → Request → Folder → Ending
+CallsFor content left (Serve file) folder = ServesLeft left file folder
+CallsFor content left request folder = Ends content request folder
+
+-- what an end rests on is told: what is left in the source under `serve`, and under other commands
+-- the disk's content where they use it
+abbrev pub AreTold : Option (List ℕ) → Option (List ℕ) → Request → Type 0
+AreTold content left (Serve file) = left ≢ None
+AreTold content left request = IsTold request content
+
+-- a status that tells of what hinders the work: a file (3), one-time keys that are all used (8), a
+-- desk that doesn't open or takes no key (12), too many frames (13)
+abbrev pub Hinders : ℕ → Type 0
+Hinders status = (status ≡ 3) ⊎ (status ≡ 8) ⊎ (status ≡ 12) ⊎ (status ≡ 13)
+
+-- no condition of such a status holds
+abbrev pub IsUnhindered : Ending → Type 0
+IsUnhindered Ends = (outcome : Result Conclusion Fault) (text : List ℕ) → Ends outcome text →
+    ¬ Hinders (status_of outcome)
+
+-- a status of work that was done (0, 1, 10, 11 and 14), or of want of memory (9)
+abbrev pub Answers : ℕ → Type 0
+Answers status = (status ≡ 0) ⊎ (status ≡ 1) ⊎ (status ≡ 10) ⊎ (status ≡ 11) ⊎ (status ≡ 14) ⊎
+    (status ≡ 9)
+
+-- no mirror had promised fewer puts or octets than the text that the sink took
+abbrev pub PromisedEnough : {M : Type 0} → (M → ℕ) → (M → ℕ) → Option (List ℕ) → Option (List ℕ) →
+    List M → Type 0
+PromisedEnough {M} puts room taken_before taken_now mirrors = (text : List ℕ) →
+    Appends taken_before taken_now text → (m : M) → Contains mirrors m →
+    ¬ PromisedLess (pieces_in text) text (puts m) (room m)
+
+-- where nothing hinders it, and the mirrors promised enough, the work is done, or memory is short
+abbrev pub IsComplete : Ending → Type 0 → Result Conclusion Fault → Type 0
+IsComplete Ends Enough outcome = IsUnhindered Ends → Enough → Answers (status_of outcome)
+
+-- over a publication file whose header is that of its map and settings, `prove` writes octets that
+-- are accepted, where a route joins the two ends, unless memory is short or an object outside fails
+abbrev pub ProvesJoined : Request → Option Folder → Option (List ℕ) → Option (List ℕ) →
+    Result Conclusion Fault → Type 0
+ProvesJoined (Prove file q) (Some folder) old new outcome = (p : Publication) →
+    publication_at folder file ≡ Ok p → IsInstallable p → AreJoined p.parts q.from q.to →
+    WritesAccepted (IsTaken p q) old new outcome
+ProvesJoined request files old new outcome = Unit {0}

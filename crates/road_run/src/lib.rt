@@ -1,0 +1,12 @@
+//! The whole program as a function: `run` does what words ask for, over any library, source, sink,
+//! disk and mirrors.
+//!
+//! Its contract joins what the commands of all parties promise. The law `no_key_signs_twice` says
+//! what follows from it over whole lives of an owner's disk.
+#![tactic(auto)]
+
+pub use laws::no_key_signs_twice;
+pub use program::run;
+
+mod laws;
+mod program;

@@ -1,0 +1,192 @@
+//! The whole program.
+
+ghost use Rattle.std.specs.Prelude.{◌≡◌, IfSome, ◌≢◌, Err};
+ghost use Rattle.road_io.specs.Causes.{Rose};
+ghost use Rattle.road_command.specs.Requests.{request_of};
+ghost use Rattle.command_files.specs.Outcomes.{outcome_of, status_of};
+ghost use Rattle.command_files.specs.Exact.{HidesNone, NoneFailed, IsExact};
+ghost use Rattle.road_run.specs.Commands.{Ends, IsTold, LeavesUnused, OnMirrors, RunPromises, but_for_mirrors};
+ghost use Rattle.road_run.specs.Complete.{CallsFor, AreTold, IsComplete, PromisedEnough, ProvesJoined};
+ghost use Rattle.road_run.specs.Sources.{IfServe, IsExactServing, RunTakes};
+ghost use Rattle.road_run.specs.Accepting.{AcceptsHonest, RepliesAreTaken};
+
+use crate::laws::no_key_signs_twice;
+use audit_commands::{audit, audit_reach};
+use client_commands::{check, check_reach};
+use command_files::{Conclusion, Ended, Fault};
+use map_commands::{dimacs, root, route};
+use mirror_out::Mirror;
+use near_client::near_verdict_laws;
+use near_proof::near_laws;
+use owner_commands::{desk, key, links, publish, succeed};
+use reduce_commands::reduce;
+use road_command::{Command, Words, command_of};
+use road_io::{Disk, Library, Sink, Source};
+use road_map::map_laws;
+use route_client::verdict_laws;
+use route_laws::honest_laws;
+use route_server::server_laws;
+use server_commands::{prove, reach, serve};
+use std::alloc::Global;
+use survey_commands::survey;
+
+/// Does all that the program does, and answers how it ended.
+pub fn run<L: Library, S: Source, K: Sink, D: Disk, M: Mirror>(
+    alloc: Global,
+    words: &Words,
+    library: &mut L,
+    source: &mut S,
+    sink: &mut K,
+    disk: &mut D,
+    mirrors: &mut Vec<M>,
+) -> Ended
+    ensures status { result.status ≡ status_of (outcome_of result) }
+    ensures promised { RunPromises D.Disk disk.old disk.new (request_of words.now)
+        (L.files library.old) (L.faults library.old) (L.faults library.new)
+        (K.taken sink.old) (K.taken sink.new) (K.faults sink.old) (K.faults sink.new)
+        (outcome_of result) }
+    ensures takes { RunTakes (request_of words.now) (L.files library.old)
+        (S.left source.old) (S.left source.new) (S.faults source.old) (S.faults source.new)
+        (K.taken sink.old) (K.taken sink.new) (outcome_of result) }
+    ensures mirrors { OnMirrors M.octets M.named M.puts M.room D.Disk disk.old disk.new
+        (request_of words.now)
+        (K.taken sink.old) (K.taken sink.new) mirrors.old.items mirrors.new.items
+        (outcome_of result) }
+    ensures unfaulted { outcome_of result ≢ Err Fault.Disk → D.faults disk.new ≡ D.faults disk.old }
+    ensures library { HidesNone (outcome_of result) (L.faults library.old) (L.faults library.new) }
+    ensures source { HidesNone (outcome_of result) (S.faults source.old) (S.faults source.new) }
+    ensures sink { HidesNone (outcome_of result) (K.faults sink.old) (K.faults sink.new) }
+    ensures unused { LeavesUnused (request_of words.now) (library.new ≡ library.old)
+        (source.new ≡ source.old) (sink.new ≡ sink.old) (disk.new ≡ disk.old) }
+    ensures exact { NoneFailed (L.faults library.old) (L.faults library.new) (K.faults sink.old)
+        (K.faults sink.new)
+        (D.faults disk.old) (D.faults disk.new) →
+        IfSome (request_of words.now)
+        (λ request. IfSome (L.files library.old) (λ folder. IsTold request (D.content disk.old) →
+        IsExact (Ends (D.content disk.old) request folder) (but_for_mirrors (outcome_of result)))) }
+    ensures serve_exact { ¬ Rose (S.faults source.old) (S.faults source.new) →
+        NoneFailed (L.faults library.old) (L.faults library.new) (K.faults sink.old)
+        (K.faults sink.new) (D.faults disk.old) (D.faults disk.new) →
+        IfServe (request_of words.now) (λ file.
+        IsExactServing file (L.files library.old) (S.left source.old) (outcome_of result)) }
+    ensures honest { IfSome (request_of words.now) (λ request.
+        AcceptsHonest request (L.files library.old) (K.taken sink.old) (K.taken sink.new)
+        (outcome_of result)) }
+    ensures taken { IfSome (request_of words.now) (λ request.
+        RepliesAreTaken request (L.files library.old) (K.taken sink.old) (K.taken sink.new)
+        (outcome_of result)) }
+    ensures proves { IfSome (request_of words.now) (λ request.
+        ProvesJoined request (L.files library.old) (K.taken sink.old) (K.taken sink.new)
+        (outcome_of result)) }
+    ensures complete { ¬ Rose (S.faults source.old) (S.faults source.new) →
+        NoneFailed (L.faults library.old) (L.faults library.new) (K.faults sink.old)
+        (K.faults sink.new) (D.faults disk.old) (D.faults disk.new) →
+        IfSome (request_of words.now) (λ request. IfSome (L.files library.old) (λ folder.
+        AreTold (D.content disk.old) (S.left source.old) request →
+        IsComplete (CallsFor (D.content disk.old) (S.left source.old) request folder)
+        (PromisedEnough M.puts M.room (K.taken sink.old) (K.taken sink.new) mirrors.old.items)
+        (outcome_of result))) }
+{
+    no_key_signs_twice::<D, M>();
+    map_laws();
+    server_laws();
+    verdict_laws();
+    honest_laws();
+    near_verdict_laws();
+    near_laws();
+    Ended::of(work(alloc, words, library, source, sink, disk, mirrors))
+}
+
+/// Does what the words ask for.
+fn work<L: Library, S: Source, K: Sink, D: Disk, M: Mirror>(
+    alloc: Global,
+    words: &Words,
+    library: &mut L,
+    source: &mut S,
+    sink: &mut K,
+    disk: &mut D,
+    mirrors: &mut Vec<M>,
+) -> Result<Conclusion, Fault>
+    ensures promised { RunPromises D.Disk disk.old disk.new (request_of words.now)
+        (L.files library.old) (L.faults library.old) (L.faults library.new)
+        (K.taken sink.old) (K.taken sink.new) (K.faults sink.old) (K.faults sink.new) result }
+    ensures takes { RunTakes (request_of words.now) (L.files library.old)
+        (S.left source.old) (S.left source.new) (S.faults source.old) (S.faults source.new)
+        (K.taken sink.old) (K.taken sink.new) result }
+    ensures mirrors { OnMirrors M.octets M.named M.puts M.room D.Disk disk.old disk.new
+        (request_of words.now)
+        (K.taken sink.old) (K.taken sink.new) mirrors.old.items mirrors.new.items result }
+    ensures unfaulted { result ≢ Err Fault.Disk → D.faults disk.new ≡ D.faults disk.old }
+    ensures library { HidesNone result (L.faults library.old) (L.faults library.new) }
+    ensures source { HidesNone result (S.faults source.old) (S.faults source.new) }
+    ensures sink { HidesNone result (K.faults sink.old) (K.faults sink.new) }
+    ensures unused { LeavesUnused (request_of words.now) (library.new ≡ library.old)
+        (source.new ≡ source.old) (sink.new ≡ sink.old) (disk.new ≡ disk.old) }
+{
+    match command_of(words) {
+        None => Err(Fault::Words),
+        Some(Command::Route { roads, from, to }) => route(alloc, library, sink, roads, from, to),
+        Some(Command::Root { roads, fan }) => root(alloc, library, sink, roads, fan),
+        Some(Command::Dimacs { graph, places }) => dimacs(alloc, library, sink, graph, places),
+        Some(Command::Key { secret, kind }) => key(alloc, library, sink, disk, secret, kind),
+        Some(Command::Succeed { secret, kind }) => {
+            succeed(alloc, library, sink, disk, secret, kind)
+        }
+        Some(Command::Links) => links(alloc, sink, disk),
+        Some(Command::Desk) => desk(alloc, sink, disk),
+        Some(Command::Publish { roads, settings }) => {
+            publish(alloc, library, sink, disk, mirrors, roads, &settings)
+        }
+        Some(Command::Prove { publication, query }) => {
+            prove(alloc, library, sink, publication, query)
+        }
+        Some(Command::Serve { publication }) => serve(alloc, library, source, sink, publication),
+        Some(
+            Command::Check {
+                key,
+                reply,
+                query,
+                least,
+                chain,
+            },
+        ) => check(alloc, library, sink, key, reply, query, least, chain),
+        Some(
+            Command::Audit {
+                key,
+                publication: file,
+                reply,
+                query,
+                chain,
+            },
+        ) => audit(alloc, library, sink, disk, key, file, reply, query, chain),
+        Some(Command::Survey(asked)) => survey(alloc, sink, asked),
+        Some(Command::Reach { publication, query }) => {
+            reach(alloc, library, sink, publication, query)
+        }
+        Some(
+            Command::CheckReach {
+                key,
+                reply,
+                query,
+                least,
+                chain,
+            },
+        ) => check_reach(alloc, library, sink, key, reply, query, least, chain),
+        Some(
+            Command::AuditReach {
+                key,
+                publication: file,
+                reply,
+                query,
+                chain,
+            },
+        ) => audit_reach(alloc, library, sink, disk, key, file, reply, query, chain),
+        Some(
+            Command::Reduce {
+                key,
+                text,
+                signature,
+            },
+        ) => reduce(alloc, library, sink, disk, key, text, signature),
+    }
+}

@@ -1,0 +1,472 @@
+//! What standard error says of a run.
+
+use crate::challenge::faulty_file;
+use crate::hex_text::WrongHex;
+use crate::looks::{Look, look_of};
+use crate::plans::{plan_rule, setting_name};
+use crate::refusals::Unusable;
+use crate::roads::place_of;
+use crate::usage::Commands;
+use crate::words::wrong_words;
+use book_model::PlanError;
+use command_files::{Ended, Fault};
+use dimacs_reader::DimacsError;
+use road_command::{Command, Words, command_of};
+use road_map::MapError;
+use road_reader::RoadError;
+use std::fmt::{self, Display, Formatter};
+use std::io::{self, ErrorKind};
+
+/// What is known of a run besides its words and its end.
+#[derive(Clone, Copy)]
+pub struct Facts<'a> {
+    /// The name of the file that was asked for last.
+    pub name: &'a str,
+    /// What that file holds, as far as it was read again.
+    pub text: &'a [u8],
+    /// The system's reason why that file was not read.
+    pub file_error: Option<io::Error>,
+    /// The system's reason why the input was not read.
+    pub source_error: Option<io::Error>,
+    /// The system's reason why the output was not written.
+    pub sink_error: Option<io::Error>,
+    /// The system's reason why the owner's file failed.
+    pub desk_error: Option<io::Error>,
+    /// Why the client refuses the reply, where one was refused.
+    pub refusal: Option<Unusable>,
+    /// How many one-time keys are left in the owner's file, where it was read again.
+    pub left: Option<u32>,
+}
+
+/// How many one-time keys left are few.
+const FEW: u32 = 3;
+
+/// What is said of a run: lines of the form `road_proof: WHAT: SENTENCE`, and the command's line where a
+/// word is wrong.
+#[derive(Clone, Copy)]
+pub struct Message<'a> {
+    words: &'a Words,
+    command: Option<Command<'a>>,
+    ended: Ended,
+    facts: Facts<'a>,
+}
+
+/// What is said of a run, if anything is.
+pub fn message_on<'a>(words: &'a Words, ended: Ended, facts: Facts<'a>) -> Option<Message<'a>> {
+    let command = command_of(words);
+    let few = match facts.left {
+        Some(left) => left <= FEW,
+        None => false,
+    };
+    if ended.status == 0 && !few {
+        return None;
+    }
+    Some(Message {
+        words,
+        command,
+        ended,
+        facts,
+    })
+}
+
+impl Display for Message<'_> {
+    fn fmt<W: fmt::Write>(&self, f: &mut Formatter<W>) -> fmt::Result {
+        match self.ended.fault {
+            None => self.verdict(f),
+            Some(Fault::Words) => self.wrong_words(f),
+            Some(Fault::Memory) => f.write_str("road_proof: memory: There is not enough of it."),
+            Some(Fault::Sink) => self.output(f),
+            Some(fault) => {
+                let what = self.what(fault);
+                write!(f, "road_proof: {what}: ")?;
+                self.sentence(f, fault)
+            }
+        }
+    }
+}
+
+impl<'a> Message<'a> {
+    /// What is said where no fault was met.
+    fn verdict<W: fmt::Write>(&self, f: &mut Formatter<W>) -> fmt::Result {
+        if let Some(Command::Reduce { signature, .. }) = self.command {
+            return self.reduced(f, signature);
+        }
+        let reply = reply_of(self.command);
+        match (self.ended.status, self.facts.refusal) {
+            (0, _) => self.few_left(f),
+            (1, Some(why)) => {
+                write!(f, "road_proof: {reply}: {why}")?;
+                self.look(f, reply_look(self.command))
+            }
+            (1, None) => write!(
+                f,
+                "road_proof: {reply}: {} not to be used: the reply is refused.",
+                brought(self.command)
+            ),
+            _ => write!(
+                f,
+                "road_proof: {reply}: {} not to be used: the reply rests on a text that the owner never signed, or on two texts of one digest, as the line that was written says. Keep that line with the three files.",
+                brought(self.command)
+            ),
+        }
+    }
+
+    /// What is said of a signature on a text that the desk did not sign.
+    fn reduced<W: fmt::Write>(&self, f: &mut Formatter<W>, signature: &str) -> fmt::Result {
+        if self.ended.status == 1 {
+            write!(
+                f,
+                "road_proof: {signature}: It is no signature of this key on the text, for the reason in the line that was written."
+            )
+        } else {
+            write!(
+                f,
+                "road_proof: {signature}: It rests on two texts of one digest, or on a value that the desk never released, as the line that was written says. Keep that line with the three files."
+            )
+        }
+    }
+
+    /// The warning that few one-time keys are left.
+    fn few_left<W: fmt::Write>(&self, f: &mut Formatter<W>) -> fmt::Result {
+        let left = self.facts.left.unwrap_or(0);
+        let keys = if left == 1 { "key is" } else { "keys are" };
+        write!(
+            f,
+            "road_proof: owner.desk: {left} one-time {keys} left. Make the next key (`road_proof succeed`) before they end."
+        )
+    }
+
+    /// Which word is wrong, and why.
+    fn wrong_words<W: fmt::Write>(&self, f: &mut Formatter<W>) -> fmt::Result {
+        match wrong_words(self.words) {
+            Some(wrong) => write!(f, "{wrong}"),
+            None => write!(f, "road_proof: words: They fit no command.\n{Commands}"),
+        }
+    }
+
+    /// Why the output was not written, and what was done before.
+    fn output<W: fmt::Write>(&self, f: &mut Formatter<W>) -> fmt::Result {
+        f.write_str("road_proof: standard output: It was not written whole")?;
+        reason(f, self.facts.sink_error)?;
+        match self.command {
+            Some(Command::Publish { .. }) => f.write_str(" One one-time key was used for it."),
+            Some(Command::Key { .. } | Command::Succeed { .. }) => {
+                f.write_str(" The key was made, and `road_proof desk` writes its public key.")
+            }
+            _ => Ok(()),
+        }
+    }
+
+    /// What a fault is said of.
+    fn what(&self, fault: Fault) -> &'a str {
+        match fault {
+            Fault::Disk
+            | Fault::KeysUsedUp
+            | Fault::Held
+            | Fault::NoKey
+            | Fault::BadBlock
+            | Fault::TooManyKeys
+            | Fault::NoSuccession
+            | Fault::SameSecret => { "owner.desk" }
+            Fault::TruncatedFrame | Fault::FrameTooLong | Fault::TooManyFrames | Fault::Source =>
+                "standard input",
+            Fault::OtherPublication => reply_of(self.command),
+            Fault::MirrorLost => "mirrors",
+            Fault::Dimacs(fault) => challenge_of(self.command, fault),
+            Fault::OtherKey => key_of(self.command),
+            Fault::Plan(PlanError::Settings(number)) if settings_of(self.command).is_some() => {
+                setting_name(number)
+            }
+            Fault::HeaderWrong
+            | Fault::Map(_)
+            | Fault::Plan(_)
+            | Fault::UnknownNode(_)
+            | Fault::NoRoute => { map_of(self.command) }
+            _ => self.facts.name,
+        }
+    }
+
+    /// What is said of it.
+    fn sentence<W: fmt::Write>(&self, f: &mut Formatter<W>, fault: Fault) -> fmt::Result {
+        match fault {
+            Fault::Map(fault) => self.map(f, fault),
+            Fault::Plan(fault) => self.plan(f, fault),
+            Fault::UnknownNode(id) => write!(f, "It has no node {id}."),
+            Fault::NoRoute => f.write_str("No route joins the two nodes."),
+            Fault::HeaderWrong => f.write_str("Its header is not that of its map and settings."),
+            Fault::OtherKey => f.write_str("This public key is none of those in owner.desk."),
+            Fault::OtherPublication => write!(
+                f,
+                "{} not to be used before the reply is audited with its own publication, which is another one of the owner's.",
+                brought(self.command)
+            ),
+            Fault::MirrorLost => f.write_str(
+                "One that did not take the whole publication was lost. Standard output has all of it.",
+            ),
+            Fault::Disk
+            | Fault::KeysUsedUp
+            | Fault::Held
+            | Fault::NoKey
+            | Fault::BadBlock
+            | Fault::TooManyKeys
+            | Fault::NoSuccession
+            | Fault::SameSecret => self.desk(f, fault),
+            Fault::TruncatedFrame | Fault::FrameTooLong | Fault::TooManyFrames | Fault::Source =>
+                self.input(f, fault),
+            _ => self.file(f, fault),
+        }
+    }
+
+    /// What is said of a file that was not read, or not as what it should be.
+    fn file<W: fmt::Write>(&self, f: &mut Formatter<W>, fault: Fault) -> fmt::Result {
+        match fault {
+            Fault::TooLong => f.write_str(
+                "It has more than 268435456 octets, the most that are read.",
+            ),
+            Fault::Road(fault) => {
+                write!(f, "{fault}")?;
+                match fault {
+                    RoadError::NoTitle => self.look(f, Look::RoadFile),
+                    _ => Ok(()),
+                }
+            }
+            Fault::Dimacs(fault) => {
+                write!(f, "{fault}")?;
+                match fault {
+                    DimacsError::NoProblem(_) => self.look(f, Look::RoadFile),
+                    _ => Ok(()),
+                }
+            }
+            Fault::Malformed(place) => {
+                let (kind, wanted) = self.malformed();
+                write!(
+                    f,
+                    "It is no {kind}, and can't be read from place {place} on."
+                )?;
+                self.look(f, wanted)
+            }
+            Fault::BadHex => {
+                let wanted = digits_of(self.command, self.facts.name);
+                let text = self.facts.text;
+                write!(f, "{}", WrongHex { text, wanted })?;
+                self.look(f, Look::Empty)
+            }
+            _ => {
+                f.write_str("It can't be read")?;
+                reason(f, self.facts.file_error)
+            }
+        }
+    }
+
+    /// What the file that was asked for last should be, where it could not be read.
+    fn malformed(&self) -> (&'static str, Look) {
+        match chain_of(self.command) {
+            Some(chain) if chain == self.facts.name => ("chain file", Look::Chain),
+            _ => ("publication", Look::Publication),
+        }
+    }
+
+    /// What the file looks like, where it looks like anything but this.
+    fn look<W: fmt::Write>(&self, f: &mut Formatter<W>, wanted: Look) -> fmt::Result {
+        match look_of(self.facts.text) {
+            Some(look) if look != wanted => write!(f, " {look}"),
+            _ => Ok(()),
+        }
+    }
+
+    /// The rule of maps that is broken, with the line of a road file.
+    fn map<W: fmt::Write>(&self, f: &mut Formatter<W>, fault: MapError) -> fmt::Result {
+        let place = match self.command {
+            Some(
+                Command::Prove { .. }
+                | Command::Serve { .. }
+                | Command::Audit { .. }
+                | Command::Reach { .. }
+                | Command::AuditReach { .. },
+            ) => None,
+            _ => place_of(self.facts.text, fault),
+        };
+        match place {
+            Some(place) => write!(f, "{place}"),
+            None => write!(f, "{fault}"),
+        }
+    }
+
+    /// Why settings and a map have no book.
+    fn plan<W: fmt::Write>(&self, f: &mut Formatter<W>, fault: PlanError) -> fmt::Result {
+        match (fault, settings_of(self.command)) {
+            (PlanError::Settings(number), Some(method)) => {
+                let rule = plan_rule(method, number);
+                write!(f, "It is out of its range. {rule}")
+            }
+            (PlanError::Settings(number), None) => {
+                let name = setting_name(number);
+                write!(f, "Its setting {name} is out of its range.")
+            }
+            _ => write!(f, "{fault}"),
+        }
+    }
+
+    /// Why no more frames were taken.
+    fn input<W: fmt::Write>(&self, f: &mut Formatter<W>, fault: Fault) -> fmt::Result {
+        match fault {
+            Fault::TruncatedFrame => f.write_str("It ends within a frame."),
+            Fault::FrameTooLong => f.write_str(
+                "A frame of it is announced with more than 4194304 octets, the most that are taken.",
+            ),
+            Fault::TooManyFrames => f.write_str(
+                "It goes on behind its 1000000th frame, the last that is taken.",
+            ),
+            _ => {
+                f.write_str("It can't be read")?;
+                reason(f, self.facts.source_error)
+            }
+        }
+    }
+
+    /// What is said of the owner's file.
+    fn desk<W: fmt::Write>(&self, f: &mut Formatter<W>, fault: Fault) -> fmt::Result {
+        match fault {
+            Fault::KeysUsedUp => f.write_str(
+                "All of its one-time keys were used but the one that signs the next key. `road_proof succeed` makes that key.",
+            ),
+            Fault::Held => f.write_str("It holds a key already, which no other key may replace."),
+            Fault::NoKey => f.write_str(
+                "It holds no key, or is not there. `road_proof key` makes one.",
+            ),
+            Fault::BadBlock => f.write_str(
+                "A key in it is of an unknown kind, or not all of its slots are there, or it is not the one that the key before it has signed.",
+            ),
+            Fault::TooManyKeys => f.write_str(
+                "It holds eight keys, the most that it may hold. Make another key, in another folder.",
+            ),
+            Fault::NoSuccession => f.write_str(
+                "The last one-time key of its key has signed a publication, so that it can't sign the next key. Make another key, in another folder.",
+            ),
+            Fault::SameSecret => f.write_str(
+                "It holds a key of this secret already. The next key is made from a secret of its own.",
+            ),
+            _ => match self.facts.desk_error {
+                Some(e) if e.kind() == ErrorKind::WouldBlock => {
+                    f.write_str("Another process is at work on it.")
+                }
+                Some(e) if e.kind() == ErrorKind::AlreadyExists => {
+                    f.write_str("Another process has made it meanwhile.")
+                }
+                error => {
+                    f.write_str("It can't be read or written")?;
+                    reason(f, error)
+                }
+            },
+        }
+    }
+}
+
+/// The system's reason, and the sentence's end.
+fn reason<W: fmt::Write>(f: &mut Formatter<W>, error: Option<io::Error>) -> fmt::Result {
+    match error {
+        Some(e) => write!(f, ": {e}."),
+        None => f.write_str("."),
+    }
+}
+
+/// The name of a command's reply.
+fn reply_of(command: Option<Command<'_>>) -> &str {
+    match command {
+        Some(
+            Command::Check { reply, .. }
+            | Command::Audit { reply, .. }
+            | Command::CheckReach { reply, .. }
+            | Command::AuditReach { reply, .. },
+        ) => reply,
+        _ => "reply",
+    }
+}
+
+/// What a command's reply brings, with its verb.
+fn brought(command: Option<Command<'_>>) -> &'static str {
+    match command {
+        Some(Command::CheckReach { .. } | Command::AuditReach { .. }) => "The nodes are",
+        _ => "The route is",
+    }
+}
+
+/// What a command's reply should look like.
+fn reply_look(command: Option<Command<'_>>) -> Look {
+    match command {
+        Some(Command::CheckReach { .. } | Command::AuditReach { .. }) => Look::NearReply,
+        _ => Look::Reply,
+    }
+}
+
+/// The name of a command's public key.
+fn key_of(command: Option<Command<'_>>) -> &str {
+    match command {
+        Some(
+            Command::Check { key, .. }
+            | Command::Audit { key, .. }
+            | Command::CheckReach { key, .. }
+            | Command::AuditReach { key, .. }
+            | Command::Reduce { key, .. },
+        ) => key,
+        _ => "key",
+    }
+}
+
+/// The name of a command's chain file, where one is named.
+fn chain_of(command: Option<Command<'_>>) -> Option<&str> {
+    match command {
+        Some(
+            Command::Check { chain, .. }
+            | Command::Audit { chain, .. }
+            | Command::CheckReach { chain, .. }
+            | Command::AuditReach { chain, .. },
+        ) => chain,
+        _ => None,
+    }
+}
+
+/// The name of the file that a command has its map from.
+fn map_of(command: Option<Command<'_>>) -> &str {
+    match command {
+        Some(
+            Command::Route { roads, .. }
+            | Command::Root { roads, .. }
+            | Command::Publish { roads, .. },
+        ) => roads,
+        Some(
+            Command::Prove { publication, .. }
+            | Command::Serve { publication }
+            | Command::Audit { publication, .. }
+            | Command::Reach { publication, .. }
+            | Command::AuditReach { publication, .. },
+        ) => publication,
+        Some(Command::Survey(_)) => "grid",
+        _ => "map",
+    }
+}
+
+/// The name of the file of the challenge that a fault is said of.
+fn challenge_of(command: Option<Command<'_>>, fault: DimacsError) -> &str {
+    match command {
+        Some(Command::Dimacs { graph, places }) => faulty_file(graph, places, fault),
+        _ => "graph",
+    }
+}
+
+/// The method that a command's settings ask for.
+fn settings_of(command: Option<Command<'_>>) -> Option<u8> {
+    match command {
+        Some(Command::Publish { settings, .. }) => Some(settings.method),
+        _ => None,
+    }
+}
+
+/// How many hex digits a command's file of this name must have, unless any even number will do.
+fn digits_of(command: Option<Command<'_>>, name: &str) -> Option<usize> {
+    match command {
+        Some(Command::Key { .. } | Command::Succeed { .. }) => Some(96),
+        Some(Command::Reduce { key, .. }) if key != name => None,
+        _ => Some(112),
+    }
+}

@@ -1,0 +1,179 @@
+//! What is looked at again after a run, for what is said of it.
+
+ghost use Rattle.std.specs.Prelude.{◌≤◌, length, vec_len};
+
+use crate::challenge::faulty_file;
+use crate::refusals::Unusable;
+use crate::slots::keys_left;
+use book_model::Query;
+use command_files::{Ended, Fault, load_chain};
+use lms_tree::Link;
+use near_client::check_near;
+use near_model::NearQuery;
+use octet_text::Sha;
+use road_command::{Command, Words, command_of};
+use road_io::Library;
+use route_client::check;
+use std::alloc::Global;
+
+/// The most octets of a file that is looked at again.
+const MOST_OCTETS: usize = 268_435_456;
+
+/// What was found.
+#[derive(Drop)]
+pub struct Again {
+    /// What the file holds that the run's end is said of; nothing where that is not asked for.
+    pub text: Vec<u8>,
+    /// Why the client refuses the reply, where one was refused.
+    pub refusal: Option<Unusable>,
+    /// How many one-time keys are left in the owner's file, where a command used it.
+    pub left: Option<u32>,
+}
+
+/// Looks at the files again that a run's end is said of. Want of memory leaves a fact out.
+pub fn look_again<L: Library>(
+    alloc: Global,
+    library: &mut L,
+    words: &Words,
+    ended: Ended,
+    name: &str,
+) -> Again {
+    let mut found = Again {
+        text: Vec::new(alloc),
+        refusal: None,
+        left: None,
+    };
+    match (ended.fault, command_of(words)) {
+        (Some(Fault::Road(_) | Fault::Map(_) | Fault::Malformed(_) | Fault::BadHex), _) => {
+            found.text = load(alloc, library, name);
+        }
+        (Some(Fault::Dimacs(fault)), Some(Command::Dimacs { graph, places })) => {
+            found.text = load(alloc, library, faulty_file(graph, places, fault));
+        }
+        (None, Some(Command::Publish { .. } | Command::Desk)) => {
+            found.left = keys_left(&load(alloc, library, "owner.desk"));
+        }
+        (None, Some(command)) if ended.status == 1 => {
+            if let Some(refused) = refused_by(command) {
+                found.text = load(alloc, library, refused.reply);
+                found.refusal = refused.again(alloc, library, &found.text);
+            }
+        }
+        _ => {}
+    }
+    found
+}
+
+/// What was asked of a reply that was refused.
+#[derive(Clone, Copy)]
+enum Asked {
+    Route(Query),
+    Nodes(NearQuery),
+}
+
+/// The files of a refused reply, and what was asked of it.
+#[derive(Clone, Copy)]
+struct Refused<'a> {
+    key: &'a str,
+    reply: &'a str,
+    asked: Asked,
+    /// The least version that is taken.
+    least: u64,
+    /// The chain file, where one is named.
+    chain: Option<&'a str>,
+}
+
+impl Refused<'_> {
+    /// Why the client refuses the reply, under the key and along the chain of their files.
+    fn again<L: Library>(&self, alloc: Global, library: &mut L, reply: &[u8]) -> Option<Unusable>
+        requires { length reply.now ≤ 268435456 }
+    {
+        let key = key_in(&load(alloc, library, self.key));
+        let Ok(chain) = load_chain(alloc, library, self.chain) else {
+            return None;
+        };
+        self.why(alloc, &key, chain.as_slice(), reply)
+    }
+
+    /// Why the client refuses the reply.
+    fn why(&self, alloc: Global, key: &[u8], chain: &[Link], reply: &[u8]) -> Option<Unusable>
+        requires short { length reply.now ≤ 268435456 }
+        requires few { length chain.now ≤ 7 }
+    {
+        match self.asked {
+            Asked::Route(query) => {
+                let why = check::<Sha>(alloc, key, chain, reply, query, self.least).err()?;
+                Some(Unusable::Route(why))
+            }
+            Asked::Nodes(query) => {
+                let why = check_near::<Sha>(alloc, key, chain, reply, query, self.least).err()?;
+                Some(Unusable::Nodes(why))
+            }
+        }
+    }
+}
+
+/// The reply that a command refuses, if it may refuse one.
+fn refused_by(command: Command<'_>) -> Option<Refused<'_>> {
+    let (key, reply, asked, least, chain) = match command {
+        Command::Check {
+            key,
+            reply,
+            query,
+            least,
+            chain,
+        } => (key, reply, Asked::Route(query), least, chain),
+        Command::Audit {
+            key,
+            reply,
+            query,
+            chain,
+            ..
+        } => (key, reply, Asked::Route(query), 0, chain),
+        Command::CheckReach {
+            key,
+            reply,
+            query,
+            least,
+            chain,
+        } => (key, reply, Asked::Nodes(query), least, chain),
+        Command::AuditReach {
+            key,
+            reply,
+            query,
+            chain,
+            ..
+        } => (key, reply, Asked::Nodes(query), 0, chain),
+        _ => return None,
+    };
+    Some(Refused {
+        key,
+        reply,
+        asked,
+        least,
+        chain,
+    })
+}
+
+/// What a file holds, and nothing where it can't be read.
+fn load<L: Library>(alloc: Global, library: &mut L, name: &str) -> Vec<u8>
+    ensures { vec_len result ≤ 268435456 }
+{
+    match library.load(alloc, name, MOST_OCTETS) {
+        Ok(octets) => octets,
+        Err(_) => Vec::new(alloc),
+    }
+}
+
+/// The public key that 112 hex digits spell, and zeros where they don't.
+fn key_in(text: &[u8]) -> [u8; 56] {
+    let mut key = [0; 56];
+    let digits = match text.get(..112) {
+        Some(digits) => digits,
+        None => text,
+    };
+    match hex::decode_to_slice(digits, &mut key) {
+        Ok(()) => key,
+        Err(_) => [0; 56],
+    }
+}

@@ -1,0 +1,319 @@
+//! A table of what standard error says of runs over objects in memory.
+
+use crate::asserts::assert_octets;
+use crate::parties::{FIVE_NODES, ZEROS, words_of};
+use book_model::PlanError;
+use command_files::{Ended, Fault};
+use mem_io::{MemDisk, MemLibrary, MemSink, MemSource};
+use mirror_out::MemMirror;
+use near_client::NearError;
+use road_command::Words;
+use road_run::run;
+use road_tell::{Again, Facts, Unusable, look_again, message_on};
+use route_client::CheckError;
+use std::alloc::Global;
+use std::io::{self, ErrorKind};
+use std::process::Abort;
+use std::test::Fail;
+
+/// The files that the command lines name.
+fn files(alloc: Global) -> Result<MemLibrary, Fail> {
+    let mut library = MemLibrary::new(alloc, Vec::new(alloc));
+    library.put("map.roads", FIVE_NODES.as_bytes())?;
+    let mut self_road = FIVE_NODES.to_string(alloc)?;
+    self_road.push_str("road 3 3 1\n")?;
+    library.put("self.roads", self_road.as_bytes())?;
+    library.put("zeros", ZEROS.as_bytes())?;
+    library.put("zip", b"\x1f\x8b\x08")?;
+    Ok(library)
+}
+
+/// How words end over those files and a desk without a key.
+fn ended(alloc: Global, words: &Words, library: &mut MemLibrary) -> Result<Ended, Fail> {
+    let mut sink = MemSink::new(alloc, 1000, 1000, Vec::new(alloc))?;
+    let mut disk = MemDisk::new(alloc, 4160, 10_000, Vec::new(alloc), None)?;
+    let mut source = MemSource::new(Vec::new(alloc), 1, Vec::new(alloc));
+    let mut mirrors: Vec<MemMirror> = Vec::new(alloc);
+    Ok(run(
+        alloc,
+        words,
+        library,
+        &mut source,
+        &mut sink,
+        &mut disk,
+        &mut mirrors,
+    ))
+}
+
+/// What is said of an end where its file is not there.
+fn told_again(
+    alloc: Global,
+    words: &Words,
+    ended: Ended,
+    name: &str,
+    again: &Again,
+) -> Result<String, Fail> {
+    let facts = Facts {
+        name,
+        text: &again.text,
+        file_error: Some(io::Error::from(ErrorKind::NotFound)),
+        source_error: None,
+        sink_error: None,
+        desk_error: None,
+        refusal: again.refusal,
+        left: again.left,
+    };
+    told(alloc, words, ended, facts)
+}
+
+/// What is said of an end.
+fn told(alloc: Global, words: &Words, ended: Ended, facts: Facts<'_>) -> Result<String, Fail> {
+    match message_on(words, ended, facts) {
+        Some(message) => Ok(format!(in alloc; "{message}")?),
+        None => Ok(String::new(alloc)),
+    }
+}
+
+/// Runs a command line over the files, and compares what is said of it.
+fn says(rt: &impl Abort, alloc: Global, line: &str, name: &str, wanted: &str) -> Result<(), Fail> {
+    let words = words_of(rt, alloc, line)?;
+    let mut library = files(alloc)?;
+    let ended = ended(alloc, &words, &mut library)?;
+    let again = look_again(alloc, &mut library, &words, ended, name);
+    let text = told_again(alloc, &words, ended, name, &again)?;
+    assert_octets(rt, line, text.as_bytes(), wanted.as_bytes());
+    Ok(())
+}
+
+#[test]
+fn each_end_is_told(rt: HostRuntime) -> Result<(), Fail> {
+    for (line, name, wanted) in [
+        ("route map.roads 1 3", "map.roads", ""),
+        (
+            "route map.roads 1 9",
+            "map.roads",
+            "road_proof: map.roads: It has no node 9.",
+        ),
+        (
+            "route map.roads 1 5",
+            "map.roads",
+            "road_proof: map.roads: No route joins the two nodes.",
+        ),
+        (
+            "route none 1 5",
+            "none",
+            "road_proof: none: It can't be read: entity not found.",
+        ),
+        (
+            "route self.roads 1 5",
+            "self.roads",
+            "road_proof: self.roads: Line 11 has a road from the node 3 to itself.",
+        ),
+        (
+            "route zip 1 5",
+            "zip",
+            "road_proof: zip: The road file does not begin with the line `roads 1`. It looks like a gzip file, which must be unpacked first.",
+        ),
+        (
+            "dimacs zip map.roads",
+            "map.roads",
+            "road_proof: zip: The file does not begin with `p sp NODES ARCS` in a graph, or `p aux sp co NODES` in coordinates. It looks like a gzip file, which must be unpacked first.",
+        ),
+        (
+            "prove map.roads 1 3",
+            "map.roads",
+            "road_proof: map.roads: It is no publication, and can't be read from place 0 on. It looks like a road file.",
+        ),
+        (
+            "key map.roads h5",
+            "map.roads",
+            "road_proof: map.roads: The octet at place 0 is no hex digit, and the file must be 96 of them and at most one line end. It looks like a road file.",
+        ),
+        (
+            "desk",
+            "file",
+            "road_proof: owner.desk: It holds no key, or is not there. `road_proof key` makes one.",
+        ),
+        (
+            "survey 33 7 full 1",
+            "file",
+            "road_proof: grid: The map has 1089 nodes, which are too many for a table of all pairs.",
+        ),
+        (
+            "check zeros map.roads 1 3 0",
+            "zeros",
+            "road_proof: zeros: There are 96 hex digits, and 112 are wanted.",
+        ),
+    ] {
+        says(&rt, rt.alloc(), line, name, wanted)?;
+    }
+    Ok(())
+}
+
+/// Compares what is said of a run of a line that ended so, where each object has this error.
+fn assert_told(
+    rt: &impl Abort,
+    alloc: Global,
+    line: &str,
+    ended: Ended,
+    error: ErrorKind,
+    refusal: Option<Unusable>,
+    wanted: &str,
+) -> Result<(), Fail> {
+    let words = words_of(rt, alloc, line)?;
+    let facts = Facts {
+        name: "r",
+        text: b"RPP1",
+        file_error: None,
+        source_error: Some(io::Error::from(error)),
+        sink_error: Some(io::Error::from(error)),
+        desk_error: Some(io::Error::from(error)),
+        refusal,
+        left: Some(1),
+    };
+    let text = told(alloc, &words, ended, facts)?;
+    assert_octets(rt, line, text.as_bytes(), wanted.as_bytes());
+    Ok(())
+}
+
+#[test]
+fn ends_over_real_files_are_told(rt: HostRuntime) -> Result<(), Fail> {
+    let publish = "publish m dij 1 id 0 2 1 0 0";
+    let audit = "audit k p r 1 3";
+    let check = "check k r 1 3 4";
+    let settings = Fault::Plan(PlanError::Settings(3));
+    for (line, status, fault, error, refusal, wanted) in [
+        (
+            publish,
+            0,
+            None,
+            ErrorKind::Other,
+            None,
+            "road_proof: owner.desk: 1 one-time key is left. Make the next key (`road_proof succeed`) before they end.",
+        ),
+        (
+            publish,
+            7,
+            Some(Fault::Disk),
+            ErrorKind::WouldBlock,
+            None,
+            "road_proof: owner.desk: Another process is at work on it.",
+        ),
+        (
+            publish,
+            6,
+            Some(Fault::Sink),
+            ErrorKind::BrokenPipe,
+            None,
+            "road_proof: standard output: It was not written whole: broken pipe. One one-time key was used for it.",
+        ),
+        (
+            "serve r",
+            5,
+            Some(Fault::Source),
+            ErrorKind::BrokenPipe,
+            None,
+            "road_proof: standard input: It can't be read: broken pipe.",
+        ),
+        (
+            "serve r",
+            3,
+            Some(Fault::TruncatedFrame),
+            ErrorKind::Other,
+            None,
+            "road_proof: standard input: It ends within a frame.",
+        ),
+        (
+            "serve r",
+            3,
+            Some(Fault::HeaderWrong),
+            ErrorKind::Other,
+            None,
+            "road_proof: r: Its header is not that of its map and settings.",
+        ),
+        (
+            publish,
+            3,
+            Some(settings),
+            ErrorKind::Other,
+            None,
+            "road_proof: P1: It is out of its range. Under dij and full it is 0.",
+        ),
+        (
+            audit,
+            10,
+            None,
+            ErrorKind::Other,
+            None,
+            "road_proof: r: The route is not to be used: the reply rests on a text that the owner never signed, or on two texts of one digest, as the line that was written says. Keep that line with the three files.",
+        ),
+        (
+            audit,
+            14,
+            Some(Fault::OtherPublication),
+            ErrorKind::Other,
+            None,
+            "road_proof: r: The route is not to be used before the reply is audited with its own publication, which is another one of the owner's.",
+        ),
+        (
+            check,
+            1,
+            None,
+            ErrorKind::Other,
+            Some(Unusable::Route(CheckError::Malformed(0))),
+            "road_proof: r: The route is not to be used: the file is no reply, and can't be read from place 0 on. It looks like a publication.",
+        ),
+        (
+            "check-reach k r 1 4 3",
+            1,
+            None,
+            ErrorKind::Other,
+            Some(Unusable::Nodes(NearError::Malformed(0))),
+            "road_proof: r: The nodes are not to be used: the file is no reply on a radius, and can't be read from place 0 on. It looks like a publication.",
+        ),
+        (
+            "audit-reach k p r 1 4",
+            14,
+            Some(Fault::OtherPublication),
+            ErrorKind::Other,
+            None,
+            "road_proof: r: The nodes are not to be used before the reply is audited with its own publication, which is another one of the owner's.",
+        ),
+        (
+            "reduce k t r",
+            1,
+            None,
+            ErrorKind::Other,
+            None,
+            "road_proof: r: It is no signature of this key on the text, for the reason in the line that was written.",
+        ),
+        (
+            "reduce k t r",
+            10,
+            None,
+            ErrorKind::Other,
+            None,
+            "road_proof: r: It rests on two texts of one digest, or on a value that the desk never released, as the line that was written says. Keep that line with the three files.",
+        ),
+        (
+            "reduce k t r",
+            3,
+            Some(Fault::BadHex),
+            ErrorKind::Other,
+            None,
+            "road_proof: r: The octet at place 0 is no hex digit, and the file must be an even number of them and at most one line end. It looks like a publication.",
+        ),
+        (
+            "reach r 9 4",
+            11,
+            Some(Fault::UnknownNode(9)),
+            ErrorKind::Other,
+            None,
+            "road_proof: r: It has no node 9.",
+        ),
+    ] {
+        let ended = Ended { status, fault };
+        assert_told(&rt, rt.alloc(), line, ended, error, refusal, wanted)?;
+    }
+    Ok(())
+}

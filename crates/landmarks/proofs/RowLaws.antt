@@ -32,3 +32,9 @@ length_more f g order k old new gives lt is pushed =
 
 pub all_lengths : (f : ℕ → Option ℕ) (order : List Node) (k : ℕ) (found : List (Option ℕ)) → found ≡ map f (take k (ids order)) → length order ≤ k → found ≡ map f (ids order)
 all_lengths f order k found is ends = is ∙ ap (map f) (take_all k (ids order) (omega (arith, length-map order (λ (n : Node). n.id), ends)))
+
+-- what is made of one item more
+pub map_more : {X Y : Type 0} (f : X → Y) (xs : List X) (k : ℕ) (x : X) (old new : List Y) → k < length xs → x ≡ get_or xs k x → old ≡ map f (take k xs) → new ≡ old ++ f x ∷ [] → new ≡ map f (take (k + 1) xs)
+map_more f xs k x old new lt at is grown =
+    let here : map f (take (k + 1) xs) ≡ map f (take k xs) ++ f (get_or xs k x) ∷ [] = ap (map f) (take_more xs k x lt) ∙ map-append f (take k xs) (get_or xs k x ∷ []) in
+    grown ∙ ap (λ ys. ys ++ f x ∷ []) is ∙ ap (λ y. map f (take k xs) ++ f y ∷ []) at ∙ sym here

@@ -1,5 +1,5 @@
 -- Where a tree and a fold hash different texts to one digest.
-use Rattle.std.proofs.Common.{◌≡◌, ◌≢◌, ℕ, suc, zero, ◌+◌, ◌-◌, ◌*◌, ◌/◌, ◌^◌, ◌<◌, ◌≤◌, min, Bool, true, false, ◌&&◌, List, [], ◌∷◌, ◌++◌, replicate, length, get_or, take, drop, refl, sym, ap, ◌∙◌, subst, arith, inl, inr}
+use Rattle.std.proofs.Common.{◌≡◌, ◌≢◌, ℕ, suc, zero, ◌+◌, ◌-◌, ◌*◌, ◌/◌, ◌^◌, ◌<◌, ◌≤◌, min, Bool, true, false, ◌&&◌, List, [], ◌∷◌, ◌++◌, replicate, length, get_or, take, drop, refl, sym, ap, ◌∙◌, subst, arith, inl, inr, Fits, w32, w64}
 use Rattle.std.specs.Bool.{OnTrue, OnFalse}
 use Rattle.std.specs.List.{range_with_len, sum_by, flat_map}
 use Rattle.std.proofs.lemmas.Bool.{cases_lt}
@@ -13,12 +13,12 @@ use Rattle.std.proofs.lemmas.Nat.{mul-le, div-mul-add}
 use Rattle.merkle_cover.specs.Shape.{places_at, children}
 use Rattle.merkle_cover.specs.Trees.{digest}
 use Rattle.merkle_cover.specs.Covers.{has_chosen, left_of, need, cover_below, text_for, folded_in_turn, folded}
-use Rattle.merkle_cover.specs.Folding.{SplitsAt, CanWalk, CanFold}
+use Rattle.merkle_cover.specs.Folding.{SplitsAt, CanFold}
 use Rattle.merkle_cover.specs.Clashes.{hashed_text, folded_text, SameBelow, CanCompare, IsClash, CanRead}
 use Rattle.merkle_cover.proofs.ShapeLemmas.{places_at-lt-mul}
-use Rattle.merkle_cover.proofs.FoldLemmas.{CanWalk-room, CanWalk-child, children-is, need-none, need-leaf, need-above, sum_by-range-push, text_for-at}
+use Rattle.merkle_cover.proofs.FoldLemmas.{CanWalk-child, children-is, need-none, need-leaf, need-above, sum_by-range-push, text_for-at}
 use Rattle.merkle_cover.proofs.CoverLemmas.{length-cover_below, cover_below-none, cover_below-leaf, cover_below-above, sum_by-same}
-use Rattle.merkle_cover.proofs.WalkLemmas.{walk-none, walk-some, flat_map-child}
+use Rattle.merkle_cover.proofs.WalkLemmas.{above-leaves, child-room, walk-none, walk-some, flat_map-child}
 
 -- ---- lists
 
@@ -303,6 +303,19 @@ CanRead-small {leaves} {f} {k} {p} {w} q =
     let low : p < 2 ^ 32 = omega (arith, mul-le p 1 p w (le_refl p) pos, q.place, q.count) in
     (low, omega (arith, mul-le p f (2 ^ 32 - 1) 32 (omega (arith, low)) q.fan_max), places_at-lt-mul (length leaves) f k p (omega (arith, q.fan)) (subst (λ x. p * x < length leaves) q.span q.place))
 
-pub CanWalk-small : {n f : ℕ} {places : List ℕ} {k p w item : ℕ} → CanWalk n f places k p w item → p * f < 2 ^ 37
-CanWalk-small {n} {f} {places} {k} {p} {w} q =
-    omega (arith, mul-le p f (2 ^ 32 - 1) 32 (omega (arith, (CanWalk-room q).1, q.place, q.leaves)) q.fan_max)
+-- the numbers on the way to a place fit their types
+pub CanRead-fits : {hash : List ℕ → List ℕ} {leaves : List (List ℕ)} {f : ℕ} {levels : List (List (List ℕ))} {k p w : ℕ} → CanRead hash leaves f levels k p w → Fits w32 p × Fits w64 (p * f) × Fits w64 (p * f + f)
+CanRead-fits q =
+    let small = CanRead-small q in
+    (omega (arith, small.0), omega (arith, small.1), omega (arith, small.1, q.fan_max))
+
+pub CanRead-there : {hash : List ℕ → List ℕ} {leaves : List (List ℕ)} {f : ℕ} {levels : List (List (List ℕ))} {k p w : ℕ} → CanRead hash leaves f levels k p w → p < length leaves
+CanRead-there {f} {k} {p} {w} q =
+    let pos : 0 < w = rw q.span (one-le-pow k f (omega (arith, q.fan))) in
+    omega (arith, mul-le p 1 p w (le_refl p) pos, q.place)
+
+pub CanRead-room : {hash : List ℕ → List ℕ} {leaves : List (List ℕ)} {f : ℕ} {levels : List (List (List ℕ))} {k p w : ℕ} → CanRead hash leaves f levels k p w → (k ≡ 0 → ⊥) → w / f ≡ f ^ (k - 1)
+CanRead-room {f} {k} {w} q ne = child-room f k w (omega (arith, q.fan)) (above-leaves k ne) q.span
+
+pub CanRead-above : {hash : List ℕ → List ℕ} {leaves : List (List ℕ)} {f : ℕ} {levels : List (List (List ℕ))} {k p w : ℕ} → CanRead hash leaves f levels k p w → (k ≡ 0 → ⊥) → 0 < w / f
+CanRead-above {f} {k} q ne = omega (arith, CanRead-room q ne, one-le-pow (k - 1) f (omega (arith, q.fan)))

@@ -1,12 +1,12 @@
 -- How many digests a cover has, and how long they are.
-use Rattle.std.proofs.Common.{◌≡◌, ℕ, suc, zero, ◌+◌, ◌-◌, ◌*◌, ◌^◌, ◌<◌, ◌≤◌, min, true, false, List, [], ◌∷◌, ◌++◌, length, refl, sym, ap, ◌∙◌, arith, cond}
+use Rattle.std.proofs.Common.{◌≡◌, ℕ, suc, zero, ◌+◌, ◌-◌, ◌*◌, ◌^◌, ◌<◌, ◌≤◌, min, true, false, List, [], ◌∷◌, ◌++◌, length, refl, arith, cond}
 use Rattle.std.specs.Prelude.{All}
 use Rattle.std.specs.List.{range_with_len, sum_by, flat_map, AllByRecursion}
 use Rattle.std.proofs.lemmas.List.Elements.{All-from_recursion}
 use Rattle.std.proofs.lemmas.List.Sums.{sum_by-cons}
 use Rattle.std.proofs.lemmas.Nat.{mul-le}
 use Rattle.std.proofs.Math.Nat.{pow-suc, pow-zero, one-le-pow, le_refl}
-use Rattle.merkle_cover.specs.Shape.{places_at, children, levels_above, top}
+use Rattle.merkle_cover.specs.Shape.{places_at, children, top}
 use Rattle.merkle_cover.specs.Trees.{digest, root}
 use Rattle.merkle_cover.specs.Covers.{has_chosen, need, cover_below, cover_of}
 use Rattle.merkle_cover.proofs.ShapeLemmas.{levels_above-before, mul-lt-places_at}

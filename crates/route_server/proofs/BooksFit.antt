@@ -1,6 +1,6 @@
 -- Each book that its method allows has a spelling.
 use Rattle.book_model.specs.Books.{Kind, Dij, Full, Ldm, Hyp}
-use Rattle.route_server.specs.Fitting.{BooksFit}
+use Rattle.route_server.proofs.MethodFits.{BooksFit}
 use Rattle.route_server.proofs.DijFits.{dij_fits}
 use Rattle.route_server.proofs.FullFits.{full_fits}
 use Rattle.route_server.proofs.LdmFits.{ldm_fits}

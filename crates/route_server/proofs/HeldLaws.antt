@@ -1,9 +1,11 @@
 -- A book that was planned over a map, with its trees, is what is held.
-use Rattle.std.proofs.Common.{◌≡◌, ℕ, ◌≤◌, None, Some, Option, List, length, refl, arith, subst}
+use Rattle.std.proofs.Common.{◌≡◌, ℕ, ◌≤◌, None, Some, Option, List, length, refl, arith, ap, sym, subst, ◌∙◌}
+use Rattle.std.proofs.lemmas.List.{length-map}
 use Rattle.road_map.specs.Maps.{Charted, IsMap}
 use Rattle.road_map.specs.declared.parts.Parts.{Parts}
+use Rattle.road_leaf.specs.Leaves.{node_leaf_text}
 use Rattle.book_model.specs.declared.settings.Settings.{Settings}
-use Rattle.book_model.specs.Books.{Kind, Book, kind_of, IsBookOf}
+use Rattle.book_model.specs.Books.{Kind, Book, kind_of, leaves_of, IsBookOf}
 use Rattle.proof_method.specs.Planning.{own_fault}
 use Rattle.proof_method.specs.Gathering.{IsOrderOf}
 use Rattle.route_server.specs.Fitting.{FitsFormats}
@@ -11,6 +13,7 @@ use Rattle.route_server.specs.Keeping.{IsKept, IsHeldBook, kept_as}
 use Rattle.route_server.specs.LeafTrees.{Leaves}
 use Rattle.route_server.proofs.BooksFit.{books_fit}
 use Rattle.route_server.proofs.Brought.{most_pairs_few}
+use Rattle.route_server.proofs.Known.{length-leaves_of}
 
 -- a book that was planned has a spelling
 pub planned_fits : (kind : Kind) (parts : Parts) (s : Settings) (order : List ℕ) (b : Book) → IsMap parts → IsOrderOf parts order → kind_of s.method ≡ Some kind → own_fault (kind_of s.method) parts s ≡ None → IsBookOf kind parts s order b → FitsFormats kind b
@@ -37,3 +40,19 @@ is_kept kind map s order places b nodes pairs signature held = record {
   pairs = refl;
   numbers = refl;
 }
+
+-- what its leaves are of
+pub record IsShown (order : List ℕ) (b : Book) (nodes : Leaves) : Type 0 where
+  pub is_map : IsMap b.parts
+  pub lists : IsOrderOf b.parts order
+  pub whole : length nodes.texts ≡ length order
+
+pub shown : (kind : Kind) (map : Charted) (s : Settings) (order places : List ℕ) (b : Book) (nodes : Leaves) (pairs : Option Leaves) → IsHeldBook kind map s order places b nodes pairs → IsShown order b nodes
+shown kind map s order places b nodes pairs held =
+    let same = sym held.is_book.book.of_parts in
+    let lists : IsOrderOf b.parts order = subst (λ (p : Parts). IsOrderOf p order) same held.lists in
+    record {
+      is_map = subst IsMap same held.is_map;
+      lists = lists;
+      whole = ap (λ (l : Leaves). length l.texts) held.nodes_are ∙ length-map (leaves_of b order) node_leaf_text ∙ length-leaves_of b order (λ id h. (lists.same id).0 h);
+    }

@@ -20,7 +20,8 @@ use Rattle.book_model.specs.Books.{Ldm, landmarks, step, first_failed, is_from_t
 use Rattle.landmarks.proofs.CountLaws.{landmarks_long}
 use Rattle.landmarks.proofs.CodeLaws.{step_most}
 use Rattle.proof_method.proofs.BookLaws.{leaf_extra}
-use Rattle.route_server.specs.Fitting.{ExtraHasWidths, BooksFit}
+use Rattle.route_server.specs.Fitting.{ExtraHasWidths}
+use Rattle.route_server.proofs.MethodFits.{BooksFit}
 
 -- own codes for so many landmarks, or a reference
 abbrev IsLong : ℕ → Extra → Type 0

@@ -1,16 +1,23 @@
-//! Leaves of nodes, brought out of a publication's book with their places and their cover.
-ghost use Rattle.std.specs.Prelude.{IfOk, All, nat_eq};
+//! Leaves, brought out of a publication's book with their places and their cover.
+ghost use Rattle.std.specs.Prelude.{◌≡◌, ◌<◌, ◌^◌, IfOk, All, length, nat_eq};
 ghost use Rattle.std.specs.List.{IsDistinct};
+ghost use Rattle.std.specs.Option.{option_copied};
+ghost use Rattle.road_map.specs.Maps.{IsMap};
 ghost use Rattle.road_map.specs.Walks.{Knows};
-ghost use Rattle.route_server.specs.Bringing.{AreBrought};
+ghost use Rattle.merkle_cover.specs.Covers.{IsRising};
+ghost use Rattle.proof_method.specs.Gathering.{IsOrderOf};
+ghost use Rattle.route_server.specs.Bringing.{AreAt, ArePairsAt, AreBrought};
+ghost use Rattle.route_server.specs.Fitting.{FitsFormats};
+ghost use Rattle.route_server.specs.Keeping.{count_in};
 
-use crate::answer::numbers_fit;
-use crate::at_places::leaves_at;
+use crate::at_places::{cover_at, leaves_at, pairs_at};
 use crate::held::Held;
+use crate::leaf_tree::LeafTree;
 use crate::order::places_of;
-use book_model::{NodeLeaves, Places};
+use book_model::{NodeLeaves, PairLeaves, Places};
 use octet_text::{Digests, Hasher, NoMemory};
 use proof_method::MethodBook;
+use road_leaf::PairLeaf;
 use std::alloc::Global;
 
 /// Leaves of nodes, and what shows that they stand under the root of the node tree.
@@ -24,6 +31,77 @@ pub struct NodesBrought {
     pub cover: Digests,
 }
 
+/// Leaves of pairs, and what shows that they stand under the root of the pair tree.
+#[derive(Drop)]
+pub(crate) struct PairsBrought {
+    /// The places of the leaves in the pair tree, by rising place.
+    pub(crate) places: Places,
+    /// The leaves at these places.
+    pub(crate) pairs: PairLeaves,
+    /// The cover of all other places.
+    pub(crate) cover: Digests,
+}
+
+/// Ids and places have their width.
+pub(crate) fn numbers_fit(numbers: &[u32])
+    ensures { All (λ n. n < 2 ^ 32) numbers.now }
+{
+    let _ = numbers;
+}
+
+fn places_from(alloc: Global, places: &[u32]) -> Result<Places, NoMemory>
+    ensures { IfOk result (λ copy. copy ≡ places.now) }
+{
+    let places = places.to_vec(alloc)?;
+    Ok(Places::from_vec(places))
+}
+
+/// The node leaves of a book at places of an order of its ids, with the cover of all other places.
+pub(crate) fn nodes_brought<H: Hasher, B: MethodBook>(
+    alloc: Global,
+    book: &B,
+    order: &[u32],
+    tree: &LeafTree<H>,
+    places: Vec<u32>,
+) -> Result<NodesBrought, NoMemory>
+    requires map { IsMap (B.shown book.now).parts }
+    requires order { IsOrderOf (B.shown book.now).parts order.now }
+    requires fits { FitsFormats (B.kind book.now) (B.shown book.now) }
+    requires rising { IsRising (length order.now) places.items }
+    requires whole { length tree.now.texts ≡ length order.now }
+    ensures { IfOk result (AreAt H.hash (B.kind book.now) (B.shown book.now) order.now tree.now
+        places.items) }
+{
+    let nodes = leaves_at(alloc, book, order, &places)?;
+    let cover = tree.cover(alloc, &places)?;
+    numbers_fit(&places);
+    Ok(NodesBrought {
+        places: Places::from_vec(places),
+        nodes,
+        cover,
+    })
+}
+
+/// The pair leaves at places of their list, with the cover of all other places.
+pub(crate) fn pairs_brought<H: Hasher>(
+    alloc: Global,
+    pairs: &[PairLeaf],
+    tree: Option<&LeafTree<H>>,
+    places: &[u32],
+) -> Result<PairsBrought, NoMemory>
+    requires rising { IsRising (length pairs.now) places.now }
+    requires ids { All (λ p. p.a < p.b) pairs.now }
+    requires whole { count_in (option_copied tree) ≡ length pairs.now }
+    ensures { IfOk result (ArePairsAt H.hash pairs.now (option_copied tree.entry) places.now) }
+{
+    numbers_fit(places);
+    Ok(PairsBrought {
+        pairs: pairs_at(alloc, pairs, places)?,
+        cover: cover_at(alloc, tree, places)?,
+        places: places_from(alloc, places)?,
+    })
+}
+
 impl<H: Hasher> Held<H> {
     /// The leaves of some nodes, given in any order, with their places and their cover.
     pub fn bring(&self, alloc: Global, ids: &[u32]) -> Result<NodesBrought, NoMemory>
@@ -31,15 +109,13 @@ impl<H: Hasher> Held<H> {
         requires known { All (Knows self.now.map.parts) ids.now }
         ensures { IfOk result (AreBrought H.hash self.now ids.now) }
     {
-        let map = self.book.map();
-        let places = places_of(alloc, map, &self.places, ids)?;
-        let nodes = leaves_at(alloc, &self.book, self.order.as_slice(), &places)?;
-        let cover = self.nodes.cover(alloc, &places)?;
-        numbers_fit(&places);
-        Ok(NodesBrought {
-            places: Places::from_vec(places),
-            nodes,
-            cover,
-        })
+        let places = places_of(alloc, self.book.map(), &self.places, ids)?;
+        nodes_brought(
+            alloc,
+            &self.book,
+            self.order.as_slice(),
+            &self.nodes,
+            places,
+        )
     }
 }

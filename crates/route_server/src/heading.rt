@@ -1,10 +1,13 @@
 //! The header of a book whose leaves are not kept.
 ghost use Rattle.std.specs.Prelude.{◌≡◌, ◌≤◌, ◌<◌, ◌^◌, IfOk, IfErr, Err};
 ghost use Rattle.sha2.specs.Sha256.{sha256};
+ghost use Rattle.road_map.specs.Maps.{IsMap};
 ghost use Rattle.book_model.specs.Books.{kind_of};
+ghost use Rattle.proof_method.specs.Gathering.{IsOrderOf};
 ghost use Rattle.proof_method.specs.Planning.{book_fault, own_fault};
 ghost use Rattle.proof_octets.specs.Good.{IsGoodHeader};
-ghost use Rattle.route_server.specs.Headers.{HasHeader, Makes};
+ghost use Rattle.route_server.specs.Fitting.{FitsFormats};
+ghost use Rattle.route_server.specs.Headers.{HasHeader, Makes, book_header};
 
 use crate::errors::BuildError;
 use crate::headers::header_laws;
@@ -14,7 +17,7 @@ use crate::risen::{node_root, pair_root};
 use crate::settings_check::check_settings;
 use any_book::AnyBook;
 use book_model::Settings;
-use octet_text::Hasher;
+use octet_text::{Hasher, NoMemory};
 use proof_method::MethodBook;
 use proof_octets::Header;
 use road_map::{Map, Parts};
@@ -24,6 +27,34 @@ use std::alloc::Global;
 pub struct Headed {
     pub header: Header,
     pub parts: Parts,
+}
+
+// The header of a book whose node leaves stand in this order.
+fn header_over_book<H: Hasher, B: MethodBook>(
+    alloc: Global,
+    book: &B,
+    settings: &Settings,
+    order: &[u32],
+) -> Result<Header, NoMemory>
+    requires map { IsMap (B.shown book.now).parts }
+    requires order { IsOrderOf (B.shown book.now).parts order.now }
+    requires fits { FitsFormats (B.kind book.now) (B.shown book.now) }
+    requires fan { 2 ≤ settings.now.fan }
+    requires fan_max { settings.now.fan ≤ 32 }
+    ensures { IfOk result (λ header.
+        header ≡ book_header H.hash settings.now order.now (B.shown book.now)) }
+{
+    let nodes = node_root::<H, B>(alloc, book, order, settings.fan)?;
+    let leaves = book.pairs();
+    let pairs = pair_root::<H>(alloc, leaves, settings.fan)?;
+    Ok(header_with(
+        settings,
+        order.len() as u32,
+        nodes,
+        leaves.len() as u32,
+        pairs,
+        book.numbers(),
+    ))
 }
 
 // The header of the book of a map, under settings that pass the tests that all methods share.
@@ -47,17 +78,7 @@ fn header_over<H: Hasher>(
     let order = leaf_order(alloc, &map, settings)?;
     let ids = order.as_slice();
     let book = AnyBook::plan(alloc, map, settings, ids)?;
-    let nodes = node_root::<H, AnyBook>(alloc, &book, ids, settings.fan)?;
-    let leaves = book.pairs();
-    let pairs = pair_root::<H>(alloc, leaves, settings.fan)?;
-    let header = header_with(
-        settings,
-        ids.len() as u32,
-        nodes,
-        leaves.len() as u32,
-        pairs,
-        book.numbers(),
-    );
+    let header = header_over_book::<H, AnyBook>(alloc, &book, settings, ids)?;
     Ok(Headed {
         header,
         parts: book.into_map().into_parts(),

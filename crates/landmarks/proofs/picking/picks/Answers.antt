@@ -1,5 +1,6 @@
-use Rattle.std.proofs.Common.{sym, ◌∙◌, ap}
+use Rattle.std.proofs.Common.{◌≡◌, arith, sym, ◌∙◌, ap}
 use Rattle.road_map.specs.Walks.{distance}
+use Rattle.book_model.specs.Books.{landmarks}
 use Rattle.landmarks.specs.Rows.{rows_of, nearest_row}
 use Rattle.landmarks.proofs.PickLaws.{landmarks_none, landmarks_more}
 use Rattle.landmarks.proofs.picking.picks.Goals as goal
@@ -19,3 +20,13 @@ loop-k-preserved c = record {
   near = c.in_ok-pick_next.ensures.near;
   rows = c.in_ok-pick_next.ensures.rows;
 }
+
+pub pick_next-requires : goal.pick_next-requires
+pick_next-requires c = record { same = c.loop-k.invariant.same; ids = c.requires.ids; near = c.loop-k.invariant.near; rows = c.loop-k.invariant.rows }
+
+pub returns : goal.returns
+returns c =
+    let inv = c.loop-k.invariant in
+    let all : c.loop-k._k ≡ c.args.count = omega arith in
+    let picked = inv.chosen ∙ ap (landmarks c.args.map.now.parts) all in
+    record { chosen = picked; rows = inv.rows ∙ ap (rows_of (distance c.args.map.now.parts) c.args.ids.now) picked }

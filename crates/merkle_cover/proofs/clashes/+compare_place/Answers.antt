@@ -1,18 +1,28 @@
-use Rattle.std.proofs.Common.{◌≡◌, ℕ, suc, ◌+◌, ◌-◌, ◌*◌, ◌/◌, ◌<◌, ◌≤◌, min, List, [], ◌∷◌, length, drop, arith, ap, ◌∙◌, sym, refl}
+use borrow.Author.Count.{falls}
+use Rattle.std.proofs.Common.{◌≡◌, ℕ, ◌+◌, ◌-◌, ◌*◌, ◌/◌, ◌≤◌, min, List, [], ◌∷◌, length, drop, arith, ap, ◌∙◌, sym, refl}
 use Rattle.std.specs.Int.{div_ceil}
 use Rattle.std.specs.List.{range_with_len}
 use Rattle.std.proofs.lemmas.List.{length-append}
-use Rattle.std.proofs.Math.Nat.{one-le-pow, le_refl}
+use Rattle.std.proofs.Math.Nat.{le_refl}
 use Rattle.merkle_cover.specs.Shape.{places_at}
 use Rattle.merkle_cover.specs.Trees.{digest}
 use Rattle.merkle_cover.specs.Covers.{need, folded, folded_in_turn}
-use Rattle.merkle_cover.proofs.FoldLemmas.{CanWalk-room, CanWalk-place, CanWalk-wide, IsFolded-none, IsFolded-leaf, IsFolded-above, told-more, taken-more, rising-index}
-use Rattle.merkle_cover.proofs.WalkLemmas.{child-room, child-end, walk-some, walk-first, walk-child}
+use Rattle.merkle_cover.proofs.FoldLemmas.{CanWalk-room, CanWalk-place, CanWalk-wide, IsFolded-none, IsFolded-leaf, IsFolded-above, told-more, taken-more}
+use Rattle.merkle_cover.proofs.WalkLemmas.{above-leaves, level-up, one-below, walk-fan, walk-room, walk-end, walk-there, fits-place, fits-behind, fits-first, fits-end, fits-item, fits-next-item, fits-taken, given-there, room-above, walk-some, walk-first, walk-child}
 use Rattle.merkle_cover.proofs.ClashLemmas.{SameSoFar-none, SameSoFar-more, SameBelow-none, SameBelow-leaf, SameBelow-above, IsClash-leaf, IsClash-above, CanCompare-child, apart-more, both_true, both_false}
 use Rattle.merkle_cover.proofs.clashes.+compare_place.Goals as goal
 
 pub overflow_add-place : goal.overflow_add-place
 overflow_add-place g t c = omega (arith, (CanWalk-room c.requires.compare.fold.walk).1, c.requires.compare.fold.walk.place, c.requires.compare.fold.walk.leaves)
+
+pub overflow_mul-place : goal.overflow_mul-place
+overflow_mul-place g t c = fits-behind c.requires.compare.fold.walk
+
+pub overflow_add-result : goal.overflow_add-result
+overflow_add-result g t c = fits-taken c.requires.compare.fold
+
+pub returns-then-not-is_next_below-clause-size : goal.returns-then-not-is_next_below-clause-size
+returns-then-not-is_next_below-clause-size g t c = c.digest_at.ensures.size
 
 pub returns-then-not-is_next_below-clause-folded : goal.returns-then-not-is_next_below-clause-folded
 returns-then-not-is_next_below-clause-folded g t c =
@@ -30,10 +40,19 @@ digest_of-of_tree-requires-clause-place g t c =
     omega (arith, CanWalk-place c.requires.compare.fold.walk, c.requires.compare.levels_in.sizes c.args.level (le_refl c.args.level))
 
 pub overflow_cast-item : goal.overflow_cast-item
-overflow_cast-item g t c =
-    let q = c.requires.compare.fold.walk in
-    let l = c.if-not-is_next_below.ensures.next.0 in
-    omega (arith, rising-index (length c.args.leaves.now) c.args.given.now.places.now q.rising c.args.item l, q.rising.below c.args.item l, q.leaves)
+overflow_cast-item g t c = fits-item c.requires.compare.fold.walk c.if-not-is_next_below.ensures.next.0
+
+pub text-text-requires : goal.text-text-requires
+text-text-requires g t c = given-there c.requires.compare.fold c.if-not-is_next_below.ensures.next.0
+
+pub overflow_add-all : goal.overflow_add-all
+overflow_add-all g t c = fits-next-item c.requires.compare.fold.walk c.if-not-is_next_below.ensures.next.0
+
+pub overflow_cast-place : goal.overflow_cast-place
+overflow_cast-place g t c = fits-place c.requires.compare.fold.walk
+
+pub text-requires : goal.text-requires
+text-requires g t c = walk-there c.requires.compare.fold.walk
 
 pub returns-then-same_octets-clause-folded : goal.returns-then-same_octets-clause-folded
 returns-then-same_octets-clause-folded g t c =
@@ -42,6 +61,9 @@ returns-then-same_octets-clause-folded g t c =
 pub returns-then-same_octets-clause-same : goal.returns-then-same_octets-clause-same
 returns-then-same_octets-clause-same g t c =
     λ _. SameBelow-leaf g.H.Hasher.hash c.args.leaves.now c.args.given.now.fan c.args.given.now.places.now c.args.given.now.texts.now c.args.given.now.cover.now c.args.levels.now _ c.requires.compare c.if-level-eq0.true c.if-not-is_next_below.ensures.next.0 c.if-not-is_next_below.ensures.next.1 (sym c.text-text.ensures ∙ c.if-same_octets.ensures.same ∙ c.text.ensures)
+
+pub returns-then-same_octets-clause-size : goal.returns-then-same_octets-clause-size
+returns-then-same_octets-clause-size g t c = ap (λ (l : List ℕ). length l) c.leaf_digest.ensures ∙ g.met.H.Hasher.size _
 
 pub returns-then-same_digests-clause-clash : goal.returns-then-same_digests-clause-clash
 returns-then-same_digests-clause-clash g t c =
@@ -53,20 +75,33 @@ pub returns-then-level-eq0-clause-folded : goal.returns-then-level-eq0-clause-fo
 returns-then-level-eq0-clause-folded g t c =
     IsFolded-leaf g.H.Hasher.hash c.args.given.now.cover.now c.leaf_digest.result c.requires.compare.fold c.if-level-eq0.true c.if-not-is_next_below.ensures.next.0 c.if-not-is_next_below.ensures.next.1 (c.leaf_digest.ensures ∙ ap (λ (x : List ℕ). g.H.Hasher.hash (0 ∷ x)) c.text-text.ensures)
 
+pub returns-then-level-eq0-clause-same : goal.returns-then-level-eq0-clause-same
+returns-then-level-eq0-clause-same g t c =
+    let tree = c.digest_of-of_tree.ensures ∙ c.requires.compare.digests c.args.level c.args.place (le_refl c.args.level) (CanWalk-place c.requires.compare.fold.walk) in
+    λ e. absurd (c.if-same_digests.ensures.apart (e ∙ sym tree))
+
+pub returns-then-level-eq0-clause-size : goal.returns-then-level-eq0-clause-size
+returns-then-level-eq0-clause-size g t c = ap (λ (l : List ℕ). length l) c.leaf_digest.ensures ∙ g.met.H.Hasher.size _
+
+pub nonzero_div-below : goal.nonzero_div-below
+nonzero_div-below g t c = walk-fan c.requires.compare.fold.walk
+
+pub overflow_mul-first : goal.overflow_mul-first
+overflow_mul-first g t c = fits-first c.requires.compare.fold.walk
+
+pub overflow_add-first : goal.overflow_add-first
+overflow_add-first g t c = fits-end c.requires.compare.fold.walk
+
 pub div_ceil-requires : goal.div_ceil-requires
-div_ceil-requires g t c =
-    let f = c.args.given.now.fan in
-    let q = c.requires.compare.fold.walk in
-    let fan : 0 < f = omega (arith, q.fan) in
-    omega (arith, child-room f c.args.level c.args.span fan (omega (arith, c.if-level-eq0.false)) q.span, one-le-pow (c.args.level - 1) f fan)
+div_ceil-requires g t c = room-above c.requires.compare.fold.walk c.if-level-eq0.false
 
 pub loop-child-init : goal.loop-child-init
 unfolding folded_in_turn
 loop-child-init g t c =
     let f = c.args.given.now.fan in
     let q = c.requires.compare.fold.walk in
-    let up : c.args.level ≡ suc (c.args.level - 1) = omega (arith, c.if-level-eq0.false) in
-    let b = child-room f c.args.level c.args.span (omega (arith, q.fan)) (omega (arith, c.if-level-eq0.false)) q.span in
+    let up = level-up c.args.level c.if-level-eq0.false in
+    let b = walk-room q c.if-level-eq0.false in
     let wide = CanWalk-wide q (c.args.level - 1) (c.args.span / f) up b in
     let none : c.args.place * f - c.args.place * f ≡ 0 = omega arith in
     rw none (record {
@@ -79,16 +114,24 @@ loop-child-init g t c =
       apart = tt;
     })
 
+pub overflow_sub-level : goal.overflow_sub-level
+overflow_sub-level g t c = above-leaves c.args.level c.if-level-eq0.false
+
+pub overflow_sub-level-in-loop-child : goal.overflow_sub-level-in-loop-child
+overflow_sub-level-in-loop-child g t c = above-leaves c.args.level c.if-level-eq0.false
+
+pub loop-child-smaller : goal.loop-child-smaller
+loop-child-smaller g t c = falls c.min-end.result c.loop-child.child c.loop-child-test.true
+
 pub compare_place-requires : goal.compare_place-requires
 compare_place-requires g t c κs within =
     let n = length c.args.leaves.now in
     let f = c.args.given.now.fan in
     let j : ℕ = c.args.level - 1 in
     let q = c.requires.compare.fold.walk in
-    let fan : 0 < f = omega (arith, q.fan) in
-    let up : c.args.level ≡ suc j = omega (arith, c.if-level-eq0.false) in
-    let b = child-room f c.args.level c.args.span fan (omega (arith, c.if-level-eq0.false)) q.span in
-    let ee : c.min-end.result ≡ min (c.args.place * f + f) (places_at n f j) = c.min-end.ensures ∙ ap (min (c.args.place * f + f)) (c.div_ceil.ensures ∙ ap (λ x. div_ceil x (c.args.span / f)) c.requires.count) ∙ child-end n f j c.args.place (c.args.span / f) fan b in
+    let up = level-up c.args.level c.if-level-eq0.false in
+    let b = walk-room q c.if-level-eq0.false in
+    let ee : c.min-end.result ≡ min (c.args.place * f + f) (places_at n f j) = c.min-end.ensures ∙ ap (min (c.args.place * f + f)) (c.div_ceil.ensures ∙ ap (λ x. div_ceil x (c.args.span / f)) c.requires.count) ∙ walk-end q c.if-level-eq0.false in
     let next = c.if-not-is_next_below.ensures.next in
     let at = c.loop-child.invariant in (
       omega (arith, c.decreases, c.if-level-eq0.false),
@@ -101,16 +144,18 @@ compare_place-requires g t c κs within =
       ),
     )
 
+pub digest_of-of_child-requires-clause-level : goal.digest_of-of_child-requires-clause-level
+digest_of-of_child-requires-clause-level g t c = c.requires.compare.levels_in.levels_in (c.args.level - 1) (one-below c.args.level)
+
 pub digest_of-of_child-requires-clause-place : goal.digest_of-of_child-requires-clause-place
 digest_of-of_child-requires-clause-place g t c =
     let n = length c.args.leaves.now in
     let f = c.args.given.now.fan in
     let j : ℕ = c.args.level - 1 in
     let q = c.requires.compare.fold.walk in
-    let fan : 0 < f = omega (arith, q.fan) in
-    let up : c.args.level ≡ suc j = omega (arith, c.if-level-eq0.false) in
-    let b = child-room f c.args.level c.args.span fan (omega (arith, c.if-level-eq0.false)) q.span in
-    let ee : c.min-end.result ≡ min (c.args.place * f + f) (places_at n f j) = c.min-end.ensures ∙ ap (min (c.args.place * f + f)) (c.div_ceil.ensures ∙ ap (λ x. div_ceil x (c.args.span / f)) c.requires.count) ∙ child-end n f j c.args.place (c.args.span / f) fan b in
+    let up = level-up c.args.level c.if-level-eq0.false in
+    let b = walk-room q c.if-level-eq0.false in
+    let ee : c.min-end.result ≡ min (c.args.place * f + f) (places_at n f j) = c.min-end.ensures ∙ ap (min (c.args.place * f + f)) (c.div_ceil.ensures ∙ ap (λ x. div_ceil x (c.args.span / f)) c.requires.count) ∙ walk-end q c.if-level-eq0.false in
     let next = c.if-not-is_next_below.ensures.next in
     let at = c.loop-child.invariant in
     omega (arith, ee, c.loop-child-test.true, c.requires.compare.levels_in.sizes j (omega arith))
@@ -121,10 +166,9 @@ loop-child-preserved g t c =
     let f = c.args.given.now.fan in
     let j : ℕ = c.args.level - 1 in
     let q = c.requires.compare.fold.walk in
-    let fan : 0 < f = omega (arith, q.fan) in
-    let up : c.args.level ≡ suc j = omega (arith, c.if-level-eq0.false) in
-    let b = child-room f c.args.level c.args.span fan (omega (arith, c.if-level-eq0.false)) q.span in
-    let ee : c.min-end.result ≡ min (c.args.place * f + f) (places_at n f j) = c.min-end.ensures ∙ ap (min (c.args.place * f + f)) (c.div_ceil.ensures ∙ ap (λ x. div_ceil x (c.args.span / f)) c.requires.count) ∙ child-end n f j c.args.place (c.args.span / f) fan b in
+    let up = level-up c.args.level c.if-level-eq0.false in
+    let b = walk-room q c.if-level-eq0.false in
+    let ee : c.min-end.result ≡ min (c.args.place * f + f) (places_at n f j) = c.min-end.ensures ∙ ap (min (c.args.place * f + f)) (c.div_ceil.ensures ∙ ap (λ x. div_ceil x (c.args.span / f)) c.requires.count) ∙ walk-end q c.if-level-eq0.false in
     let next = c.if-not-is_next_below.ensures.next in
     let at = c.loop-child.invariant in
     let hash = g.H.Hasher.hash in
@@ -159,10 +203,9 @@ returns-then-equal-clause-folded g t c =
     let f = c.args.given.now.fan in
     let j : ℕ = c.args.level - 1 in
     let q = c.requires.compare.fold.walk in
-    let fan : 0 < f = omega (arith, q.fan) in
-    let up : c.args.level ≡ suc j = omega (arith, c.if-level-eq0.false) in
-    let b = child-room f c.args.level c.args.span fan (omega (arith, c.if-level-eq0.false)) q.span in
-    let ee : c.min-end.result ≡ min (c.args.place * f + f) (places_at n f j) = c.min-end.ensures ∙ ap (min (c.args.place * f + f)) (c.div_ceil.ensures ∙ ap (λ x. div_ceil x (c.args.span / f)) c.requires.count) ∙ child-end n f j c.args.place (c.args.span / f) fan b in
+    let up = level-up c.args.level c.if-level-eq0.false in
+    let b = walk-room q c.if-level-eq0.false in
+    let ee : c.min-end.result ≡ min (c.args.place * f + f) (places_at n f j) = c.min-end.ensures ∙ ap (min (c.args.place * f + f)) (c.div_ceil.ensures ∙ ap (λ x. div_ceil x (c.args.span / f)) c.requires.count) ∙ walk-end q c.if-level-eq0.false in
     let next = c.if-not-is_next_below.ensures.next in
     let at = c.loop-child.invariant in
     let first : c.args.place * f ≤ c.min-end.result = omega (arith, ee, walk-child q j (c.args.span / f) up b) in
@@ -175,10 +218,9 @@ returns-then-equal-clause-same g t c =
     let f = c.args.given.now.fan in
     let j : ℕ = c.args.level - 1 in
     let q = c.requires.compare.fold.walk in
-    let fan : 0 < f = omega (arith, q.fan) in
-    let up : c.args.level ≡ suc j = omega (arith, c.if-level-eq0.false) in
-    let b = child-room f c.args.level c.args.span fan (omega (arith, c.if-level-eq0.false)) q.span in
-    let ee : c.min-end.result ≡ min (c.args.place * f + f) (places_at n f j) = c.min-end.ensures ∙ ap (min (c.args.place * f + f)) (c.div_ceil.ensures ∙ ap (λ x. div_ceil x (c.args.span / f)) c.requires.count) ∙ child-end n f j c.args.place (c.args.span / f) fan b in
+    let up = level-up c.args.level c.if-level-eq0.false in
+    let b = walk-room q c.if-level-eq0.false in
+    let ee : c.min-end.result ≡ min (c.args.place * f + f) (places_at n f j) = c.min-end.ensures ∙ ap (min (c.args.place * f + f)) (c.div_ceil.ensures ∙ ap (λ x. div_ceil x (c.args.span / f)) c.requires.count) ∙ walk-end q c.if-level-eq0.false in
     let next = c.if-not-is_next_below.ensures.next in
     let at = c.loop-child.invariant in
     let first : c.args.place * f ≤ c.min-end.result = omega (arith, ee, walk-child q j (c.args.span / f) up b) in
@@ -192,10 +234,9 @@ returns-then-same_digests-2-clause-clash g t c =
     let f = c.args.given.now.fan in
     let j : ℕ = c.args.level - 1 in
     let q = c.requires.compare.fold.walk in
-    let fan : 0 < f = omega (arith, q.fan) in
-    let up : c.args.level ≡ suc j = omega (arith, c.if-level-eq0.false) in
-    let b = child-room f c.args.level c.args.span fan (omega (arith, c.if-level-eq0.false)) q.span in
-    let ee : c.min-end.result ≡ min (c.args.place * f + f) (places_at n f j) = c.min-end.ensures ∙ ap (min (c.args.place * f + f)) (c.div_ceil.ensures ∙ ap (λ x. div_ceil x (c.args.span / f)) c.requires.count) ∙ child-end n f j c.args.place (c.args.span / f) fan b in
+    let up = level-up c.args.level c.if-level-eq0.false in
+    let b = walk-room q c.if-level-eq0.false in
+    let ee : c.min-end.result ≡ min (c.args.place * f + f) (places_at n f j) = c.min-end.ensures ∙ ap (min (c.args.place * f + f)) (c.div_ceil.ensures ∙ ap (λ x. div_ceil x (c.args.span / f)) c.requires.count) ∙ walk-end q c.if-level-eq0.false in
     let next = c.if-not-is_next_below.ensures.next in
     let at = c.loop-child.invariant in
     let first : c.args.place * f ≤ c.min-end.result = omega (arith, ee, walk-child q j (c.args.span / f) up b) in
@@ -210,10 +251,9 @@ returns-clause-folded g t c =
     let f = c.args.given.now.fan in
     let j : ℕ = c.args.level - 1 in
     let q = c.requires.compare.fold.walk in
-    let fan : 0 < f = omega (arith, q.fan) in
-    let up : c.args.level ≡ suc j = omega (arith, c.if-level-eq0.false) in
-    let b = child-room f c.args.level c.args.span fan (omega (arith, c.if-level-eq0.false)) q.span in
-    let ee : c.min-end.result ≡ min (c.args.place * f + f) (places_at n f j) = c.min-end.ensures ∙ ap (min (c.args.place * f + f)) (c.div_ceil.ensures ∙ ap (λ x. div_ceil x (c.args.span / f)) c.requires.count) ∙ child-end n f j c.args.place (c.args.span / f) fan b in
+    let up = level-up c.args.level c.if-level-eq0.false in
+    let b = walk-room q c.if-level-eq0.false in
+    let ee : c.min-end.result ≡ min (c.args.place * f + f) (places_at n f j) = c.min-end.ensures ∙ ap (min (c.args.place * f + f)) (c.div_ceil.ensures ∙ ap (λ x. div_ceil x (c.args.span / f)) c.requires.count) ∙ walk-end q c.if-level-eq0.false in
     let next = c.if-not-is_next_below.ensures.next in
     let at = c.loop-child.invariant in
     let first : c.args.place * f ≤ c.min-end.result = omega (arith, ee, walk-child q j (c.args.span / f) up b) in
@@ -224,3 +264,9 @@ pub returns-clause-same : goal.returns-clause-same
 returns-clause-same g t c =
     let tree = c.digest_of-of_tree.ensures ∙ c.requires.compare.digests c.args.level c.args.place (le_refl c.args.level) (CanWalk-place c.requires.compare.fold.walk) in
     λ e. absurd (c.if-same_digests-2.ensures.apart (e ∙ sym tree))
+
+pub returns-then-equal-clause-size : goal.returns-then-equal-clause-size
+returns-then-equal-clause-size g t c = ap (λ (l : List ℕ). length l) (c.end-digest.ensures _ c.loop-child.invariant.told) ∙ g.met.H.Hasher.size _
+
+pub returns-clause-size : goal.returns-clause-size
+returns-clause-size g t c = ap (λ (l : List ℕ). length l) (c.end-digest.ensures _ c.loop-child.invariant.told) ∙ g.met.H.Hasher.size _

@@ -1,19 +1,16 @@
-use Rattle.std.proofs.Common.{◌≡◌, ℕ, suc, ◌+◌, ◌-◌, ◌*◌, ◌/◌, ◌<◌, ◌≤◌, min, List, [], ◌∷◌, ◌++◌, get_or, drop, arith, ap, ◌∙◌, sym}
-use Rattle.std.proofs.Math.Nat.{one-le-pow}
+use Rattle.std.proofs.Common.{◌≡◌, ℕ, ◌+◌, ◌-◌, ◌*◌, ◌/◌, ◌≤◌, min, List, [], ◌∷◌, ◌++◌, get_or, drop, arith, ap, ◌∙◌, sym}
 use Rattle.merkle_cover.specs.Shape.{places_at}
 use Rattle.merkle_cover.specs.Covers.{need, folded, folded_in_turn}
-use Rattle.merkle_cover.proofs.FoldLemmas.{CanWalk-wide, CanWalk-child, told-more, taken-more, rising-index}
-use Rattle.merkle_cover.proofs.WalkLemmas.{child-room, child-end, walk-first, walk-child}
-use Rattle.merkle_cover.proofs.ClashLemmas.{folded_text-leaf, folded_text-above, CanWalk-small}
+use Rattle.merkle_cover.proofs.FoldLemmas.{CanWalk-wide, CanWalk-child, told-more, taken-more}
+use Rattle.merkle_cover.proofs.WalkLemmas.{above-leaves, level-up, walk-fan, walk-room, walk-end, fits-first, fits-end, fits-item, given-there, room-above, walk-first, walk-child}
+use Rattle.merkle_cover.proofs.ClashLemmas.{folded_text-leaf, folded_text-above}
 use Rattle.merkle_cover.proofs.clashes.given_text.Goals as goal
 
 pub overflow_cast-item : goal.overflow_cast-item
-overflow_cast-item g c =
-    let q = c.requires.fold.walk in
-    omega (arith, rising-index c.args.given.now.leaves c.args.given.now.places.now q.rising c.args.item c.requires.next.0, q.rising.below c.args.item c.requires.next.0, q.leaves)
+overflow_cast-item g c = fits-item c.requires.fold.walk c.requires.next.0
 
 pub text-requires : goal.text-requires
-text-requires g c = omega (arith, c.requires.next.0, c.requires.fold.texts)
+text-requires g c = given-there c.requires.fold c.requires.next.0
 
 pub returns-then-level-eq0 : goal.returns-then-level-eq0
 returns-then-level-eq0 g c =
@@ -21,26 +18,25 @@ returns-then-level-eq0 g c =
     c.in_ok-put_octets.ensures.ok.is ∙ ap (λ (l : List ℕ). l ++ c.text.result.now) (c.in_ok-put_u8.ensures.ok.is ∙ ap (λ (l : List ℕ). l ++ 0 ∷ []) c.new-text.ensures.items) ∙ ap (λ (l : List ℕ). 0 ∷ l) c.text.ensures in
     text ∙ folded_text-leaf g.H.Hasher.hash c.requires.fold (drop c.args.taken c.args.given.now.cover.now) c.if-level-eq0.true c.requires.next.0 c.requires.next.1
 
+pub nonzero_div-below : goal.nonzero_div-below
+nonzero_div-below g c = walk-fan c.requires.fold.walk
+
 pub overflow_mul-first : goal.overflow_mul-first
-overflow_mul-first g c = omega (arith, CanWalk-small c.requires.fold.walk)
+overflow_mul-first g c = fits-first c.requires.fold.walk
 
 pub overflow_add-first : goal.overflow_add-first
-overflow_add-first g c = omega (arith, CanWalk-small c.requires.fold.walk, c.requires.fold.walk.fan_max)
+overflow_add-first g c = fits-end c.requires.fold.walk
 
 pub div_ceil-requires : goal.div_ceil-requires
-div_ceil-requires g c =
-    let f = c.args.given.now.fan in
-    let q = c.requires.fold.walk in
-    let fan : 0 < f = omega (arith, q.fan) in
-    omega (arith, child-room f c.args.level c.args.span fan (omega (arith, c.if-level-eq0.false)) q.span, one-le-pow (c.args.level - 1) f fan)
+div_ceil-requires g c = room-above c.requires.fold.walk c.if-level-eq0.false
 
 pub loop-child-init : goal.loop-child-init
 unfolding folded_in_turn
 loop-child-init g c =
     let f = c.args.given.now.fan in
     let q = c.requires.fold.walk in
-    let up : c.args.level ≡ suc (c.args.level - 1) = omega (arith, c.if-level-eq0.false) in
-    let b = child-room f c.args.level c.args.span (omega (arith, q.fan)) (omega (arith, c.if-level-eq0.false)) q.span in
+    let up = level-up c.args.level c.if-level-eq0.false in
+    let b = walk-room q c.if-level-eq0.false in
     let wide = CanWalk-wide q (c.args.level - 1) (c.args.span / f) up b in
     let none : c.args.place * f - c.args.place * f ≡ 0 = omega arith in
     rw none (record {
@@ -50,16 +46,18 @@ loop-child-init g c =
       few = omega (arith, c.requires.fold.taken, ap (λ x. c.args.place * x) wide);
     })
 
+pub overflow_sub-level : goal.overflow_sub-level
+overflow_sub-level g c = above-leaves c.args.level c.if-level-eq0.false
+
 pub fold_place-part-requires : goal.fold_place-part-requires
 fold_place-part-requires g c =
     let n = c.args.given.now.leaves in
     let f = c.args.given.now.fan in
     let j : ℕ = c.args.level - 1 in
     let q = c.requires.fold.walk in
-    let fan : 0 < f = omega (arith, q.fan) in
-    let up : c.args.level ≡ suc j = omega (arith, c.if-level-eq0.false) in
-    let b = child-room f c.args.level c.args.span fan (omega (arith, c.if-level-eq0.false)) q.span in
-    let ee : c.min-end.result ≡ min (c.args.place * f + f) (places_at n f j) = c.min-end.ensures ∙ ap (min (c.args.place * f + f)) c.div_ceil.ensures ∙ child-end n f j c.args.place (c.args.span / f) fan b in
+    let up = level-up c.args.level c.if-level-eq0.false in
+    let b = walk-room q c.if-level-eq0.false in
+    let ee : c.min-end.result ≡ min (c.args.place * f + f) (places_at n f j) = c.min-end.ensures ∙ ap (min (c.args.place * f + f)) c.div_ceil.ensures ∙ walk-end q c.if-level-eq0.false in
     record { walk = CanWalk-child q j (c.args.span / f) c.min-end.result c.loop-child.child c.loop-child.item up b ee c.loop-child-test.true c.loop-child.invariant.items_at; texts = c.requires.fold.texts; taken = c.loop-child.invariant.few }
 
 pub loop-child-preserved : goal.loop-child-preserved
@@ -86,10 +84,9 @@ returns g c =
     let f = c.args.given.now.fan in
     let j : ℕ = c.args.level - 1 in
     let q = c.requires.fold.walk in
-    let fan : 0 < f = omega (arith, q.fan) in
-    let up : c.args.level ≡ suc j = omega (arith, c.if-level-eq0.false) in
-    let b = child-room f c.args.level c.args.span fan (omega (arith, c.if-level-eq0.false)) q.span in
-    let ee : c.min-end.result ≡ min (c.args.place * f + f) (places_at n f j) = c.min-end.ensures ∙ ap (min (c.args.place * f + f)) c.div_ceil.ensures ∙ child-end n f j c.args.place (c.args.span / f) fan b in
+    let up = level-up c.args.level c.if-level-eq0.false in
+    let b = walk-room q c.if-level-eq0.false in
+    let ee : c.min-end.result ≡ min (c.args.place * f + f) (places_at n f j) = c.min-end.ensures ∙ ap (min (c.args.place * f + f)) c.div_ceil.ensures ∙ walk-end q c.if-level-eq0.false in
     let first : c.args.place * f ≤ c.min-end.result = omega (arith, ee, walk-child q j (c.args.span / f) up b) in
     let end : c.loop-child.child ≡ c.min-end.result = omega (arith, c.loop-child-test.false, c.loop-child.auto.child-end first) in
     c.loop-child.invariant.told ∙ folded_text-above g.H.Hasher.hash n f c.args.given.now.places.now c.args.given.now.texts.now c.args.level j c.args.place c.loop-child.child (drop c.args.taken c.args.given.now.cover.now) up (end ∙ ee)

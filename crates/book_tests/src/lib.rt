@@ -14,6 +14,8 @@ mod items;
 #[cfg(test)]
 mod judging;
 #[cfg(test)]
+mod ldm_verdicts;
+#[cfg(test)]
 mod plain;
 #[cfg(test)]
 mod plain_items;

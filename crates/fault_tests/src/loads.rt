@@ -1,19 +1,16 @@
 //! Each load of each command that loads files fails.
 
 use crate::parties::{ASKED, NEAR, Outputs, library_of, play_all};
-use audit_commands::audit;
-use client_commands::check;
+use audit_commands::{audit, audit_reach};
+use client_commands::{check, check_reach};
 use command_files::{Conclusion, Fault};
 use map_commands::{dimacs, root, route};
 use mem_io::{MemDisk, MemLibrary, MemSink, MemSource};
 use mirror_out::MemMirror;
-use near_audit_commands::audit_reach;
-use near_client_commands::check_reach;
-use near_server_commands::reach;
 use owner_commands::{key, publish, succeed};
 use reduce_commands::reduce;
 use road_command::KeyKind;
-use server_commands::{prove, serve};
+use server_commands::{prove, reach, serve};
 use std::alloc::Global;
 use std::process::Abort;
 use std::test::Fail;

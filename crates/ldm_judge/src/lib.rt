@@ -3,6 +3,7 @@
 #![tactic(auto)]
 
 pub use bounds::{Lookup, bound};
+pub use items::ItemLeaves;
 pub use ldm::Ldm;
 pub use live::live_labels;
 
@@ -10,5 +11,3 @@ mod bounds;
 mod items;
 mod ldm;
 mod live;
-#[cfg(test)]
-mod tests;

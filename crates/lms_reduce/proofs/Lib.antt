@@ -4,3 +4,4 @@ pub mod DigitLemmas
 pub mod GoodLemmas
 pub mod RootLemmas
 pub mod ReduceLemmas
+mod Worked

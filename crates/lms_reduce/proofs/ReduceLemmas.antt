@@ -7,13 +7,13 @@ use Rattle.lms_tree.specs.Signatures.{KeyOf, number_at}
 use Rattle.lms_reduce.specs.Comparing.{ShowsOwn, IsFirstLesser}
 use Rattle.lms_reduce.specs.Released.{claimed_digits, signed_digits, IsUnreleased}
 use Rattle.lms_reduce.specs.Reduction.{ShowsUnreleased}
-use Rattle.lms_reduce.proofs.RootLemmas.{take-part}
+use Rattle.lms_reduce.proofs.RootLemmas.{take-inside}
 
 -- a value of the one-time signature, in the whole
 pub value-at : (at : ℕ) (sig : List ℕ) → at < 34 → take 32 (drop (36 + 32 * at) (take 1124 (drop 4 sig))) ≡ take 32 (drop (40 + 32 * at) sig)
 value-at at sig l =
     let e : 4 + (36 + 32 * at) ≡ 40 + 32 * at = omega arith in
-    take-part (36 + 32 * at) 32 1124 (drop 4 sig) (omega (arith, l)) ∙ ap (take 32) (drop-drop (36 + 32 * at) 4 sig ∙ ap (λ n. drop n sig) e)
+    take-inside (36 + 32 * at) 32 1124 (drop 4 sig) (omega (arith, l)) ∙ ap (take 32) (drop-drop (36 + 32 * at) 4 sig ∙ ap (λ n. drop n sig) e)
 
 -- the first place at which the slot has not released what is shown
 shows-first : (key : KeyOf) (spent : Option (List ℕ)) (text sig digits : List ℕ) (q at : ℕ) → at < 34 → q ≡ number_at sig 0 → digits ≡ claimed_digits key text sig → ShowsOwn key.i q key.seed (claimed_digits key text sig) (take 1124 (drop 4 sig)) → IsUnreleased key q spent at (get_or digits at 0) → ((b : ℕ) → b < 34 → IsUnreleased key q spent b (get_or digits b 0) → at ≤ b) → ShowsUnreleased key spent text sig q at (get_or digits at 0) (take 32 (drop (40 + 32 * at) sig))

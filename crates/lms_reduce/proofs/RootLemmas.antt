@@ -15,8 +15,8 @@ pub IfNone-none : {A P : Type 0} (o : Option A) → o ≡ None → IfNone o P �
 IfNone-none {A} {P} o e p = subst (λ (x : Option A). IfNone x P) e p
 
 -- octets of a part
-pub take-part : (at n m : ℕ) (xs : List ℕ) → at + n ≤ m → take n (drop at (take m xs)) ≡ take n (drop at xs)
-take-part at n m xs l =
+pub take-inside : (at n m : ℕ) (xs : List ℕ) → at + n ≤ m → take n (drop at (take m xs)) ≡ take n (drop at xs)
+take-inside at n m xs l =
     let more : m ≡ at + (m - at) = omega arith in
     ap (λ k. take n (drop at (take k xs))) more ∙ ap (take n) (drop-take at (m - at) xs) ∙ take-take n (m - at) (drop at xs) (omega (arith, l))
 
@@ -33,7 +33,7 @@ own-root key q path value l p e =
     let r : ℕ = 2 ^ h + q in
     let part = take (32 * h) path in
     raised-climbed i r value part 0 h
-    ∙ climbed-path i seed h r part 0 value h (e ∙ leaf-is i seed h q) (λ k lt. (let e : 0 + 32 * k ≡ 32 * k = omega arith in ap (λ n. take 32 (drop n part)) e) ∙ take-part (32 * k) 32 (32 * h) path (omega (arith, lt)) ∙ p k lt ∙ path-is i seed h q k)
+    ∙ climbed-path i seed h r part 0 value h (e ∙ leaf-is i seed h q) (λ k lt. (let e : 0 + 32 * k ≡ 32 * k = omega arith in ap (λ n. take 32 (drop n part)) e) ∙ take-inside (32 * k) 32 (32 * h) path (omega (arith, lt)) ∙ p k lt ∙ path-is i seed h q k)
     ∙ ap (node_of i seed h h) (root-number h q l)
 
 -- and so does the way that a good signature shows

@@ -8,12 +8,11 @@
 pub use laws::released_laws;
 pub use reduced::{ReduceError, Reduced};
 pub use reducing::reduce;
+pub use ways::{TwoNodes, TwoSteps, highest_meeting, meeting};
 
 mod comparing;
 mod laws;
 mod reduced;
 mod reducing;
-#[cfg(test)]
-mod tests;
 mod texts;
 mod ways;

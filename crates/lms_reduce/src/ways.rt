@@ -7,16 +7,16 @@ use crate::texts::{digest_of, parent_text, step_text};
 use lms_ots::array_at;
 use octet_text::{Digest32, Hasher};
 
-// What a step of a chain hashes, of two values.
+/// What a step of a chain hashes, of two values.
 #[derive(Clone, Copy)]
-pub(crate) struct TwoSteps {
+pub struct TwoSteps {
     pub left: [u8; 55],
     pub right: [u8; 55],
 }
 
-// What is hashed at a node, of two ways.
+/// What is hashed at a node, of two ways.
 #[derive(Clone, Copy)]
-pub(crate) struct TwoNodes {
+pub struct TwoNodes {
     pub left: [u8; 86],
     pub right: [u8; 86],
 }
@@ -38,9 +38,9 @@ fn is_collision(left: &[u8], right: &[u8], left_digest: &Digest32, right_digest:
     !is_same(left, right) && is_same(left_digest, right_digest)
 }
 
-// The step at which the chains from two values meet, the first with the number `from`. Where there is
-// none, the values are one, or the ends of the chains are two.
-pub(crate) fn meeting<H: Hasher>(
+/// The first step, from the one with the number `from` on, at which the chains from two values meet. Where there
+/// is none, the values are one, or the ends of the chains are two.
+pub fn meeting<H: Hasher>(
     i: &[u8; 16],
     q: u32,
     at: u16,
@@ -70,9 +70,9 @@ pub(crate) fn meeting<H: Hasher>(
     None
 }
 
-// The node nearest to the root at which two ways up from node r meet, along as many values beside each
-// way as its path has. Where there is none, the ways begin with one value, or end with two.
-pub(crate) fn highest_meeting<H: Hasher>(
+/// The node nearest to the root at which two ways up from node r meet, along as many values beside each
+/// way as its path has. Where there is none, the ways begin with one value, or end with two.
+pub fn highest_meeting<H: Hasher>(
     i: &[u8; 16],
     r: u32,
     left: &Digest32,

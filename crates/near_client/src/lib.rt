@@ -13,9 +13,5 @@ mod cutting;
 mod errors;
 mod laws;
 mod passing;
-#[cfg(test)]
-mod signed_near;
-#[cfg(test)]
-mod tests;
 mod walking;
 mod within;

@@ -1,9 +1,10 @@
-ghost use Rattle.std.specs.Prelude.{◌≡◌, length, IfOk};
-ghost use Rattle.key_desk.specs.Desk.{Fits};
+ghost use Rattle.std.specs.Prelude.{◌≡◌, ◌≢◌, length, slice_set, IfOk};
+ghost use Rattle.key_desk.specs.Desk.{Fits, KeepsKnown, KnowsSpent, KnowsTexted, count_at, slot_here, spent_slot, spent_text, texted_slot, texted_text};
+ghost use Rattle.desk_areas.specs.declared.area.Count.TheVariants.{Free, Out, Written};
 ghost use Rattle.lms_tree.specs.Signatures.{height_of, seal_len};
 
 use crate::asserts::{assert_octets, assert_same};
-use key_desk::{Desk, DeskError, StartError, SucceedError};
+use key_desk::{Desk, DeskError, Spent, StartError, SucceedError, Texted, Ticket};
 use lms_tree::{link_text, verify};
 use mem_io::{MemDisk, Pick};
 use road_io::Disk;
@@ -106,34 +107,141 @@ fn a_ticket_that_was_given_back_is_given_again(rt: HostRuntime) -> Result<(), Fa
     Ok(())
 }
 
-#[test]
-fn two_tickets_stand_side_by_side(rt: HostRuntime) -> Result<(), Fail> {
-    let alloc = rt.alloc();
-    let mut disk = MemDisk::new(alloc, 4160, 65_536, Vec::new(alloc), None)?;
-    let mut desk = Desk::create(alloc, &mut disk, 5, &[0; 48])?;
-    let mut out = [0; 1292];
-    let first = desk.ticket().expect(&rt, "a slot is free");
-    let second = desk.ticket().expect(&rt, "a slot is free");
-    assert_eq!(rt; first.slot(), 0);
-    assert_eq!(rt; second.slot(), 1);
-    let first = first
-        .write(&mut desk, &mut disk, b"one")
-        .expect(&rt, "the disk writes");
-    let second = second
-        .write(&mut desk, &mut disk, b"two")
-        .expect(&rt, "the disk writes");
-    let first = first
-        .spend(&mut desk, &mut disk)
-        .expect(&rt, "the disk writes");
-    let second = second
-        .spend(&mut desk, &mut disk)
-        .expect(&rt, "the disk writes");
-    assert_eq!(rt; second.seal(&desk, &disk, &mut out), 1);
-    assert_eq!(rt; first.seal(&desk, &disk, &mut out), 0);
+// Takes a ticket.
+fn take<D: Disk>(rt: &impl Abort, desk: &mut Desk, disk: &D) -> Ticket
+    requires fits { Fits D.Disk desk.old disk.now }
+    ensures fits { Fits D.Disk desk.new disk.now }
+    ensures out { (count_at desk.old result ≡ Free) ×
+        (desk.new ≡ record desk.old { counts = slice_set desk.old.counts result Out }) }
+{
+    let _disk = disk;
+    match desk.ticket() {
+        Ok(ticket) => ticket,
+        Err(_) => panic!(rt; "no slot is free"),
+    }
+}
+
+// Two tickets.
+fn take_two<D: Disk>(rt: &impl Abort, desk: &mut Desk, disk: &D) -> (Ticket, Ticket)
+    requires fits { Fits D.Disk desk.old disk.now }
+    ensures fits { Fits D.Disk desk.new disk.now }
+    ensures first { count_at desk.new result.0 ≡ Out }
+    ensures second { count_at desk.new result.1 ≡ Out }
+    ensures differ { result.0 ≢ result.1 }
+    ensures same { desk.new.key ≡ desk.old.key }
+{
+    let first = take(rt, desk, disk);
+    let second = take(rt, desk, disk);
+    (first, second)
+}
+
+// Puts a text into the slot of a ticket.
+fn put<D: Disk>(
+    rt: &impl Abort,
+    ticket: Ticket,
+    desk: &mut Desk,
+    disk: &mut D,
+    text: &[u8; 3],
+) -> Texted
+    requires fits { Fits D.Disk desk.old disk.old }
+    requires out { count_at desk.old ticket ≡ Out }
+    ensures fits { Fits D.Disk desk.new disk.new }
+    ensures slot { texted_slot result ≡ slot_here desk.old ticket }
+    ensures knows { KnowsTexted D.Disk desk.new disk.new (texted_slot result) (texted_text result) }
+    ensures counts { desk.new ≡ record desk.old {
+      counts = slice_set desk.old.counts ticket Written;
+    } }
+    ensures others { KeepsKnown D.Disk
+        (slot_here desk.old ticket) desk.old disk.old desk.new disk.new }
+{
+    match ticket.write(desk, disk, text) {
+        Ok(texted) => texted,
+        Err(_) => panic!(rt; "the disk fails"),
+    }
+}
+
+// Puts the texts of two tickets, side by side.
+fn put_two<D: Disk>(
+    rt: &impl Abort,
+    first: Ticket,
+    second: Ticket,
+    desk: &mut Desk,
+    disk: &mut D,
+) -> (Texted, Texted)
+    requires fits { Fits D.Disk desk.old disk.old }
+    requires first { count_at desk.old first ≡ Out }
+    requires second { count_at desk.old second ≡ Out }
+    requires differ { first ≢ second }
+    ensures fits { Fits D.Disk desk.new disk.new }
+    ensures first { KnowsTexted D.Disk desk.new disk.new (texted_slot result.0)
+        (texted_text result.0) }
+    ensures second { KnowsTexted D.Disk desk.new disk.new (texted_slot result.1)
+        (texted_text result.1) }
+    ensures differ { texted_slot result.0 ≢ texted_slot result.1 }
+    ensures same { desk.new.key ≡ desk.old.key }
+{
+    let one = put(rt, first, desk, disk, b"one");
+    let two = put(rt, second, desk, disk, b"two");
+    (one, two)
+}
+
+// Spends the slot of a text.
+fn spend<D: Disk>(rt: &impl Abort, texted: Texted, desk: &mut Desk, disk: &mut D) -> Spent
+    requires fits { Fits D.Disk desk.old disk.old }
+    requires knows { KnowsTexted D.Disk desk.old disk.old (texted_slot texted)
+        (texted_text texted) }
+    ensures fits { Fits D.Disk desk.new disk.new }
+    ensures slot { spent_slot result ≡ texted_slot texted }
+    ensures knows { KnowsSpent D.Disk desk.new disk.new (spent_slot result) (spent_text result) }
+    ensures others { KeepsKnown D.Disk (texted_slot texted) desk.old disk.old desk.new disk.new }
+    ensures same { desk.new.key ≡ desk.old.key }
+{
+    match texted.spend(desk, disk) {
+        Ok(spent) => spent,
+        Err(_) => panic!(rt; "the disk fails"),
+    }
+}
+
+// Spends the slots of two texts, and seals the second first.
+fn seal_two<D: Disk>(
+    rt: &impl Abort,
+    first: Texted,
+    second: Texted,
+    desk: &mut Desk,
+    disk: &mut D,
+    out: &mut [u8],
+)
+    requires fits { Fits D.Disk desk.old disk.old }
+    requires first { KnowsTexted D.Disk desk.old disk.old (texted_slot first) (texted_text first) }
+    requires second { KnowsTexted D.Disk desk.old disk.old (texted_slot second)
+        (texted_text second) }
+    requires differ { texted_slot first ≢ texted_slot second }
+    requires room { length out.old ≡ seal_len (height_of desk.old.key.kind) }
+{
+    let first = spend(rt, first, desk, disk);
+    let second = spend(rt, second, desk, disk);
+    assert_same(rt, &second.seal(desk, disk, out), &1);
+    assert_same(rt, &first.seal(desk, disk, out), &0);
+}
+
+// Whether each of two texts is signed on a disk after a crash.
+fn are_signed(alloc: Global, disk: MemDisk) -> Result<(bool, bool), Fail> {
     let mut disk = disk.crash(Pick::Old);
     let mut desk = Desk::reopen(alloc, &mut disk)?;
-    assert!(rt; desk.signed(&mut disk, b"one")?);
-    assert!(rt; desk.signed(&mut disk, b"two")?);
+    let one = desk.signed(&mut disk, b"one")?;
+    let two = desk.signed(&mut disk, b"two")?;
+    Ok((one, two))
+}
+
+#[test]
+fn two_tickets_stand_side_by_side(rt: HostRuntime) -> Result<(), Fail> {
+    let (mut desk, mut disk) = owner(rt.alloc(), None)?;
+    let (first, second) = take_two(&rt, &mut desk, &disk);
+    assert_same(&rt, &first.slot(), &0);
+    assert_same(&rt, &second.slot(), &1);
+    let (first, second) = put_two(&rt, first, second, &mut desk, &mut disk);
+    seal_two(&rt, first, second, &mut desk, &mut disk, &mut [0; 1292]);
+    assert_same(&rt, &are_signed(rt.alloc(), disk)?, &(true, true));
     Ok(())
 }
 

@@ -6,4 +6,6 @@ mod asserts;
 #[cfg(test)]
 mod desk;
 #[cfg(test)]
+mod reducing;
+#[cfg(test)]
 mod signatures;

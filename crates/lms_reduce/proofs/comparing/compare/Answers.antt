@@ -4,7 +4,7 @@ use Rattle.lms_ots.specs.Chains.{public_of, candidate_of, key_of, ended_value, d
 use Rattle.lms_tree.specs.Signatures.{number_at}
 use Rattle.lms_reduce.specs.Comparing.{ShowsOwn}
 use Rattle.lms_reduce.specs.Released.{claimed_digits}
-use Rattle.lms_reduce.proofs.RootLemmas.{IfNone-none, take-part}
+use Rattle.lms_reduce.proofs.RootLemmas.{IfNone-none, take-inside}
 use Rattle.lms_reduce.proofs.comparing.compare.Goals as goal
 
 candidate-is : (i : List ℕ) (q : ℕ) (c text ots digits : List ℕ) → c ≡ take 32 (drop 4 ots) → digits ≡ digits_of i q c text → key_of i q (ended_value i q digits ots) ≡ candidate_of i q ots text
@@ -31,7 +31,7 @@ returns-clause-none c =
     let text = c.args.text.now in
     let sig = c.args.sig.now in
     let ots = take 1124 (drop 4 sig) in
-    let c_is : c.array_at.result ≡ take 32 (drop 8 sig) = c.array_at.ensures ∙ take-part 4 32 1124 (drop 4 sig) (omega arith) ∙ ap (take 32) (drop-drop 4 4 sig) in
+    let c_is : c.array_at.result ≡ take 32 (drop 8 sig) = c.array_at.ensures ∙ take-inside 4 32 1124 (drop 4 sig) (omega arith) ∙ ap (take 32) (drop-drop 4 4 sig) in
     let digits : c.digits-digits.result ≡ claimed_digits key text sig =
     c.digits-digits.ensures ∙ ap (λ (x : List ℕ). digits_of x q c.array_at.result text) c.i-i.ensures
     ∙ ap (λ n. digits_of key.i n c.array_at.result text) c.requires.slot ∙ ap (λ (x : List ℕ). digits_of key.i (number_at sig 0) x text) c_is in

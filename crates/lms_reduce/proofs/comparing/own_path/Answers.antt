@@ -5,7 +5,7 @@ use Rattle.lms_ots.proofs.OtsLemmas.{pieces-more, piece-at}
 use Rattle.lms_tree.specs.Signatures.{KeyOf, height_of, path_node, sibling}
 use Rattle.lms_tree.specs.Nodes.{IsNode}
 use Rattle.lms_tree.proofs.PathLemmas.{sibling-in, node-in, path-in, length-node_of}
-use Rattle.lms_reduce.proofs.RootLemmas.{take-part}
+use Rattle.lms_reduce.proofs.RootLemmas.{take-inside}
 use Rattle.lms_reduce.proofs.comparing.own_path.Goals as goal
 
 -- a node beside the way is at least the root's number
@@ -76,5 +76,5 @@ returns c =
     let whole : take (32 * h) path ≡ flat_map g (range_with_len 0 h) = subst (λ n. take (32 * n) path ≡ flat_map g (range_with_len 0 n)) all c.loop-level.invariant.written in
     λ level lt.
     let e : 0 + level ≡ level = omega arith in
-    sym (take-part (32 * level) 32 (32 * h) path (omega (arith, lt))) ∙ ap (λ (l : List ℕ). take 32 (drop (32 * level) l)) whole
+    sym (take-inside (32 * level) 32 (32 * h) path (omega (arith, lt))) ∙ ap (λ (l : List ℕ). take 32 (drop (32 * level) l)) whole
     ∙ piece-at g (λ a. length-path_node key.i key.seed h q a) 0 h level lt ∙ ap g e

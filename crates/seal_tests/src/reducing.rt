@@ -1,10 +1,9 @@
 //! What no clause says: the values of an independent program, a collision over the hash for tests, and texts
 //! of refusals.
-use crate::texts::digest_of;
-use crate::ways::{highest_meeting, meeting};
-use crate::{ReduceError, Reduced, reduce};
+use crate::asserts::{assert_octets, assert_same};
+use lms_reduce::{ReduceError, Reduced, highest_meeting, meeting, reduce};
 use lms_tree::{Key, KeyError, SealError};
-use octet_text::{Digest32, Toy};
+use octet_text::{Digest32, Hasher, Toy};
 use std::alloc::Global;
 use std::fmt::Write;
 use std::process::Abort;
@@ -91,8 +90,8 @@ fn forgeries_show_what_an_independent_program_says(rt: HostRuntime) -> Result<()
                     value,
                 },
             ) => {
-                assert_eq!(rt; (slot, at, step), (number, place, steps));
-                assert_eq!(rt; hex(alloc, &value)?.as_str(), shown);
+                assert_same(&rt, &(slot, at, step), &(number, place, steps));
+                assert_same(&rt, &hex(alloc, &value)?.as_str(), &shown);
             }
             _ => assert!(rt; false, "slot {number}"),
         }
@@ -130,10 +129,17 @@ fn signed_texts_and_bad_signatures_are_refused(rt: HostRuntime) -> Result<(), Fa
     ];
     for (text, sig, why, words) in rows {
         let refused = reduce(alloc, &key, Some(b"version 8"), text, sig).err();
-        assert_eq!(rt; refused, Some(why));
-        assert_eq!(rt; format!(in alloc; "{why}")?.as_str(), words);
+        assert_same(&rt, &refused, &Some(why));
+        assert_same(&rt, &format!(in alloc; "{why}")?.as_str(), &words);
     }
     Ok(())
+}
+
+// The digest of a text by the hash for tests.
+fn digest_of(text: &[u8]) -> Digest32 {
+    let mut hasher = Toy::start();
+    hasher.add(text);
+    hasher.end()
 }
 
 // A digest whose first two octets are these.
@@ -149,9 +155,9 @@ fn values_with_one_sum_meet_in_the_next_step(rt: HostRuntime) -> Result<(), Fail
     let (left, right) = (digest(1, 2), digest(2, 1));
     match meeting::<Toy>(&[0; 16], 4, 33, 200, &left, &right) {
         Some(two) => {
-            assert_eq!(rt; (two.left[21], two.left[22], two.left[23]), (33, 200, 1));
-            assert_eq!(rt; (two.right[21], two.right[22], two.right[23]), (33, 200, 2));
-            assert_eq!(rt; digest_of::<Toy>(&two.left), digest_of::<Toy>(&two.right));
+            assert_octets(&rt, &two.left[21..24], &[33, 200, 1]);
+            assert_octets(&rt, &two.right[21..24], &[33, 200, 2]);
+            assert_octets(&rt, &digest_of(&two.left), &digest_of(&two.right));
         }
         None => assert!(rt; false),
     }
@@ -171,16 +177,22 @@ fn the_meeting_nearest_to_the_root_is_found(rt: HostRuntime) -> Result<(), Fail>
     right_path[33] = 7;
     match highest_meeting::<Toy>(&[0; 16], 5, &left, &right, &left_path, &right_path) {
         Some(two) => {
-            assert_eq!(rt; (two.left[19], two.left[54], two.left[55]), (1, 7, 0));
-            assert_eq!(rt; (two.right[19], two.right[54], two.right[55]), (1, 0, 7));
-            assert_eq!(rt; digest_of::<Toy>(&two.left), digest_of::<Toy>(&two.right));
+            assert_octets(&rt, &[two.left[19], two.left[54], two.left[55]], &[1, 7, 0]);
+            assert_octets(
+                &rt,
+                &[two.right[19], two.right[54], two.right[55]],
+                &[1, 0, 7],
+            );
+            assert_octets(&rt, &digest_of(&two.left), &digest_of(&two.right));
         }
         None => assert!(rt; false),
     }
     right_path[32] = 7;
     right_path[33] = 0;
     match highest_meeting::<Toy>(&[0; 16], 5, &left, &right, &left_path, &right_path) {
-        Some(two) => assert_eq!(rt; (two.left[19], two.left[54], two.left[55]), (2, 1, 2)),
+        Some(two) => {
+            assert_octets(&rt, &[two.left[19], two.left[54], two.left[55]], &[2, 1, 2]);
+        }
         None => assert!(rt; false),
     }
     Ok(())

@@ -1,9 +1,9 @@
 //! Verdicts and bounds worked out by hand.
 ghost use Rattle.std.specs.Prelude.{◌≤◌, length};
 
-use crate::items::ItemLeaves;
-use crate::{Ldm, bound};
+use crate::same::assert_same;
 use book_model::{Items, NodeLeaves, Numbers, PairLeaves, Query};
+use ldm_judge::{ItemLeaves, Ldm, bound};
 use proof_judge::{Judge, NodesById, Refusal};
 use road_leaf::{Codes, Extra, NodeLeaf};
 use road_map::{Arc, Arcs, Ids};
@@ -144,25 +144,19 @@ fn ways_judged(alloc: Global, ids: &[u32], route: &[u32]) -> Result<u64, Refusal
 #[test]
 fn neighbours_of_live_nodes_are_asked_for(rt: HostRuntime) {
     let alloc = rt.alloc();
-    assert_eq!(rt; line_judged(alloc, &[2, 3, 4, 5], &[3, 4, 5]), Ok(20));
-    assert_eq!(rt;
-        line_judged(alloc, &[3, 4, 5], &[3, 4, 5]),
-        Err(Refusal::MissingTuple(2))
-    );
+    assert_same(&rt, line_judged(alloc, &[2, 3, 4, 5], &[3, 4, 5]), Ok(20));
+    let missing = Err(Refusal::MissingTuple(2));
+    assert_same(&rt, line_judged(alloc, &[3, 4, 5], &[3, 4, 5]), missing);
 }
 
 #[test]
 fn a_shorter_live_walk_is_found(rt: HostRuntime) {
     let alloc = rt.alloc();
-    assert_eq!(rt; ways_judged(alloc, &[1, 2, 3, 4], &[1, 2, 3]), Ok(9));
-    assert_eq!(rt;
-        ways_judged(alloc, &[1, 2, 3, 4], &[1, 4, 3]),
-        Err(Refusal::Shorter(9))
-    );
-    assert_eq!(rt;
-        ways_judged(alloc, &[1, 2, 3], &[1, 2, 3]),
-        Err(Refusal::MissingTuple(4))
-    );
+    assert_same(&rt, ways_judged(alloc, &[1, 2, 3, 4], &[1, 2, 3]), Ok(9));
+    let shorter = Err(Refusal::Shorter(9));
+    assert_same(&rt, ways_judged(alloc, &[1, 2, 3, 4], &[1, 4, 3]), shorter);
+    let missing = Err(Refusal::MissingTuple(4));
+    assert_same(&rt, ways_judged(alloc, &[1, 2, 3], &[1, 2, 3]), missing);
 }
 
 #[test]
@@ -171,8 +165,8 @@ fn bounds_take_the_codes_at_hand(rt: HostRuntime) -> Result<(), Refusal> {
     let leaves = on_the_ways(alloc, &[2, 3, 4])?;
     let by_id = NodesById::new(alloc, &leaves)?;
     let some = ItemLeaves { by_id: &by_id };
-    assert_eq!(rt; bound(4, &some, 2, 3), 0);
-    assert_eq!(rt; bound(4, &some, 4, 3), 0);
+    assert_same(&rt, bound(4, &some, 2, 3), 0);
+    assert_same(&rt, bound(4, &some, 4, 3), 0);
     Ok(())
 }
 
@@ -182,8 +176,8 @@ fn references_give_their_codes(rt: HostRuntime) -> Result<(), Refusal> {
     let leaves = on_the_ways(alloc, &[1, 3, 4])?;
     let by_id = NodesById::new(alloc, &leaves)?;
     let all = ItemLeaves { by_id: &by_id };
-    assert_eq!(rt; bound(4, &all, 1, 3), 4);
-    assert_eq!(rt; bound(4, &all, 4, 3), 4);
-    assert_eq!(rt; bound(4, &all, 3, 3), 0);
+    assert_same(&rt, bound(4, &all, 1, 3), 4);
+    assert_same(&rt, bound(4, &all, 4, 3), 4);
+    assert_same(&rt, bound(4, &all, 3, 3), 0);
     Ok(())
 }

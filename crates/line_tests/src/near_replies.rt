@@ -1,11 +1,12 @@
 //! What no clause says: signed replies of another program are accepted, and changed ones are refused.
 //! `checks/near/answers.py` is that program.
+use crate::same::assert_same;
 use crate::signed_near::{
     FRONT, NOTHING, NOTHING_COVERED, PUBLIC, TWO_WITH_ONE_ID, WITH_5, WITHIN_0, WITHIN_4,
     WITHIN_ANY, WITHOUT_4,
 };
-use crate::{NearError, check_near};
 use lms_tree::SealError;
+use near_client::{NearError, check_near};
 use near_model::{Mark, NearQuery};
 use octet_text::{Sha, Toy};
 use route_client::CoverFault;
@@ -92,7 +93,7 @@ fn the_first_failing_test_is_named(rt: HostRuntime) -> Result<(), AllocError> {
     ];
     for (rest, error) in rows {
         let octets = behind_front(alloc, rest)?;
-        assert_eq!(rt; refusal(alloc, &octets, WITHIN_FOUR, 0), Some(error));
+        assert_same(&rt, refusal(alloc, &octets, WITHIN_FOUR, 0), Some(error));
     }
     Ok(())
 }
@@ -101,26 +102,24 @@ fn the_first_failing_test_is_named(rt: HostRuntime) -> Result<(), AllocError> {
 fn other_keys_versions_and_octets_are_refused(rt: HostRuntime) -> Result<(), AllocError> {
     let alloc = rt.alloc();
     let mut octets = behind_front(alloc, &WITHIN_4)?;
-    assert_eq!(rt;
-        refusal(alloc, &octets, WITHIN_FOUR, 4),
-        Some(NearError::Stale(3))
-    );
+    let stale = refusal(alloc, &octets, WITHIN_FOUR, 4);
+    assert_same(&rt, stale, Some(NearError::Stale(3)));
     if octets.len() < 10_000 {
-        let other_hash = check_near::<Toy>(alloc, &PUBLIC, &[], &octets, WITHIN_FOUR, 0);
-        assert_eq!(rt;
-            other_hash.err(),
-            Some(NearError::BadCover(CoverFault::Differs))
+        let other_hash = check_near::<Toy>(alloc, &PUBLIC, &[], &octets, WITHIN_FOUR, 0).err();
+        assert_same(
+            &rt,
+            other_hash,
+            Some(NearError::BadCover(CoverFault::Differs)),
         );
-        let other_key = check_near::<Sha>(alloc, &PUBLIC[..55], &[], &octets, WITHIN_FOUR, 0);
-        assert_eq!(rt;
-            other_key.err(),
-            Some(NearError::BadSignature(SealError::BadKey))
+        let other_key = check_near::<Sha>(alloc, &PUBLIC[..55], &[], &octets, WITHIN_FOUR, 0).err();
+        assert_same(
+            &rt,
+            other_key,
+            Some(NearError::BadSignature(SealError::BadKey)),
         );
     }
     octets.push(0)?;
-    assert_eq!(rt;
-        refusal(alloc, &octets, WITHIN_FOUR, 0),
-        Some(NearError::Malformed(1585))
-    );
+    let longer = refusal(alloc, &octets, WITHIN_FOUR, 0);
+    assert_same(&rt, longer, Some(NearError::Malformed(1585)));
     Ok(())
 }

@@ -1,0 +1,24 @@
+-- What the words of released values say at some steps, so that a changed word is seen.
+use Rattle.std.proofs.Common.{◌≡◌, ℕ, ◌+◌, List, slice_index, Some, None, arith, refl}
+use Rattle.lms_ots.specs.Chains.{chain_of, secret_of, digits_of, randomiser_of}
+use Rattle.lms_tree.specs.Signatures.{KeyOf}
+use Rattle.lms_reduce.specs.Released.{signed_digits, own_value, IsUnreleased}
+
+-- what a slot shows of a chain is released
+shown_is_released : (key : KeyOf) (slot at : ℕ) (text : List ℕ) → IsUnreleased key slot (Some text) at (slice_index (signed_digits key slot text) at) → ⊥
+shown_is_released key slot at text h = omega (arith, h)
+
+-- the step before it is not
+before_is_not : (key : KeyOf) (slot at step : ℕ) (text : List ℕ) → slice_index (signed_digits key slot text) at ≡ step + 1 → IsUnreleased key slot (Some text) at step
+before_is_not key slot at step text is = omega (arith, is)
+
+-- a slot that signed nothing has released nothing
+nothing_is_released : (key : KeyOf) (slot at step : ℕ) → IsUnreleased key slot None at step
+nothing_is_released key slot at step = tt
+
+-- the digits are of the signed text, under the slot's own number and C
+digits_are : (key : KeyOf) (slot : ℕ) (text : List ℕ) → signed_digits key slot text ≡ digits_of key.i slot (randomiser_of key.i slot key.seed) text
+digits_are key slot text = refl
+
+value_is : (key : KeyOf) (slot at step : ℕ) → own_value key slot at step ≡ chain_of key.i slot at 0 step (secret_of key.i slot key.seed at)
+value_is key slot at step = refl

@@ -18,7 +18,8 @@ use Rattle.proof_judge.specs.declared.refusal.Refusal.TheVariants.{MissingTuple,
 use Rattle.book_model.specs.declared.items.Items.{Items}
 use Rattle.proof_judge.specs.ItemWalks.{item_at, marks, inner_ways, Lacks}
 use Rattle.proof_judge.specs.Judgement.{Verdict, Then, IsBorderAt, PairTests, HypTests}
-use Rattle.hyp_judge.specs.Scans.{AboveAll, AreRising, AreBorders, border_length, border_among, IsBorderList}
+use Rattle.hyp_judge.specs.Scans.{AboveAll, AreRising, border_length, IsBorderList}
+use Rattle.hyp_judge.proofs.BorderLists.{AreBorders, border_among}
 use Rattle.proof_judge.proofs.Tested.{lacks_least}
 
 -- one more item

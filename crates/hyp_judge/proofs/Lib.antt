@@ -1,2 +1,3 @@
+mod BorderLists
 mod ScanLaws
 mod BorderLaws

@@ -8,7 +8,8 @@ use Rattle.book_model.specs.declared.items.Query.{Query}
 use Rattle.proof_judge.specs.declared.refusal.Refusal.{Refusal}
 use Rattle.book_model.specs.declared.items.Items.{Items}
 use Rattle.proof_judge.specs.Judgement.{Verdict, pair_fault, PairTests, NotBefore}
-use Rattle.hyp_judge.specs.Scans.{scan_row, scan, AboveAll, AreRising, AreBorders}
+use Rattle.hyp_judge.specs.Scans.{scan_row, scan, AboveAll, AreRising}
+use Rattle.hyp_judge.proofs.BorderLists.{AreBorders}
 
 above : (id : ℕ) (bs : List (ℕ × ℕ)) (b : ℕ × ℕ) → AboveAll id bs → Contains bs b → id < b.0
 above id [] b h c = absurd (Contains-none b c)

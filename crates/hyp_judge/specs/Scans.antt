@@ -1,11 +1,11 @@
 -- The scan of border pairs, by rising ids.
-use Rattle.std.specs.Prelude.{◌≡◌, ℕ, ◌+◌, ◌<◌, ◌↔◌, nat_lt, Option, None, Some, if◌then◌else◌, List, [], ◌∷◌, Contains, is_some}
+use Rattle.std.specs.Prelude.{◌≡◌, ℕ, ◌+◌, ◌<◌, ◌↔◌, nat_lt, Option, None, Some, if◌then◌else◌, List, [], ◌∷◌, Contains}
 use Rattle.std.specs.Option.{option_or}
 use Rattle.road_leaf.specs.declared.leaf.NodeLeaf.{NodeLeaf}
 use Rattle.road_leaf.specs.declared.pair.PairLeaf.{PairLeaf}
 use Rattle.proof_judge.specs.declared.refusal.Refusal.{Refusal}
 use Rattle.proof_judge.specs.ItemWalks.{item_at, marks}
-use Rattle.proof_judge.specs.Judgement.{pair_fault, IsBorderAt}
+use Rattle.proof_judge.specs.Judgement.{pair_fault}
 
 -- the first fault of a border with those of a list
 abbrev pub scan_row : List PairLeaf → ℕ → ℕ → ℕ → List (ℕ × ℕ) → Option Refusal
@@ -28,19 +28,9 @@ abbrev pub AreRising : List (ℕ × ℕ) → Type 0
 AreRising [] = Unit {0}
 AreRising (b ∷ bs) = AboveAll b.0 bs
 
--- all borders that an end reaches below a length, by rising id, each with its least inner length
-pub record AreBorders (nodes : List NodeLeaf) (from most : ℕ) (bs : List (ℕ × ℕ)) : Type 0 where
-  pub rising : AreRising bs
-  pub all : (b p : ℕ) → Contains bs (b, p) ↔ IsBorderAt nodes from most b p
-
 -- the least inner length of an id, if it is a border
 abbrev pub border_length : List NodeLeaf → (ℕ → Option ℕ) → ℕ → Option ℕ
 border_length nodes len id = if marks (item_at nodes id) then len id else None
-
--- of an id among some of the items
-abbrev pub border_among : List NodeLeaf → List NodeLeaf → (ℕ → Option ℕ) → ℕ → Option ℕ
-border_among nodes some len id = if is_some
-    (item_at some id) then border_length nodes len id else None
 
 -- the borders among items by rising id, each with its length
 pub record IsBorderList (nodes : List NodeLeaf) (len : ℕ → Option ℕ)

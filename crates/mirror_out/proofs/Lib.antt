@@ -1,2 +1,3 @@
 pub mod Promising
 pub mod Spreading
+mod Worked

@@ -1,2 +1,3 @@
 pub mod NearFormat
 pub mod MarkLaws
+mod Worked

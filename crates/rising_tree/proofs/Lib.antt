@@ -1,2 +1,4 @@
+pub mod OnItsWay
 pub mod RisingLemmas
 pub mod SpotLemmas
+mod Worked

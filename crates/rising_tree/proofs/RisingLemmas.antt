@@ -17,7 +17,8 @@ use Rattle.merkle_cover.specs.Trees.{digest, root}
 use Rattle.rising_tree.specs.Spots.{spots_of}
 use Rattle.rising_tree.specs.Rising.{Growth, Takes, end_of, whole_places, count_waiting, HoldsLevel, HoldsCover}
 use Rattle.merkle_cover.specs.Covers.{cover_of}
-use Rattle.rising_tree.specs.Raising.{CanRaise, IsRaised, IsOnItsWay}
+use Rattle.rising_tree.specs.Raising.{CanRaise, IsRaised}
+use Rattle.rising_tree.proofs.OnItsWay.{IsOnItsWay}
 use Rattle.rising_tree.specs.declared.spots.Spot.{Spot}
 use Rattle.merkle_cover.proofs.ShapeLemmas.{places_at-lt-mul, mul-lt-places_at, top-covers}
 use Rattle.merkle_cover.proofs.CoverLemmas.{sum_by-same}

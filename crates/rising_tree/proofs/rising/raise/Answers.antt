@@ -5,7 +5,7 @@ use Rattle.std.proofs.lemmas.Nat.{mul-le, div-add-mod'}
 use Rattle.std.proofs.Math.Nat.{pow-zero, le_refl}
 use Rattle.merkle_cover.specs.Shape.{top}
 use Rattle.rising_tree.specs.Rising.{end_of}
-use Rattle.rising_tree.specs.Raising.{IsOnItsWay}
+use Rattle.rising_tree.proofs.OnItsWay.{IsOnItsWay}
 use Rattle.rising_tree.specs.Spots.{spots_of}
 use Rattle.rising_tree.specs.declared.spots.Spot.{Spot}
 use Rattle.merkle_cover.proofs.ShapeLemmas.{pow-add-one}

@@ -1,6 +1,7 @@
-use Rattle.std.proofs.Common.{◌≡◌, ℕ, ◌+◌, ◌-◌, ◌*◌, ◌^◌, ◌≤◌, List, length}
+use Rattle.std.proofs.Common.{◌≡◌, ℕ, ◌+◌, ◌-◌, ◌*◌, ◌^◌, ◌≤◌, List}
 use Rattle.rising_tree.specs.Rising.{end_of}
-use Rattle.rising_tree.specs.Raising.{CanRaise, IsOnItsWay}
+use Rattle.rising_tree.specs.Raising.{CanRaise}
+use Rattle.rising_tree.proofs.OnItsWay.{IsOnItsWay}
 use Rattle.rising_tree.proofs.rising.raise.Given as goal
 
 abbrev pub invariant-loop-level : goal.invariant-loop-level

@@ -78,7 +78,7 @@ def repeated(owner):
 def in_tests():
     """The arrays that stand in the client's tests."""
     arrays = {}
-    for name in glob.glob(os.path.join(HERE, "../../crates/near_client/src/signed_near.rt")):
+    for name in glob.glob(os.path.join(HERE, "../../crates/line_tests/src/signed_near.rt")):
         with open(name, encoding="utf-8") as file:
             for found in re.finditer(r"pub const (\w+): \[u8; \d+\] = \[([^\]]*)\]", file.read()):
                 arrays[found[1]] = bytes(int(word, 0) for word in found[2].replace(",", " ").split())

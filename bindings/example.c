@@ -1,4 +1,4 @@
-/* Checks the reply in a file to the query for a shortest route, and prints the route or the refusal.
+/* Checks the reply in a file to the query for a shortest route, and prints the route, that there is none, or the refusal.
  * Usage: example KEY REPLY FROM TO LEAST [CHAIN], where KEY has the public key in hex. */
 #include "route_check.h"
 
@@ -55,9 +55,14 @@ int main(int count, char **words) {
     struct octets reply = load(words[2]);
     if (count == 7) chain = load(words[6]);
     uint32_t from = (uint32_t)strtoul(words[3], NULL, 10), to = (uint32_t)strtoul(words[4], NULL, 10);
-    if (route_check(key, sizeof key, chain.at, chain.length, reply.at, reply.length, from, to,
-                    strtoull(words[5], NULL, 10), route, ROUTE_MOST_NODES, line, sizeof line,
-                    &verdict) != ROUTE_ACCEPTED) {
+    uint32_t code = route_check(key, sizeof key, chain.at, chain.length, reply.at, reply.length, from, to,
+                                strtoull(words[5], NULL, 10), route, ROUTE_MOST_NODES, line, sizeof line,
+                                &verdict);
+    if (code == ROUTE_APART) {
+        printf("accepted none\n");
+        return 0;
+    }
+    if (code != ROUTE_ACCEPTED) {
         printf("%.*s", (int)verdict.line, (const char *)line);
         return 1;
     }

@@ -1,10 +1,10 @@
-"""Checks the reply in a file to the query for a shortest route, and prints the route or the refusal.
+"""Checks the reply in a file to the query for a shortest route, and prints the route, that there is none, or the refusal.
 Usage: example.py KEY REPLY FROM TO LEAST [CHAIN], where KEY has the public key in hex, beside libroute_check.so."""
 
 import pathlib
 import sys
 
-from route_check import Client, Refused
+from route_check import Apart, Client, Refused
 
 
 def main(words):
@@ -19,7 +19,10 @@ def main(words):
     except Refused as refusal:
         print(refusal)
         return 1
-    print(f"accepted {route.length}:", *route.nodes)
+    if isinstance(route, Apart):
+        print("accepted none")
+    else:
+        print(f"accepted {route.length}:", *route.nodes)
     return 0
 
 

@@ -95,6 +95,9 @@ def routes(played):
         played.compare(f"owner.key {method}.reply 1 3 {least}")
         played.compare(f"owner.key {method}.reply 1 3 {least + 1}")
         played.compare(f"owner.key {method}.reply 1 2 {least}")
+        (played.folder / "none.reply").write_bytes(played.run(f"prove {method}.pub 1 5")[1])
+        for end in (5, 3):
+            played.compare(f"owner.key none.reply 1 {end} {least}")
         octets = bytearray(played.replies[f"{method}.reply"])
         for place in (0, 1, 50, 105, 130, 1300, len(octets) - 1):
             turned = octets.copy()

@@ -33,7 +33,8 @@ enum route_code {
     ROUTE_DISAGREES = 12,      /* the distance that the items give */
     ROUTE_NO_MEMORY = 13,
     ROUTE_TOO_LONG = 14,
-    ROUTE_MALFORMED_CHAIN = 15 /* the place of the first field of the chain that can't be read */
+    ROUTE_MALFORMED_CHAIN = 15, /* the place of the first field of the chain that can't be read */
+    ROUTE_APART = 16           /* accepted: no walk joins the two ends */
 };
 
 /* Why a signature is not verified. */
@@ -67,7 +68,9 @@ struct route_node {
 /* Checks a reply to the query for a shortest route from one node to another, and returns `code`.
  * `chain` has the octets of a chain file; without links its length is 0. `least` is the least version
  * that is taken. An accepted route's ids go into `route`, the line of a refusal into `line`, each as far
- * as there is room; the other room stays as it was. No pointer may be null, also where its length is 0. */
+ * as there is room; the other room stays as it was, and with ROUTE_APART, which says that the reply is
+ * accepted and that no walk joins the two nodes, both do. No pointer may be null, also where its length
+ * is 0. */
 uint32_t route_check(const uint8_t *public_key, size_t public_key_length,
                      const uint8_t *chain, size_t chain_length,
                      const uint8_t *reply, size_t reply_length,

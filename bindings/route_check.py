@@ -6,6 +6,7 @@ from dataclasses import dataclass
 
 _MOST_NODES = 65_536
 _LINE_ROOM = 128
+_APART = 16
 
 
 class _Verdict(ctypes.Structure):
@@ -34,6 +35,13 @@ class Route:
 
 
 @dataclass(frozen=True)
+class Apart:
+    """Accepted: no walk joins the two nodes, in the map of this version."""
+
+    version: int
+
+
+@dataclass(frozen=True)
 class Within:
     """The accepted nodes within a radius, each with its distance, and the version of the map."""
 
@@ -51,7 +59,7 @@ class Refused(Exception):
 
 
 class NotAnswer(Refused):
-    """The reply says that an end is no node, or that no route joins the two."""
+    """The reply says without proof that an end is no node, or that no route joins the two."""
 
 
 class Malformed(Refused):
@@ -113,10 +121,13 @@ class Client:
             call.restype = ctypes.c_uint32
             call.argtypes = 3 * octets + [ctypes.c_uint32, end, ctypes.c_uint64, *rooms, ctypes.POINTER(_Verdict)]
 
-    def check_route(self, reply: bytes, start: int, end: int, least: int = 0) -> Route:
-        """The route that a reply proves to be a shortest one. Raises `Refused`."""
+    def check_route(self, reply: bytes, start: int, end: int, least: int = 0) -> Route | Apart:
+        """The route that a reply proves to be a shortest one, or that it proves that there is none. Raises
+        `Refused`."""
         room, verdict = (ctypes.c_uint32 * _MOST_NODES)(), _Verdict()
         self._checked(self._route, reply, start, end, least, room, verdict)
+        if verdict.code == _APART:
+            return Apart(verdict.version)
         return Route(room[: verdict.count], verdict.length, verdict.version)
 
     def check_reach(self, reply: bytes, start: int, radius: int, least: int = 0) -> Within:
@@ -134,6 +145,6 @@ class Client:
             self._key, len(self._key), self._chain, len(self._chain), reply, len(reply), start, end, least,
             ctypes.addressof(room), len(room), line, _LINE_ROOM, ctypes.byref(verdict),
         )
-        if code != 0:
+        if code not in (0, _APART):
             text = line.raw[: min(verdict.line, _LINE_ROOM)].decode("ascii").rstrip("\n")
             raise _REFUSALS[code](code, verdict.first, verdict.second, text or _REFUSALS[code].__doc__)

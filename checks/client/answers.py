@@ -200,13 +200,20 @@ class Owner:
         return cover_of(self.pair_tree, self.fan, [self.book.pair_ids.index(pair) for pair in pairs])
 
     def answer(self, route, nodes, pairs=()):
+        return self.reply(0, struct.pack(f">I{len(route)}I", len(route), *route), nodes, pairs)
+
+    def apart(self, nodes, pairs=()):
+        """The answer without a route, by which no walk joins the ends."""
+        return self.reply(3, b"", nodes, pairs)
+
+    def reply(self, kind, way, nodes, pairs):
         items = [(self.book.ids.index(node), self.book.nodes[self.book.ids.index(node)])
                  for node in nodes]
         said = [(self.book.pair_ids.index(pair), self.book.pairs[self.book.pair_ids.index(pair)])
                 for pair in pairs]
         return b"".join(
-            [b"\0", self.header, struct.pack(">H", len(self.signature)), self.signature,
-             struct.pack(f">I{len(route)}I", len(route), *route), struct.pack(">I", len(items))]
+            [bytes([kind]), self.header, struct.pack(">H", len(self.signature)), self.signature,
+             way, struct.pack(">I", len(items))]
             + [struct.pack(">IH", place, len(leaf)) + leaf for place, leaf in items]
             + [struct.pack(">I", len(said))]
             + [struct.pack(">I", place) + leaf for place, leaf in said]
@@ -233,6 +240,12 @@ def made():
         "FULL_WITHOUT_PAIR": full.answer(ends, ends)[ROUTE:],
         "LDM_REPLY": ldm.answer([3, 4, 5], [2, 3, 4, 5]),
         "LDM_WITHOUT_2": ldm.answer([3, 4, 5], [3, 4, 5])[ROUTE:],
+        "APART": dij.apart(every)[ROUTE:],
+        "APART_BACK": dij.apart([1, 5])[ROUTE:],
+        "APART_WITHOUT_4": dij.apart([1, 2, 3, 5])[ROUTE:],
+        "FULL_APART": full.apart([1, 5], [(1, 5)])[ROUTE:],
+        "FULL_APART_JOINED": full.apart([1, 3], [(1, 3)])[ROUTE:],
+        "BORDER_APART": hyp.apart([1, 2, 4, 5])[ROUTE:],
     }
     methods = [("DIJ", DIJ, (0, 0, 0), []), ("FULL", FULL, (0, 0, 0), [(1, 3)]),
              ("LDM", LDM, (1, 2, 0), []), ("HYP", HYP, (2, 1, 0), [])]

@@ -8,17 +8,16 @@ checks/client/answers.py, and must have the signed roots.
 
 Then, TIMES times for each publication (400 if not given), a reply is changed: bits and octets, cuts, longer
 octets, swapped and false counts, fields of the replies to other queries and of other publications, the
-older one included, other routes, other distances, and items left out, repeated or added, with the covers
+older one included, other routes or none, other distances, and items left out, repeated or added, with the covers
 computed anew. With EACH, a bit of each octet of one reply is turned as well, for each method. The program's
 `check`, which asks for the newer version, is run on each. It must end with status 0 or 1 within two seconds,
-and what it accepts must be a shortest route of the newer map, which a search of its own says. At the end a
+and what it accepts must be a shortest route of the newer map, or that there is none, by a search of its own. At the end a
 line says how many replies were looked at, how many were accepted, and how long the slowest took, and then a
 line for each verdict.
 
-2026-11-28, with 200 1 EACH over a program of the same commands without the messages on standard error: 14,079
-replies, 372 accepted and true, slowest 0.58 s on a machine that was busy threefold; refused by Malformed 2,850,
-Stale 21, BadSignature 6,349, BadCover 3,461, BadRoute 189, MissingTuple 808, MissingPair 5, Shorter 20 and
-Disagrees 4; four minutes. With 40 2 over road_proof: 984 replies, 100 accepted and true, slowest 0.17 s.
+2026-11-28, with 400 1 EACH: 18,946 replies, 633 accepted and true, slowest 0.09 s; refused by Malformed 4,713,
+Stale 35, BadSignature 7,294, BadCover 4,026, BadRoute 269, MissingTuple 1,732, MissingPair 63, Shorter 47 and
+Disagrees 134; two minutes.
 """
 import os
 import random
@@ -85,12 +84,13 @@ class Program:
 
 
 class Answer:
-    """The fields of an answer."""
+    """The fields of an answer, of kind 0 with a route, of kind 3 without."""
 
     def __init__(self, octets):
         (length,) = struct.unpack_from(">H", octets, 105)
         self.header, self.signature, self.at, self.octets_read = octets[1:105], octets[107:107 + length], 107 + length, octets
-        self.route = [self.number() for _ in range(self.number())]
+        self.kind = octets[0]
+        self.route = [self.number() for _ in range(self.number())] if self.kind == 0 else []
         self.nodes = [self.node() for _ in range(self.number())]
         self.pairs = [(self.number(), self.take(17)) for _ in range(self.number())]
         self.node_cover = [self.take(32) for _ in range(self.number())]
@@ -110,10 +110,10 @@ class Answer:
 
     def parts(self):
         """The octets, field by field, or list by list."""
-        yield b"\0"
+        yield bytes([self.kind])
         yield self.header
         yield struct.pack(">H", len(self.signature)) + self.signature
-        yield struct.pack(f">I{len(self.route)}I", len(self.route), *self.route)
+        yield struct.pack(f">I{len(self.route)}I", len(self.route), *self.route) if self.kind == 0 else b""
         yield struct.pack(">I", len(self.nodes)) + b"".join(struct.pack(">IH", place, len(leaf)) + leaf for place, leaf in self.nodes)
         yield struct.pack(">I", len(self.pairs)) + b"".join(struct.pack(">I", place) + leaf for place, leaf in self.pairs)
         for cover in (self.node_cover, self.pair_cover):
@@ -238,7 +238,10 @@ def with_parts(rng, answer, other):
 
 def clever(rng, book, chart, octets, others):
     """Changes fields of an answer, and mends the covers so that the items fold to the signed roots."""
-    answer, kind = Answer(octets), rng.randrange(6)
+    answer, kind = Answer(octets), rng.randrange(7)
+    if kind == 6:
+        answer.kind = 3
+        with_items(rng, book, answer)
     if kind == 5:
         return with_parts(rng, answer, Answer(rng.choice(others)))
     if kind in (0, 1, 3):
@@ -259,6 +262,8 @@ class Judge:
         self.distances = {node: chart.distances(node) for node in chart.nodes}
 
     def is_true(self, line, start, end):
+        if line == "accepted none\n":
+            return end not in self.distances[start]
         length, route = line.removeprefix("accepted ").split(":")
         length, route = int(length), list(map(int, route.split()))
         hops = list(zip(route, route[1:]))

@@ -132,11 +132,11 @@ class Party:
         proved = subprocess.run([PROGRAM, "prove", self.publication, str(start), str(end)], capture_output=True, check=False)
         wants(f"{OVER}: {start} {end}", reply[2:], proved.stdout)
         keep("a.reply", reply[2:])
-        if reply[2] == 0:
+        if reply[2] in (0, 3):
             line = run("check", "owner.key", "a.reply", start, end, self.version)
         else:
             line = run("check", "owner.key", "a.reply", start, end, self.version, wanted=1)
-        if not line.startswith(b"accepted " if reply[2] == 0 else b"refused NotAnswer"):
+        if not line.startswith(b"accepted " if reply[2] in (0, 3) else b"refused NotAnswer"):
             sys.exit(f"check {start} {end}: {line.decode()}")
         self.answers += 1
 

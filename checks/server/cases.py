@@ -1,7 +1,7 @@
 #!/usr/bin/env python3
 """Plays owner, server, client and auditor under the four methods and the six orders: checks/server/cases.py [PROGRAM]
 
-Over the map of five nodes and a line of five nodes it computes, apart from the program, what
+Over the map of five nodes, the same with a sixth, and a line of five nodes it computes, apart from the program, what
 `publish`, `prove`, `check` and `audit` must write, runs each, and compares octet for octet. Then it
 makes lies, each with the covers that fit it, and compares what `check` says of them. Trees, covers,
 replies and signatures are those of checks/client/answers.py; the orders of the five nodes and their
@@ -20,6 +20,8 @@ sys.path.insert(0, os.path.join(os.path.dirname(os.path.abspath(__file__)), "../
 import answers
 
 VERSION, FAN, SEED = 3, 2, 7
+# the map of five nodes with a sixth beside node 5, whose road makes both ends nodes on a cell's border
+SIX = ([*answers.STREETS[0], (6, 20, 50)], [*answers.STREETS[1], (5, 6, 1)])
 
 
 def shuffled(node):
@@ -42,6 +44,8 @@ METHODS = {
     "ldm": (answers.LDM, (1, 2, 0), [1, 2, 3, 4], []),
     "hyp": (answers.HYP, (3, 1, 0), [1, 2, 3, 4], [(2, 3), (3, 4)]),
 }
+# the nodes and pairs that each sends for the query from 1 to 5, which no walk joins
+APART = {"dij": ([1, 2, 3, 4, 5], []), "full": ([1, 5], [(1, 5)]), "ldm": ([1, 5], []), "hyp": ([1, 2, 4, 5], [])}
 # the codes of the five nodes from landmark 1: its greatest distance is 9, so the step is 4
 CODES, STEP = {1: 0, 2: 1, 3: 2, 4: 0, 5: answers.NO_CODE}, 4
 
@@ -67,6 +71,8 @@ class Owner(answers.Owner):
         number, seed, ids = ORDERS[order]
         if streets is answers.LINE:
             parameters = (1, 16, 0)
+        if streets is SIX:
+            ids = [*ids, 6]
         self.key, self.slot, self.streets, self.fan = key, slot, streets, FAN
         self.book = self.book_in(ids, code, parameters)
         self.node_tree = answers.levels_of(self.book.nodes, FAN)
@@ -97,8 +103,21 @@ class Owner(answers.Owner):
                 + struct.pack(">I", len(nodes)) + b"".join(struct.pack(">Iii", *node) for node in nodes)
                 + struct.pack(">I", len(roads)) + b"".join(struct.pack(">III", *road) for road in roads))
 
-    def reply(self, route, nodes, pairs=()):
-        return self.answer(route, sorted(nodes, key=self.book.ids.index), sorted(pairs, key=self.book.pair_ids.index))
+    def in_places(self, nodes, pairs):
+        return sorted(nodes, key=self.book.ids.index), sorted(pairs, key=self.book.pair_ids.index)
+
+    def shows(self, route, nodes, pairs=()):
+        return self.answer(route, *self.in_places(nodes, pairs))
+
+    def none(self, nodes, pairs=()):
+        return self.apart(*self.in_places(nodes, pairs))
+
+    def from_1_to_5(self):
+        """The reply by which no walk joins 1 and 5, under LDM with the node whose code stands for that of 1."""
+        nodes, pairs = APART[self.words[0]]
+        if self.words[0] == "ldm":
+            nodes = sorted({*nodes, min((1, 4), key=self.book.ids.index)})
+        return self.none(nodes, pairs)
 
 
 class Play:
@@ -119,11 +138,13 @@ class Play:
             self.other += 1
             print(f"DIFFERS {' '.join(words)}: status {run.returncode}, {run.stdout[:80]!r}, and not {status}, {wanted[:80]!r}")
 
-    def parties(self, owner, roads, start, end, reply, line):
-        """All four parties over one publication."""
-        query = [str(start), str(end)]
+    def publish(self, owner, roads):
         self.expect(["publish", roads, *owner.words], owner.publication())
         self.write("map.pub", owner.publication())
+
+    def parties(self, start, end, reply, line):
+        """Server, client and auditor over the publication."""
+        query = [str(start), str(end)]
         self.expect(["prove", "map.pub", *query], reply)
         self.write("reply", reply)
         self.expect(["check", "owner.key", "reply", *query, str(VERSION)], b"accepted " + line)
@@ -144,13 +165,21 @@ def play_lies(play, key):
     """A lie under each method, whose leaves and covers are all of the signed trees."""
     dij, full, hyp = (Owner(key, 0, answers.STREETS, method, "id") for method in ("dij", "full", "hyp"))
     line = Owner(key, 0, answers.LINE, "ldm", "id")
-    play.lie(1, 3, dij.reply([1, 4, 3], [1, 3, 4]), b"refused MissingTuple 2\n")
-    play.lie(1, 3, dij.reply([1, 4, 3], [1, 2, 3, 4]), b"refused Shorter 9\n")
-    play.lie(1, 3, full.reply([1, 4, 3], [1, 3, 4], [(1, 3)]), b"refused Disagrees 9\n")
-    play.lie(1, 3, full.reply([1, 2, 3], [1, 2, 3]), b"refused MissingPair 1 3\n")
-    play.lie(3, 5, line.reply([3, 4, 5], [3, 4, 5]), b"refused MissingTuple 2\n")
-    play.lie(1, 3, hyp.reply([1, 2, 3], [1, 2, 3, 4], [(2, 3)]), b"refused MissingPair 3 4\n")
-    play.lie(1, 3, hyp.reply([1, 4, 3], [1, 2, 3, 4], [(2, 3), (3, 4)]), b"refused Shorter 9\n")
+    play.lie(1, 3, dij.shows([1, 4, 3], [1, 3, 4]), b"refused MissingTuple 2\n")
+    play.lie(1, 3, dij.shows([1, 4, 3], [1, 2, 3, 4]), b"refused Shorter 9\n")
+    play.lie(1, 3, full.shows([1, 4, 3], [1, 3, 4], [(1, 3)]), b"refused Disagrees 9\n")
+    play.lie(1, 3, full.shows([1, 2, 3], [1, 2, 3]), b"refused MissingPair 1 3\n")
+    play.lie(3, 5, line.shows([3, 4, 5], [3, 4, 5]), b"refused MissingTuple 2\n")
+    play.lie(1, 3, hyp.shows([1, 2, 3], [1, 2, 3, 4], [(2, 3)]), b"refused MissingPair 3 4\n")
+    play.lie(1, 3, hyp.shows([1, 4, 3], [1, 2, 3, 4], [(2, 3), (3, 4)]), b"refused Shorter 9\n")
+    play.lie(1, 3, dij.none([1, 2, 3, 4, 5]), b"refused Shorter 9\n")
+    play.lie(1, 1, dij.none([1, 2, 3, 4, 5]), b"refused Shorter 0\n")
+    play.lie(1, 5, dij.none([1, 2, 3, 5]), b"refused MissingTuple 4\n")
+    play.lie(1, 3, full.none([1, 3], [(1, 3)]), b"refused Disagrees 9\n")
+    play.lie(1, 5, full.none([1, 5]), b"refused MissingPair 1 5\n")
+    play.lie(1, 3, hyp.none([1, 2, 3, 4], [(2, 3), (3, 4)]), b"refused Disagrees 5\n")
+    six = Owner(key, 0, SIX, "hyp", "id")
+    play.lie(1, 5, six.none([1, 2, 4, 5], [(2, 5)]), b"refused MissingPair 4 5\n")
 
 
 def compare_digests(key):
@@ -163,7 +192,7 @@ def compare_digests(key):
         owner = Owner(key, 0, answers.STREETS, method, order)
         owner.signature = bytes(len(owner.signature))
         _, _, nodes, pairs = METHODS[method]
-        digest = hashlib.sha256(owner.reply([1, 2, 3], nodes, pairs)).hexdigest()
+        digest = hashlib.sha256(owner.shows([1, 2, 3], nodes, pairs)).hexdigest()
         print("the same" if digest in tests else "LACKING", method, order, digest)
         lacking += digest not in tests
     return lacking
@@ -178,16 +207,23 @@ def main():
         play.write("secret.hex", b"0" * 96)
         play.write("five.roads", road_file(answers.STREETS))
         play.write("line.roads", road_file(answers.LINE))
+        play.write("six.roads", road_file(SIX))
         play.write("owner.key", key.public.hex().encode())
         play.expect(["key", "secret.hex", "h5"], key.public.hex().encode() + b"\n")
         slot = 0
         for method, (_, _, nodes, pairs) in METHODS.items():
             for order in ORDERS:
                 owner = Owner(key, slot, answers.STREETS, method, order)
-                play.parties(owner, "five.roads", 1, 3, owner.reply([1, 2, 3], nodes, pairs), b"9: 1 2 3\n")
+                play.publish(owner, "five.roads")
+                play.parties(1, 3, owner.shows([1, 2, 3], nodes, pairs), b"9: 1 2 3\n")
+                play.parties(1, 5, owner.from_1_to_5(), b"none\n")
                 slot += 1
         line = Owner(key, slot, answers.LINE, "ldm", "id")
-        play.parties(line, "line.roads", 3, 5, line.reply([3, 4, 5], [2, 3, 4, 5]), b"20: 3 4 5\n")
+        play.publish(line, "line.roads")
+        play.parties(3, 5, line.shows([3, 4, 5], [2, 3, 4, 5]), b"20: 3 4 5\n")
+        six = Owner(key, slot + 1, SIX, "hyp", "id")
+        play.publish(six, "six.roads")
+        play.parties(1, 5, six.none([1, 2, 4, 5], [(2, 5), (4, 5)]), b"none\n")
         play_lies(play, key)
         print(f"{play.same} as computed, {play.other} not")
         sys.exit(1 if play.other else 0)

@@ -106,4 +106,13 @@ impl MethodBook for AnyBook {
             AnyBook::Hyp(book) => book.gather(alloc, query),
         }
     }
+
+    fn gather_apart(&self, alloc: Global, query: Query) -> Result<Found, NoMemory> {
+        match self {
+            AnyBook::Dij(book) => book.gather_apart(alloc, query),
+            AnyBook::Full(book) => book.gather_apart(alloc, query),
+            AnyBook::Ldm(book) => book.gather_apart(alloc, query),
+            AnyBook::Hyp(book) => book.gather_apart(alloc, query),
+        }
+    }
 }

@@ -3,15 +3,15 @@
 use crate::asserts::{assert_octets, assert_same};
 use crate::octets::{octets_of, spliced};
 use crate::signed_answers::{
-    BORDER_REPLY, FOURTH_DIGEST, FULL_DETOUR, FULL_REPLY, FULL_WITHOUT_PAIR, LDM_REPLY,
-    LDM_WITHOUT_2, ONE_PAIR_COVER, PUBLIC, REPLY, ZERO_DIJ_REPLY, ZERO_FULL_REPLY, ZERO_HYP_REPLY,
-    ZERO_LDM_REPLY,
+    APART, APART_BACK, APART_WITHOUT_4, BORDER_APART, BORDER_REPLY, FOURTH_DIGEST, FULL_APART,
+    FULL_APART_JOINED, FULL_DETOUR, FULL_REPLY, FULL_WITHOUT_PAIR, LDM_REPLY, LDM_WITHOUT_2,
+    ONE_PAIR_COVER, PUBLIC, REPLY, ZERO_DIJ_REPLY, ZERO_FULL_REPLY, ZERO_HYP_REPLY, ZERO_LDM_REPLY,
 };
 use book_model::Query;
 use lms_tree::SealError;
 use octet_text::{Hasher, Sha, Toy};
 use proof_judge::Refusal;
-use route_client::{Accepted, CheckError, CoverFault, check};
+use route_client::{Accepted, CheckError, Checked, CoverFault, check};
 use std::alloc::Global;
 use std::process::Abort;
 use std::test::Fail;
@@ -27,12 +27,20 @@ fn checked<H: Hasher>(
     octets: &[u8],
     query: Query,
     least: u64,
-) -> Result<Accepted, CheckError> {
+) -> Result<Checked, CheckError> {
     let public = PUBLIC.get(..key).unwrap_or(&[]);
     if octets.len() > 10_000 {
         return Err(CheckError::Memory);
     }
     check::<H>(alloc, public, &[], octets, query, least)
+}
+
+// The route that is accepted.
+fn route_in(checked: Checked) -> Result<Accepted, Fail> {
+    match checked {
+        Checked::Route(accepted) => Ok(accepted),
+        Checked::Apart { .. } => Err(Fail::from("no route")),
+    }
 }
 
 // Asserts that octets are no answer to a query, for this reason.
@@ -78,7 +86,7 @@ fn assert_accepted(
     route: &[u32],
 ) -> Result<(), Fail> {
     let reply = octets_of(alloc, text)?;
-    let accepted = checked::<Sha>(alloc, 56, &reply, query, 1)?;
+    let accepted = route_in(checked::<Sha>(alloc, 56, &reply, query, 1)?)?;
     assert_same(rt, &accepted.length, &length);
     assert_same(rt, &accepted.route.as_slice(), &route);
     Ok(())
@@ -89,7 +97,7 @@ fn a_signed_answer_is_accepted(rt: HostRuntime) -> Result<(), Fail> {
     let alloc = rt.alloc();
     assert_accepted(&rt, alloc, REPLY, ASKED, 9, &[1, 2, 3])?;
     let reply = octets_of(alloc, REPLY)?;
-    let accepted = checked::<Sha>(alloc, 56, &reply, ASKED, 3)?;
+    let accepted = route_in(checked::<Sha>(alloc, 56, &reply, ASKED, 3)?)?;
     assert_same(&rt, &accepted.version, &3);
     let header = reply.get(1..105).unwrap_or(&[]);
     assert_octets(&rt, &accepted.header.write(), header);
@@ -296,5 +304,80 @@ fn refusals_are_whole_sentences(rt: HostRuntime) -> Result<(), Fail> {
     let text = format!(in rt.alloc(); "{error}")?;
     let wanted = "The items of tree 2 are not those of its root: the cover has too few digests.";
     assert_octets(&rt, text.as_bytes(), wanted.as_bytes());
+    Ok(())
+}
+
+// The answer without a route that follows another reply's signature.
+fn apart_reply(alloc: Global, signed: &str, rest: &str) -> Result<Vec<u8>, Fail> {
+    let reply = octets_of(alloc, signed)?;
+    let rest = octets_of(alloc, rest)?;
+    let whole = spliced(alloc, &reply, 1399, reply.len(), &rest)?;
+    spliced(alloc, &whole, 0, 1, &[3])
+}
+
+// What is accepted of it, without what a header has: its version, where there is no route.
+fn apart_version(alloc: Global, octets: &[u8], query: Query) -> Result<Option<u64>, CheckError> {
+    match checked::<Sha>(alloc, 56, octets, query, 3)? {
+        Checked::Route(_) => Ok(None),
+        Checked::Apart { version, .. } => Ok(Some(version)),
+    }
+}
+
+// Asserts what is said of such a reply to a query.
+fn assert_apart(
+    rt: &impl Abort,
+    alloc: Global,
+    (signed, rest): (&str, &str),
+    (from, to): (u32, u32),
+    wanted: Result<Option<u64>, CheckError>,
+) -> Result<(), Fail> {
+    let octets = apart_reply(alloc, signed, rest)?;
+    let said = apart_version(alloc, &octets, Query { from, to });
+    assert_same(rt, &said, &wanted);
+    Ok(())
+}
+
+fn refused(refusal: Refusal) -> Result<Option<u64>, CheckError> {
+    Err(CheckError::Judged(refusal))
+}
+
+#[test]
+fn signed_answers_without_a_route_are_judged(rt: HostRuntime) -> Result<(), Fail> {
+    let alloc = rt.alloc();
+    for (signed, rest, ends, wanted) in [
+        (REPLY, APART, (1, 5), Ok(Some(3))),
+        (REPLY, APART, (1, 3), refused(Refusal::Shorter(9))),
+        (REPLY, APART, (1, 1), refused(Refusal::Shorter(0))),
+        (REPLY, APART_BACK, (5, 1), Ok(Some(3))),
+        (REPLY, APART_BACK, (1, 5), refused(Refusal::MissingTuple(2))),
+        (
+            REPLY,
+            APART_WITHOUT_4,
+            (1, 5),
+            refused(Refusal::MissingTuple(4)),
+        ),
+        (FULL_REPLY, FULL_APART, (1, 5), Ok(Some(3))),
+        (
+            FULL_REPLY,
+            FULL_APART_JOINED,
+            (1, 3),
+            refused(Refusal::Disagrees(9)),
+        ),
+        (
+            FULL_REPLY,
+            FULL_APART_JOINED,
+            (1, 5),
+            refused(Refusal::MissingTuple(5)),
+        ),
+        (BORDER_REPLY, BORDER_APART, (1, 5), Ok(Some(3))),
+        (
+            BORDER_REPLY,
+            BORDER_APART,
+            (1, 4),
+            refused(Refusal::Shorter(3)),
+        ),
+    ] {
+        assert_apart(&rt, alloc, (signed, rest), ends, wanted)?;
+    }
     Ok(())
 }

@@ -53,3 +53,28 @@ pub(crate) fn assert_gathered<B: MethodBook>(
     assert_row(rt, route, found.pairs.as_slice(), pairs);
     Ok(())
 }
+
+/// Two ends that no walk joins, and what is gathered for them: the ids of the leaves and the places
+/// of the pairs.
+pub(crate) type Apart = (u32, u32, &'static [u32], &'static [u32]);
+
+/// Asserts that a book gathers that, where it finds no route.
+pub(crate) fn assert_gathered_apart<B: MethodBook>(
+    rt: &impl Abort,
+    alloc: Global,
+    book: &B,
+    row: &Apart,
+) -> Result<(), GatherError> {
+    let (from, to, nodes, pairs) = *row;
+    let query = Query { from, to };
+    match book.gather(alloc, query) {
+        Err(GatherError::NoRoute) => {
+            let found = book.gather_apart(alloc, query)?;
+            assert_same(rt, found.route.as_slice(), &[]);
+            assert_row(rt, query, found.nodes.as_slice(), nodes);
+            assert_row(rt, query, found.pairs.as_slice(), pairs);
+        }
+        other => assert_row(rt, query, other.err(), Some(GatherError::NoRoute)),
+    }
+    Ok(())
+}

@@ -7,16 +7,17 @@ use road_leaf::{NodeLeaf, PairLeaf};
 use road_map::Ids;
 use std::alloc::Global;
 
-/// The items of a route of a test's length, of leaves and of pairs.
+/// The items of a route and of leaves, as many as a test has of them, and of pairs.
 pub(crate) fn items_of(
     alloc: Global,
     route: &[u32],
     leaves: Vec<NodeLeaf>,
     pairs: &[PairLeaf],
 ) -> Result<Items, Refusal>
-    ensures { IfOk result (λ items. length items.route ≤ 65536) }
+    ensures route { IfOk result (λ items. length items.route ≤ 65536) }
+    ensures nodes { IfOk result (λ items. length items.nodes ≤ 65536) }
 {
-    if route.len() > 65_536 {
+    if route.len() > 65_536 || leaves.len() > 65_536 {
         return Err(Refusal::Memory);
     }
     Ok(Items {

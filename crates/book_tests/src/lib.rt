@@ -18,11 +18,15 @@ mod ldm_verdicts;
 #[cfg(test)]
 mod plain;
 #[cfg(test)]
+mod plain_apart;
+#[cfg(test)]
 mod plain_items;
 #[cfg(test)]
 mod reaching;
 #[cfg(test)]
 mod same;
+#[cfg(test)]
+mod signed_apart;
 #[cfg(test)]
 mod with_borders;
 #[cfg(test)]

@@ -6,7 +6,7 @@ use Rattle.std.specs.declared.result.Result.TheVariants.{Ok, Err}
 use Rattle.sha2.specs.Sha256.{sha256}
 use Rattle.road_io.specs.Contents.{Folder}
 use Rattle.book_model.specs.declared.items.Query.{Query}
-use Rattle.route_client.specs.declared.accepted.Accepted.{Accepted}
+use Rattle.route_client.specs.declared.accepted.Checked.{Checked}
 use Rattle.route_client.specs.declared.errors.CheckError.{CheckError}
 use Rattle.route_client.specs.Verdicts.{IsVerdict}
 use Rattle.lms_tree.specs.declared.links.Link.{Link}
@@ -20,10 +20,10 @@ use Rattle.client_commands.proofs.CheckFiles.{one_over_files}
 
 -- octets have one verdict at most
 abbrev pub OneVerdict : Type 0
-OneVerdict = (hash : List ℕ → List ℕ) (key : List ℕ) (links : List Link) (octets : List ℕ) (q : Query) (least : ℕ) (v w : Result Accepted CheckError)
+OneVerdict = (hash : List ℕ → List ℕ) (key : List ℕ) (links : List Link) (octets : List ℕ) (q : Query) (least : ℕ) (v w : Result Checked CheckError)
     → IsVerdict hash key links octets q least v → IsVerdict hash key links octets q least w → v ≡ w
 
-differ : (x : Accepted) (e : CheckError) → Ok x ≡ Err e → ⊥
+differ : (x : Checked) (e : CheckError) → Ok x ≡ Err e → ⊥
 differ x e is = cc
 
 -- over a key and octets, `check` has one end

@@ -8,7 +8,7 @@ use Rattle.lms_tree.specs.declared.links.Link.{Link}
 use Rattle.sha2.specs.Sha256.{sha256}
 use Rattle.book_model.specs.declared.items.Query.{Query}
 use Rattle.road_line.specs.VerdictLine.{accepted_line, refused_line}
-use Rattle.route_client.specs.declared.accepted.Accepted.{Accepted}
+use Rattle.route_client.specs.declared.accepted.Checked.{Checked}
 use Rattle.route_client.specs.declared.errors.CheckError.{CheckError}
 use Rattle.route_client.specs.declared.errors.CheckError.TheVariants as errors
 use Rattle.route_client.specs.Verdicts.{IsVerdict}
@@ -22,8 +22,8 @@ use Rattle.command_files.specs.declared.ended.Conclusion.TheVariants.{Done, Refu
 -- `check` over a public key, a chain from it, and the octets of a reply: the line of the client's
 -- verdict
 abbrev pub EndsCheck : List ℕ → List Link → List ℕ → Query → ℕ → Ending
-EndsCheck key links octets q least (Ok Done) text = (x : Accepted) ×
-    IsVerdict sha256 key links octets q least (Ok x) × (text ≡ accepted_line x.length x.route)
+EndsCheck key links octets q least (Ok Done) text = (x : Checked) ×
+    IsVerdict sha256 key links octets q least (Ok x) × (text ≡ accepted_line x)
 EndsCheck key links octets q least (Ok Refused) text = (e : CheckError) × (e ≢ errors.Memory) ×
     IsVerdict sha256 key links octets q least (Err e) × (text ≡ refused_line e)
 EndsCheck key links octets q least outcome text = ⊥

@@ -58,8 +58,8 @@ fn verdict_on(
         EndsCheck key.now chain.now reply.now query least told.end told.text.items) }
 {
     match check_reply::<Sha>(alloc, key, chain, reply, query, least) {
-        Ok(accepted) => Ok(Told {
-            text: line_of_accepted(alloc, accepted.length, accepted.route.as_slice())?,
+        Ok(checked) => Ok(Told {
+            text: line_of_accepted(alloc, &checked)?,
             end: Ok(Conclusion::Done),
         }),
         Err(CheckError::Memory) => Err(NoMemory),

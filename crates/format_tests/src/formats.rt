@@ -146,7 +146,8 @@ fn a_field_out_of_its_range_is_named_by_its_place(rt: HostRuntime) -> Result<(),
 fn cut_replies_are_named_by_their_place(rt: HostRuntime) {
     let alloc = rt.alloc();
     assert_same(&rt, &bad_place(alloc, &[]), &Some(0));
-    assert_same(&rt, &bad_place(alloc, &[3]), &Some(0));
+    assert_same(&rt, &bad_place(alloc, &[3]), &Some(1));
+    assert_same(&rt, &bad_place(alloc, &[4]), &Some(0));
     assert_same(&rt, &bad_place(alloc, &[1, 0]), &Some(1));
     assert_same(&rt, &bad_place(alloc, &[1]), &None);
     assert_same(&rt, &bad_place(alloc, &[0]), &Some(1));
@@ -245,6 +246,32 @@ fn an_answer_is_read_and_written_again(rt: HostRuntime) -> Result<(), Fail> {
         }
         _ => assert!(rt; false),
     }
+    Ok(())
+}
+
+// The same answer without its route, which takes 12 octets: the reply that no walk joins the ends.
+fn without_route(alloc: Global) -> Result<Vec<u8>, Fail> {
+    let mut octets = vec![in alloc; 3]?;
+    octets.extend_from_slice(&REPLY[1..110])?;
+    octets.extend_from_slice(&REPLY[122..])?;
+    Ok(octets)
+}
+
+#[test]
+fn an_answer_without_a_route_is_read_and_written_again(rt: HostRuntime) -> Result<(), Fail> {
+    let octets = without_route(rt.alloc())?;
+    if octets.len() > 10_000 {
+        return Err(Fail::from("many octets"));
+    }
+    let reply = Reply::read(rt.alloc(), &octets)?;
+    let Reply::Apart(answer) = &reply else {
+        return Err(Fail::from("another kind"));
+    };
+    assert_answer(&rt, answer);
+    assert_same(&rt, &answer.items.route.as_slice().len(), &0);
+    assert_same(&rt, &answer.items.nodes.as_slice().len(), &2);
+    let again = reply.write(rt.alloc())?;
+    assert_octets(&rt, &again, &octets);
     Ok(())
 }
 

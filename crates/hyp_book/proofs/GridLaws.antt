@@ -1,14 +1,12 @@
 -- Grids over nodes.
-use Rattle.std.proofs.Common.{◌≡◌, ℕ, ℤ, pos, ◌≤◌, ◌≤ℤ◌, ◌==◌, not, Bool, Some, List, [], ◌∷◌, ◌++◌, inl, inr, map, slice_get, refl, arith, ap, sym, ◌∙◌, subst}
-use Rattle.std.specs.List.{Contains, fold}
+use Rattle.std.proofs.Common.{◌≡◌, ℕ, ℤ, ◌==◌, not, Bool, Some, List, map, slice_get, refl, ap, sym, ◌∙◌}
+use Rattle.std.specs.List.{Contains}
 use Rattle.std.specs.Option.{option_map, unwrap_or}
-use Rattle.std.specs.Int.{int_min, int_max}
-use Rattle.std.proofs.lemmas.Int.{fold-int_min_bounds, fold-int_max_bounds, clamps, ints}
 use Rattle.std.proofs.lemmas.List.Elements.{All-contains}
 use Rattle.road_map.specs.declared.parts.Node.{Node}
 use Rattle.road_map.specs.declared.parts.Parts.{Parts}
 use Rattle.road_map.specs.Maps.{IsMap, IsById}
-use Rattle.road_map.proofs.Among.{contains_at, Contains-map, Contains-none, Contains-cases}
+use Rattle.road_map.proofs.Among.{contains_at}
 use Rattle.book_model.specs.Orders.{Frame, frame_of, int_least, int_greatest}
 use Rattle.book_model.specs.Frames.{InFrame}
 use Rattle.book_model.proofs.FrameLaws.{all_in_frame}

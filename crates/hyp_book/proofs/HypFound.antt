@@ -1,5 +1,5 @@
 -- What HYP finds.
-use Rattle.std.proofs.Common.{◌≡◌, ℕ, ◌<◌, ◌≤◌, ◌==◌, nat_eq, nat_lt, Bool, true, false, cond, IsTrue, Option, None, Some, List, [], ◌⊎◌, inl, inr, length, slice_get, count_by, refl, arith, ap, sym, ◌∙◌, subst}
+use Rattle.std.proofs.Common.{◌≡◌, ℕ, ◌<◌, ◌≤◌, ◌*◌, ◌==◌, nat_eq, nat_lt, nat_le, Bool, true, false, cond, IsTrue, Option, None, Some, List, [], ◌⊎◌, inl, inr, length, slice_get, count_by, refl, arith, ap, sym, ◌∙◌, subst}
 use Rattle.std.specs.List.{Contains, IsDistinct, filter_map}
 use Rattle.std.specs.List.Sorted.{IsStrictlySortedBy}
 use Rattle.std.specs.Ordering.{nat_cmp}
@@ -12,6 +12,7 @@ use Rattle.road_map.specs.declared.parts.Parts.{Parts}
 use Rattle.road_map.specs.Walks.{ids, Knows}
 use Rattle.road_map.proofs.LeastLaws.{IsLeast-unique}
 use Rattle.road_map.specs.Maps.{IsMap, IsById}
+use Rattle.road_map.specs.Least.{IsLeast}
 use Rattle.road_map.specs.Routes.{IsShortest}
 use Rattle.road_map.proofs.Among.{place_at, Contains-map, Contains-from_map, Contains-none}
 use Rattle.road_search.specs.Passing.{Ways, Reaches, IsLeastPassing}
@@ -26,8 +27,11 @@ use Rattle.book_model.specs.Cells.{cell_of, is_border}
 use Rattle.book_model.specs.Books.{Hyp, Book, borders, count_fault, leaf, leaf_by}
 use Rattle.book_model.proofs.ById.{by_id-is, by_id-length, sorted_from, sorted_kept}
 use Rattle.proof_method.specs.declared.found.Found.{Found}
+use Rattle.proof_judge.specs.Apart.{Leads}
 use Rattle.proof_judge.specs.ItemWalks.{inner_ways, marks}
-use Rattle.proof_method.specs.Gathering.{Lists, Wanted, IsWantedAt, IsFound, IsBorderPair}
+use Rattle.proof_judge.proofs.Reaching.{Reaches-start}
+use Rattle.proof_method.specs.Apart.{IsEnd, IsInnerWay, WantedApart, AreBordersApart, IsFoundApart}
+use Rattle.proof_method.specs.Gathering.{Lists, Wanted, IsPairAt, IsWantedAt, IsFound, IsBorderPair, AreUnjoined}
 use Rattle.proof_method.proofs.Picks.{picked_from, picked_to, kept_from, kept_to}
 use Rattle.proof_judge.proofs.ItemLaws.{find_some}
 use Rattle.hyp_book.specs.HypBooks.{hyp_book, cell_extra, with_length, IsInRow, IsWantedPlace, Adds, AddsAll}
@@ -214,6 +218,84 @@ module _ (parts : Parts) (order : List Node) (m : IsMap parts) (by : IsById part
           let among_x : Contains among w.x = subst (λ xs. Contains xs w.x) (sym all) (marked_border w.x i.near_mark) in
           let among_y : Contains among w.y = subst (λ xs. Contains xs w.y) (sym all) (marked_border w.y i.far_mark) in
           ((w.x, i.p), is_with near among w.x i.p among_x p, ((w.y, i.r), is_with far among w.y i.r among_y r, record { apart = i.differ; below = i.below; stands = (w.pair, w.stands, w.first, w.second) }))
+
+  -- where no route exists: lengths of inner walks from an end, however long
+  module _ (from : ℕ) (len : ℕ → Option ℕ) (least : (v : ℕ) → IsLeast (Leads (inner_ways (leaf b)) from v) (len v)) (low : (v d : ℕ) → len v ≡ Some d → d ≤ 65536 * 4294967295) where
+    way_of : (id : ℕ) → IsTrue (is_within 18446744073709551615 (len id)) → IsInnerWay b from id
+    way_of id n = let e = within_some 18446744073709551615 (len id) n in (e.0, (subst (IsLeast (Leads (inner_ways (leaf b)) from id)) e.1 (least id)).0)
+
+    len_of : (id : ℕ) → IsInnerWay b from id → (p : ℕ) × (len id ≡ Some p)
+    len_of id h = by_length (len id) refl (least id)
+      where
+        by_length : (o : Option ℕ) → len id ≡ o → IsLeast (Leads (inner_ways (leaf b)) from id) o → (p : ℕ) × (len id ≡ Some p)
+        by_length None is none = absurd (none h.0 h.1)
+        by_length (Some p) is l = (p, is)
+
+    within_of : (id : ℕ) → IsInnerWay b from id → IsTrue (is_within 18446744073709551615 (len id))
+    within_of id h = let l = len_of id h in let few : l.0 ≤ 65536 * 4294967295 = low id l.0 l.1 in subst (λ o. IsTrue (is_within 18446744073709551615 o)) (sym l.1) (is_most l.0 few)
+      where
+        is_most : (p : ℕ) → p ≤ 65536 * 4294967295 → IsTrue (nat_le p 18446744073709551615)
+        is_most p few = grind (arith, few)
+
+    -- an end leads to itself
+    own_way : IsInnerWay b from from
+    own_way = (0, Reaches-start (inner_ways (leaf b)) from 1 (omega arith))
+
+  pub found_hyp_apart : (q : Query) (f : Found) (near far : ℕ → Option ℕ) (among : List ℕ) → AreUnjoined parts q → among ≡ borders parts columns rows → f.route ≡ []
+      → ((v : ℕ) → IsLeast (Leads (inner_ways (leaf b)) q.from v) (near v)) → ((v : ℕ) → IsLeast (Leads (inner_ways (leaf b)) q.to v) (far v))
+      → ((v d : ℕ) → near v ≡ Some d → d ≤ 65536 * 4294967295) → ((v d : ℕ) → far v ≡ Some d → d ≤ 65536 * 4294967295)
+      → Lists (λ id. Contains f.route id ⊎ IsTrue (is_within 18446744073709551615 (near id)) ⊎ IsTrue (is_within 18446744073709551615 (far id))) f.nodes
+      → Lists (IsWantedPlace pairs among near far 18446744073709551615) f.pairs → IsFoundApart Hyp b q f
+  found_hyp_apart q f near far among unjoined all none near_is far_is near_low far_low nodes places = record {
+    unjoined = unjoined;
+    no_route = none;
+    nodes = record { rising = nodes.rising; same = λ id. (λ c. from_listed id ((nodes.same id).0 c), λ w. (nodes.same id).1 (to_listed id w)) };
+    pairs = record { rising = places.rising; same = λ n. (λ c. to_wanted n ((places.same n).0 c), λ w. (places.same n).1 (from_wanted n w)) };
+  }
+    where
+      from_listed : (id : ℕ) → Contains f.route id ⊎ IsTrue (is_within 18446744073709551615 (near id)) ⊎ IsTrue (is_within 18446744073709551615 (far id)) → IsEnd q id ⊎ WantedApart Hyp b q id
+      from_listed id (inl c) = absurd (Contains-none id (subst (λ xs. Contains xs id) none c))
+      from_listed id (inr (inl n)) = inr (inl (way_of q.from near near_is near_low id n))
+      from_listed id (inr (inr n)) = inr (inr (way_of q.to far far_is far_low id n))
+
+      to_listed : (id : ℕ) → IsEnd q id ⊎ WantedApart Hyp b q id → Contains f.route id ⊎ IsTrue (is_within 18446744073709551615 (near id)) ⊎ IsTrue (is_within 18446744073709551615 (far id))
+      to_listed id (inl (inl e)) = inr (inl (within_of q.from near near_is near_low id (subst (IsInnerWay b q.from) (sym e) (own_way q.from near near_is near_low))))
+      to_listed id (inl (inr e)) = inr (inr (within_of q.to far far_is far_low id (subst (IsInnerWay b q.to) (sym e) (own_way q.to far far_is far_low))))
+      to_listed id (inr (inl w)) = inr (inl (within_of q.from near near_is near_low id w))
+      to_listed id (inr (inr w)) = inr (inr (within_of q.to far far_is far_low id w))
+
+      is_border_of : (u : ℕ) → Contains among u → IsTrue (marks (leaf b u))
+      is_border_of u c = border_marked u (subst (λ xs. Contains xs u) all c)
+
+      to_wanted : (n : ℕ) → IsWantedPlace pairs among near far 18446744073709551615 n → IsPairAt (AreBordersApart b q) b n
+      to_wanted n w =
+          let x = with_is near among w.0 w.1 in
+          let y = with_is far among w.2.0 w.2.1 in
+          let at = w.2.2 in
+          record {
+            pair = at.stands.0;
+            stands = at.stands.1;
+            x = w.0.0;
+            y = w.2.0.0;
+            wanted = record {
+              differ = at.apart;
+              near_mark = is_border_of w.0.0 x.0;
+              far_mark = is_border_of w.2.0.0 y.0;
+              near = (w.0.1, (subst (IsLeast (Leads (inner_ways (leaf b)) q.from w.0.0)) x.1 (near_is w.0.0)).0);
+              far = (w.2.0.1, (subst (IsLeast (Leads (inner_ways (leaf b)) q.to w.2.0.0)) y.1 (far_is w.2.0.0)).0);
+            };
+            first = at.stands.2;
+            second = at.stands.3;
+          }
+
+      from_wanted : (n : ℕ) → IsPairAt (AreBordersApart b q) b n → IsWantedPlace pairs among near far 18446744073709551615 n
+      from_wanted n w =
+          let i : AreBordersApart b q w.x w.y = w.wanted in
+          let p : (p : ℕ) × (near w.x ≡ Some p) = len_of q.from near near_is near_low w.x i.near in
+          let r : (r : ℕ) × (far w.y ≡ Some r) = len_of q.to far far_is far_low w.y i.far in
+          let among_x : Contains among w.x = subst (λ xs. Contains xs w.x) (sym all) (marked_border w.x i.near_mark) in
+          let among_y : Contains among w.y = subst (λ xs. Contains xs w.y) (sym all) (marked_border w.y i.far_mark) in
+          ((w.x, p.0), is_with near among w.x p.0 among_x p.1, ((w.y, r.0), is_with far among w.y r.0 among_y r.1, record { apart = i.differ; below = omega (arith, near_low w.x p.0 p.1, far_low w.y r.0 r.1); stands = (w.pair, w.stands, w.first, w.second) }))
 
 -- ---- settings
 

@@ -11,9 +11,10 @@ use crate::grid::{cell_at, grid_over, is_border_at};
 use crate::inland::Inland;
 use book_model::{Numbers, PlanError, Query, Settings};
 use octet_text::NoMemory;
+use proof_judge::search_all;
 use proof_method::{Found, GatherError, MethodBook, leaf_adding, reach};
 use road_leaf::{Extra, NodeLeaf, PairLeaf};
-use road_map::Map;
+use road_map::{Ids, Map};
 use road_search::search;
 use std::alloc::Global;
 
@@ -105,6 +106,28 @@ impl MethodBook for HypBook {
         )?;
         Ok(Found {
             route: reached.route,
+            nodes,
+            pairs,
+        })
+    }
+
+    fn gather_apart(&self, alloc: Global, query: Query) -> Result<Found, NoMemory> {
+        let _parts = self.map.parts();
+        let inland = Inland { book: self };
+        let near = search_all(alloc, &inland, query.from)?;
+        let far = search_all(alloc, &inland, query.to)?;
+        let route = Ids::from_vec(Vec::new(alloc));
+        let nodes = wanted_nodes(alloc, &route, &near, &far, u64::MAX)?;
+        let pairs = wanted_pairs(
+            alloc,
+            self.pairs.as_slice(),
+            self.borders.as_slice(),
+            &near,
+            &far,
+            u64::MAX,
+        )?;
+        Ok(Found {
+            route,
             nodes,
             pairs,
         })

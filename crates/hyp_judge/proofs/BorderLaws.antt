@@ -11,15 +11,17 @@ use Rattle.std.proofs.lemmas.List.Folds.{find-append}
 use Rattle.std.proofs.lemmas.Map.Views.{btree_map_get_iff}
 use Rattle.road_map.specs.Least.{IsLeast, lesser}
 use Rattle.road_map.proofs.LeastLaws.{IsLeast-unique, IsLeast-lesser}
-use Rattle.road_search.specs.Passing.{Reaches, IsLeastPassing}
+use Rattle.road_search.specs.Passing.{Ways, IsLeastPassing}
 use Rattle.road_leaf.specs.declared.leaf.NodeLeaf.{NodeLeaf}
 use Rattle.book_model.specs.declared.items.Query.{Query}
 use Rattle.proof_judge.specs.declared.refusal.Refusal.TheVariants.{MissingTuple, Shorter}
 use Rattle.book_model.specs.declared.items.Items.{Items}
-use Rattle.proof_judge.specs.ItemWalks.{item_at, marks, inner_ways, Lacks}
-use Rattle.proof_judge.specs.Judgement.{Verdict, Then, IsBorderAt, PairTests, HypTests}
+use Rattle.proof_judge.specs.ItemWalks.{item_at, marks, inner_ways, Lacks, EndsLacking}
+use Rattle.proof_judge.specs.Apart.{ApartVerdict, Leads, BorderTests, InnerTests}
+use Rattle.proof_judge.specs.Judgement.{Verdict, Then, Tests, PairTests, HypTests}
 use Rattle.hyp_judge.specs.Scans.{AboveAll, AreRising, border_length, IsBorderList}
-use Rattle.hyp_judge.proofs.BorderLists.{AreBorders, border_among}
+use Rattle.hyp_judge.proofs.BorderLists.{AreBorders, Marked, border_among}
+use Rattle.proof_judge.proofs.AllWalks.{lacking_least}
 use Rattle.proof_judge.proofs.Tested.{lacks_least}
 
 -- one more item
@@ -73,16 +75,17 @@ border_list nodes len m ordered is = record {
   );
 }
 
-pub are_borders : (nodes : List NodeLeaf) (from most : ℕ) (len : ℕ → Option ℕ) (bs : List (ℕ × ℕ)) → ((v : ℕ) → IsLeastPassing (inner_ways (item_at nodes)) from most v (len v)) → IsBorderList nodes len bs → AreBorders nodes from most bs
-are_borders nodes from most len bs lengths l = record { rising = l.rising; all = λ b p. (λ c. to b p (marks (item_at nodes b)) refl ((l.all b p).0 c), λ a. (l.all b p).1 (back b p a (marks (item_at nodes b)) refl)) }
+-- the listed borders are all of them, each with its least length
+pub listed_borders : (nodes : List NodeLeaf) (len : ℕ → Option ℕ) (P : ℕ → ℕ → Type 0) (bs : List (ℕ × ℕ)) → ((v : ℕ) → IsLeast (P v) (len v)) → IsBorderList nodes len bs → AreBorders (Marked nodes P) bs
+listed_borders nodes len P bs lengths l = record { rising = l.rising; all = λ b p. (λ c. to b p (marks (item_at nodes b)) refl ((l.all b p).0 c), λ a. (l.all b p).1 (back b p a (marks (item_at nodes b)) refl)) }
   where
-    to : (b p : ℕ) (t : Bool) → marks (item_at nodes b) ≡ t → cond t (len b) None ≡ Some p → IsBorderAt nodes from most b p
-    to b p true e h = record { marked = e; least = subst (IsLeastPassing (inner_ways (item_at nodes)) from most b) h (lengths b) }
+    to : (b p : ℕ) (t : Bool) → marks (item_at nodes b) ≡ t → cond t (len b) None ≡ Some p → Marked nodes P b p
+    to b p true e h = (e, subst (IsLeast (P b)) h (lengths b))
     to b p false e h = cc
 
-    back : (b p : ℕ) → IsBorderAt nodes from most b p → (t : Bool) → marks (item_at nodes b) ≡ t → cond t (len b) None ≡ Some p
-    back b p a true e = IsLeast-unique (Reaches (inner_ways (item_at nodes)) from most b) (len b) (Some p) (lengths b) a.least
-    back b p a false e = let t : marks (item_at nodes b) ≡ true = a.marked in cc
+    back : (b p : ℕ) → Marked nodes P b p → (t : Bool) → marks (item_at nodes b) ≡ t → cond t (len b) None ≡ Some p
+    back b p a true e = IsLeast-unique (P b) (len b) (Some p) (lengths b) a.1
+    back b p a false e = let t : marks (item_at nodes b) ≡ true = a.0 in cc
 
 -- the tests of HYP, from two searches
 pub hyp_tests : (g : Items) (q : Query) (d : ℕ) (near far : ℕ → Option ℕ) (m n : Option ℕ) →
@@ -95,5 +98,23 @@ hyp_tests g q d near far m n near_is far_is m_is n_is v t = by_missing (lesser m
     both = IsLeast-lesser (Lacks (inner_ways (item_at g.nodes)) q.from d) (Lacks (inner_ways (item_at g.nodes)) q.to d) m n (lacks_least (inner_ways (item_at g.nodes)) q.from d near m near_is m_is) (lacks_least (inner_ways (item_at g.nodes)) q.to d far n far_is n_is)
 
     by_missing : (o : Option ℕ) → IsLeast (λ id. Lacks (inner_ways (item_at g.nodes)) q.from d id ⊎ Lacks (inner_ways (item_at g.nodes)) q.to d id) o → Then MissingTuple (Then Shorter (PairTests g q d) (near q.to)) o v → HypTests g q d v
+    by_missing None h t = (None, h, (near q.to, near_is q.to, t))
+    by_missing (Some id) h t = (Some id, h, t)
+
+-- the tests of HYP where no route is shown, from two searches over the same items
+pub inner_tests : (g : Items) (q : Query) (nodes : List NodeLeaf) → nodes ≡ g.nodes → (near far : ℕ → Option ℕ) (m n : Option ℕ) →
+    ((v : ℕ) → IsLeast (Leads (inner_ways (item_at nodes)) q.from v) (near v)) → ((v : ℕ) → IsLeast (Leads (inner_ways (item_at nodes)) q.to v) (far v)) →
+    IsLeast (λ v. IsSome (near v) × ((inner_ways (item_at nodes)).arcs v ≡ None)) m → IsLeast (λ v. IsSome (far v) × ((inner_ways (item_at nodes)).arcs v ≡ None)) n →
+    (v : ApartVerdict) → Then MissingTuple (Then Shorter (BorderTests g q) (near q.to)) (lesser m n) v → InnerTests g q v
+inner_tests g q nodes same near far m n near_is far_is m_is n_is v t =
+    subst (λ xs. Tests (λ id. EndsLacking (inner_ways (item_at xs)) q.from id ⊎ EndsLacking (inner_ways (item_at xs)) q.to id) MissingTuple (Tests (Leads (inner_ways (item_at xs)) q.from q.to) Shorter (BorderTests g q)) v) same (by_missing (lesser m n) both t)
+  where
+    inner : Ways
+    inner = inner_ways (item_at nodes)
+
+    both : IsLeast (λ id. EndsLacking inner q.from id ⊎ EndsLacking inner q.to id) (lesser m n)
+    both = IsLeast-lesser (EndsLacking inner q.from) (EndsLacking inner q.to) m n (lacking_least inner q.from near m near_is m_is) (lacking_least inner q.to far n far_is n_is)
+
+    by_missing : (o : Option ℕ) → IsLeast (λ id. EndsLacking inner q.from id ⊎ EndsLacking inner q.to id) o → Then MissingTuple (Then Shorter (BorderTests g q) (near q.to)) o v → Tests (λ id. EndsLacking inner q.from id ⊎ EndsLacking inner q.to id) MissingTuple (Tests (Leads inner q.from q.to) Shorter (BorderTests g q)) v
     by_missing None h t = (None, h, (near q.to, near_is q.to, t))
     by_missing (Some id) h t = (Some id, h, t)

@@ -1,3 +1,3 @@
 mod BorderLists
-mod ScanLaws
 mod BorderLaws
+mod ScanLaws

@@ -1,18 +1,21 @@
 //! The judge of HYP.
 
-ghost use Rattle.std.specs.Prelude.{◌≡◌, ℕ};
+ghost use Rattle.std.specs.Prelude.{◌≡◌, ◌≤◌, ℕ, length};
 ghost use Rattle.road_map.specs.Least.{lesser};
 ghost use Rattle.road_search.specs.Labelling.{length_at};
 ghost use Rattle.road_search.specs.Passing.{IsLeastPassing};
 ghost use Rattle.proof_judge.specs.ItemWalks.{item_at, inner_ways};
 ghost use Rattle.proof_judge.specs.Judgement.{HypTests, PairTests};
-ghost use Rattle.proof_judge.specs.SharedTests.{UnlessMemory};
+ghost use Rattle.proof_judge.specs.Apart.{BorderTests, InnerTests};
+ghost use Rattle.proof_judge.specs.SharedTests.{UnlessMemory, IsNarrow};
+ghost use Rattle.hyp_judge.specs.Scans.{AreInner};
 
-use crate::borders::listed;
 use crate::items::Inner;
-use crate::scan::first_fault;
+use crate::scan::{Detours, Joined, scanned};
 use book_model::{Items, Numbers, Query};
-use proof_judge::{Judge, NodesById, PairsById, Refusal, begin};
+use proof_judge::{
+    Judge, NodesById, PairsById, Refusal, are_narrow, begin, begin_apart, search_all,
+};
 use road_search::{Labels, search};
 use std::alloc::Global;
 
@@ -20,7 +23,8 @@ use std::alloc::Global;
 /// client searches the cells of the two ends alone.
 ///
 /// Behind the tests that all methods share come an inner walk to an id without an item, a shorter
-/// inner walk to the end, and a shorter walk over two borders.
+/// inner walk to the end, and a shorter walk over two borders; where no route is shown, any inner
+/// walk to the end, and any walk over two borders.
 pub struct Hyp;
 
 impl Judge for Hyp {
@@ -36,6 +40,17 @@ impl Judge for Hyp {
     ) -> Result<u64, Refusal> {
         let (by_id, length) = begin(alloc, items, query)?;
         tests(alloc, items, &by_id, query, length)
+    }
+
+    fn judge_apart(
+        alloc: Global,
+        _numbers: Numbers,
+        items: &Items,
+        query: Query,
+    ) -> Result<(), Refusal> {
+        are_narrow(items.nodes.as_slice());
+        let by_id = begin_apart(alloc, items, query)?;
+        inner_tests(alloc, items, &by_id, query)
     }
 }
 
@@ -56,11 +71,13 @@ fn pair_tests(
         (length_at far.now v) }
     ensures { UnlessMemory (PairTests items.now query length) result }
 {
-    let nodes = items.nodes.as_slice();
-    let near = listed(alloc, nodes, by_id, near)?;
-    let far = listed(alloc, nodes, by_id, far)?;
     let pairs = PairsById::new(alloc, items.pairs.as_slice())?;
-    match first_fault(&pairs, length, near.as_slice(), far.as_slice()) {
+    let detours = Detours {
+        pairs: &pairs,
+        most: length,
+    };
+    let fault = scanned(alloc, &detours, items.nodes.as_slice(), by_id, near, far)?;
+    match fault {
         None => Ok(length),
         Some(refusal) => Err(refusal),
     }
@@ -98,4 +115,51 @@ fn tests(
         return Err(Refusal::Shorter(shorter));
     }
     pair_tests(alloc, items, by_id, query, &near, &far, length)
+}
+
+/// The tests of the border pairs, where no route is shown.
+fn border_tests(
+    alloc: Global,
+    items: &Items,
+    by_id: &NodesById<'_>,
+    query: Query,
+    near: &Labels,
+    far: &Labels,
+) -> Result<(), Refusal>
+    requires same { by_id.now ≡ items.now.nodes }
+    requires near { AreInner items.now.nodes query.from (length_at near.now) }
+    requires far { AreInner items.now.nodes query.to (length_at far.now) }
+    ensures { UnlessMemory (BorderTests items.now query) result }
+{
+    let pairs = PairsById::new(alloc, items.pairs.as_slice())?;
+    let joined = Joined { pairs: &pairs };
+    let fault = scanned(alloc, &joined, items.nodes.as_slice(), by_id, near, far)?;
+    match fault {
+        None => Ok(()),
+        Some(refusal) => Err(refusal),
+    }
+}
+
+/// The tests where both ends have an item and no route is shown.
+fn inner_tests(
+    alloc: Global,
+    items: &Items,
+    by_id: &NodesById<'_>,
+    query: Query,
+) -> Result<(), Refusal>
+    requires same { by_id.now ≡ items.now.nodes }
+    requires narrow { IsNarrow (inner_ways (item_at by_id.now)) }
+    requires few { length by_id.now ≤ 65536 }
+    ensures { UnlessMemory (InnerTests items.now query) result }
+{
+    let inner = Inner { by_id };
+    let near = search_all(alloc, &inner, query.from)?;
+    let far = search_all(alloc, &inner, query.to)?;
+    if let Some(id) = lesser_of(near.missing(), far.missing()) {
+        return Err(Refusal::MissingTuple(id));
+    }
+    if let Some(length) = near.get(query.to) {
+        return Err(Refusal::Shorter(length));
+    }
+    border_tests(alloc, items, by_id, query, &near, &far)
 }

@@ -3,11 +3,9 @@ use Rattle.std.proofs.Common.{◌≡◌, ℕ, ◌+◌, ◌<◌, Bool, true, fals
 use Rattle.std.specs.List.{Contains, filter, filter_map, cons_option}
 use Rattle.std.specs.Option.{option_to_list}
 use Rattle.std.proofs.lemmas.List.{append_assoc, take_more}
-use Rattle.std.proofs.lemmas.List.Elements.{filter_more, Contains-append_left, Contains-append_right, Contains-append_cases}
-use Rattle.std.proofs.lemmas.Option.{slice_get_within, get_or_from_slice_get}
+use Rattle.std.proofs.lemmas.List.Elements.{Contains-append_left, Contains-append_right, Contains-append_cases}
 use Rattle.road_map.specs.declared.parts.Node.{Node}
 use Rattle.road_map.specs.Walks.{ids}
-use Rattle.road_map.proofs.Among.{place_map}
 use Rattle.road_leaf.specs.declared.leaf.Extra.{Extra}
 use Rattle.proof_method.specs.Gathering.{Lists}
 use Rattle.proof_method.proofs.Passing.{more_passing}

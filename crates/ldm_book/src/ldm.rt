@@ -8,11 +8,12 @@ use crate::book::{LdmBook, by_id, copy};
 use crate::near::needed;
 use book_model::{Numbers, Places, PlanError, Query, Settings};
 use landmarks::{compress, landmark_codes};
-use ldm_judge::live_labels;
+use ldm_judge::{Open, live_labels};
 use octet_text::NoMemory;
-use proof_method::{Found, GatherError, MethodBook, leaf_adding, method_laws, reach};
+use proof_judge::search_all;
+use proof_method::{Found, GatherError, MethodBook, ends, leaf_adding, method_laws, reach};
 use road_leaf::{NodeLeaf, PairLeaf};
-use road_map::{Map, map_laws};
+use road_map::{Ids, Map, map_laws};
 use std::alloc::Global;
 
 impl MethodBook for LdmBook {
@@ -87,6 +88,22 @@ impl MethodBook for LdmBook {
         let nodes = needed(alloc, self, &reached.route, &labels)?;
         Ok(Found {
             route: reached.route,
+            nodes,
+            pairs: Places::from_vec(Vec::new(alloc)),
+        })
+    }
+
+    fn gather_apart(&self, alloc: Global, query: Query) -> Result<Found, NoMemory> {
+        let _parts = self.map.parts();
+        let open = Open {
+            leaves: self,
+            to: query.to,
+        };
+        let labels = search_all(alloc, &open, query.from)?;
+        let ends = ends(alloc, query)?;
+        let nodes = needed(alloc, self, &ends, &labels)?;
+        Ok(Found {
+            route: Ids::from_vec(Vec::new(alloc)),
             nodes,
             pairs: Places::from_vec(Vec::new(alloc)),
         })

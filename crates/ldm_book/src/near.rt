@@ -1,4 +1,4 @@
-//! The nodes whose leaves show that a route is shortest.
+//! The nodes whose leaves show that a route is shortest, or that there is none.
 
 ghost use Rattle.std.specs.Prelude.{◌≡◌, ◌++◌, ◌⊎◌, ℕ, is_some, IsSome, IfOk, OnOk, Contains, Some};
 ghost use Rattle.std.specs.List.{filter, filter_map};
@@ -11,6 +11,7 @@ ghost use Rattle.ldm_book.specs.LdmBooks.{extra_in, reference_of, reference_in, 
 
 use crate::book::LdmBook;
 use octet_text::NoMemory;
+use proof_method::rising;
 use road_leaf::Extra;
 use road_map::{Ids, Map};
 use road_search::Labels;
@@ -60,17 +61,8 @@ fn with_references(alloc: Global, book: &LdmBook, ids: &[u32]) -> Result<Vec<u32
     Ok(all)
 }
 
-/// The same ids, each once, by rising id.
-fn rising(mut ids: Vec<u32>) -> Ids
-    ensures { Lists (Contains ids.items) result }
-{
-    ids.sort_unstable();
-    ids.dedup();
-    Ids::from_vec(ids)
-}
-
-/// The nodes on a route and those that live walks lead to, with the nodes whose codes stand for
-/// theirs, each once, by rising id.
+/// The nodes on a route, or the two ends of none, and those that walks lead to, with the nodes whose
+/// codes stand for theirs, each once, by rising id.
 pub fn needed(alloc: Global, book: &LdmBook, route: &Ids, labels: &Labels) -> Result<Ids, NoMemory>
     ensures { IfOk result (Lists (IsNeeded book.now.map.order book.now.extras.entries route.now
         (length_at labels.now))) }

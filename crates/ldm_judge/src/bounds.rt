@@ -4,6 +4,7 @@ ghost use Rattle.std.specs.Prelude.{◌≡◌, ℕ, ◌^◌, ◌<◌, Option, le
 ghost use Rattle.std.specs.Option.{option_map, option_copied};
 ghost use Rattle.road_leaf.specs.declared.leaf.NodeLeaf.{NodeLeaf};
 ghost use Rattle.book_model.specs.Bounds.{gap, greatest_bound, own_vector, vector_at, bound_of, bound};
+ghost use Rattle.proof_judge.specs.Apart.{is_split, are_split, are_apart};
 ghost use Rattle.ldm_judge.specs.Lent.{shown};
 
 use road_leaf::Extra;
@@ -114,4 +115,35 @@ pub fn bound<L: Lookup>(step: u64, at: &L, v: u32, t: u32) -> u128
     ensures small { result < 2 ^ 80 }
 {
     bound_between(step, vector_at(at, v), vector_at(at, t))
+}
+
+/// Whether just one of two codes says that no walk joins its node and the landmark.
+fn is_split(a: u16, b: u16) -> bool
+    ensures { result ≡ is_split a b }
+{
+    (a == NO_CODE) != (b == NO_CODE)
+}
+
+/// Whether just one of two vectors lacks a walk at some landmark.
+fn are_split(v: &[u16], t: &[u16]) -> bool
+    requires { length v.now ≡ length t.now }
+    ensures { result ≡ are_split v.now t.now }
+{
+    for i in 0..v.len() {
+        if is_split(v[i], t[i]) {
+            return true;
+        }
+    }
+    false
+}
+
+/// Whether no walk joins two nodes, by the leaves at hand: their codes lack a walk at different
+/// landmarks. False where these say nothing.
+pub fn apart<L: Lookup>(at: &L, v: u32, t: u32) -> bool
+    ensures { result ≡ are_apart (L.leaves at.now) (L.leaves at.now v) (L.leaves at.now t) }
+{
+    match (vector_at(at, v), vector_at(at, t)) {
+        (Some(v), Some(t)) => v.codes.len() == t.codes.len() && are_split(v.codes, t.codes),
+        _ => false,
+    }
 }

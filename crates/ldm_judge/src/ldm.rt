@@ -7,8 +7,11 @@ ghost use Rattle.ldm_judge.specs.Live.{below};
 
 use crate::items::ItemLeaves;
 use crate::live::live_labels;
+use crate::open::Open;
 use book_model::{Items, Numbers, Query};
-use proof_judge::{Judge, NodesById, Refusal, are_short, begin};
+use proof_judge::{
+    Judge, NodesById, Refusal, are_narrow, are_short, begin, begin_apart, walk_tests,
+};
 use std::alloc::Global;
 
 /// The method whose leaves say how far each node is from some landmarks, so that the client repeats
@@ -24,6 +27,22 @@ impl Judge for Ldm {
         are_short(items.nodes.as_slice());
         let (by_id, length) = begin(alloc, items, query)?;
         tests(alloc, &by_id, numbers.first, query, length)
+    }
+
+    fn judge_apart(
+        alloc: Global,
+        _numbers: Numbers,
+        items: &Items,
+        query: Query,
+    ) -> Result<(), Refusal> {
+        are_narrow(items.nodes.as_slice());
+        let by_id = begin_apart(alloc, items, query)?;
+        let leaves = ItemLeaves { by_id: &by_id };
+        let open = Open {
+            leaves: &leaves,
+            to: query.to,
+        };
+        walk_tests(alloc, &open, query)
     }
 }
 

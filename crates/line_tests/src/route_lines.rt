@@ -1,21 +1,51 @@
 //! Printed lines.
 
 use crate::same::assert_same;
+use book_model::Numbers;
 use lms_tree::SealError;
 use proof_judge::Refusal;
+use proof_octets::Header;
 use road_line::{
     line_of_accepted, line_of_collision, line_of_desk, line_of_forged, line_of_refused,
     line_of_right, line_of_route,
 };
-use route_client::{CheckError, CoverFault};
+use road_map::Ids;
+use route_client::{Accepted, CheckError, Checked, CoverFault};
 use std::test::Fail;
+
+const HEADER: Header = Header {
+    method: 1,
+    order: 0,
+    fan: 2,
+    version: 3,
+    nodes: 1,
+    node_root: [0; 32],
+    pairs: 0,
+    pair_root: [0; 32],
+    numbers: Numbers {
+        first: 0,
+        second: 0,
+    },
+};
 
 #[test]
 fn routes_are_printed(rt: HostRuntime) -> Result<(), Fail> {
     let line = line_of_route(rt.alloc(), 9, &[1, 2, 3])?;
     assert_same(&rt, line.as_slice(), b"9: 1 2 3\n".as_slice());
-    let line = line_of_accepted(rt.alloc(), 0, &[4_294_967_295])?;
+    let route = Checked::Route(Accepted {
+        length: 0,
+        route: Ids::from_vec(vec![in rt.alloc(); 4_294_967_295]?),
+        version: 3,
+        header: HEADER,
+    });
+    let line = line_of_accepted(rt.alloc(), &route)?;
     assert_same(&rt, line.as_slice(), b"accepted 0: 4294967295\n".as_slice());
+    let none = Checked::Apart {
+        version: 3,
+        header: HEADER,
+    };
+    let line = line_of_accepted(rt.alloc(), &none)?;
+    assert_same(&rt, line.as_slice(), b"accepted none\n".as_slice());
     Ok(())
 }
 

@@ -17,7 +17,8 @@ use Rattle.book_model.specs.declared.items.Items.{Items}
 use Rattle.book_model.specs.Books.{Book, leaf}
 use Rattle.proof_judge.specs.ItemWalks.{item_at, any_ways}
 use Rattle.proof_method.specs.Gathering.{IsAuthentic}
-use Rattle.proof_method.proofs.Along.{IsOfMap, IsClosed, Shorter, Cut, Reaches-start, joins_along, reaches_joins, run}
+use Rattle.proof_judge.proofs.Reaching.{Reaches-start}
+use Rattle.proof_method.proofs.Along.{IsOfMap, IsClosed, Shorter, Cut, joins_along, reaches_joins, run}
 use Rattle.proof_method.proofs.Completes.{below_bound}
 use Rattle.proof_method.proofs.RouteLaws.{have_arcs, items_of_map, roads_known}
 use Rattle.near_model.specs.declared.marks.Mark.{Mark}

@@ -14,7 +14,7 @@ use Rattle.road_map.specs.declared.parts.Parts.{Parts}
 use Rattle.road_map.specs.Walks.{Knows, distance}
 use Rattle.road_map.specs.Maps.{IsMap, IsById}
 use Rattle.road_map.specs.Routes.{IsShortest}
-use Rattle.road_map.proofs.Among.{Contains-none, Contains-here, Contains-cases, place_at}
+use Rattle.road_map.proofs.Among.{Contains-none, Contains-here, Contains-there, Contains-cases, place_at}
 use Rattle.road_leaf.specs.declared.pair.PairLeaf.{PairLeaf}
 use Rattle.book_model.specs.declared.items.Query.{Query}
 use Rattle.book_model.specs.declared.settings.Settings.{Settings}
@@ -26,7 +26,8 @@ use Rattle.book_model.proofs.ById.{by_id-is, by_id-length, ids_kept}
 use Rattle.pair_dist.specs.Rising.{is_before, PairsRise}
 use Rattle.pair_dist.proofs.TableLaws.{table_rises, pair_stands, table_few}
 use Rattle.proof_method.specs.declared.found.Found.{Found}
-use Rattle.proof_method.specs.Gathering.{Lists, Wanted, IsWantedAt, IsFound}
+use Rattle.proof_method.specs.Gathering.{Lists, Wanted, AreEnds, IsPairAt, IsWantedAt, IsFound, AreUnjoined}
+use Rattle.proof_method.specs.Apart.{IsEnd, WantedApart, IsFoundApart}
 use Rattle.plain_books.specs.PlainBooks.{plain_book}
 
 -- ---- ids that rise
@@ -136,16 +137,16 @@ one_place pairs rise a b m n h k = elim (order m n) [
         let left : is_before a b y.0.a y.0.b ≡ true = subst (λ b'. is_before a b' y.0.a y.0.b ≡ true) x.3 (subst (λ a'. is_before a' x.0.b y.0.a y.0.b ≡ true) x.2 up) in
         not_before_itself a b (subst (λ b'. is_before a b a b' ≡ true) y.3 (subst (λ a'. is_before a b a' y.0.b ≡ true) y.2 left))
 
-pub ends_listed : (parts : Parts) (pairs : List PairLeaf) → PairsRise pairs → (q : Query) → q.from ≢ q.to → (place : ℕ) → StandsAt pairs (min q.from q.to) (max q.from q.to) place → (d : ℕ) → Lists (IsWantedAt Full (plain_book parts pairs) q d) (place ∷ [])
-ends_listed parts pairs rise q apart place at d = one_listed (IsWantedAt Full (plain_book parts pairs) q d) place
+pub ends_listed : (parts : Parts) (pairs : List PairLeaf) → PairsRise pairs → (q : Query) → q.from ≢ q.to → (place : ℕ) → StandsAt pairs (min q.from q.to) (max q.from q.to) place → Lists (IsPairAt (AreEnds q) (plain_book parts pairs)) (place ∷ [])
+ends_listed parts pairs rise q apart place at = one_listed (IsPairAt (AreEnds q) (plain_book parts pairs)) place
     (record { pair = at.0; stands = at.1; x = q.from; y = q.to; wanted = (refl, refl, apart); first = at.2; second = at.3 })
     (λ n w. one_place pairs rise (min q.from q.to) (max q.from q.to) n place (stands n w) at)
   where
-    stands : (n : ℕ) → IsWantedAt Full (plain_book parts pairs) q d n → StandsAt pairs (min q.from q.to) (max q.from q.to) n
+    stands : (n : ℕ) → IsPairAt (AreEnds q) (plain_book parts pairs) n → StandsAt pairs (min q.from q.to) (max q.from q.to) n
     stands n w = (w.pair, w.stands, w.first ∙ (ap (λ x. min x w.y) w.wanted.0 ∙ ap (λ y. min q.from y) w.wanted.1), w.second ∙ (ap (λ x. max x w.y) w.wanted.0 ∙ ap (λ y. max q.from y) w.wanted.1))
 
-pub none_wanted : (parts : Parts) (pairs : List PairLeaf) (q : Query) → q.from ≡ q.to → (d : ℕ) → Lists (IsWantedAt Full (plain_book parts pairs) q d) []
-none_wanted parts pairs q same d = none_listed (IsWantedAt Full (plain_book parts pairs) q d) (λ n w. w.wanted.2 (w.wanted.0 ∙ (same ∙ sym w.wanted.1)))
+pub none_wanted : (parts : Parts) (pairs : List PairLeaf) (q : Query) → q.from ≡ q.to → Lists (IsPairAt (AreEnds q) (plain_book parts pairs)) []
+none_wanted parts pairs q same = none_listed (IsPairAt (AreEnds q) (plain_book parts pairs)) (λ n w. w.wanted.2 (w.wanted.0 ∙ (same ∙ sym w.wanted.1)))
 
 -- what FULL finds
 pub found_full : (parts : Parts) (pairs : List PairLeaf) (q : Query) (d : ℕ) (f : Found) → IsShortest parts q.from q.to f.route d → IsDistinct nat_eq f.route → Lists (λ id. Contains f.route id) f.nodes → Lists (IsWantedAt Full (plain_book parts pairs) q d) f.pairs → IsFound Full (plain_book parts pairs) q d f
@@ -159,6 +160,21 @@ found_full parts pairs q d f short distinct nodes places = record {
     on_route : (id : ℕ) → Contains f.route id ⊎ Wanted Full (plain_book parts pairs) q f.route d id → Contains f.route id
     on_route id (inl c) = c
     on_route id (inr w) = absurd w
+
+-- ---- where no route exists
+
+-- what FULL finds there
+pub found_apart_full : (parts : Parts) (pairs : List PairLeaf) (q : Query) (f : Found) → AreUnjoined parts q → f.route ≡ [] → Lists (IsEnd q) f.nodes → Lists (IsPairAt (AreEnds q) (plain_book parts pairs)) f.pairs → IsFoundApart Full (plain_book parts pairs) q f
+found_apart_full parts pairs q f un no_route nodes places = record {
+  unjoined = un;
+  no_route = no_route;
+  nodes = record { rising = nodes.rising; same = λ id. (λ c. inl ((nodes.same id).0 c), λ w. (nodes.same id).1 (end id w)) };
+  pairs = places;
+}
+  where
+    end : (id : ℕ) → IsEnd q id ⊎ WantedApart Full (plain_book parts pairs) q id → IsEnd q id
+    end id (inl e) = e
+    end id (inr w) = absurd w
 
 -- ---- too many nodes
 

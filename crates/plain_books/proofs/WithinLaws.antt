@@ -1,30 +1,29 @@
 -- Nodes that are no farther than the end of a route.
-use Rattle.std.proofs.Common.{◌≡◌, ℕ, ◌+◌, ◌≤◌, Bool, true, false, cond, IsTrue, Option, None, Some, List, [], ◌∷◌, ◌++◌, ◌⊎◌, inl, inr, refl, arith, ap, sym, ◌∙◌, subst, length, take, slice_get, get_or, nat_eq, append-nil, take_all}
-use Rattle.std.specs.List.{Contains, IsDistinct, filter}
+use Rattle.std.proofs.Common.{◌≡◌, ℕ, ◌≤◌, IsTrue, Option, None, Some, List, [], ◌∷◌, ◌++◌, ◌^◌, ◌<◌, ◌⊎◌, inl, inr, refl, arith, sym, ◌∙◌, subst, nat_eq}
+use Rattle.std.specs.List.{Contains, IsDistinct}
 use Rattle.std.specs.List.Sorted.{IsStrictlySortedBy}
-use Rattle.std.specs.Ordering.{nat_cmp}
-use Rattle.std.proofs.lemmas.List.Kept.{IsStrictlySortedBy-filter}
-use Rattle.std.proofs.lemmas.List.Elements.{filter_more}
-use Rattle.std.proofs.lemmas.List.{length-map}
-use Rattle.std.proofs.lemmas.Option.{slice_get_within, get_or_from_slice_get}
+use Rattle.std.proofs.lemmas.List.Elements.{Contains-append_left, Contains-append_right, Contains-append_cases}
 use Rattle.road_map.specs.declared.arc.Arc.{Arc}
-use Rattle.road_map.specs.declared.parts.Node.{Node}
 use Rattle.road_map.specs.declared.parts.Parts.{Parts}
 use Rattle.road_map.specs.declared.parts.Road.{Road}
 use Rattle.road_map.specs.Walks.{ids, Knows, Joins, IsDistance, distance}
 use Rattle.road_map.specs.Routes.{last_stop, walk_length, stops, AlongArcs, IsShortest}
-use Rattle.road_map.specs.Maps.{IsMap, IsById}
-use Rattle.road_map.proofs.Among.{Contains-none, Contains-here, Contains-there, Contains-cases, place_map}
+use Rattle.road_map.specs.Maps.{IsMap}
+use Rattle.road_map.specs.Laws.{DistanceLaws}
+use Rattle.road_map.proofs.Among.{Contains-none, Contains-here, Contains-cases}
 use Rattle.road_map.proofs.WalkLaws.{distance-is}
 use Rattle.road_map.proofs.ChartLaws.{roads_known}
 use Rattle.book_model.specs.declared.items.Query.{Query}
 use Rattle.book_model.specs.Books.{Dij}
-use Rattle.book_model.proofs.ById.{ids_kept}
 use Rattle.proof_method.specs.declared.found.Found.{Found}
-use Rattle.proof_method.specs.Gathering.{Lists, Wanted, IsWantedAt, IsFound}
+use Rattle.proof_method.specs.Gathering.{Lists, Wanted, IsPairAt, IsWantedAt, IsFound, AreUnjoined}
+use Rattle.proof_method.specs.Apart.{IsEnd, WantedApart, WantedPairApart, IsFoundApart}
 use Rattle.proof_method.proofs.Along.{along_joins, Joins-known}
 use Rattle.proof_method.proofs.Completes.{at_most}
 use Rattle.road_search.specs.Nearness.{is_within}
+use Rattle.road_search.specs.OverMap.{map_ways}
+use Rattle.road_search.specs.Passing.{IsLeastPassing}
+use Rattle.road_search.proofs.WholeMapLaws.{whole_same}
 use Rattle.plain_books.specs.PlainBooks.{plain_book}
 
 -- a walk along arcs up to one of its stops
@@ -89,3 +88,43 @@ found_dij parts m q d f len short distinct lengths listed none = record {
     wanted : (id : ℕ) → Contains f.route id ⊎ Wanted Dij (plain_book parts []) q f.route d id → IsTrue (is_within d (len id))
     wanted id (inl c) = let r : Knows parts id × ((e : ℕ) × (distance parts q.from id ≡ Some e) × (e ≤ d)) = on_route parts m q.from q.to d f.route short id c in some_within d r.1.0 (len id) ((lengths id r.1.0 r.1.2).1 r.1.1) r.1.2
     wanted id (inr w) = some_within d w.0 (len id) ((lengths id w.0 w.2).1 w.1) w.2
+
+-- ---- where no walk leads to the end
+
+-- the nodes that a search over the whole map finds, and the end
+pub component_is : (parts : Parts) → IsMap parts → DistanceLaws parts → (q : Query) → AreUnjoined parts q → (len : ℕ → Option ℕ) → ((v : ℕ) → IsLeastPassing (map_ways parts) q.from 18446744073709551615 v (len v)) → (near ids : List ℕ) → ((id : ℕ) → (Contains near id → IsTrue (is_within 18446744073709551615 (len id))) × (IsTrue (is_within 18446744073709551615 (len id)) → Contains near id)) → ids ≡ near ++ q.to ∷ [] →
+    (id : ℕ) → (Contains ids id → IsEnd q id ⊎ WantedApart Dij (plain_book parts []) q id) × (IsEnd q id ⊎ WantedApart Dij (plain_book parts []) q id → Contains ids id)
+component_is parts m laws q un len least near ids same is id = (to, from)
+  where
+    far : (v : ℕ) → len v ≡ distance parts q.from v
+    far v = whole_same parts m laws q.from 18446744073709551615 v (len v) un.0 (omega arith) (least v)
+
+    to : Contains ids id → IsEnd q id ⊎ WantedApart Dij (plain_book parts []) q id
+    to c = elim (Contains-append_cases near (q.to ∷ []) id (subst (λ xs. Contains xs id) is c)) [
+      | inl h ↦
+          (let e : (e : ℕ) × (len id ≡ Some e) × (e ≤ 18446744073709551615) = within_some 18446744073709551615 (len id) ((same id).0 h) in
+          let d : IsDistance parts q.from id (Some e.0) = subst (IsDistance parts q.from id) (sym (far id) ∙ e.1) (laws.least q.from id) in
+          inr (e.0, d.0))
+      | inr h ↦ inl (inr (elim (Contains-cases q.to id [] h) [ inl e ↦ sym e | inr d ↦ absurd (Contains-none id d) ]))
+    ]
+
+    found : (v d : ℕ) → Joins parts q.from v d → Contains ids v
+    found v d j =
+        let e : (e : ℕ) × (distance parts q.from v ≡ Some e) × (e ≤ d) = at_most parts m q.from v d j in
+        let low : e.0 < 2 ^ 48 = laws.bound q.from v e.0 e.1 in
+        subst (λ xs. Contains xs v) (sym is) (Contains-append_left near (q.to ∷ []) v ((same v).1 (some_within 18446744073709551615 e.0 (len v) (far v ∙ e.1) (omega (arith, low)))))
+
+    from : IsEnd q id ⊎ WantedApart Dij (plain_book parts []) q id → Contains ids id
+    from (inl (inl e)) = subst (Contains ids) (sym e) (found q.from 0 (record { walk = record { start = q.from; hops = [] }; known = un.0; starts = refl; follows = tt; ends = refl; sums = refl }))
+    from (inl (inr e)) = subst (λ xs. Contains xs id) (sym is) (Contains-append_right near (q.to ∷ []) id (subst (Contains (q.to ∷ [])) (sym e) (Contains-here q.to [])))
+    from (inr h) = found id h.0 h.1
+
+-- what DIJ finds where no route exists
+pub found_apart_dij : (parts : Parts) (q : Query) (f : Found) → AreUnjoined parts q → f.route ≡ [] → Lists (λ id. IsEnd q id ⊎ WantedApart Dij (plain_book parts []) q id) f.nodes → f.pairs ≡ [] → IsFoundApart Dij (plain_book parts []) q f
+unfolding IsStrictlySortedBy
+found_apart_dij parts q f un no_route nodes none = record {
+  unjoined = un;
+  no_route = no_route;
+  nodes = nodes;
+  pairs = subst (Lists (IsPairAt (WantedPairApart Dij (plain_book parts []) q) (plain_book parts []))) (sym none) (record { rising = tt; same = λ n. (λ c. absurd (Contains-none n c), λ w. absurd w.wanted) });
+}

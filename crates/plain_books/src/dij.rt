@@ -4,12 +4,12 @@ ghost use Rattle.std.specs.Prelude.{◌≡◌, ℕ, IfOk, IfErr};
 ghost use Rattle.road_map.specs.declared.parts.Parts.{Parts};
 ghost use Rattle.book_model.specs.Books.{Dij as ByDij, own_tests, first_failed};
 
-use crate::within::near;
+use crate::within::{component, near};
 use book_model::{Numbers, Places, PlanError, Query, Settings};
 use octet_text::NoMemory;
 use proof_method::{Found, GatherError, MethodBook, leaf_adding, reach};
 use road_leaf::{Extra, NodeLeaf, PairLeaf};
-use road_map::Map;
+use road_map::{Ids, Map};
 use std::alloc::Global;
 
 /// A map, whose leaves say nothing beside places and arcs. It brings the leaves of all nodes that
@@ -78,6 +78,15 @@ impl MethodBook for DijBook {
         let nodes = near(alloc, &reached.labels, reached.length)?;
         Ok(Found {
             route: reached.route,
+            nodes,
+            pairs: Places::from_vec(Vec::new(alloc)),
+        })
+    }
+
+    fn gather_apart(&self, alloc: Global, query: Query) -> Result<Found, NoMemory> {
+        let nodes = component(alloc, &self.map, query)?;
+        Ok(Found {
+            route: Ids::from_vec(Vec::new(alloc)),
             nodes,
             pairs: Places::from_vec(Vec::new(alloc)),
         })

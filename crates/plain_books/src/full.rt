@@ -5,8 +5,7 @@ ghost use Rattle.road_map.specs.Walks.{Knows, distance};
 ghost use Rattle.road_leaf.specs.declared.pair.PairLeaf.{PairLeaf};
 ghost use Rattle.book_model.specs.Orders.{by_id};
 ghost use Rattle.book_model.specs.Pairs.{pairs_of};
-ghost use Rattle.book_model.specs.Books.{Full as ByFull};
-ghost use Rattle.proof_method.specs.Gathering.{Lists, IsWantedAt};
+ghost use Rattle.proof_method.specs.Gathering.{Lists, AreEnds, IsPairAt};
 ghost use Rattle.plain_books.specs.PlainBooks.{plain_book};
 
 use crate::dij::first_parameter;
@@ -14,9 +13,9 @@ use crate::rising::rising;
 use book_model::{Numbers, PairLeaves, Places, PlanError, Query, Settings};
 use octet_text::NoMemory;
 use pair_dist::{PairError, pair_leaves, place_of_pair};
-use proof_method::{Found, GatherError, MethodBook, ids_by_id, leaf_adding, reach};
+use proof_method::{Found, GatherError, MethodBook, ends, ids_by_id, leaf_adding, reach};
 use road_leaf::{Extra, NodeLeaf, PairLeaf};
-use road_map::Map;
+use road_map::{Ids, Map};
 use std::alloc::Global;
 
 /// A map, and the leaves of all pairs of its nodes, of which it brings that of the two ends.
@@ -99,6 +98,16 @@ impl MethodBook for FullBook {
             pairs,
         })
     }
+
+    fn gather_apart(&self, alloc: Global, query: Query) -> Result<Found, NoMemory> {
+        let nodes = ends(alloc, query)?;
+        let pairs = pair_of_ends(alloc, self, query)?;
+        Ok(Found {
+            route: Ids::from_vec(Vec::new(alloc)),
+            nodes,
+            pairs,
+        })
+    }
 }
 
 /// The place of the leaf of two different nodes.
@@ -119,8 +128,8 @@ fn place_between(book: &FullBook, query: Query) -> u32
 fn pair_of_ends(alloc: Global, book: &FullBook, query: Query) -> Result<Places, NoMemory>
     requires from { Knows book.now.map.parts query.from }
     requires to { Knows book.now.map.parts query.to }
-    ensures { IfOk result (λ places. (d : ℕ) →
-        Lists (IsWantedAt ByFull (plain_book book.now.map.parts book.now.pairs) query d) places) }
+    ensures { IfOk result (Lists
+        (IsPairAt (AreEnds query) (plain_book book.now.map.parts book.now.pairs))) }
 {
     let _parts = book.map.parts();
     let mut places = Vec::new(alloc);

@@ -5,7 +5,7 @@ ghost use Rattle.proof_judge.specs.SharedTests.{UnlessMemory};
 
 use crate::items::Anywhere;
 use book_model::{Items, Numbers, Query};
-use proof_judge::{Judge, NodesById, Refusal, begin};
+use proof_judge::{Judge, NodesById, Refusal, are_narrow, begin, begin_apart, walk_tests};
 use road_search::search;
 use std::alloc::Global;
 
@@ -26,6 +26,17 @@ impl Judge for Dij {
     ) -> Result<u64, Refusal> {
         let (by_id, length) = begin(alloc, items, query)?;
         tests(alloc, &by_id, query, length)
+    }
+
+    fn judge_apart(
+        alloc: Global,
+        _numbers: Numbers,
+        items: &Items,
+        query: Query,
+    ) -> Result<(), Refusal> {
+        are_narrow(items.nodes.as_slice());
+        let by_id = begin_apart(alloc, items, query)?;
+        walk_tests(alloc, &Anywhere { by_id: &by_id }, query)
     }
 }
 

@@ -2,9 +2,10 @@
 
 ghost use Rattle.std.specs.Prelude.{◌≡◌};
 ghost use Rattle.proof_judge.specs.Judgement.{full_judged};
+ghost use Rattle.proof_judge.specs.Apart.{joined_fault, by_fault};
 
 use book_model::{Items, Numbers, Query};
-use proof_judge::{Judge, Refusal, begin, find_pair};
+use proof_judge::{Judge, Refusal, begin, begin_apart, find_pair, joined_fault};
 use road_leaf::PairLeaf;
 use std::alloc::Global;
 
@@ -24,6 +25,16 @@ impl Judge for Full {
     ) -> Result<u64, Refusal> {
         let (_by_id, length) = begin(alloc, items, query)?;
         tests(items.pairs.as_slice(), query, length)
+    }
+
+    fn judge_apart(
+        alloc: Global,
+        _numbers: Numbers,
+        items: &Items,
+        query: Query,
+    ) -> Result<(), Refusal> {
+        let _by_id = begin_apart(alloc, items, query)?;
+        pair_tests(items.pairs.as_slice(), query)
     }
 }
 
@@ -47,5 +58,16 @@ fn tests(pairs: &[PairLeaf], query: Query, length: u64) -> Result<u64, Refusal>
         Ok(length)
     } else {
         Err(Refusal::Disagrees(pair.distance))
+    }
+}
+
+/// The tests of the pair of the two ends, where no route is shown: it says that no walk joins them.
+fn pair_tests(pairs: &[PairLeaf], query: Query) -> Result<(), Refusal>
+    ensures { result ≡ by_fault (joined_fault pairs.now query.from query.to 0) }
+{
+    let pair = find_pair(pairs, query.from, query.to);
+    match joined_fault(pair, query.from, query.to, 0) {
+        None => Ok(()),
+        Some(refusal) => Err(refusal),
     }
 }

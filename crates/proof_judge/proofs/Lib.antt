@@ -4,3 +4,6 @@ pub mod Keys
 pub mod PairKeys
 pub mod Tested
 pub mod LengthLaws
+pub mod Reaching
+pub mod AllWalks
+pub mod LowWalks

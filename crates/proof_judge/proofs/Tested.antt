@@ -1,5 +1,5 @@
 -- Verdicts from the answers of a search.
-use Rattle.std.proofs.Common.{◌≡◌, ℕ, Option, None, Some, IsSome, Ok, Err, List, ◌⊎◌, inl, inr, refl, ap, sym, ◌∙◌, subst}
+use Rattle.std.proofs.Common.{◌≡◌, ℕ, Option, None, Some, IsSome, Result, Ok, Err, List, ◌⊎◌, inl, inr, refl, ap, sym, ◌∙◌, subst}
 use Rattle.road_map.specs.Least.{IsLeast}
 use Rattle.road_map.proofs.LeastLaws.{IsLeast-same}
 use Rattle.road_search.specs.Passing.{Ways, Reaches, IsLeastPassing}
@@ -12,9 +12,10 @@ use Rattle.proof_judge.specs.ItemWalks.{StandsTwice, Lacks}
 use Rattle.proof_judge.specs.Judgement.{Verdict, Tests, Then, OnRoute, OwnTests, Judged, walked}
 use Rattle.book_model.specs.Books.{Kind}
 use Rattle.road_leaf.specs.declared.leaf.NodeLeaf.{NodeLeaf}
-use Rattle.proof_judge.specs.SharedTests.{UnlessMemory, RefusesBefore}
+use Rattle.proof_judge.specs.Apart.{ApartVerdict, ApartTests, JudgedApart, end_lacking}
+use Rattle.proof_judge.specs.SharedTests.{UnlessMemory, RefusesBefore, RefusesApart}
 
-pub unless : (P : Verdict → Type 0) (v : Verdict) → P v → UnlessMemory P v
+pub unless : {A : Type 0} (P : Result A Refusal → Type 0) (v : Result A Refusal) → P v → UnlessMemory P v
 unless P (Ok d) h = h
 unless P (Err Memory) h = tt
 unless P (Err (RepeatedNode id)) h = h
@@ -24,7 +25,7 @@ unless P (Err (MissingPair a b)) h = h
 unless P (Err (Shorter d)) h = h
 unless P (Err (Disagrees d)) h = h
 
-pub unless-map : (P Q : Verdict → Type 0) (v : Verdict) → ((v : Verdict) → P v → Q v) → UnlessMemory P v → UnlessMemory Q v
+pub unless-map : {A : Type 0} (P Q : Result A Refusal → Type 0) (v : Result A Refusal) → ((v : Result A Refusal) → P v → Q v) → UnlessMemory P v → UnlessMemory Q v
 unless-map P Q (Ok d) to h = to (Ok d) h
 unless-map P Q (Err Memory) to h = tt
 unless-map P Q (Err (RepeatedNode id)) to h = to (Err (RepeatedNode id)) h
@@ -74,3 +75,18 @@ refused_fault g q nodes e same (inr f) = subst (RefusesBefore g q) (sym f.1) (re
 pub refused_later : (g : Items) (q : Query) (found nodes : List NodeLeaf) (route : List ℕ) (e : Refusal) → nodes ≡ g.nodes → found ≡ nodes → route ≡ g.route → IsLeast (StandsTwice nodes) None → Err e ≡ walked found q route → RefusesBefore g q e
 refused_later g q found nodes route e same at way distinct is =
     refused_walk g q e (subst (λ xs. IsLeast (StandsTwice xs) None) same distinct) (ap (λ xs. walked xs q g.route) (sym (at ∙ same)) ∙ (ap (walked found q) (sym way) ∙ sym is))
+
+-- ---- where no route is shown
+
+-- the whole verdict, from the verdict of the method's own tests
+pub judged_apart : (k : Kind) (n : Numbers) (g : Items) (q : Query) (v : ApartVerdict) → IsLeast (StandsTwice g.nodes) None → end_lacking g.nodes q ≡ None → UnlessMemory (ApartTests k n g q) v → UnlessMemory (JudgedApart k n g q) v
+judged_apart k n g q v distinct ends h = unless-map (ApartTests k n g q) (JudgedApart k n g q) v (λ v own. (None, distinct, subst (λ o. Then MissingTuple (ApartTests k n g q) o v) (sym ends) own)) h
+
+-- what repeated ids refuse, every method refuses
+pub apart_fault : (g : Items) (q : Query) (nodes : List NodeLeaf) (e : Refusal) → nodes ≡ g.nodes → ((e ≡ Memory) ⊎ ((id : ℕ) × (e ≡ RepeatedNode id) × IsLeast (StandsTwice nodes) (Some id))) → RefusesApart g q e
+apart_fault g q nodes e same (inl m) = subst (RefusesApart g q) (sym m) (λ k n. tt)
+apart_fault g q nodes e same (inr f) = subst (RefusesApart g q) (sym f.1) (λ k n. (Some f.0, subst (λ xs. IsLeast (StandsTwice xs) (Some f.0)) same f.2, refl))
+
+-- and what an end without an item refuses
+pub apart_end : (g : Items) (q : Query) (id : ℕ) → IsLeast (StandsTwice g.nodes) None → end_lacking g.nodes q ≡ Some id → RefusesApart g q (MissingTuple id)
+apart_end g q id distinct ends = λ k n. (None, distinct, subst (λ o. Then MissingTuple (ApartTests k n g q) o (Err (MissingTuple id))) (sym ends) refl)

@@ -53,12 +53,14 @@ walked nodes q (r ∷ route) = if r == q.from then walked_from nodes q.to 0 r ro
 abbrev pub Good : ℕ → Verdict → Type 0
 Good d v = v ≡ Ok d
 
-abbrev pub Then : (ℕ → Refusal) → (Verdict → Type 0) → Option ℕ → Verdict → Type 0
+abbrev pub Then : {A : Type 0} → (ℕ → Refusal) → (Result A Refusal → Type 0) → Option ℕ →
+    Result A Refusal → Type 0
 Then refuse next None v = next v
 Then refuse next (Some n) v = v ≡ Err (refuse n)
 
 -- a test, which refuses by the least number of which P holds, and what comes behind it
-abbrev pub Tests : (ℕ → Type 0) → (ℕ → Refusal) → (Verdict → Type 0) → Verdict → Type 0
+abbrev pub Tests : {A : Type 0} → (ℕ → Type 0) → (ℕ → Refusal) → (Result A Refusal → Type 0) →
+    Result A Refusal → Type 0
 Tests P refuse next v = (o : Option ℕ) × IsLeast P o × Then refuse next o v
 
 -- what comes behind the walk of the route
@@ -114,11 +116,19 @@ pub record PairFails (g : Items) (q : Query) (most b c : ℕ) (e : Refusal) : Ty
 abbrev pub NotBefore : ℕ → ℕ → ℕ → ℕ → Type 0
 NotBefore b c b' c' = (b < b') ⊎ ((b ≡ b') × (c ≤ c'))
 
+-- no pair of borders fails
+abbrev pub NoneFails : (ℕ → ℕ → Refusal → Type 0) → Type 0
+NoneFails Fails = (b c : ℕ) (e : Refusal) → ¬ Fails b c e
+
+-- the first pair of borders that fails, by rising pairs, does so by this refusal
+abbrev pub FirstFails : (ℕ → ℕ → Refusal → Type 0) → Refusal → Type 0
+FirstFails Fails e = (b : ℕ) × (c : ℕ) × Fails b c e ×
+    ((b' c' : ℕ) (e' : Refusal) → Fails b' c' e' → NotBefore b c b' c')
+
 -- the border pairs, by rising pairs
 abbrev pub PairTests : Items → Query → ℕ → Verdict → Type 0
-PairTests g q most (Ok d) = (d ≡ most) × ((b c : ℕ) (e : Refusal) → ¬ PairFails g q most b c e)
-PairTests g q most (Err e) = (b : ℕ) × (c : ℕ) × PairFails g q most b c e ×
-    ((b' c' : ℕ) (e' : Refusal) → PairFails g q most b' c' e' → NotBefore b c b' c')
+PairTests g q most (Ok d) = (d ≡ most) × NoneFails (PairFails g q most)
+PairTests g q most (Err e) = FirstFails (PairFails g q most) e
 
 -- the tests of DIJ
 abbrev pub DijTests : List NodeLeaf → Query → ℕ → Verdict → Type 0

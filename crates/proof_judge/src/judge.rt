@@ -3,6 +3,7 @@
 ghost use Rattle.std.specs.Prelude.{◌≤◌, length};
 ghost use Rattle.book_model.specs.Books.{Kind};
 ghost use Rattle.proof_judge.specs.Judgement.{Judged};
+ghost use Rattle.proof_judge.specs.Apart.{JudgedApart};
 ghost use Rattle.proof_judge.specs.SharedTests.{UnlessMemory};
 
 use crate::refusal::Refusal;
@@ -18,4 +19,15 @@ pub trait Judge {
     fn judge(alloc: Global, numbers: Numbers, items: &Items, query: Query) -> Result<u64, Refusal>
         requires { length items.now.route ≤ 65536 }
         ensures { UnlessMemory (Judged kind numbers items.now query) result };
+
+    /// Nothing, where the items show that no walk joins the two ends, or the first test that they do
+    /// not pass. The route is not looked at.
+    fn judge_apart(
+        alloc: Global,
+        numbers: Numbers,
+        items: &Items,
+        query: Query,
+    ) -> Result<(), Refusal>
+        requires { length items.now.nodes ≤ 65536 }
+        ensures { UnlessMemory (JudgedApart kind numbers items.now query) result };
 }

@@ -2,8 +2,10 @@
 
 ghost use Rattle.book_model.specs.Books.{Kind};
 ghost use Rattle.proof_judge.specs.Judgement.{HasOneVerdict};
+ghost use Rattle.proof_judge.specs.Apart.{HasOneApartVerdict};
 
-/// Under each method, items have at most one verdict.
+/// Under each method, items have at most one verdict, on a route and on there being none.
 pub fn judge_laws()
-    ensures { (k : Kind) → HasOneVerdict k }
+    ensures route { (k : Kind) → HasOneVerdict k }
+    ensures apart { (k : Kind) → HasOneApartVerdict k }
 {}

@@ -3,15 +3,17 @@
 //! book.
 #![tactic(auto)]
 
+pub use apart::{begin_apart, search_all, walk_tests};
 pub use judge::Judge;
 pub use laws::judge_laws;
-pub use lengths::are_short;
+pub use lengths::{are_narrow, are_short};
 pub use nodes_by_id::NodesById;
-pub use pairs::find_pair;
+pub use pairs::{find_pair, joined_fault};
 pub use pairs_by_id::PairsById;
 pub use refusal::Refusal;
 pub use route::{arcs_of, begin};
 
+mod apart;
 mod judge;
 mod laws;
 mod lengths;

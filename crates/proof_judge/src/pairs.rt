@@ -1,8 +1,11 @@
 //! Pair items by their two ids.
 
-ghost use Rattle.std.specs.Prelude.{◌≡◌, ◌==◌, ◌&&◌, find};
+ghost use Rattle.std.specs.Prelude.{◌≡◌, ◌==◌, ◌&&◌, List, find};
+ghost use Rattle.road_leaf.specs.declared.pair.PairLeaf.{PairLeaf};
 ghost use Rattle.proof_judge.specs.Judgement.{pair_at};
+ghost use Rattle.proof_judge.specs.Apart.{joined_fault};
 
+use crate::refusal::Refusal;
 use road_leaf::PairLeaf;
 
 /// Whether a pair item names two ids, in this order.
@@ -29,4 +32,25 @@ pub fn find_pair(pairs: &[PairLeaf], b: u32, c: u32) -> Option<PairLeaf>
     ensures { result ≡ pair_at pairs.now b c }
 {
     find_named(pairs, b.min(c), b.max(c))
+}
+
+/// Why two ids, to which walks from the two ends lead whose lengths have this sum, show a walk
+/// between these or lack a pair item. The item is the first one that names the two ids.
+pub fn joined_fault(pair: Option<PairLeaf>, b: u32, c: u32, sum: u64) -> Option<Refusal>
+    ensures { (pairs : List PairLeaf) → pair ≡ pair_at pairs b c →
+        result ≡ joined_fault pairs b c sum }
+{
+    if b == c {
+        return Some(Refusal::Shorter(sum));
+    }
+    match pair {
+        None => Some(Refusal::MissingPair(b.min(c), b.max(c))),
+        Some(pair) => {
+            if pair.distance == u64::MAX {
+                None
+            } else {
+                Some(Refusal::Disagrees(pair.distance))
+            }
+        }
+    }
 }

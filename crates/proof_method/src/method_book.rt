@@ -7,7 +7,8 @@ ghost use Rattle.book_model.specs.Books.{Kind, Book, leaf, IsBookOf};
 ghost use Rattle.book_model.specs.declared.settings.PlanError.TheVariants as plan_error;
 ghost use Rattle.proof_method.specs.Vectors.{HasVectors};
 ghost use Rattle.proof_method.specs.Planning.{own_fault};
-ghost use Rattle.proof_method.specs.Gathering.{IsOrderOf, IsFound, WhyNone};
+ghost use Rattle.proof_method.specs.Gathering.{IsOrderOf, IsFound, AreUnjoined, WhyNone};
+ghost use Rattle.proof_method.specs.Apart.{IsFoundApart};
 
 use crate::found::{Found, GatherError};
 use book_model::{Numbers, PlanError, Query, Settings};
@@ -78,4 +79,9 @@ pub trait MethodBook: Drop + Sized {
         ensures found { IfOk result
             (λ found. (d : ℕ) × IsFound (kind self.now) (shown self.now) query d found) }
         ensures refused { IfErr result (WhyNone (shown self.now).parts query) };
+
+    /// What shows that no walk joins two known nodes. It has no route.
+    fn gather_apart(&self, alloc: Global, query: Query) -> Result<Found, NoMemory>
+        requires { AreUnjoined (shown self.now).parts query }
+        ensures { IfOk result (IsFoundApart (kind self.now) (shown self.now) query) };
 }

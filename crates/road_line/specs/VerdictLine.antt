@@ -5,15 +5,22 @@ use Rattle.lms_tree.specs.declared.seals.SealError.{SealError}
 use Rattle.lms_tree.specs.declared.seals.SealError.TheVariants.{BadKey, BadForm, NoMatch}
 use Rattle.proof_judge.specs.declared.refusal.Refusal.{Refusal}
 use Rattle.proof_judge.specs.declared.refusal.Refusal.TheVariants as judged
+use Rattle.route_client.specs.declared.accepted.Checked.{Checked}
+use Rattle.route_client.specs.declared.accepted.Checked.TheVariants.{Route, Apart}
 use Rattle.route_client.specs.declared.errors.CoverFault.{CoverFault}
 use Rattle.route_client.specs.declared.errors.CoverFault.TheVariants.{Place, Short, Long, Differs}
 use Rattle.route_client.specs.declared.errors.CheckError.{CheckError}
 use Rattle.route_client.specs.declared.errors.CheckError.TheVariants.{NotAnswer, Malformed, Stale, BadChain, BadSignature, BadCover, Judged, Memory}
 use Rattle.road_line.specs.RouteLine.{route_line}
 
--- an accepted route and its length
-abbrev pub accepted_line : ℕ → List ℕ → List ℕ
-accepted_line length route = codes "accepted " ++ route_line length route
+-- an accepted route and its length, or that there is none
+abbrev pub accepted_words : Checked → List ℕ
+accepted_words (Route x) = route_line x.length x.route
+accepted_words (Apart version header) = codes "none\n"
+
+-- what is accepted
+abbrev pub accepted_line : Checked → List ℕ
+accepted_line x = codes "accepted " ++ accepted_words x
 
 -- ---- refusals by their names
 
@@ -28,7 +35,7 @@ cover_name Short = codes "Short"
 cover_name Long = codes "Long"
 cover_name Differs = codes "Differs"
 
--- why the items don't show a shortest route, with its numbers
+-- why the items don't show a shortest route, or that there is none, with its numbers
 abbrev pub judged_words : Refusal → List ℕ
 judged_words (judged.RepeatedNode id) = codes "RepeatedNode " ++ decimal id
 judged_words (judged.BadRoute hop) = codes "BadRoute " ++ decimal hop

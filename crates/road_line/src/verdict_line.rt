@@ -2,31 +2,41 @@
 
 ghost use Rattle.std.specs.Prelude.{◌≡◌, ◌++◌, codes, IfOk, OnOk, string_bytes};
 ghost use Rattle.std.specs.Fmt.{decimal};
-ghost use Rattle.road_line.specs.VerdictLine.{accepted_line, refused_line, refused_words, judged_words, seal_name, cover_name};
+ghost use Rattle.road_line.specs.VerdictLine.{accepted_line, accepted_words, refused_line, refused_words, judged_words, seal_name, cover_name};
 
 use crate::route_line::print_route;
 use lms_tree::SealError;
 use octet_text::NoMemory;
 use proof_judge::Refusal;
-use route_client::{CheckError, CoverFault};
+use route_client::{CheckError, Checked, CoverFault};
 use std::alloc::{AllocError, Global};
 
-/// The line of an accepted route.
-pub fn line_of_accepted(alloc: Global, length: u64, route: &[u32]) -> Result<Vec<u8>, NoMemory>
-    ensures { IfOk result (λ text. text.items ≡ accepted_line length route.now) }
+/// The line of what is accepted: a route and its length, or that there is none.
+pub fn line_of_accepted(alloc: Global, checked: &Checked) -> Result<Vec<u8>, NoMemory>
+    ensures { IfOk result (λ text. text.items ≡ accepted_line checked.now) }
 {
-    match accepted(alloc, length, route) {
+    match accepted(alloc, checked) {
         Ok(text) => Ok(text.into_bytes()),
         Err(_) => Err(NoMemory),
     }
 }
 
-fn accepted(alloc: Global, length: u64, route: &[u32]) -> Result<String, AllocError>
-    ensures { IfOk result (λ text. string_bytes text ≡ accepted_line length route.now) }
+fn accepted(alloc: Global, checked: &Checked) -> Result<String, AllocError>
+    ensures { IfOk result (λ text. string_bytes text ≡ accepted_line checked.now) }
 {
     let mut text = String::from_str(alloc, "accepted ")?;
-    print_route(&mut text, length, route)?;
+    print_accepted(&mut text, checked)?;
     Ok(text)
+}
+
+fn print_accepted(text: &mut String, checked: &Checked) -> Result<(), AllocError>
+    ensures { OnOk result (string_bytes text.new ≡ string_bytes text.old ++ accepted_words
+        checked.now) }
+{
+    match checked {
+        Checked::Route(accepted) => print_route(text, accepted.length, accepted.route.as_slice()),
+        Checked::Apart { .. } => text.push_str("none\n"),
+    }
 }
 
 /// The line of a refused reply: the name of the test that it did not pass, with its fields.

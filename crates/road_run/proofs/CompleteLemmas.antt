@@ -19,7 +19,7 @@ use Rattle.road_command.specs.Requests.{Request, Route, Root, Dimacs, Key, Succe
 use Rattle.command_books.specs.Installing.{IsInstallable}
 use Rattle.command_books.proofs.OneBuilding.{OneMaking}
 use Rattle.command_files.specs.Reading.{publication_at}
-use Rattle.command_files.specs.TwoEnds.{AreJoined}
+use Rattle.route_laws.specs.Honest.{UnknownNodesAreTold, AreKnown}
 use Rattle.command_files.specs.Endings.{Ending, Answered, Promises}
 use Rattle.command_files.specs.Exact.{NoneFailed, IsExact}
 use Rattle.command_files.specs.Outcomes.{status_of}
@@ -34,10 +34,10 @@ use Rattle.owner_commands.specs.Signing.{SealsWhatItMirrors}
 use Rattle.server_commands.specs.Proving.{EndsReply, EndsProve, ends_prove}
 use Rattle.road_run.specs.Accepting.{IsTaken, WritesAccepted}
 use Rattle.road_run.specs.Commands.{Ends, IsTold, TellsClient, OnMirrors, RunPromises, but_for_mirrors}
-use Rattle.road_run.specs.Complete.{CallsFor, AreTold, Hinders, IsUnhindered, Answers, PromisedEnough, IsComplete, ProvesJoined}
+use Rattle.road_run.specs.Complete.{CallsFor, AreTold, Hinders, IsUnhindered, Answers, PromisedEnough, IsComplete, ProvesKnown}
 use Rattle.road_run.specs.Sources.{IfServe, RunTakes, IsExactServing}
 use Rattle.road_run.proofs.HonestLemmas.{AcceptedLaws, writes_accepted}
-use Rattle.road_run.proofs.TakenLemmas.{RefusedLaws, taken}
+use Rattle.road_run.proofs.TakenLemmas.{taken}
 
 -- ---- an outcome by its status
 
@@ -165,27 +165,26 @@ module _ {D M : Type 0} (g : Ghosts D) (octets : M → Option (List ℕ)) (label
 
 -- ---- `prove` over a publication that can be installed
 
-module _ (makings : OneMaking) (laws : AcceptedLaws) (refused : RefusedLaws) (folder : Folder) (file : List ℕ) (q : Query) (p : Publication) (read : publication_at folder file ≡ Ok p) (has : IsInstallable p) (joined : AreJoined p.parts q.from q.to) where
+module _ (makings : OneMaking) (laws : AcceptedLaws) (told : UnknownNodesAreTold) (folder : Folder) (file : List ℕ) (q : Query) (p : Publication) (read : publication_at folder file ≡ Ok p) (has : IsInstallable p) (known : AreKnown p.parts q) where
   reply : (o : Result Conclusion Fault) (t : List ℕ) → ends_prove file q folder o t → EndsReply q p o t
   reply o t h = installed makings p (EndsReply q p) o t has (read_as (publication_at folder file) p (EndsProve q) o t read h)
 
   no_fault : (f : Fault) (t : List ℕ) → ends_prove file q folder (Err f) t → ⊥
-  no_fault (UnknownNode id) t h = both_known p.parts q.from q.to id joined.walk.known joined.end (reply (Err (UnknownNode id)) t h).0
-  no_fault NoRoute t h = (reply (Err NoRoute) t h).0.apart joined.length joined.walk
+  no_fault (UnknownNode id) t h = both_known p.parts q.from q.to id known.from known.to (reply (Err (UnknownNode id)) t h).0
   no_fault f t h = reply (Err f) t h
 
   proves : (old new : Option (List ℕ)) (o : Result Conclusion Fault) → Answered (ends_prove file q folder) old new o → (o ≡ Err MirrorLost → ⊥) → WritesAccepted (IsTaken p q) old new o
-  proves = writes_accepted (ends_prove file q folder) (IsTaken p q) (taken laws refused folder file q p read) (λ t h. reply (Ok Refused) t h) (λ t h. reply (Ok Evidence) t h) no_fault
+  proves = writes_accepted (ends_prove file q folder) (IsTaken p q) (taken laws told folder file q p read) (λ t h. reply (Ok Refused) t h) (λ t h. reply (Ok Evidence) t h) no_fault
 
 -- the same for a run
-pub proves_run : OneMaking → AcceptedLaws → RefusedLaws → {D : Type 0} (g : Ghosts D) (old new : D) (asked : Option Request) (files : Option Folder) (l l' : ℕ) (taken_before taken_now : Option (List ℕ)) (k k' : ℕ) (o : Result Conclusion Fault)
-    → RunPromises g old new asked files l l' taken_before taken_now k k' o → IfSome asked (λ request. ProvesJoined request files taken_before taken_now o)
-proves_run makings laws refused g old new asked files l l' taken_before taken_now k k' o r = by asked files r.command
+pub proves_run : OneMaking → AcceptedLaws → UnknownNodesAreTold → {D : Type 0} (g : Ghosts D) (old new : D) (asked : Option Request) (files : Option Folder) (l l' : ℕ) (taken_before taken_now : Option (List ℕ)) (k k' : ℕ) (o : Result Conclusion Fault)
+    → RunPromises g old new asked files l l' taken_before taken_now k k' o → IfSome asked (λ request. ProvesKnown request files taken_before taken_now o)
+proves_run makings laws told g old new asked files l l' taken_before taken_now k k' o r = by asked files r.command
   where
     by : (asked : Option Request) (files : Option Folder) → IfSome asked (λ request. Promises (Ends (g.content old) request) (TellsClient request) (Rose (g.faults old) (g.faults new)) files l l' taken_before taken_now k k' o)
-        → IfSome asked (λ request. ProvesJoined request files taken_before taken_now o)
+        → IfSome asked (λ request. ProvesKnown request files taken_before taken_now o)
     by None files p = tt
-    by (Some (Prove file q)) (Some folder) p = λ b read has joined. proves makings laws refused folder file q b read has joined taken_before taken_now o p.answered (λ e. p.mirror e)
+    by (Some (Prove file q)) (Some folder) p = λ b read has known. proves makings laws told folder file q b read has known taken_before taken_now o p.answered (λ e. p.mirror e)
     by (Some (Prove file q)) None p = tt
     by (Some (Serve publication)) files p = tt
     by (Some (Route roads from to)) files p = tt

@@ -6,10 +6,10 @@ use Rattle.std.specs.declared.result.Result.{Result}
 use Rattle.std.specs.declared.result.Result.TheVariants.{Ok, Err}
 use Rattle.sha2.specs.Sha256.{sha256}
 use Rattle.road_io.specs.Contents.{Folder}
-use Rattle.road_map.specs.Routes.{IsShortest}
 use Rattle.book_model.specs.declared.items.Query.{Query}
 use Rattle.proof_octets.specs.declared.publication.Publication.{Publication}
-use Rattle.route_client.specs.declared.accepted.Accepted.{Accepted}
+use Rattle.route_client.specs.declared.accepted.Checked.{Checked}
+use Rattle.route_client.specs.Truth.{HoldsIn}
 use Rattle.route_client.specs.declared.errors.CheckError.{CheckError}
 use Rattle.route_client.specs.Verdicts.{IsVerdict}
 use Rattle.route_laws.specs.Honest.{AnswersAreAccepted, AreAccepted}
@@ -69,7 +69,7 @@ writes_accepted E IsLine done refused evidence fault old new (Err f) a lost = ab
 
 module _ (one : OneVerdict) (verdict : AcceptsVerdict) (laws : AnswersAreAccepted) (folder : Folder) (key reply : List ℕ) (q : Query) (least : ℕ) (chain : Option (List ℕ)) (p : Publication) (file : IsHonestFile folder key reply q least chain p) where
   accepted : AreAccepted sha256 file.key file.links file.octets q least p.parts
-  accepted = laws sha256 sha256 file.signer file.key file.links file.octets p q least file.signed file.leads file.fresh file.joined file.honest
+  accepted = laws sha256 sha256 file.signer file.key file.links file.octets p q least file.signed file.leads file.fresh file.known file.honest
 
   says : IsVerdict sha256 file.key file.links file.octets q least (Ok accepted.accepted)
   says = verdict sha256 file.key file.links file.octets q least accepted.accepted accepted.accepts
@@ -78,7 +78,7 @@ module _ (one : OneVerdict) (verdict : AcceptsVerdict) (laws : AnswersAreAccepte
   ends : (o : Result Conclusion Fault) (text : List ℕ) → ends_check key reply q least chain folder o text → EndsCheck file.key file.links file.octets q least o text
   ends o text h = of_files (λ k links octets. EndsCheck k links octets q least) folder key reply chain file.key file.links file.octets file.key_read file.reply_read file.chain_read o text h
 
-  differ : (x : Accepted) (e : CheckError) → Ok x ≡ Err e → ⊥
+  differ : (x : Checked) (e : CheckError) → Ok x ≡ Err e → ⊥
   differ x e is = cc
 
   done : (text : List ℕ) → ends_check key reply q least chain folder (Ok Done) text → IsAcceptedLine p.parts q text
@@ -86,8 +86,7 @@ module _ (one : OneVerdict) (verdict : AcceptsVerdict) (laws : AnswersAreAccepte
       let e = ends (Ok Done) text h in
       let same : Ok accepted.accepted ≡ Ok e.0 = one sha256 file.key file.links file.octets q least (Ok accepted.accepted) (Ok e.0) says e.1 in
       let is : accepted.accepted ≡ e.0 = cc in
-      let short : IsShortest p.parts q.from q.to e.0.route e.0.length = subst (λ (x : Accepted). IsShortest p.parts q.from q.to x.route x.length) is accepted.shortest in
-      record { route = e.0.route; length = e.0.length; shortest = short; line = e.2 }
+      record { accepted = e.0; holds = subst (HoldsIn p.parts q) is accepted.holds; line = e.2 }
 
   refused : (text : List ℕ) → ends_check key reply q least chain folder (Ok Refused) text → ⊥
   refused text h =

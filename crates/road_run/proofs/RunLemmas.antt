@@ -47,7 +47,8 @@ use Rattle.road_run.specs.Accepting.{AcceptsHonest, RepliesAreTaken}
 use Rattle.road_run.specs.Commands.{Ends, IsTold, LeavesUnused, TellsClient, OnDisk, RunPromises, but_for_mirrors}
 use Rattle.road_run.specs.Sources.{IfServe, UnlessServe, RunTakes, IsExactServing}
 use Rattle.road_run.proofs.HonestLemmas.{Verdicts, AcceptedLaws, accepts_honest}
-use Rattle.road_run.proofs.TakenLemmas.{RefusedLaws, replies_taken}
+use Rattle.route_laws.specs.Honest.{UnknownNodesAreTold}
+use Rattle.road_run.proofs.TakenLemmas.{replies_taken}
 
 module _ {D : Type 0} (g : Ghosts D) (old new : D) (asked : Option Request) (files : Option Folder) (l l' : ℕ) (taken_before taken_now : Option (List ℕ)) (k k' : ℕ) (o : Result Conclusion Fault) where
   -- what is promised of a request is promised of the words that ask for it
@@ -149,7 +150,7 @@ module _ {D : Type 0} (g : Ghosts D) (old new : D) (asked : Option Request) (fil
       by (Some request) p = accepts_honest verdicts laws request files (g.content old) taken_before taken_now o p.answered p.mirror
 
   -- and what it writes as a reply is accepted, or is no answer
-  pub taken_run : AcceptedLaws → RefusedLaws → RunPromises g old new asked files l l' taken_before taken_now k k' o
+  pub taken_run : AcceptedLaws → UnknownNodesAreTold → RunPromises g old new asked files l l' taken_before taken_now k k' o
       → IfSome asked (λ request. RepliesAreTaken request files taken_before taken_now o)
   taken_run laws refused r = by asked r.command
     where

@@ -16,7 +16,7 @@ use Rattle.route_service.specs.Machine.{State, after, MayReply}
 use Rattle.route_service.specs.Isolation.{is_form_of, is_kept, IsIsolated}
 use Rattle.road_command.specs.Requests.{Route}
 use Rattle.command_files.specs.declared.fault.Fault.{Fault}
-use Rattle.command_files.specs.declared.fault.Fault.TheVariants.{Source, UnknownNode, NoRoute}
+use Rattle.command_files.specs.declared.fault.Fault.TheVariants.{Source, UnknownNode}
 use Rattle.command_files.specs.declared.ended.Conclusion.{Conclusion}
 use Rattle.command_files.specs.declared.ended.Conclusion.TheVariants.{Done}
 use Rattle.road_run.specs.Accepting.{IsTaken, IsNoAnswer, WritesReply}
@@ -52,12 +52,9 @@ module _ (p : Publication) (q : Query) (octets : List ℕ) where
   reply_is_taken : WritesReply p q (Some []) (Some octets) (Ok Done) → IsTaken p q octets
   reply_is_taken h = subst (IsTaken p q) (sym h.2) h.1
 
-  -- with an unknown node it is the reply of kind 1, and with no route that of kind 2
-  unknown_is_told : (id : ℕ) → WritesReply p q (Some []) (Some octets) (Err (UnknownNode id)) → IsNoAnswer 1 q octets
-  unknown_is_told id h = subst (IsNoAnswer 1 q) (sym h.2) h.1
-
-  no_route_is_told : WritesReply p q (Some []) (Some octets) (Err NoRoute) → IsNoAnswer 2 q octets
-  no_route_is_told h = subst (IsNoAnswer 2 q) (sym h.2) h.1
+  -- with an unknown node it is the reply that says so
+  unknown_is_told : (id : ℕ) → WritesReply p q (Some []) (Some octets) (Err (UnknownNode id)) → IsNoAnswer q octets
+  unknown_is_told id h = subst (IsNoAnswer q) (sym h.2) h.1
 
 -- ---- sessions
 

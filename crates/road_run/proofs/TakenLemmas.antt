@@ -13,13 +13,13 @@ use Rattle.proof_octets.specs.declared.header.Header.{Header}
 use Rattle.proof_octets.specs.declared.publication.Publication.{Publication}
 use Rattle.route_server.specs.declared.errors.BuildError.{BuildError}
 use Rattle.route_server.specs.declared.errors.BuildError.TheVariants as build
-use Rattle.route_laws.specs.Honest.{UnknownNodesAreTold, NoRoutesAreTold}
+use Rattle.route_laws.specs.Honest.{UnknownNodesAreTold}
 use Rattle.road_command.specs.Requests.{Request, Route, Root, Dimacs, Key, Succeed, Links, Desk, Publish, Prove, Serve, Check, Audit, Survey, Reach, CheckReach, AuditReach, Reduce}
 use Rattle.command_files.specs.Reading.{publication_at}
 use Rattle.command_files.specs.TwoEnds.{IsFirstUnknown}
 use Rattle.command_files.specs.Endings.{Ending, Answered}
 use Rattle.command_files.specs.declared.fault.Fault.{Fault}
-use Rattle.command_files.specs.declared.fault.Fault.TheVariants.{UnknownNode, NoRoute}
+use Rattle.command_files.specs.declared.fault.Fault.TheVariants.{UnknownNode}
 use Rattle.command_files.specs.declared.ended.Conclusion.{Conclusion}
 use Rattle.command_files.specs.declared.ended.Conclusion.TheVariants.{Done, Refused, Evidence}
 use Rattle.command_files.proofs.Written.{read_as}
@@ -31,18 +31,12 @@ use Rattle.road_run.specs.Commands.{Ends}
 use Rattle.road_run.specs.Accepting.{IsTaken, WritesReply, WritesNearReply, RepliesAreTaken}
 use Rattle.road_run.proofs.HonestLemmas.{AcceptedLaws}
 
--- honest replies without an answer say so
-pub record RefusedLaws : Type 0 where
-  pub unknown : UnknownNodesAreTold
-  pub apart : NoRoutesAreTold
-
 -- ---- an end that comes only behind the installing
 
 -- an end that no fault of installing is
 abbrev pub IsBehind : Result Conclusion Fault → Type 0
 IsBehind (Ok verdict) = Unit {0}
 IsBehind (Err (UnknownNode id)) = Unit {0}
-IsBehind (Err NoRoute) = Unit {0}
 IsBehind (Err fault) = ⊥
 
 behind : (p : Publication) (Next : Ending) (o : Result Conclusion Fault) (t : List ℕ) → IsBehind o → EndsInstalling p Next o t → Next o t
@@ -58,7 +52,7 @@ behind p Next o t late h = by h.made h.follows
     by (Err (build.Map e)) k = absurd (subst IsBehind k.0 late)
     by (Err (build.Plan e)) k = absurd (subst IsBehind k.0 late)
 
-module _ (laws : AcceptedLaws) (refused : RefusedLaws) (folder : Folder) (file : List ℕ) (q : Query) (p : Publication) (read : publication_at folder file ≡ Ok p) where
+module _ (laws : AcceptedLaws) (told : UnknownNodesAreTold) (folder : Folder) (file : List ℕ) (q : Query) (p : Publication) (read : publication_at folder file ≡ Ok p) where
   ends : (o : Result Conclusion Fault) (t : List ℕ) → IsBehind o → ends_prove file q folder o t → EndsReply q p o t
   ends o t late h = behind p (EndsReply q p) o t late (read_as (publication_at folder file) p (EndsProve q) o t read h)
 
@@ -72,7 +66,7 @@ module _ (laws : AcceptedLaws) (refused : RefusedLaws) (folder : Folder) (file :
   pub taken : (t : List ℕ) → ends_prove file q folder (Ok Done) t → IsTaken p q t
   taken t h =
       let e = ends (Ok Done) t tt h in
-      λ signer key links least signed leads fresh. laws.answers sha256 sha256 signer key links t p q least signed leads fresh (record { from = e.0.walk.known; to = e.0.end; length = e.0.length; joins = e.0.walk }) e.1
+      λ signer key links least signed leads fresh. laws.answers sha256 sha256 signer key links t p q least signed leads fresh (record { from = e.0; to = e.1 }) e.2
 
   writes : (old new : Option (List ℕ)) (o : Result Conclusion Fault) → Answered (ends_prove file q folder) old new o → WritesReply p q old new o
   writes old new (Ok Done) a = (a.0, taken a.0 a.1, a.2)
@@ -80,10 +74,7 @@ module _ (laws : AcceptedLaws) (refused : RefusedLaws) (folder : Folder) (file :
   writes old new (Ok Evidence) a = absurd (ends (Ok Evidence) a.0 tt a.1)
   writes old new (Err (UnknownNode id)) a =
       let e = ends (Err (UnknownNode id)) a.0 tt a.1 in
-      (a.0, (λ key links least. refused.unknown sha256 sha256 key links a.0 p q least (unknown id e.0) e.1), a.2)
-  writes old new (Err NoRoute) a =
-      let e = ends (Err NoRoute) a.0 tt a.1 in
-      (a.0, (λ key links least. refused.apart sha256 sha256 key links a.0 p q least e.0.start e.0.end e.0.apart e.1), a.2)
+      (a.0, (λ key links least. told sha256 sha256 key links a.0 p q least (unknown id e.0) e.1), a.2)
   writes old new (Err fault) a = tt
 
 module _ (laws : AcceptedLaws) (folder : Folder) (file : List ℕ) (q : NearQuery) (p : Publication) (read : publication_at folder file ≡ Ok p) where
@@ -99,24 +90,24 @@ module _ (laws : AcceptedLaws) (folder : Folder) (file : List ℕ) (q : NearQuer
   near_writes old new (Err fault) a = tt
 
 -- the same for a request and the library of a run
-pub replies_taken : AcceptedLaws → RefusedLaws → (request : Request) (files : Option Folder) (content : Option (List ℕ)) (old new : Option (List ℕ)) (o : Result Conclusion Fault)
+pub replies_taken : AcceptedLaws → UnknownNodesAreTold → (request : Request) (files : Option Folder) (content : Option (List ℕ)) (old new : Option (List ℕ)) (o : Result Conclusion Fault)
     → IfSome files (λ folder. Answered (Ends content request folder) old new o) → RepliesAreTaken request files old new o
-replies_taken laws refused (Prove file q) (Some folder) content old new o a = λ p read. writes laws refused folder file q p read old new o a
-replies_taken laws refused (Prove file q) None content old new o a = tt
-replies_taken laws refused (Reach file q) (Some folder) content old new o a = λ p read. near_writes laws folder file q p read old new o a
-replies_taken laws refused (Reach file q) None content old new o a = tt
-replies_taken laws refused (Route roads from to) files content old new o a = tt
-replies_taken laws refused (Root roads fan) files content old new o a = tt
-replies_taken laws refused (Dimacs graph places) files content old new o a = tt
-replies_taken laws refused (Key secret kind) files content old new o a = tt
-replies_taken laws refused (Succeed secret kind) files content old new o a = tt
-replies_taken laws refused Links files content old new o a = tt
-replies_taken laws refused Desk files content old new o a = tt
-replies_taken laws refused (Publish roads settings) files content old new o a = tt
-replies_taken laws refused (Serve publication) files content old new o a = tt
-replies_taken laws refused (Check key reply q least chain) files content old new o a = tt
-replies_taken laws refused (Audit key publication reply q chain) files content old new o a = tt
-replies_taken laws refused (Survey width seed method queries) files content old new o a = tt
-replies_taken laws refused (CheckReach key reply q least chain) files content old new o a = tt
-replies_taken laws refused (AuditReach key publication reply q chain) files content old new o a = tt
-replies_taken laws refused (Reduce key text signature) files content old new o a = tt
+replies_taken laws told (Prove file q) (Some folder) content old new o a = λ p read. writes laws told folder file q p read old new o a
+replies_taken laws told (Prove file q) None content old new o a = tt
+replies_taken laws told (Reach file q) (Some folder) content old new o a = λ p read. near_writes laws folder file q p read old new o a
+replies_taken laws told (Reach file q) None content old new o a = tt
+replies_taken laws told (Route roads from to) files content old new o a = tt
+replies_taken laws told (Root roads fan) files content old new o a = tt
+replies_taken laws told (Dimacs graph places) files content old new o a = tt
+replies_taken laws told (Key secret kind) files content old new o a = tt
+replies_taken laws told (Succeed secret kind) files content old new o a = tt
+replies_taken laws told Links files content old new o a = tt
+replies_taken laws told Desk files content old new o a = tt
+replies_taken laws told (Publish roads settings) files content old new o a = tt
+replies_taken laws told (Serve publication) files content old new o a = tt
+replies_taken laws told (Check key reply q least chain) files content old new o a = tt
+replies_taken laws told (Audit key publication reply q chain) files content old new o a = tt
+replies_taken laws told (Survey width seed method queries) files content old new o a = tt
+replies_taken laws told (CheckReach key reply q least chain) files content old new o a = tt
+replies_taken laws told (AuditReach key publication reply q chain) files content old new o a = tt
+replies_taken laws told (Reduce key text signature) files content old new o a = tt

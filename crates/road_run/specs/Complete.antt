@@ -14,7 +14,7 @@ use Rattle.route_serving.specs.Inputs.{split}
 use Rattle.road_command.specs.Requests.{Request, Prove, Serve}
 use Rattle.command_books.specs.Installing.{IsInstallable}
 use Rattle.command_files.specs.Reading.{publication_at}
-use Rattle.command_files.specs.TwoEnds.{AreJoined}
+use Rattle.route_laws.specs.Honest.{AreKnown}
 use Rattle.command_files.specs.Endings.{Ending, NoEnd}
 use Rattle.command_files.specs.Outcomes.{status_of}
 use Rattle.command_files.specs.declared.fault.Fault.{Fault}
@@ -66,10 +66,10 @@ abbrev pub IsComplete : Ending → Type 0 → Result Conclusion Fault → Type 0
 IsComplete Ends Enough outcome = IsUnhindered Ends → Enough → Answers (status_of outcome)
 
 -- over a publication file whose header is that of its map and settings, `prove` writes octets that
--- are accepted, where a route joins the two ends, unless memory is short or an object outside fails
-abbrev pub ProvesJoined : Request → Option Folder → Option (List ℕ) → Option (List ℕ) →
+-- are accepted, where both ends are nodes, unless memory is short or an object outside fails
+abbrev pub ProvesKnown : Request → Option Folder → Option (List ℕ) → Option (List ℕ) →
     Result Conclusion Fault → Type 0
-ProvesJoined (Prove file q) (Some folder) old new outcome = (p : Publication) →
-    publication_at folder file ≡ Ok p → IsInstallable p → AreJoined p.parts q.from q.to →
+ProvesKnown (Prove file q) (Some folder) old new outcome = (p : Publication) →
+    publication_at folder file ≡ Ok p → IsInstallable p → AreKnown p.parts q →
     WritesAccepted (IsTaken p q) old new outcome
-ProvesJoined request files old new outcome = Unit {0}
+ProvesKnown request files old new outcome = Unit {0}

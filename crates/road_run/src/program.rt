@@ -6,7 +6,7 @@ ghost use Rattle.road_command.specs.Requests.{request_of};
 ghost use Rattle.command_files.specs.Outcomes.{outcome_of, status_of};
 ghost use Rattle.command_files.specs.Exact.{HidesNone, NoneFailed, IsExact};
 ghost use Rattle.road_run.specs.Commands.{Ends, IsTold, LeavesUnused, OnMirrors, RunPromises, but_for_mirrors};
-ghost use Rattle.road_run.specs.Complete.{CallsFor, AreTold, IsComplete, PromisedEnough, ProvesJoined};
+ghost use Rattle.road_run.specs.Complete.{CallsFor, AreTold, IsComplete, PromisedEnough, ProvesKnown};
 ghost use Rattle.road_run.specs.Sources.{IfServe, IsExactServing, RunTakes};
 ghost use Rattle.road_run.specs.Accepting.{AcceptsHonest, RepliesAreTaken};
 
@@ -76,7 +76,7 @@ pub fn run<L: Library, S: Source, K: Sink, D: Disk, M: Mirror>(
         RepliesAreTaken request (L.files library.old) (K.taken sink.old) (K.taken sink.new)
         (outcome_of result)) }
     ensures proves { IfSome (request_of words.now) (λ request.
-        ProvesJoined request (L.files library.old) (K.taken sink.old) (K.taken sink.new)
+        ProvesKnown request (L.files library.old) (K.taken sink.old) (K.taken sink.new)
         (outcome_of result)) }
     ensures complete { ¬ Rose (S.faults source.old) (S.faults source.new) →
         NoneFailed (L.faults library.old) (L.faults library.new) (K.faults sink.old)

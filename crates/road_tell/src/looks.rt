@@ -23,7 +23,7 @@ pub fn look_of(text: &[u8]) -> Option<Look> {
         [0xef, 0xbb, 0xbf, ..] | [0xff, 0xfe, ..] | [0xfe, 0xff, ..] => Some(Look::ByteOrderMark),
         [b'r', b'o', b'a', b'd', b's', b' ', ..] => Some(Look::RoadFile),
         [b'R', b'P', b'P', b'1', ..] => Some(Look::Publication),
-        [0, b'R', b'P', b'F', b'1', ..] | [1] | [2] => Some(Look::Reply),
+        [0 | 3, b'R', b'P', b'F', b'1', ..] | [1] | [2] => Some(Look::Reply),
         [b'R', b'P', b'N', b'1', ..] => Some(Look::NearReply),
         [b'R', b'P', b'L', b'1', ..] => Some(Look::Chain),
         _ => None,

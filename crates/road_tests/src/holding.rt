@@ -152,3 +152,14 @@ pub(crate) fn read_answer(alloc: Global, octets: &[u8]) -> Result<Answer, Fail> 
         _ => Err(Fail::from("no answer")),
     }
 }
+
+/// The answer without a route that octets of a test's size spell.
+pub(crate) fn read_apart(alloc: Global, octets: &[u8]) -> Result<Answer, Fail> {
+    if octets.len() > 10_000 {
+        return Err(Fail::from("many octets"));
+    }
+    match Reply::read(alloc, octets) {
+        Ok(Reply::Apart(answer)) => Ok(answer),
+        _ => Err(Fail::from("another reply")),
+    }
+}

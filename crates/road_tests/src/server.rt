@@ -2,7 +2,8 @@
 //! calls that succeed with ample memory.
 
 use crate::holding::{
-    CELLS, CODES, FULL, first_reply, header_of, installed, read_answer, refusal_of, refusal_with,
+    CELLS, CODES, FULL, first_reply, header_of, installed, read_answer, read_apart, refusal_of,
+    refusal_with,
 };
 use crate::octets::{assert_digest, assert_hex};
 use crate::same::{assert_row, assert_same};
@@ -125,15 +126,40 @@ fn books_of_each_method_answer(rt: HostRuntime) -> Result<(), Fail> {
     Ok(())
 }
 
-// An end, and the octet by which the reply from 1 says that it is unknown, or that no route leads
-// there.
-static NO_ANSWERS: [(u32, u8); 2] = [(9, 1), (5, 2)];
+#[test]
+fn an_octet_tells_that_an_end_is_unknown(rt: HostRuntime) -> Result<(), Fail> {
+    let octets = first_reply(rt.alloc(), &DIJ, 1, 9)?;
+    assert_same(&rt, octets.as_slice(), [1].as_slice());
+    Ok(())
+}
+
+// Settings, and two ends that no walk joins: the places of the nodes and of the pairs that the reply
+// brings, and how many digests the cover of the nodes has.
+type Apart = (Settings, u32, u32, &'static [u32], &'static [u32], usize);
+
+static APARTS: [Apart; 5] = [
+    (DIJ, 1, 5, &[0, 1, 2, 3, 4], &[], 0),
+    (DIJ, 5, 1, &[0, 4], &[], 2),
+    (FULL, 1, 5, &[0, 4], &[3], 2),
+    (CODES, 1, 5, &[0, 4], &[], 2),
+    (CELLS, 1, 5, &[0, 1, 3, 4], &[], 1),
+];
+
+fn assert_apart(rt: &impl Abort, alloc: Global, row: &Apart) -> Result<(), Fail> {
+    let (settings, from, to, nodes, pairs, digests) = row;
+    let octets = first_reply(alloc, settings, *from, *to)?;
+    let answer = read_apart(alloc, &octets)?;
+    assert_same(rt, answer.items.route.as_slice().len(), 0);
+    assert_same(rt, answer.node_places.as_slice(), *nodes);
+    assert_same(rt, answer.pair_places.as_slice(), *pairs);
+    assert_same(rt, answer.node_cover.as_slice().len(), *digests);
+    Ok(())
+}
 
 #[test]
-fn an_octet_tells_why_there_is_no_answer(rt: HostRuntime) -> Result<(), Fail> {
-    for (to, octet) in &NO_ANSWERS {
-        let octets = first_reply(rt.alloc(), &DIJ, 1, *to)?;
-        assert_row(&rt, *to, octets.as_slice(), [*octet].as_slice());
+fn books_of_each_method_show_that_no_walk_joins_two_nodes(rt: HostRuntime) -> Result<(), Fail> {
+    for row in &APARTS {
+        assert_apart(&rt, rt.alloc(), row)?;
     }
     Ok(())
 }

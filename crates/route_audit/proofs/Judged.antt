@@ -7,7 +7,6 @@ use Rattle.std.proofs.lemmas.List.{length-map}
 use Rattle.sha2.specs.Sha256.{sha256}
 use Rattle.road_map.specs.declared.parts.Parts.{Parts}
 use Rattle.road_map.specs.Maps.{IsMap}
-use Rattle.road_map.specs.Routes.{IsShortest}
 use Rattle.road_leaf.specs.declared.leaf.LeafKind as leaf_kinds
 use Rattle.road_leaf.specs.declared.leaf.NodeLeaf.{NodeLeaf}
 use Rattle.road_leaf.specs.declared.pair.PairLeaf.{PairLeaf}
@@ -18,13 +17,17 @@ use Rattle.book_model.specs.Books.{Kind, kind_of, leaves_of, leaf_order, IsBookO
 use Rattle.merkle_cover.specs.Covers.{chosen_texts}
 use Rattle.merkle_cover.specs.declared.clashes.TwoTexts.{TwoTexts}
 use Rattle.proof_judge.specs.Judgement.{Judged}
-use Rattle.proof_method.specs.Gathering.{IsAuthentic, IsOrderOf, StandIn}
-use Rattle.proof_method.specs.Laws.{IsSound, KeepsTrue}
+use Rattle.proof_judge.specs.Apart.{JudgedApart}
+use Rattle.proof_method.specs.Gathering.{IsAuthentic, IsOrderOf, AreUnjoined, StandIn}
+use Rattle.proof_method.specs.Laws.{IsSound, IsSoundApart, KeepsTrue}
 use Rattle.proof_octets.specs.declared.header.Header.{Header}
 use Rattle.proof_octets.specs.declared.reply.Answer as answers
 use Rattle.proof_octets.specs.Good.{IsGood}
 use Rattle.proof_octets.specs.Headers.{leaf_kind}
-use Rattle.route_client.specs.declared.accepted.Accepted.{Accepted}
+use Rattle.route_client.specs.declared.accepted.Checked.{Checked}
+use Rattle.route_client.specs.declared.accepted.Checked.TheVariants.{Route, Apart}
+use Rattle.route_client.specs.Truth.{HoldsIn}
+use Rattle.route_client.specs.Verdicts.{Says}
 use Rattle.route_server.specs.Fitting.{kind_of_leaves}
 use Rattle.route_server.specs.Headers.{node_texts, pair_texts, header_of}
 use Rattle.route_server.specs.Keeping.{Kept, IsKept, HasSpellings, header_in, publication_in, texts_in}
@@ -36,15 +39,14 @@ use Rattle.route_audit.proofs.Authentic.{one_leaf, one_pair, stands}
 use Rattle.route_audit.proofs.Folded.{leaves_are}
 
 -- a book that is held, and an accepted answer with its header
-pub record Met (hash : List ℕ → List ℕ) (k : Kept) (q : Query) (x : Accepted) (a : answers.Answer) : Type 0 where
+pub record Met (hash : List ℕ → List ℕ) (k : Kept) (q : Query) (x : Checked) (a : answers.Answer) : Type 0 where
   pub kept : IsKept k
   pub spelled : HasSpellings k
   pub good : IsGood a
   pub header : a.header ≡ header_in hash k
   pub kind : Kind
   pub method : kind_of a.header.method ≡ Some kind
-  pub judged : Judged kind a.header.numbers a.items q (Ok x.length)
-  pub route : x.route ≡ a.items.route
+  pub says : Says kind a q x
 
 -- ---- the parts are those of the publication
 
@@ -91,7 +93,7 @@ unfolding header_of
 kind_of_items hash k h kind e method =
     leaf_kind_is h kind (ap (λ (x : Header). x.method) e ∙ code_is k.settings.method kind method) ∙ ap (λ (x : Header). kind_of_leaves kind x.numbers) e
 
-stand_in : (hash : List ℕ → List ℕ) (k : Kept) (q : Query) (x : Accepted) (a : answers.Answer) (met : Met hash k q x a) → IsTreesOwn hash (node_part_of k a) → IsTreesOwn hash (pair_part_of k a)
+stand_in : (hash : List ℕ → List ℕ) (k : Kept) (q : Query) (x : Checked) (a : answers.Answer) (met : Met hash k q x a) → IsTreesOwn hash (node_part_of k a) → IsTreesOwn hash (pair_part_of k a)
     → StandIn met.kept.book (leaf_order sha256 k.map.parts k.settings) a.items
 stand_in hash k q x a met nodes pairs =
     let kind = met.spelled.kind in
@@ -112,32 +114,46 @@ stand_in hash k q x a met nodes pairs =
           (pairs.texts ∙ ap (λ (ts : List (List ℕ)). chosen_texts ts a.pair_places) pair_leaves) l h);
     }
 
-authentic_of : (hash : List ℕ → List ℕ) (k : Kept) (q : Query) (x : Accepted) (a : answers.Answer) (met : Met hash k q x a) → ((kind : Kind) → KeepsTrue kind)
+authentic_of : (hash : List ℕ → List ℕ) (k : Kept) (q : Query) (x : Checked) (a : answers.Answer) (met : Met hash k q x a) → ((kind : Kind) → KeepsTrue kind)
     → IsTreesOwn hash (node_part_of k a) → IsTreesOwn hash (pair_part_of k a) → IsAuthentic met.kept.book a.items
 authentic_of hash k q x a met true_of nodes pairs =
     let order = leaf_order sha256 k.map.parts k.settings in
     true_of met.kept.kind k.map.parts k.settings order met.kept.book a.items met.kept.is_map (subst (IsOrderOf k.map.parts) met.kept.order met.kept.lists) met.kept.is_book.book
     (stand_in hash k q x a met nodes pairs)
 
-shortest_of : (hash : List ℕ → List ℕ) (k : Kept) (q : Query) (x : Accepted) (a : answers.Answer) (met : Met hash k q x a) → ((kind : Kind) → IsSound kind) → IsAuthentic met.kept.book a.items
-    → IsShortest k.map.parts q.from q.to x.route x.length
+-- what a good judgement says of authentic items, whether they bring a route or none
+pub record SoundLaws : Type 0 where
+  pub sound : (kind : Kind) → IsSound kind
+  pub sound_apart : (kind : Kind) → IsSoundApart kind
+
+-- what an answer over the book's own items and numbers says holds in the map
+holds_by : (k : Kept) (kept : IsKept k) (q : Query) (x : Checked) (a : answers.Answer) → SoundLaws → IsAuthentic kept.book a.items → a.header.numbers ≡ kept.book.numbers → Says kept.kind a q x → HoldsIn k.map.parts q x
+holds_by k kept q (Route x) a laws authentic numbers says =
+    let book = kept.book in
+    let parts : book.parts ≡ k.map.parts = kept.is_book.book.of_parts in
+    let judged : Judged kept.kind book.numbers a.items q (Ok x.length) = subst (λ (n : Numbers). Judged kept.kind n a.items q (Ok x.length)) numbers says.judged in
+    let found = laws.sound kept.kind book a.items q x.length (subst IsMap (sym parts) kept.is_map) kept.vectors authentic judged in
+    subst (λ (r : List ℕ). HoldsIn k.map.parts q (Route (record { length = x.length; route = r; version = x.version; header = x.header }))) (sym says.route)
+    (subst (λ (ps : Parts). HoldsIn ps q (Route (record { length = x.length; route = a.items.route; version = x.version; header = x.header }))) parts found)
+holds_by k kept q (Apart version header) a laws authentic numbers says =
+    let book = kept.book in
+    let parts : book.parts ≡ k.map.parts = kept.is_book.book.of_parts in
+    let judged : JudgedApart kept.kind book.numbers a.items q (Ok tt) = subst (λ (n : Numbers). JudgedApart kept.kind n a.items q (Ok tt)) numbers says.judged in
+    subst (λ (ps : Parts). AreUnjoined ps q) parts (laws.sound_apart kept.kind book a.items q (subst IsMap (sym parts) kept.is_map) kept.vectors authentic judged)
+
+holds_of : (hash : List ℕ → List ℕ) (k : Kept) (q : Query) (x : Checked) (a : answers.Answer) (met : Met hash k q x a) → SoundLaws → IsAuthentic met.kept.book a.items → HoldsIn k.map.parts q x
 unfolding header_of
-shortest_of hash k q x a met sound authentic =
-    let book = met.kept.book in
-    let parts : book.parts ≡ k.map.parts = met.kept.is_book.book.of_parts in
+holds_of hash k q x a met laws authentic =
     let method : a.header.method ≡ k.settings.method = ap (λ (h : Header). h.method) met.header in
     let kinds : met.kind ≡ met.kept.kind = kind_same k.settings.method met.kind met.kept.kind (ap kind_of (sym method) ∙ met.method) met.kept.is_book.method in
-    let numbers : a.header.numbers ≡ book.numbers = ap (λ (h : Header). h.numbers) met.header ∙ met.kept.numbers in
-    let judged : Judged met.kept.kind book.numbers a.items q (Ok x.length) =
-    subst (λ (n : Numbers). Judged met.kept.kind n a.items q (Ok x.length)) numbers (subst (λ (kind : Kind). Judged kind a.header.numbers a.items q (Ok x.length)) kinds met.judged) in
-    let found = sound met.kept.kind book a.items q x.length (subst IsMap (sym parts) met.kept.is_map) met.kept.vectors authentic judged in
-    subst (λ (r : List ℕ). IsShortest k.map.parts q.from q.to r x.length) (sym met.route) (subst (λ (ps : Parts). IsShortest ps q.from q.to a.items.route x.length) parts found)
+    let numbers : a.header.numbers ≡ met.kept.book.numbers = ap (λ (h : Header). h.numbers) met.header ∙ met.kept.numbers in
+    holds_by k met.kept q x a laws authentic numbers (subst (λ (kind : Kind). Says kind a q x) kinds met.says)
 
-pub right_of : (hash : List ℕ → List ℕ) (k : Kept) (q : Query) (x : Accepted) (a : answers.Answer) (met : Met hash k q x a) → ((kind : Kind) → KeepsTrue kind) → ((kind : Kind) → IsSound kind)
+pub right_of : (hash : List ℕ → List ℕ) (k : Kept) (q : Query) (x : Checked) (a : answers.Answer) (met : Met hash k q x a) → ((kind : Kind) → KeepsTrue kind) → SoundLaws
     → IsTreesOwn hash (node_part_of k a) → IsTreesOwn hash (pair_part_of k a) → IsRight hash sha256 (publication_in hash k) q x a
-right_of hash k q x a met true_of sound nodes pairs =
+right_of hash k q x a met true_of laws nodes pairs =
     let authentic = authentic_of hash k q x a met true_of nodes pairs in
-    record { own = own_of hash k met.kept a nodes pairs; authentic = authentic; shortest = shortest_of hash k q x a met sound authentic }
+    record { own = own_of hash k met.kept a nodes pairs; authentic = authentic; holds = holds_of hash k q x a met laws authentic }
 
 -- ---- collisions
 

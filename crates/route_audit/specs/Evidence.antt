@@ -2,7 +2,6 @@
 -- Source: Merkle, A Digital Signature Based on a Conventional Encryption Function, CRYPTO 1987:
 -- what folds to a tree's root and is not the tree's own shows two texts with one digest.
 use Rattle.std.specs.Prelude.{◌≡◌, ◌≢◌, ◌⊎◌, ℕ, List, length}
-use Rattle.road_map.specs.Routes.{IsShortest}
 use Rattle.book_model.specs.declared.items.Query.{Query}
 use Rattle.book_model.specs.Books.{Kind, Book, leaves_of, leaf_order}
 use Rattle.merkle_cover.specs.Clashes.{AreHashed}
@@ -11,7 +10,8 @@ use Rattle.merkle_cover.specs.declared.clashes.TwoTexts.{TwoTexts}
 use Rattle.proof_method.specs.Gathering.{IsAuthentic}
 use Rattle.proof_octets.specs.declared.publication.Publication.{Publication}
 use Rattle.proof_octets.specs.declared.reply.Answer as answers
-use Rattle.route_client.specs.declared.accepted.Accepted.{Accepted}
+use Rattle.route_client.specs.declared.accepted.Checked.{Checked}
+use Rattle.route_client.specs.Truth.{HoldsIn}
 use Rattle.route_server.specs.Headers.{node_texts, pair_texts, IsBook}
 
 -- ---- the parts of an answer
@@ -62,13 +62,13 @@ pub record IsOwn (hash sha : List ℕ → List ℕ) (p : Publication) (a : answe
   pub nodes : IsTreesOwn hash (node_part sha p book a)
   pub pairs : IsTreesOwn hash (pair_part p book a)
 
--- so its items are leaves of the book, and the accepted route is a shortest one in the
--- publication's map
-pub record IsRight (hash sha : List ℕ → List ℕ) (p : Publication) (q : Query) (x : Accepted)
+-- so its items are leaves of the book, and what is accepted holds in the publication's map: the
+-- route is a shortest one, or no walk joins the two ends
+pub record IsRight (hash sha : List ℕ → List ℕ) (p : Publication) (q : Query) (x : Checked)
     (a : answers.Answer) : Type 0 where
   pub own : IsOwn hash sha p a
   pub authentic : IsAuthentic own.book a.items
-  pub shortest : IsShortest p.parts q.from q.to x.route x.length
+  pub holds : HoldsIn p.parts q x
 
 -- ---- the parts of findings
 

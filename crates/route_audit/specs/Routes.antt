@@ -1,31 +1,37 @@
 -- Replies on routes, as a kind of replies.
-use Rattle.std.specs.Prelude.{◌≡◌, ◌≢◌, ℕ, List, Ok, Err}
+use Rattle.std.specs.Prelude.{◌≡◌, ◌≢◌, ◌⊎◌, ℕ, List, Ok, Err}
 use Rattle.octet_text.specs.Format.{whole}
-use Rattle.road_map.specs.Routes.{IsShortest}
 use Rattle.book_model.specs.declared.items.Query.{Query}
 use Rattle.lms_tree.specs.declared.links.Link.{Link}
 use Rattle.proof_octets.specs.declared.reply.Answer as answers
 use Rattle.proof_octets.specs.declared.reply.Reply.TheVariants as replies
 use Rattle.proof_octets.specs.Good.{IsGood}
 use Rattle.proof_octets.specs.Replies as formats
-use Rattle.route_client.specs.declared.accepted.Accepted.{Accepted}
+use Rattle.route_client.specs.declared.accepted.Checked.{Checked}
 use Rattle.route_client.specs.declared.errors.CheckError.{CheckError}
 use Rattle.route_client.specs.declared.errors.CheckError.TheVariants as checks
-use Rattle.route_client.specs.Verdicts.{Accepts, IsVerdict}
+use Rattle.route_client.specs.Truth.{HoldsIn}
+use Rattle.route_client.specs.Verdicts.{Accepts, IsVerdict, header_in}
 use Rattle.route_audit.specs.Evidence.{Collides, IsRight}
 use Rattle.route_audit.specs.Kinds.{ReplyKind}
 
+-- the octets spell the answer, with its route or without one
+abbrev pub SpellsAnswer : List ℕ → answers.Answer → Type 0
+SpellsAnswer octets a = (whole formats.reply octets ≡ Ok (replies.Answer a)) ⊎
+    (whole formats.reply octets ≡ Ok (replies.Apart a))
+
 -- the octets are accepted as this answer, and this is taken of it
 pub record AcceptsAs (hash : List ℕ → List ℕ) (key : List ℕ) (links : List Link) (octets : List ℕ)
-    (q : Query) (least : ℕ) (x : Accepted) (a : answers.Answer) : Type 0 where
+    (q : Query) (least : ℕ) (x : Checked) (a : answers.Answer) : Type 0 where
   pub accepts : Accepts hash key links octets q least x
   pub is : accepts.answer ≡ a
 
 -- routes between two nodes: what is accepted is a route and its length, which is true where it is a
--- shortest one in the publication's map
-abbrev pub routes : ReplyKind Query answers.Answer Accepted CheckError
+-- shortest one in the publication's map, or that there is none, which is true where no walk of the
+-- map joins the two
+abbrev pub routes : ReplyKind Query answers.Answer Checked CheckError
 routes = record {
-  Spells = λ octets a. whole formats.reply octets ≡ Ok (replies.Answer a);
+  Spells = SpellsAnswer;
   header = λ a. a.header;
   signature = λ a. a.signature;
   Accepts = AcceptsAs;
@@ -34,6 +40,6 @@ routes = record {
   IsGood = IsGood;
   IsRight = IsRight;
   Collides = Collides;
-  taken_header = λ x. x.header;
-  IsTrue = λ p q x. IsShortest p.parts q.from q.to x.route x.length;
+  taken_header = header_in;
+  IsTrue = λ p q x. HoldsIn p.parts q x;
 }

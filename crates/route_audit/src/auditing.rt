@@ -119,7 +119,7 @@ pub fn audit_reply<R: Replies, H: Hasher, D: Disk>(
 }
 
 /// The audit of a reply on a route, as `audit_reply` says: what is right is a shortest route in the publication's
-/// map, and what collides does so in the node tree first.
+/// map, or that none of its walks joins the two ends, and what collides does so in the node tree first.
 pub fn audit<H: Hasher, D: Disk>(
     alloc: Global,
     public: &[u8],

@@ -2,8 +2,7 @@
 ghost use Rattle.std.specs.Prelude.{◌≡◌, ◌↔◌, ◌<◌, ◌^◌, length, IfOk, IfSome, IsNone, Ok};
 ghost use Rattle.route_client.specs.Verdicts.{nodes_covered, pairs_covered};
 ghost use Rattle.proof_octets.specs.Good.{IsGood};
-ghost use Rattle.proof_octets.specs.Replies.{reply_text};
-ghost use Rattle.proof_octets.specs.declared.reply.Reply.TheVariants.{Answer as spelled_answer};
+ghost use Rattle.proof_octets.specs.Replies.{reply_of, reply_text};
 ghost use Rattle.route_server.specs.Headers.{node_texts, pair_texts};
 ghost use Rattle.route_server.specs.Keeping.{header_in};
 ghost use Rattle.route_audit.specs.Comparing.{part_under, node_part_of, pair_part_of, FoldsUnder, Compares};
@@ -110,7 +109,7 @@ pub fn compare<H: Hasher>(
     answer: &Answer,
 ) -> Result<Finding, NoMemory>
     requires good { IsGood answer.now }
-    requires spelled { reply.now ≡ reply_text (spelled_answer answer.now) }
+    requires spelled { reply.now ≡ reply_text (reply_of answer.now) }
     requires short { length reply.now < 2 ^ 32 }
     requires same { answer.now.header ≡ header_in H.hash held.now }
     requires nodes { nodes_covered H.hash answer.now ≡ Ok tt }

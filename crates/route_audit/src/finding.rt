@@ -11,7 +11,7 @@ use octet_text::Octets;
 #[derive(Debug, Drop)]
 pub enum Finding {
     /// Its items and covers are those of the publication's own trees, and what the client takes from it
-    /// holds in the publication's map: its route is a shortest one.
+    /// holds in the publication's map: its route is a shortest one, or no walk joins the two ends.
     Right,
     /// Two different texts have one digest: the left one of the publication's trees, the right one of what
     /// the reply brings.

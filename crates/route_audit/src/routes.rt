@@ -8,7 +8,7 @@ use lms_tree::Link;
 use octet_text::{Hasher, NoMemory};
 use proof_method::method_laws;
 use proof_octets::{Answer, Header};
-use route_client::{Accepted, CheckError, check_answer, verdict_laws};
+use route_client::{CheckError, Checked, check_answer, verdict_laws};
 use route_server::Held;
 use std::alloc::Global;
 
@@ -22,7 +22,7 @@ impl Replies for Routes {
 
     type Answer = Answer;
 
-    type Taken = Accepted;
+    type Taken = Checked;
 
     type Refusal = CheckError;
 

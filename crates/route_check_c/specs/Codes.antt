@@ -31,7 +31,7 @@ cover_number faults.Short = 2
 cover_number faults.Long = 3
 cover_number faults.Differs = 4
 
--- why the items don't show a shortest route
+-- why the items don't show a shortest route, or that there is none
 abbrev pub judged_reason : Refusal → Reason
 judged_reason (refusals.RepeatedNode id) = told 7 id 0
 judged_reason (refusals.BadRoute hop) = told 8 hop 0
@@ -71,6 +71,18 @@ accepted_numbers count length version = record {
   code = 0;
   count = count;
   length = length;
+  version = version;
+  first = 0;
+  second = 0;
+  line = 0;
+}
+
+-- it is accepted that no walk joins the two ends, out of a publication of this version
+abbrev pub apart_numbers : ℕ → Verdict
+apart_numbers version = record {
+  code = 16;
+  count = 0;
+  length = 0;
   version = version;
   first = 0;
   second = 0;

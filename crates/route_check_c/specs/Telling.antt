@@ -10,13 +10,14 @@ use Rattle.near_client.specs.declared.within.Within.{Within}
 use Rattle.near_client.specs.NearVerdicts as near
 use Rattle.near_line.specs.WithinLine.{refused_near_line}
 use Rattle.road_line.specs.VerdictLine.{refused_line}
-use Rattle.route_client.specs.declared.accepted.Accepted.{Accepted}
+use Rattle.route_client.specs.declared.accepted.Checked.{Checked}
+use Rattle.route_client.specs.declared.accepted.Checked.TheVariants.{Route, Apart}
 use Rattle.route_client.specs.declared.errors.CheckError.{CheckError}
 use Rattle.route_client.specs.Verdicts.{UnlessMemory}
 use Rattle.route_check_c.specs.declared.reach.ReachedNode.{ReachedNode}
 use Rattle.route_check_c.specs.declared.reasons.Reason.{Reason}
 use Rattle.route_check_c.specs.declared.verdict.Verdict.{Verdict}
-use Rattle.route_check_c.specs.Codes.{told, route_reason, reach_reason, accepted_numbers, refused_numbers}
+use Rattle.route_check_c.specs.Codes.{told, route_reason, reach_reason, accepted_numbers, apart_numbers, refused_numbers}
 
 -- a room that took as many of the items as it has places for, and is as it was behind them
 abbrev pub filled : {X : Type 0} → List X → List X → List X
@@ -48,19 +49,26 @@ pub record Unread {X : Type 0} (chain reply : List ℕ) (old_room new_room : Lis
 
 -- ---- a route
 
--- the client accepts the route under the chain; its ids are in their room, and no line is written
-pub record AcceptsRoute (IsVerdict : List Link → Result Accepted CheckError → Type 0)
+-- what is told of what is accepted: of a route its numbers, and its ids are in their room; that no
+-- walk joins the two ends by a code of its own, and the room stays
+abbrev pub TellsAccepted : Checked → List ℕ → List ℕ → Verdict → Type 0
+TellsAccepted (Route x) old_room new_room v =
+    (v ≡ accepted_numbers (length x.route) x.length x.version) × (new_room ≡ filled x.route old_room)
+TellsAccepted (Apart version header) old_room new_room v = (v ≡ apart_numbers version) ×
+    (new_room ≡ old_room)
+
+-- the client accepts the reply under the chain, and no line is written
+pub record AcceptsRoute (IsVerdict : List Link → Result Checked CheckError → Type 0)
     (chain : List ℕ) (old_room new_room old_line new_line : List ℕ) (v : Verdict) : Type 0 where
   pub links : List Link
   pub spelled : whole chain_file chain ≡ Ok links
-  pub accepted : Accepted
+  pub accepted : Checked
   pub verdict : IsVerdict links (Ok accepted)
-  pub numbers : v ≡ accepted_numbers (length accepted.route) accepted.length accepted.version
-  pub room : new_room ≡ filled accepted.route old_room
+  pub told : TellsAccepted accepted old_room new_room v
   pub line : new_line ≡ old_line
 
 -- the client refuses the reply under the chain; the line is in its room, and no id is written
-pub record RefusesRoute (IsVerdict : List Link → Result Accepted CheckError → Type 0)
+pub record RefusesRoute (IsVerdict : List Link → Result Checked CheckError → Type 0)
     (chain : List ℕ) (old_room new_room old_line new_line : List ℕ) (v : Verdict) : Type 0 where
   pub links : List Link
   pub spelled : whole chain_file chain ≡ Ok links
@@ -70,7 +78,7 @@ pub record RefusesRoute (IsVerdict : List Link → Result Accepted CheckError �
   pub room : new_room ≡ old_room
   pub line : new_line ≡ filled (refused_line error) old_line
 
-abbrev pub TellsRoute : (List Link → Result Accepted CheckError → Type 0) → List ℕ → List ℕ →
+abbrev pub TellsRoute : (List Link → Result Checked CheckError → Type 0) → List ℕ → List ℕ →
     List ℕ → List ℕ → List ℕ → List ℕ → Verdict → Type 0
 TellsRoute IsVerdict chain reply old_room new_room old_line new_line v =
     AcceptsRoute IsVerdict chain old_room new_room old_line new_line v ⊎

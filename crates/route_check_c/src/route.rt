@@ -2,25 +2,40 @@
 ghost use Rattle.std.specs.Prelude.{◌≡◌};
 ghost use Rattle.sha2.specs.Sha256.{sha256};
 ghost use Rattle.route_client.specs.Verdicts.{IsVerdict};
-ghost use Rattle.route_check_c.specs.Telling.{TellsRoute};
+ghost use Rattle.route_check_c.specs.Telling.{TellsAccepted, TellsRoute};
 
 use crate::Verdict;
 use crate::chains::links_of;
 use crate::filling::fill;
 use crate::reasons::{reason_of_route, told};
-use crate::verdict::{accepted, refused};
+use crate::verdict::{accepted, accepted_apart, refused};
 use book_model::Query;
 use octet_text::Sha;
 use road_line::line_of_refused;
-use route_client::check;
+use route_client::{Checked, check};
 use std::alloc::Global;
+
+/// The numbers of what is accepted; the ids of a route go into their room.
+fn tell(checked: &Checked, route: &mut [u32]) -> Verdict
+    ensures { TellsAccepted checked.now route.old route.new result }
+{
+    match checked {
+        Checked::Route(x) => {
+            let ids = x.route.as_slice();
+            fill(route, ids);
+            accepted(ids.len() as u64, x.length, x.version)
+        }
+        Checked::Apart { version, .. } => accepted_apart(*version),
+    }
+}
 
 /// Checks a reply to the query for a shortest route under the owner's public key, and answers the
 /// verdict's code. `chain` has the octets of a chain file that leads from the key to the owner's later
 /// ones, none for no link. `least` is the least version that is taken.
 ///
 /// An accepted route's ids go into `route`, as many as there is room for; of a refused reply the line
-/// goes into `line`. The other room stays as it was.
+/// goes into `line`. The other room stays as it was, and where it is accepted that no walk joins the two
+/// ends both do.
 #[unsafe(no_mangle)]
 pub extern "C" fn route_check(
     alloc: Global,
@@ -48,11 +63,7 @@ pub extern "C" fn route_check(
     };
     let query = Query { from, to };
     match check::<Sha>(alloc, public, links.as_slice(), reply, query, least) {
-        Ok(x) => {
-            let ids = x.route.as_slice();
-            fill(route, ids);
-            *verdict = accepted(ids.len() as u64, x.length, x.version);
-        }
+        Ok(checked) => *verdict = tell(&checked, route),
         Err(error) => match line_of_refused(alloc, error) {
             Ok(text) => {
                 fill(line, &text);

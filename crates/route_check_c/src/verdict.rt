@@ -1,6 +1,6 @@
 //! What a check says, in numbers.
 ghost use Rattle.std.specs.Prelude.{◌≡◌};
-ghost use Rattle.route_check_c.specs.Codes.{accepted_numbers, refused_numbers};
+ghost use Rattle.route_check_c.specs.Codes.{accepted_numbers, apart_numbers, refused_numbers};
 
 use crate::reasons::Reason;
 
@@ -8,7 +8,8 @@ use crate::reasons::Reason;
 #[repr(C)]
 #[derive(Clone, Copy, Debug, PartialEq, Eq)]
 pub struct Verdict {
-    /// 0 where the reply is accepted; else the number of the first test that it fails.
+    /// 0 where the reply is accepted, with a route or with nodes; 16 where it is accepted that no walk
+    /// joins the two ends; else the number of the first test that it fails.
     pub code: u32,
     /// How many nodes are accepted: those of the route, or those within the radius. There may be more
     /// than the caller has room for.
@@ -33,6 +34,21 @@ pub(crate) fn accepted(count: u64, length: u64, version: u64) -> Verdict
         code: 0,
         count,
         length,
+        version,
+        first: 0,
+        second: 0,
+        line: 0,
+    }
+}
+
+/// An accepted reply by which no walk joins the two ends.
+pub(crate) fn accepted_apart(version: u64) -> Verdict
+    ensures { result ≡ apart_numbers version }
+{
+    Verdict {
+        code: 16,
+        count: 0,
+        length: 0,
         version,
         first: 0,
         second: 0,

@@ -18,12 +18,12 @@ use Rattle.proof_octets.specs.declared.reply.Answer as answers
 use Rattle.proof_octets.specs.declared.reply.Reply.TheVariants as replies
 use Rattle.proof_octets.specs.Good.{IsGood}
 use Rattle.proof_octets.specs.Headers.{header}
-use Rattle.proof_octets.specs.Replies.{signature, route, digests, joined, joined_pairs, pair_item, pair_items, reply_text}
-use Rattle.proof_octets.specs.Writing.{item_text, answer_text, written}
+use Rattle.proof_octets.specs.Replies.{signature, digests, joined, joined_pairs, pair_item, pair_items, tag_of, reply_with, reply_of, reply_text}
+use Rattle.proof_octets.specs.Writing.{item_text, way_text, answer_text, written}
 use Rattle.proof_octets.proofs.Good.{reply_is}
 use Rattle.proof_octets.proofs.GoodHeader.{length-header}
 use Rattle.proof_octets.proofs.Writable.{written_same}
-use Rattle.route_client.specs.Cutting.{cuts_at, end_at}
+use Rattle.route_client.specs.Cutting.{cuts_at, end_at, route_octets, nodes_at}
 
 -- ---- one text
 
@@ -161,14 +161,15 @@ behind_five k h g r c y z =
     ∙ drop-append-add r ((c ++ y) ++ z) (length c)
     ∙ ap (drop (length c)) (append_assoc c y z) ∙ drop-append_seam c (y ++ z)
 
-abbrev pub nodes_at : answers.Answer → ℕ
-nodes_at a = 115 + length a.signature + 4 * length a.items.route
-
 abbrev behind_nodes : answers.Answer → List ℕ
 behind_nodes a = pair_items.spell (a.pair_places, a.items.pairs) ++ (digests.spell a.node_cover ++ digests.spell a.pair_cover)
 
 route_long : (ids : List ℕ) → length (flat_map (to_be_bytes w32) ids) ≡ 4 * length ids
 route_long ids = all_short (to_be_bytes w32) 4 (λ n. omega arith) ids
+
+way_long : (ids : List ℕ) → length (way_text ids) ≡ route_octets ids
+way_long [] = refl
+way_long (id ∷ ids) = omega (arith, route_long (id ∷ ids))
 
 behind_long : (k h g r c y z : List ℕ) → length k + (length h + (length g + (length r + length c))) ≤ length (k ++ (h ++ (g ++ (r ++ ((c ++ y) ++ z)))))
 behind_long k h g r c y z =
@@ -194,19 +195,25 @@ items_stand octets k h g r c y z at same first = record {
   within = omega (arith, first, behind_long k h g r c y z, ap (λ (l : List ℕ). length l) same);
 }
 
-nodes_stand : (a : answers.Answer) (octets : List ℕ) → IsGood a → octets ≡ reply_text (replies.Answer a)
+-- a reply that brings an answer is written as its kind and the answer's text
+written_with : (ids : List ℕ) (a : answers.Answer) → written (reply_with ids a) ≡ to_be_bytes w8 (tag_of (reply_with ids a)) ++ answer_text a
+written_with [] a = refl
+written_with (id ∷ ids) a = refl
+
+nodes_stand : (a : answers.Answer) (octets : List ℕ) → IsGood a → octets ≡ reply_text (reply_of a)
     → From octets (nodes_at a) (flat_map item_text (joined a.node_places a.items.nodes) ++ behind_nodes a)
 unfolding answer_text
 nodes_stand a octets good is =
     let h = header.spell a.header in
     let g = signature.spell a.signature in
-    let r = route.spell a.items.route in
+    let r = way_text a.items.route in
     let c = to_be_bytes w32 (length (joined a.node_places a.items.nodes)) in
     let y = flat_map item_text (joined a.node_places a.items.nodes) in
-    let same : octets ≡ written (replies.Answer a) = is ∙ sym (written_same (replies.Answer a) ((reply_is a).1 good)) in
-    let first : nodes_at a ≡ length (to_be_bytes w8 0) + (length h + (length g + (length r + length c))) =
-    omega (arith, length-header a.header good.header, route_long a.items.route) in
-    items_stand octets (to_be_bytes w8 0) h g r c y (behind_nodes a) (nodes_at a) same first
+    let k = to_be_bytes w8 (tag_of (reply_of a)) in
+    let same : octets ≡ k ++ answer_text a = is ∙ sym (written_same (reply_of a) ((reply_is a).1 good)) ∙ written_with a.items.route a in
+    let first : nodes_at a ≡ length k + (length h + (length g + (length r + length c))) =
+    omega (arith, length-header a.header good.header, way_long a.items.route) in
+    items_stand octets k h g r c y (behind_nodes a) (nodes_at a) same first
 
 abbrev covers_text : answers.Answer → List ℕ
 covers_text a = digests.spell a.node_cover ++ digests.spell a.pair_cover
@@ -234,7 +241,7 @@ record LeavesCut (a : answers.Answer) (octets : List ℕ) : Type 0 where
   pub nodes : AreCut octets 6 (nodes_at a) (map node_leaf_text a.items.nodes) (behind_nodes a)
   pub pairs : AreCut octets 4 (pairs_at a) (map pair_leaf.spell a.items.pairs) (covers_text a)
 
-leaves_cut : (a : answers.Answer) (octets : List ℕ) → IsGood a → octets ≡ reply_text (replies.Answer a) → LeavesCut a octets
+leaves_cut : (a : answers.Answer) (octets : List ℕ) → IsGood a → octets ≡ reply_text (reply_of a) → LeavesCut a octets
 leaves_cut a octets good is =
     let first = nodes_stand a octets good is in
     let nodes = nodes_cut octets (nodes_at a) a.node_places a.items.nodes (behind_nodes a) good.nodes.one_each first.within first.is in
@@ -261,11 +268,11 @@ shown octets n at texts rest cuts few cut is =
     } in
     record { inside = subst (AreIn octets) (sym is) all; stand = ap (map (cut_from octets)) is ∙ cut.stand }
 
-pub nodes_shown : (a : answers.Answer) (octets : List ℕ) (cuts : List Cut) → IsGood a → octets ≡ reply_text (replies.Answer a) → cuts ≡ cuts_at 6 (nodes_at a) (map node_leaf_text a.items.nodes) → Shown octets cuts (map node_leaf_text a.items.nodes)
+pub nodes_shown : (a : answers.Answer) (octets : List ℕ) (cuts : List Cut) → IsGood a → octets ≡ reply_text (reply_of a) → cuts ≡ cuts_at 6 (nodes_at a) (map node_leaf_text a.items.nodes) → Shown octets cuts (map node_leaf_text a.items.nodes)
 nodes_shown a octets cuts good spelled is =
     shown octets 6 (nodes_at a) (map node_leaf_text a.items.nodes) (behind_nodes a) cuts (omega (arith, length-map a.items.nodes node_leaf_text, good.nodes.one_each, good.nodes.few)) (leaves_cut a octets good spelled).nodes is
 
-pub pairs_shown : (a : answers.Answer) (octets : List ℕ) (cuts : List Cut) → IsGood a → octets ≡ reply_text (replies.Answer a) → cuts ≡ cuts_at 4 (pairs_at a) (map pair_leaf.spell a.items.pairs) → Shown octets cuts (map pair_leaf.spell a.items.pairs)
+pub pairs_shown : (a : answers.Answer) (octets : List ℕ) (cuts : List Cut) → IsGood a → octets ≡ reply_text (reply_of a) → cuts ≡ cuts_at 4 (pairs_at a) (map pair_leaf.spell a.items.pairs) → Shown octets cuts (map pair_leaf.spell a.items.pairs)
 pairs_shown a octets cuts good spelled is =
     shown octets 4 (pairs_at a) (map pair_leaf.spell a.items.pairs) (covers_text a) cuts (omega (arith, length-map a.items.pairs pair_leaf.spell, good.pairs.one_each, good.pairs.few)) (leaves_cut a octets good spelled).pairs is
 
@@ -275,7 +282,7 @@ pub record ItemsEnd (a : answers.Answer) (octets : List ℕ) : Type 0 where
   pub between : pairs_at a ≤ length octets
   pub pairs : end_at 4 (pairs_at a) (map pair_leaf.spell a.items.pairs) ≤ length octets
 
-pub items_end : (a : answers.Answer) (octets : List ℕ) → IsGood a → octets ≡ reply_text (replies.Answer a) → ItemsEnd a octets
+pub items_end : (a : answers.Answer) (octets : List ℕ) → IsGood a → octets ≡ reply_text (reply_of a) → ItemsEnd a octets
 items_end a octets good spelled =
     let cut = leaves_cut a octets good spelled in
     record { nodes = cut.nodes.last; between = omega (arith, end_least 4 (pairs_at a) (map pair_leaf.spell a.items.pairs), cut.pairs.last); pairs = cut.pairs.last }

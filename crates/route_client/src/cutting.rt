@@ -4,9 +4,8 @@ ghost use Rattle.std.specs.Prelude.{◌≡◌, ◌+◌, ◌<◌, ◌^◌, [], �
 ghost use Rattle.road_leaf.specs.Leaves.{node_leaf_text, pair_leaf};
 ghost use Rattle.merkle_cover.specs.Cuts.{cut_from, AreIn};
 ghost use Rattle.proof_octets.specs.Good.{IsGood};
-ghost use Rattle.proof_octets.specs.declared.reply.Reply.TheVariants.{Answer as spelled_answer};
-ghost use Rattle.proof_octets.specs.Replies.{reply_text};
-ghost use Rattle.route_client.specs.Cutting.{cuts_at, end_at};
+ghost use Rattle.proof_octets.specs.Replies.{reply_of, reply_text};
+ghost use Rattle.route_client.specs.Cutting.{cuts_at, end_at, nodes_at};
 
 use leaf_texts::text_length;
 use merkle_cover::Cut;
@@ -63,10 +62,24 @@ fn push_pairs(cuts: &mut Vec<Cut>, at: u32, leaves: &[PairLeaf]) -> Result<u32, 
     Ok(next)
 }
 
+// Where the first node item stands: behind the kind of the reply, the header, the signature, the route
+// where there is one, and how many items there are.
+fn nodes_at(answer: &Answer) -> u32
+    requires { IsGood answer.now }
+    ensures { result ≡ nodes_at answer.now }
+{
+    let signature = answer.signature.as_slice().len() as u32;
+    let route = answer.items.route.as_slice();
+    if route.is_empty() {
+        return 111 + signature;
+    }
+    115 + signature + 4 * route.len() as u32
+}
+
 /// Where the texts of an answer's leaves stand in the octets that spell it.
 pub fn leaf_cuts(alloc: Global, octets: &[u8], answer: &Answer) -> Result<LeafCuts, NoMemory>
     requires good { IsGood answer.now }
-    requires spelled { octets.now ≡ reply_text (spelled_answer answer.now) }
+    requires spelled { octets.now ≡ reply_text (reply_of answer.now) }
     requires short { length octets.now < 2 ^ 32 }
     ensures nodes_in { IfOk result (λ cuts. AreIn octets.now cuts.nodes.items) }
     ensures pairs_in { IfOk result (λ cuts. AreIn octets.now cuts.pairs.items) }
@@ -75,14 +88,8 @@ pub fn leaf_cuts(alloc: Global, octets: &[u8], answer: &Answer) -> Result<LeafCu
     ensures pairs { IfOk result (λ cuts.
         map (cut_from octets.now) cuts.pairs.items ≡ map pair_leaf.spell answer.now.items.pairs) }
 {
-    let signature = answer.signature.as_slice().len() as u32;
-    let route = answer.items.route.as_slice().len() as u32;
     let mut nodes = Vec::new(alloc);
-    let end = push_nodes(
-        &mut nodes,
-        115 + signature + 4 * route,
-        answer.items.nodes.as_slice(),
-    )?;
+    let end = push_nodes(&mut nodes, nodes_at(answer), answer.items.nodes.as_slice())?;
     let mut pairs = Vec::new(alloc);
     push_pairs(&mut pairs, end + 4, answer.items.pairs.as_slice())?;
     Ok(LeafCuts { nodes, pairs })

@@ -16,16 +16,19 @@ use Rattle.proof_octets.specs.Publications.{publication}
 use Rattle.route_server.specs.Headers.{HasHeader, header_of}
 use Rattle.route_server.specs.Keeping.{Kept, publication_in}
 use Rattle.route_client.specs.declared.accepted.Accepted.{Accepted}
+use Rattle.route_client.specs.declared.accepted.Checked.{Checked}
+use Rattle.route_client.specs.declared.accepted.Checked.TheVariants.{Route, Apart}
+use Rattle.route_client.specs.Truth.{HoldsIn}
 use Rattle.route_client.specs.declared.errors.CheckError.{CheckError}
 use Rattle.route_client.specs.declared.errors.CheckError.TheVariants as errors
 use Rattle.route_client.specs.Verdicts.{UnlessMemory, Accepts}
-use Rattle.route_laws.specs.Honest.{IsSigned, AreAccepted}
+use Rattle.route_laws.specs.Honest.{IsSigned, AreKnown, AreJoined, AreAccepted}
 use Rattle.book_model.specs.declared.items.Query.{Query}
 use Rattle.route_survey.specs.Surveys.{survey_key, IsSurveyed}
 use Rattle.route_survey.specs.Tallies.{IsAskable}
 
 -- where a reply is accepted, no other verdict comes than for want of memory
-pub refused_as : (e : CheckError) (x : Accepted) → UnlessMemory {A = Accepted} (λ r. r ≡ Ok x) (Err e) → e ≡ errors.Memory
+pub refused_as : (e : CheckError) (x : Checked) → UnlessMemory {A = Checked} (λ r. r ≡ Ok x) (Err e) → e ≡ errors.Memory
 refused_as errors.Memory x h = refl
 refused_as e x h = cc
 
@@ -36,6 +39,20 @@ by_least parts s t d (Some e) least joins short = let same : e ≡ d = omega (ar
 
 pub shortest_is : (parts : Parts) → DistanceLaws parts → (s t d : ℕ) (route : List ℕ) → IsShortest parts s t route d → distance parts s t ≡ Some d
 shortest_is parts laws s t d route short = by_least parts s t d (distance parts s t) (laws.least s t) (shortest_joins parts s t d route short) short.least
+
+-- joined ends are known
+pub known_of : (parts : Parts) (q : Query) → AreJoined parts q → AreKnown parts q
+known_of parts q joined = record { from = joined.from; to = joined.to }
+
+-- the length of a route that holds in a map
+pub length_is : (parts : Parts) → DistanceLaws parts → (q : Query) (x : Checked) → HoldsIn parts q x → (y : Accepted) → x ≡ Route y → distance parts q.from q.to ≡ Some y.length
+length_is parts laws q x holds y is =
+    let short : IsShortest parts q.from q.to y.route y.length = subst (HoldsIn parts q) is holds in
+    shortest_is parts laws q.from q.to y.length y.route short
+
+-- over joined ends it never holds that they are apart
+pub never_apart : (parts : Parts) (q : Query) (x : Checked) (version : ℕ) (header : Header) → AreJoined parts q → HoldsIn parts q x → x ≡ Apart version header → ⊥
+never_apart parts q x version header joined holds is = (subst (HoldsIn parts q) is holds).2 joined.length joined.joins
 
 signed_of : (p : Publication) (parts : Parts) (s : Settings) → IsSurveyed parts s p → IsSigned sha256 sha256 (public_key survey_key) p
 signed_of p parts s is = record {
@@ -58,12 +75,12 @@ is_askable ranges k p parts s held is one =
     record { signed = all.0; version = all.1; short = all.2 }
 
 -- what a client says of octets that are accepted
-pub accepted_as : (key public items octets : List ℕ) (q : Query) (parts : Parts) (r : Result Accepted CheckError) → public ≡ key → octets ≡ items → (a : AreAccepted sha256 key [] items q 1 parts)
-    → ((x : Accepted) → Accepts sha256 public [] octets q 1 x → UnlessMemory {A = Accepted} (λ v. v ≡ Ok x) r) → UnlessMemory {A = Accepted} (λ v. v ≡ Ok a.accepted) r
+pub accepted_as : (key public items octets : List ℕ) (q : Query) (parts : Parts) (r : Result Checked CheckError) → public ≡ key → octets ≡ items → (a : AreAccepted sha256 key [] items q 1 parts)
+    → ((x : Checked) → Accepts sha256 public [] octets q 1 x → UnlessMemory {A = Checked} (λ v. v ≡ Ok x) r) → UnlessMemory {A = Checked} (λ v. v ≡ Ok a.accepted) r
 accepted_as key public items octets q parts r same whole a accepts =
     accepts a.accepted (subst (λ (k : List ℕ). Accepts sha256 k [] octets q 1 a.accepted) (sym same) (subst (λ (o : List ℕ). Accepts sha256 key [] o q 1 a.accepted) (sym whole) a.accepts))
 
-pub same_accepted : (x y : Accepted) (r : Result Accepted CheckError) → r ≡ Ok x → r ≡ Ok y → x ≡ y
+pub same_accepted : (x y : Checked) (r : Result Checked CheckError) → r ≡ Ok x → r ≡ Ok y → x ≡ y
 same_accepted x y r is same = cc
 
 -- what a survey's publication says of its own parts and settings

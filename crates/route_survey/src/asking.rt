@@ -12,7 +12,7 @@ use crate::tally::Tally;
 use book_model::Query;
 use octet_text::{Hasher, NoMemory, Sha};
 use road_map::map_laws;
-use route_client::{CheckError, check};
+use route_client::{CheckError, Checked, check};
 use route_laws::honest_laws;
 use route_server::Held;
 use std::alloc::Global;
@@ -56,10 +56,11 @@ fn ask(
         return Err(NoMemory);
     }
     match check::<Sha>(alloc, public, &[], &reply, query, 1) {
-        Ok(accepted) => Ok(Answered {
+        Ok(Checked::Route(accepted)) => Ok(Answered {
             reply,
             length: accepted.length,
         }),
+        Ok(Checked::Apart { .. }) => unreachable!(),
         Err(error) => Err(memory_of(error)),
     }
 }

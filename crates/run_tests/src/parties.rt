@@ -199,7 +199,6 @@ fn a_route_is_published_proved_checked_and_audited(rt: HostRuntime) -> Result<()
         ("check key pub 1 3 3", "refused Malformed 0\n", 1, None),
         ("check key none 1 3 3", "", 3, Some(Fault::Missing)),
         ("check pub none 1 3 3", "", 3, Some(Fault::BadHex)),
-        ("prove pub 1 5", "\x02", 11, Some(Fault::NoRoute)),
         ("prove pub 9 8", "\x01", 11, unknown),
         ("prove reply 1 3", "", 3, Some(Fault::Malformed(0))),
         ("publish map.roads dij 3 id 0 2 1 0 0", "", 3, settings),
@@ -222,6 +221,31 @@ fn a_route_is_published_proved_checked_and_audited(rt: HostRuntime) -> Result<()
         ),
     ] {
         assert_written(&rt, alloc, &mut world, line, text.as_bytes(), status, fault)?;
+    }
+    Ok(())
+}
+
+#[test]
+fn that_there_is_no_route_is_proved_checked_and_audited(rt: HostRuntime) -> Result<(), Fail> {
+    let alloc = rt.alloc();
+    let mut world = published(&rt, alloc, PUBLISH)?;
+    keep(&rt, alloc, &mut world, "none", "prove pub 1 5")?;
+    keep(&rt, alloc, &mut world, "back", "prove pub 5 1")?;
+    let none = world.library.load(alloc, "none", 10_000)?;
+    assert_same(&rt, "prove pub 1 5", &none.len(), &1584);
+    let back = world.library.load(alloc, "back", 10_000)?;
+    assert_same(&rt, "prove pub 5 1", &back.len(), &1537);
+    for (line, text, status) in [
+        ("check key none 1 5 3", "accepted none\n", 0),
+        ("check key back 5 1 3", "accepted none\n", 0),
+        ("check key none 1 5 4", "refused Stale 3\n", 1),
+        ("check key none 1 3 3", "refused Shorter 9\n", 1),
+        ("check key none 1 1 3", "refused Shorter 0\n", 1),
+        ("check key none 1 9 3", "refused MissingTuple 9\n", 1),
+        ("audit key pub none 1 5", "right\n", 0),
+        ("audit key pub none 1 3", "refused Shorter 9\n", 1),
+    ] {
+        assert_written(&rt, alloc, &mut world, line, text.as_bytes(), status, None)?;
     }
     Ok(())
 }

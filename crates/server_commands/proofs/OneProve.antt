@@ -7,7 +7,7 @@ use Rattle.book_model.specs.declared.items.Query.{Query}
 use Rattle.proof_octets.specs.declared.publication.Publication.{Publication}
 use Rattle.command_files.specs.Reading.{publication_at}
 use Rattle.command_files.specs.declared.fault.Fault.{Fault}
-use Rattle.command_files.specs.declared.fault.Fault.TheVariants.{UnknownNode, NoRoute}
+use Rattle.command_files.specs.declared.fault.Fault.TheVariants.{UnknownNode}
 use Rattle.command_files.specs.declared.ended.Conclusion.{Conclusion}
 use Rattle.command_files.specs.declared.ended.Conclusion.TheVariants.{Done}
 use Rattle.command_files.proofs.Ends.{both_known, one_unknown}
@@ -18,17 +18,11 @@ use Rattle.server_commands.specs.Proving.{EndsReply, EndsProve, ends_prove}
 -- over an installed publication, `prove` has one end
 one_reply : (p : Publication) (q : Query) (o e : Result Conclusion Fault) (s t : List ℕ) → EndsReply q p o s → EndsReply q p e t → o ≡ e
 one_reply p q (Ok Done) (Ok Done) s t h k = refl
-one_reply p q (Ok Done) (Err (UnknownNode id)) s t h k = absurd (both_known p.parts q.from q.to id h.0.walk.known h.0.end k.0)
-one_reply p q (Ok Done) (Err NoRoute) s t h k = absurd (k.0.apart h.0.length h.0.walk)
+one_reply p q (Ok Done) (Err (UnknownNode id)) s t h k = absurd (both_known p.parts q.from q.to id h.0 h.1 k.0)
 one_reply p q (Ok Done) e s t h k = absurd k
-one_reply p q (Err (UnknownNode id)) (Ok Done) s t h k = absurd (both_known p.parts q.from q.to id k.0.walk.known k.0.end h.0)
+one_reply p q (Err (UnknownNode id)) (Ok Done) s t h k = absurd (both_known p.parts q.from q.to id k.0 k.1 h.0)
 one_reply p q (Err (UnknownNode id)) (Err (UnknownNode b)) s t h k = ap (λ x. Err (UnknownNode x)) (one_unknown p.parts q.from q.to id b h.0 k.0)
-one_reply p q (Err (UnknownNode id)) (Err NoRoute) s t h k = absurd (both_known p.parts q.from q.to id k.0.start k.0.end h.0)
 one_reply p q (Err (UnknownNode id)) e s t h k = absurd k
-one_reply p q (Err NoRoute) (Ok Done) s t h k = absurd (h.0.apart k.0.length k.0.walk)
-one_reply p q (Err NoRoute) (Err (UnknownNode id)) s t h k = absurd (both_known p.parts q.from q.to id h.0.start h.0.end k.0)
-one_reply p q (Err NoRoute) (Err NoRoute) s t h k = refl
-one_reply p q (Err NoRoute) e s t h k = absurd k
 one_reply p q o e s t h k = absurd h
 
 -- and so over the file

@@ -3,24 +3,25 @@ use Rattle.std.specs.Prelude.{ℕ, List}
 use Rattle.std.specs.declared.result.Result.TheVariants.{Ok, Err}
 use Rattle.sha2.specs.Sha256.{sha256}
 use Rattle.road_io.specs.Contents.{Folder}
+use Rattle.road_map.specs.Walks.{Knows}
 use Rattle.book_model.specs.declared.items.Query.{Query}
 use Rattle.proof_octets.specs.declared.publication.Publication.{Publication}
 use Rattle.route_server.specs.Honesty.{IsHonest}
 use Rattle.command_files.specs.Reading.{publication_at}
-use Rattle.command_files.specs.TwoEnds.{IsFirstUnknown, AreApart, AreJoined}
+use Rattle.command_files.specs.TwoEnds.{IsFirstUnknown}
 use Rattle.command_files.specs.Endings.{Ending, EndsReading}
 use Rattle.command_files.specs.declared.fault.Fault.{Fault}
-use Rattle.command_files.specs.declared.fault.Fault.TheVariants.{UnknownNode, NoRoute}
+use Rattle.command_files.specs.declared.fault.Fault.TheVariants.{UnknownNode}
 use Rattle.command_files.specs.declared.ended.Conclusion.TheVariants.{Done}
 use Rattle.command_books.specs.Installing.{EndsInstalling}
 
--- over an installed publication: an honest reply, which brings an answer where a walk joins the two
--- ends
+-- over an installed publication: an honest reply, which brings a route, or the proof that there is
+-- none, where both ends are nodes
 abbrev pub EndsReply : Query → Publication → Ending
-EndsReply q p (Ok Done) text = AreJoined p.parts q.from q.to × IsHonest sha256 sha256 p q text
+EndsReply q p (Ok Done) text = Knows p.parts q.from × Knows p.parts q.to ×
+    IsHonest sha256 sha256 p q text
 EndsReply q p (Err (UnknownNode id)) text = IsFirstUnknown p.parts q.from q.to id ×
     IsHonest sha256 sha256 p q text
-EndsReply q p (Err NoRoute) text = AreApart p.parts q.from q.to × IsHonest sha256 sha256 p q text
 EndsReply q p outcome text = ⊥
 
 -- `prove` over a publication
@@ -31,8 +32,7 @@ EndsProve q p = EndsInstalling p (EndsReply q p)
 abbrev pub ends_prove : List ℕ → Query → Folder → Ending
 ends_prove publication q folder = EndsReading (publication_at folder publication) (EndsProve q)
 
--- its client is told of unknown nodes and of no route
+-- its client is told of unknown nodes
 abbrev pub TellsEnds : Fault → Type 0
 TellsEnds (UnknownNode id) = Unit {0}
-TellsEnds NoRoute = Unit {0}
 TellsEnds fault = ⊥

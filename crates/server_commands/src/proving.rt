@@ -16,7 +16,6 @@ use command_files::{Conclusion, Fault, Told, load_publication, write_told};
 use octet_text::{NoMemory, Sha};
 use proof_octets::{Publication, range_laws};
 use road_io::{Library, Sink};
-use road_map::map_laws;
 use road_search::knows;
 use route_server::Held;
 use std::alloc::Global;
@@ -71,10 +70,8 @@ fn end_of(held: &Held<Sha>, query: Query, octets: &[u8]) -> Result<Conclusion, F
     requires { IsHonest sha256 sha256 (publication_in sha256 held.now) query octets.now }
     ensures { EndsReply query (publication_in sha256 held.now) result octets.now }
 {
-    map_laws();
     match octets.first() {
         Some(1) => Err(Fault::UnknownNode(first_unknown(held, query))),
-        Some(2) => Err(Fault::NoRoute),
         _ => Ok(Conclusion::Done),
     }
 }

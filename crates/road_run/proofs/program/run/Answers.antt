@@ -1,7 +1,6 @@
 use Rattle.road_run.proofs.CompleteLemmas.{complete_run, proves_run}
 use Rattle.road_run.proofs.RunLemmas.{exact_run, honest_run, taken_run, exact_serving}
 use Rattle.road_run.proofs.HonestLemmas.{Verdicts, AcceptedLaws}
-use Rattle.road_run.proofs.TakenLemmas.{RefusedLaws}
 use Rattle.road_run.proofs.program.run.Given.{Over}
 use Rattle.road_run.proofs.program.run.Goals as goal
 use Rattle.road_run.proofs.program.run.Goals.{After-near_laws}
@@ -36,9 +35,8 @@ returns-clause-honest g c =
 
 pub returns-clause-taken : goal.returns-clause-taken
 returns-clause-taken g c =
-    let said : RefusedLaws = record { unknown = c.honest_laws.ensures.unknown; apart = c.honest_laws.ensures.apart } in
     rw c.of.ensures.outcome
-    (taken_run g.D.Disk c.args.disk.now c.work.new.disk _ _ _ _ _ _ _ _ _ (laws g (goal.at.returns-clause-taken g c).After-near_laws) said c.work.ensures.promised)
+    (taken_run g.D.Disk c.args.disk.now c.work.new.disk _ _ _ _ _ _ _ _ _ (laws g (goal.at.returns-clause-taken g c).After-near_laws) c.honest_laws.ensures.unknown c.work.ensures.promised)
 
 pub returns-clause-takes : goal.returns-clause-takes
 returns-clause-takes g c = rw c.of.ensures.outcome c.work.ensures.takes
@@ -50,9 +48,8 @@ returns-clause-serve_exact g c =
 
 pub returns-clause-proves : goal.returns-clause-proves
 returns-clause-proves g c =
-    let said : RefusedLaws = record { unknown = c.honest_laws.ensures.unknown; apart = c.honest_laws.ensures.apart } in
     rw c.of.ensures.outcome
-    (proves_run c.server_laws.ensures (laws g (goal.at.returns-clause-proves g c).After-near_laws) said g.D.Disk c.args.disk.now c.work.new.disk _ _ _ _ _ _ _ _ _ c.work.ensures.promised)
+    (proves_run c.server_laws.ensures (laws g (goal.at.returns-clause-proves g c).After-near_laws) c.honest_laws.ensures.unknown g.D.Disk c.args.disk.now c.work.new.disk _ _ _ _ _ _ _ _ _ c.work.ensures.promised)
 
 pub returns-clause-complete : goal.returns-clause-complete
 returns-clause-complete g c =

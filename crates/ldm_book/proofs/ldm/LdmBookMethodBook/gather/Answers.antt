@@ -1,4 +1,4 @@
-use Rattle.std.proofs.Common.{refl, ◌∙◌}
+use Rattle.std.proofs.Common.{◌∙◌}
 use Rattle.road_search.specs.Labelling.{length_at}
 use Rattle.ldm_book.proofs.FoundLaws.{short_route, found_ldm}
 use Rattle.ldm_book.proofs.ldm.LdmBookMethodBook.gather.Goals as goal
@@ -11,5 +11,5 @@ returns-clause-found c =
     let found = c.in_ok-reached in (
       found.reached.length,
       found_ldm c.args.self.now.map.parts c.args.self.now.map.order c.args.self.now.extras.entries c.args.self.now.numbers c.parts-parts.ensures.is_map c.parts-parts.ensures.by_id c.args.query found.reached.length
-          (length_at c.in_ok-labels.labels) c.in_ok-labels.ensures.lengths found.reached.route found.ensures.route (record { route = found.reached.route; nodes = c.in_ok-nodes.nodes; pairs = c.from_vec.result }) refl found.ensures.distinct c.in_ok-nodes.ensures (c.from_vec.ensures ∙ c.new.ensures.items),
+          (length_at c.in_ok-labels.labels) c.in_ok-labels.ensures.lengths (record { route = found.reached.route; nodes = c.in_ok-nodes.nodes; pairs = c.from_vec.result }) found.ensures.route found.ensures.distinct c.in_ok-nodes.ensures (c.from_vec.ensures ∙ c.new.ensures.items),
     )

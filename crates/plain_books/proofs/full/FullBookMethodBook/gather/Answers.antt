@@ -5,5 +5,5 @@ pub returns-clause-found : goal.returns-clause-found
 returns-clause-found c =
     let found = c.in_ok-reached in (
       found.reached.length,
-      found_full c.args.self.now.map.parts c.args.self.now.pairs c.args.query found.reached.length (record { route = found.reached.route; nodes = c.in_ok-nodes.nodes; pairs = c.in_ok-pairs.pairs }) found.ensures.route found.ensures.distinct c.in_ok-nodes.ensures (c.in_ok-pairs.ensures found.reached.length),
+      found_full c.args.self.now.map.parts c.args.self.now.pairs c.args.query found.reached.length (record { route = found.reached.route; nodes = c.in_ok-nodes.nodes; pairs = c.in_ok-pairs.pairs }) found.ensures.route found.ensures.distinct c.in_ok-nodes.ensures c.in_ok-pairs.ensures,
     )

@@ -5,7 +5,7 @@ use Rattle.std.proofs.lemmas.List.Kept.{Contains-dedup_nat, Contains-from_dedup}
 use Rattle.std.proofs.lemmas.List.Sorted.{Contains-permutation, IsPermutation-sym}
 use Rattle.std.proofs.lemmas.Map.Keys.{IsStrictlyIncreasing-dedup, sorted_from_strictly_increasing}
 use Rattle.proof_method.specs.Gathering.{Lists}
-use Rattle.ldm_book.proofs.near.rising.Goals as goal
+use Rattle.proof_method.proofs.in_order.rising.Goals as goal
 
 pub returns : goal.returns
 returns c =

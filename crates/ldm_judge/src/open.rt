@@ -1,0 +1,29 @@
+//! Open walks: the search that shows that no walk leads to an end.
+
+ghost use Rattle.proof_judge.specs.Apart.{open_ways};
+
+use crate::bounds::{Lookup, apart};
+use road_map::Arc;
+use road_search::Ground;
+
+/// Leaves at hand as a ground of walks towards an end: an id with a leaf has the leaf's arcs, and no
+/// walk goes on from an id that is apart from the end.
+#[derive(Clone, Copy)]
+pub struct Open<'a, L: Lookup> {
+    pub leaves: &'a L,
+    pub to: u32,
+}
+
+impl<L: Lookup> Ground for Open<'_, L> {
+    ghost ways = { λ w. open_ways (L.leaves w.leaves.now) w.to };
+
+    fn arcs(&self, id: u32) -> Option<&[Arc]> {
+        self.leaves.arcs(id)
+    }
+
+    fn lets(&self, id: u32, _length: u64) -> bool {
+        !apart(self.leaves, id, self.to)
+    }
+
+    ghost lets_shorter = { λ w id short long le h. h };
+}

@@ -1,0 +1,29 @@
+//! Ids in the order in which they are gathered.
+
+ghost use Rattle.std.specs.Prelude.{Contains, IfOk};
+ghost use Rattle.proof_method.specs.Apart.{IsEnd};
+ghost use Rattle.proof_method.specs.Gathering.{Lists};
+
+use book_model::Query;
+use octet_text::NoMemory;
+use road_map::Ids;
+use std::alloc::Global;
+
+/// The same ids, each once, by rising id.
+pub fn rising(mut ids: Vec<u32>) -> Ids
+    ensures { Lists (Contains ids.items) result }
+{
+    ids.sort_unstable();
+    ids.dedup();
+    Ids::from_vec(ids)
+}
+
+/// The ids of the two ends, by rising id.
+pub fn ends(alloc: Global, query: Query) -> Result<Ids, NoMemory>
+    ensures { IfOk result (Lists (IsEnd query)) }
+{
+    let mut ids = Vec::new(alloc);
+    ids.push(query.from)?;
+    ids.push(query.to)?;
+    Ok(rising(ids))
+}

@@ -58,6 +58,34 @@ fn each_pair_has_its_distance(rt: HostRuntime) -> Result<(), Fail> {
     Ok(())
 }
 
+static LONG_ROADS: [(u32, u32, u32); 3] = [(1, 2, u32::MAX), (2, 3, u32::MAX), (3, 4, 5)];
+
+static LONG_TABLE: [PairLeaf; 3] = [
+    PairLeaf {
+        a: 1,
+        b: 3,
+        distance: 8_589_934_590,
+    },
+    PairLeaf {
+        a: 1,
+        b: 4,
+        distance: 8_589_934_595,
+    },
+    PairLeaf {
+        a: 3,
+        b: 4,
+        distance: 5,
+    },
+];
+
+#[test]
+fn a_way_past_no_third_may_be_longer_than_any_arc(rt: HostRuntime) -> Result<(), Fail> {
+    let map = map_of(rt.alloc(), &NODES, &LONG_ROADS)?;
+    let leaves = table_of(rt.alloc(), &map, &[1, 3, 4])?;
+    assert_same(&rt, leaves.as_slice(), LONG_TABLE.as_slice());
+    Ok(())
+}
+
 fn ids_to(alloc: Global, last: u32) -> Result<Vec<u32>, AllocError> {
     let mut ids = Vec::new(alloc);
     for id in 1..=last {

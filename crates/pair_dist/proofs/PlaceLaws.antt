@@ -1,15 +1,13 @@
 -- Positions of ids, and the leaves of a row.
-use Rattle.std.proofs.Common.{◌≡◌, ℕ, suc, ◌+◌, ◌<◌, Some, List, [], ◌∷◌, ◌++◌, inl, inr, map, length, drop, drop-cons, slice_get, get_or, arith, ap, sym, ◌∙◌, subst}
+use Rattle.std.proofs.Common.{◌≡◌, ℕ, suc, ◌+◌, ◌<◌, Option, Some, List, [], ◌∷◌, ◌++◌, inl, inr, map, length, drop, drop-cons, slice_get, get_or, arith, ap, sym, ◌∙◌, subst}
 use Rattle.std.proofs.lemmas.List.{append_assoc, length-append}
 use Rattle.std.proofs.lemmas.Option.{slice_get-get_or, slice_get_within}
 use Rattle.road_map.specs.declared.parts.Node.{Node}
-use Rattle.road_map.specs.Walks.{distance}
 use Rattle.road_leaf.specs.declared.pair.PairLeaf.{PairLeaf}
 use Rattle.road_map.specs.Nets.{IsPlace}
-use Rattle.road_search.specs.Nets.{Surveyed, length_to}
 use Rattle.road_map.proofs.NetLaws.{last_or_before}
 use Rattle.book_model.specs.Pairs.{pair_leaf, said}
-use Rattle.pair_dist.specs.Placing.{ArePlaces, Measures}
+use Rattle.pair_dist.specs.Placing.{ArePlaces}
 
 beyond : (xs : List ℕ) (p r : ℕ) → p ≡ length xs → slice_get xs p ≡ Some r → ⊥
 beyond xs p r e h = let lt : p < length xs = slice_get_within xs p r h in omega (arith, lt, e)
@@ -31,13 +29,16 @@ place_for order chosen places i d e h lt = h.each i (get_or chosen i d) (get_or 
 abbrev leaf_with : ℕ → ℕ → ℕ → PairLeaf
 leaf_with a b d = record { a = a; b = b; distance = d }
 
--- what was measured is what the leaf says
-pub leaf_is : (s : Surveyed) (a b p d : ℕ) → Measures s a → IsPlace s.map.order b p → d ≡ said (length_to s p) → leaf_with a b d ≡ pair_leaf (distance s.map.parts) a b
-leaf_is s a b p d m at is =
-    let found : length_to s p ≡ distance s.map.parts m.at.0.id at.0.id = m.distances m.at.0 at.0 p m.at.1 at.1 in
-    let dist : length_to s p ≡ distance s.map.parts a b = found ∙ (ap (λ u. distance s.map.parts u at.0.id) m.at.2 ∙ ap (distance s.map.parts a) at.2) in
-    let same : d ≡ said (distance s.map.parts a b) = is ∙ ap said dist in
-    ap (leaf_with a b) same
+-- what was found is what the leaf says
+pub leaf_found : (dist : ℕ → ℕ → Option ℕ) (found : ℕ → Option ℕ) (a b p d : ℕ) → found p ≡ dist a b → d ≡ said (found p) → leaf_with a b d ≡ pair_leaf dist a b
+leaf_found dist found a b p d e is = ap (leaf_with a b) (is ∙ ap said e)
+
+-- a place is one of a node
+pub place_within : (order : List Node) (chosen places : List ℕ) (i p : ℕ) → ArePlaces order chosen places → slice_get places i ≡ Some p → p < length order
+place_within order chosen places i p h at =
+    let lt : i < length places = slice_get_within places i p at in
+    let is : IsPlace order (get_or chosen i 0) p = h.each i (get_or chosen i 0) p (slice_get-get_or chosen i 0 (omega (arith, lt, h.long))) at in
+    slice_get_within order p is.0 is.1
 
 -- one leaf more of a row
 pub row_more : (f : ℕ → PairLeaf) (xs : List ℕ) (i : ℕ) (old new all : List PairLeaf) (leaf : PairLeaf) → i < length xs → leaf ≡ f (get_or xs i 0) → old ++ map f (drop i xs) ≡ all → new ≡ old ++ leaf ∷ [] → new ++ map f (drop (i + 1) xs) ≡ all

@@ -1,24 +1,27 @@
 //! The table, row by row.
 
-ghost use Rattle.std.specs.Prelude.{◌≡◌, ◌≤◌, ◌<◌, ◌↔◌, ℕ, ◌++◌, Err, IfOk, OnOk, Contains, drop, length, map, slice_get};
+ghost use Rattle.std.specs.Prelude.{◌≡◌, ◌≤◌, ◌<◌, ◌↔◌, ℕ, Some, ◌++◌, Err, IfOk, OnOk, Contains, drop, length, map, slice_get};
 ghost use Rattle.road_map.specs.Walks.{Knows, distance};
-ghost use Rattle.road_search.specs.Nets.{length_to};
+ghost use Rattle.road_search.specs.Labelling.{length_in};
 ghost use Rattle.book_model.specs.Pairs.{pair_leaf, pairs_of, said};
-ghost use Rattle.pair_dist.specs.Placing.{ArePlaces, Measures};
+ghost use Rattle.pair_dist.specs.Placing.{ArePlaces};
+ghost use Rattle.pair_dist.specs.Chains.{Measured, Finds};
 ghost use Rattle.pair_dist.specs.declared.error.PairError.TheVariants as pair_error;
 
+use crate::chain::{chain_of, length_of, walls_at};
 use crate::error::PairError;
 use book_model::PairLeaves;
+use octet_text::NoMemory;
 use road_leaf::PairLeaf;
-use road_map::Map;
-use road_search::Survey;
+use road_map::{Map, map_laws};
+use road_search::{Ground, Marks, Numbered, search_in};
 use std::alloc::{AllocError, Global};
 
 /// The distance as a leaf says it: the greatest number where no walk leads there.
-fn said_length(survey: &Survey<'_>, position: u32) -> u64
-    ensures { result ≡ said (length_to survey.now position) }
+fn said_length<T: Marks>(marks: &T, station: u32) -> u64
+    ensures { result ≡ said (length_in (T.mark marks.now) station) }
 {
-    survey.length(position).unwrap_or(u64::MAX)
+    length_of(marks, station).unwrap_or(u64::MAX)
 }
 
 /// The positions of some nodes.
@@ -34,22 +37,36 @@ fn positions(alloc: Global, map: &Map, chosen: &[u32]) -> Result<Vec<u32>, Alloc
     Ok(places)
 }
 
-/// Adds the leaves of one id, from which the survey has measured, with each of these from a place on.
-fn add_row(
+/// The numbers up to a count.
+fn numbers(alloc: Global, count: u32) -> Result<Vec<u32>, AllocError>
+    ensures long { IfOk result (λ v. length v.items ≡ count) }
+    ensures each { IfOk result (λ v. (i n : ℕ) → slice_get v.items i ≡ Some n → n ≡ i) }
+{
+    let mut found = Vec::with_capacity(alloc, count as usize)?;
+    for number in 0..count {
+        found.push(number)?;
+    }
+    Ok(found)
+}
+
+/// Adds the leaves of one id, from whose station a search has gone, with each of these from a place on.
+fn add_row<T: Marks>(
     leaves: &mut Vec<PairLeaf>,
-    survey: &Survey<'_>,
+    chart: &Map,
+    marks: &T,
     a: u32,
     chosen: &[u32],
-    places: &[u32],
+    stations: &[u32],
     first: usize,
 ) -> Result<(), AllocError>
-    requires places { ArePlaces survey.now.map.order chosen.now places.now }
-    requires measures { Measures survey.now a }
+    requires long { length stations.now ≡ length chosen.now }
+    requires finds { Finds (distance chart.now.parts a) (length_in (T.mark marks.now)) chosen.now
+        stations.now }
     ensures { OnOk result (leaves.new.items ≡ leaves.old.items ++ map
-        (pair_leaf (distance survey.now.map.parts) a) (drop first chosen.now)) }
+        (pair_leaf (distance chart.now.parts) a) (drop first chosen.now)) }
 {
     for place in first..chosen.len() {
-        let distance = said_length(survey, places[place]);
+        let distance = said_length(marks, stations[place]);
         leaves.push(PairLeaf {
             a,
             b: chosen[place],
@@ -59,10 +76,56 @@ fn add_row(
     Ok(())
 }
 
+/// The leaves of all pairs, by a search from the station of each over a ground that keeps their distances.
+fn leaves_over<G: Ground>(
+    alloc: Global,
+    ground: &G,
+    map: &Map,
+    chosen: &[u32],
+    stations: &[u32],
+) -> Result<Vec<PairLeaf>, NoMemory>
+    requires { Measured (distance map.now.parts) (G.ways ground.now) chosen.now stations.now }
+    ensures { IfOk result (λ leaves. leaves.items ≡ pairs_of (distance map.now.parts) chosen.now) }
+{
+    let mut marks = Numbered::new(alloc);
+    let mut leaves = Vec::new(alloc);
+    for (i, a) in chosen.iter().enumerate() {
+        marks.clear();
+        search_in(alloc, ground, &mut marks, stations[i], u64::MAX)?;
+        add_row(&mut leaves, map, &marks, *a, chosen, stations, i + 1)?;
+    }
+    Ok(leaves)
+}
+
+/// The leaves of all pairs of some nodes at these places: over their chain, or over the whole map where
+/// a link of the chain is too long for an arc.
+fn leaves_at(
+    alloc: Global,
+    map: &Map,
+    chosen: &[u32],
+    places: &[u32],
+) -> Result<Vec<PairLeaf>, NoMemory>
+    requires places { ArePlaces map.now.order chosen.now places.now }
+    requires few { length places.now ≤ 2048 }
+    ensures { IfOk result (λ leaves. leaves.items ≡ pairs_of (distance map.now.parts) chosen.now) }
+{
+    map_laws();
+    let _parts = map.parts();
+    let net = map.net();
+    let walls = walls_at(alloc, map.count(), places)?;
+    match chain_of(alloc, net, walls.as_slice(), places)? {
+        None => leaves_over(alloc, net, map, chosen, places),
+        Some(chain) => {
+            let stations = numbers(alloc, places.len() as u32)?;
+            leaves_over(alloc, &chain, map, chosen, stations.as_slice())
+        }
+    }
+}
+
 /// The leaves of all pairs of some nodes: each id with each that stands after it, and their distance.
 ///
-/// One search for each id, over the whole map; all use the same room. `TooMany` comes before any
-/// search, exactly where more than 2,048 nodes are chosen.
+/// One search for each id that goes on from no other of them, and one over the lengths that these have
+/// found. `TooMany` comes before any search, exactly where more than 2,048 nodes are chosen.
 pub fn pair_leaves(alloc: Global, map: &Map, chosen: &[u32]) -> Result<PairLeaves, PairError>
     requires { (id : ℕ) → Contains chosen.now id → Knows map.now.parts id }
     ensures leaves { IfOk result (λ leaves. leaves ≡ pairs_of (distance map.now.parts) chosen.now) }
@@ -72,11 +135,6 @@ pub fn pair_leaves(alloc: Global, map: &Map, chosen: &[u32]) -> Result<PairLeave
         return Err(PairError::TooMany);
     }
     let places = positions(alloc, map, chosen)?;
-    let mut survey = Survey::of(alloc, map);
-    let mut leaves = Vec::new(alloc);
-    for (i, a) in chosen.iter().enumerate() {
-        survey.measure(alloc, places[i])?;
-        add_row(&mut leaves, &survey, *a, chosen, places.as_slice(), i + 1)?;
-    }
+    let leaves = leaves_at(alloc, map, chosen, places.as_slice())?;
     Ok(PairLeaves::from_vec(leaves))
 }

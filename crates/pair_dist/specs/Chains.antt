@@ -1,0 +1,64 @@
+-- Walks that stop at chosen places, and the chain of arcs between these.
+use Rattle.std.specs.Prelude.{◌≡◌, ◌≢◌, ℕ, ◌<◌, ◌≤◌, ◌==◌, ◌||◌, not, Bool, true, false, Option, Some, List, Contains, length, slice_get}
+use Rattle.std.specs.Option.{unwrap_or}
+use Rattle.road_map.specs.declared.arc.Arc.{Arc}
+use Rattle.road_search.specs.Passing.{Ways, Reaches, IsLeastPassing}
+
+-- no walk is as long as this
+abbrev pub too_long : ℕ
+too_long = 18446744073709551615
+
+-- walks from position to position that go on from no wall but the start
+abbrev pub walled_ways : List (List Arc) → List Bool → ℕ → Ways
+walled_ways rows walls start = record {
+  arcs = λ p. slice_get rows p;
+  lets = λ p _. (p == start) || not (unwrap_or (slice_get walls p) false);
+}
+
+-- each wall stands at one of the places
+abbrev pub AreWalls : List ℕ → List Bool → Type 0
+AreWalls places walls = (p : ℕ) → unwrap_or (slice_get walls p) false ≡ true →
+    (i : ℕ) × (slice_get places i ≡ Some p)
+
+-- arcs from the place p, which is the i-th, to other places by their numbers: each is as long as
+-- the shortest walk that stops at walls, and there is one wherever such a walk leads
+pub record IsLink (rows : List (List Arc)) (walls : List Bool) (places : List ℕ) (i p : ℕ)
+    (row : List Arc) : Type 0 where
+  pub walks : (a : Arc) → Contains row a → (q : ℕ) × (slice_get places a.to ≡ Some q) ×
+      Reaches (walled_ways rows walls p) p too_long q a.length
+  pub all : (j q d : ℕ) → j ≢ i → slice_get places j ≡ Some q →
+      Reaches (walled_ways rows walls p) p too_long q d →
+      (a : Arc) × Contains row a × (a.to ≡ j) × (a.length ≤ d)
+
+-- the arcs out of each place, at its number
+pub record IsChain (rows : List (List Arc)) (walls : List Bool) (places : List ℕ)
+    (chain : List (List Arc)) : Type 0 where
+  pub long : length chain ≡ length places
+  pub each : (i p : ℕ) (row : List Arc) → slice_get places i ≡ Some p →
+      slice_get chain i ≡ Some row → IsLink rows walls places i p row
+
+-- a search from the station of one id finds its distance at the station of another
+pub record Measured (dist : ℕ → ℕ → Option ℕ) (w : Ways) (chosen stations : List ℕ) : Type 0 where
+  pub long : length stations ≡ length chosen
+  pub each : (i j a b p q : ℕ) (o : Option ℕ) → slice_get chosen i ≡ Some a →
+      slice_get chosen j ≡ Some b → slice_get stations i ≡ Some p → slice_get stations j ≡ Some q →
+      IsLeastPassing w p too_long q o → o ≡ dist a b
+
+-- lengths that are the distances at the stations of some ids
+abbrev pub Finds : (ℕ → Option ℕ) → (ℕ → Option ℕ) → List ℕ → List ℕ → Type 0
+Finds dist found chosen stations = (i b p : ℕ) → slice_get chosen i ≡ Some b →
+    slice_get stations i ≡ Some p → found p ≡ dist b
+
+-- the arcs out of the first places
+abbrev pub IsChainBelow : List (List Arc) → List Bool → List ℕ → ℕ → List (List Arc) → Type 0
+IsChainBelow rows walls places n chain = (length chain ≡ n) × ((i p : ℕ) (row : List Arc) →
+    slice_get places i ≡ Some p → slice_get chain i ≡ Some row → IsLink rows walls places i p row)
+
+-- links of the place p, the i-th, to those places whose numbers are below n
+pub record IsLinkBelow (rows : List (List Arc)) (walls : List Bool) (places : List ℕ) (i p n : ℕ)
+    (row : List Arc) : Type 0 where
+  pub walks : (a : Arc) → Contains row a → (q : ℕ) × (slice_get places a.to ≡ Some q) ×
+      Reaches (walled_ways rows walls p) p too_long q a.length
+  pub all : (j q d : ℕ) → j < n → j ≢ i → slice_get places j ≡ Some q →
+      Reaches (walled_ways rows walls p) p too_long q d →
+      (a : Arc) × Contains row a × (a.to ≡ j) × (a.length ≤ d)

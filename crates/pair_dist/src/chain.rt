@@ -1,0 +1,167 @@
+//! The chain of chosen places: an arc from each to each that a walk leads to past no third.
+
+ghost use Rattle.std.specs.Prelude.{◌≡◌, ◌<◌, ◌≤◌, ◌+◌, ℕ, true, IfOk, IfSome, Some, length, slice_get};
+ghost use Rattle.std.specs.Option.{option_copied};
+ghost use Rattle.road_search.specs.Labelling.{length_in};
+ghost use Rattle.road_search.specs.Passing.{IsLeastPassing};
+ghost use Rattle.pair_dist.specs.Chains.{AreWalls, IsLink, IsLinkBelow, IsChain, walled_ways, too_long};
+
+use crate::walled::Walled;
+use octet_text::NoMemory;
+use road_map::{Arc, Arcs, Net};
+use road_search::{Ground, Marks, Numbered, search_in};
+use std::alloc::{AllocError, Global};
+use std::marker::Model;
+
+/// The arcs out of each place, at its number, each to the number of a place.
+#[derive(Drop)]
+pub struct Chain {
+    rows: Vec<Arcs>,
+}
+
+impl Model for Chain {
+    ghost use Rattle.std.specs.Prelude.{List};
+    ghost use Rattle.road_map.specs.declared.arc.Arc.{Arc};
+
+    ghost Value = { List (List Arc) };
+
+    ghost view = { λ c. c.rows.items };
+}
+
+impl Chain {
+    /// The arcs at a number, where there is one.
+    fn get(&self, number: u32) -> Option<&[Arc]>
+        ensures { option_copied result ≡ slice_get self.now number }
+    {
+        match self.rows.get(number as usize) {
+            None => None,
+            Some(arcs) => Some(arcs.as_slice()),
+        }
+    }
+}
+
+impl Ground for Chain {
+    ghost use Rattle.road_search.specs.Nets.{net_ways};
+
+    ghost ways = { λ c. net_ways c };
+
+    fn arcs(&self, id: u32) -> Option<&[Arc]> {
+        self.get(id)
+    }
+
+    fn lets(&self, _id: u32, _length: u64) -> bool {
+        true
+    }
+
+    ghost lets_shorter = { λ c id short long le h. h };
+}
+
+/// A wall at each of some places, among so many positions.
+pub fn walls_at(alloc: Global, count: u32, places: &[u32]) -> Result<Vec<bool>, AllocError>
+    requires { (i p : ℕ) → slice_get places.now i ≡ Some p → p < count }
+    ensures { IfOk result (λ walls. AreWalls places.now walls.items) }
+{
+    let mut walls = vec![in alloc; false; count as usize]?;
+    for place in places {
+        walls[*place as usize] = true;
+    }
+    Ok(walls)
+}
+
+/// The length that a search has found, if it has found one.
+pub fn length_of<T: Marks>(marks: &T, position: u32) -> Option<u64>
+    ensures { result ≡ length_in (T.mark marks.now) position }
+{
+    match marks.get(position) {
+        None => None,
+        Some(mark) => Some(mark.label.length),
+    }
+}
+
+/// Adds the arc to one place more, where a walk leads there past no other. It answers no where that is too long.
+fn add_link<T: Marks>(
+    row: &mut Vec<Arc>,
+    walled: &Walled<'_>,
+    marks: &T,
+    places: &[u32],
+    own: usize,
+    number: usize,
+) -> Result<bool, AllocError>
+    requires few { length places.now ≤ 65536 }
+    requires within { number < length places.now }
+    requires least { (v : ℕ) → IsLeastPassing
+        (walled_ways walled.now.net.now walled.now.walls.now walled.now.start) walled.now.start
+        too_long v (length_in (T.mark marks.now) v) }
+    requires below { IsLinkBelow walled.now.net.now walled.now.walls.now places.now own
+        walled.now.start number row.old.items }
+    ensures { IfOk result (λ fits. fits ≡ true → IsLinkBelow walled.now.net.now
+        walled.now.walls.now places.now own walled.now.start (number + 1) row.new.items) }
+{
+    if number == own {
+        return Ok(true);
+    }
+    let Some(length) = length_of(marks, places[number]) else {
+        return Ok(true);
+    };
+    if length > u64::from(u32::MAX) {
+        return Ok(false);
+    }
+    row.push(Arc {
+        to: number as u32,
+        length: length as u32,
+    })?;
+    Ok(true)
+}
+
+/// The arcs from one of the places to others, as a search has found them, unless one is too long.
+fn link<T: Marks>(
+    alloc: Global,
+    walled: &Walled<'_>,
+    marks: &T,
+    places: &[u32],
+    own: usize,
+) -> Result<Option<Arcs>, AllocError>
+    requires few { length places.now ≤ 65536 }
+    requires least { (v : ℕ) → IsLeastPassing
+        (walled_ways walled.now.net.now walled.now.walls.now walled.now.start) walled.now.start
+        too_long v (length_in (T.mark marks.now) v) }
+    ensures { IfOk result (λ found. IfSome found (IsLink walled.now.net.now walled.now.walls.now
+        places.now own walled.now.start)) }
+{
+    let mut row = Vec::new(alloc);
+    for number in 0..places.len() {
+        if !add_link(&mut row, walled, marks, places, own, number)? {
+            return Ok(None);
+        }
+    }
+    Ok(Some(Arcs::from_vec(row)))
+}
+
+/// The chain of some places, by a search from each that goes on from no other, unless an arc of it
+/// is too long.
+pub fn chain_of(
+    alloc: Global,
+    net: &Net,
+    walls: &[bool],
+    places: &[u32],
+) -> Result<Option<Chain>, NoMemory>
+    requires few { length places.now ≤ 65536 }
+    ensures { IfOk result (λ found. IfSome found (IsChain net.now walls.now places.now)) }
+{
+    let mut rows = Vec::new(alloc);
+    let mut marks = Numbered::new(alloc);
+    for (own, start) in places.iter().enumerate() {
+        let walled = Walled {
+            net,
+            walls,
+            start: *start,
+        };
+        marks.clear();
+        search_in(alloc, &walled, &mut marks, *start, u64::MAX)?;
+        match link(alloc, &walled, &marks, places, own)? {
+            None => return Ok(None),
+            Some(row) => rows.push(row)?,
+        }
+    }
+    Ok(Some(Chain { rows }))
+}

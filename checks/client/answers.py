@@ -19,6 +19,8 @@ DIJ, FULL, LDM, HYP = 1, 2, 3, 4
 
 STREETS = ([(1, 0, 0), (2, 10, 0), (3, 20, 0), (4, 10, 10), (5, 50, 50)],
            [(1, 2, 4), (2, 3, 5), (1, 4, 3), (4, 3, 7)])
+# the five nodes with a sixth beside node 5, whose road makes both ends nodes on a cell's border
+SIX = ([*STREETS[0], (6, 20, 50)], [*STREETS[1], (5, 6, 1)])
 LINE = ([(1, 0, 0), (2, 10, 0), (3, 20, 0), (4, 30, 0), (5, 40, 0)],
         [(1, 2, 10), (2, 3, 10), (3, 4, 10), (4, 5, 10)])
 ZERO_ROADS = ([(1, 0, 0), (2, 1, 0), (3, 2, 0)], [(1, 2, 0), (2, 3, 0)])
@@ -229,6 +231,7 @@ def made():
     hyp = Owner(key, 1, STREETS, HYP, 3, (3, 1, 0))
     full = Owner(key, 2, STREETS, FULL, 3)
     ldm = Owner(key, 3, LINE, LDM, 3, (1, 16, 0))
+    six = Owner(key, 8, SIX, HYP, 3, (3, 1, 0))
     arrays = {
         "PUBLIC": key.public,
         "REPLY": dij.answer(ends, every[:4]),
@@ -246,6 +249,8 @@ def made():
         "FULL_APART": full.apart([1, 5], [(1, 5)])[ROUTE:],
         "FULL_APART_JOINED": full.apart([1, 3], [(1, 3)])[ROUTE:],
         "BORDER_APART": hyp.apart([1, 2, 4, 5])[ROUTE:],
+        "SIX_APART": six.apart([1, 2, 4, 5], [(2, 5), (4, 5)]),
+        "SIX_APART_WITHOUT_PAIR": six.apart([1, 2, 4, 5], [(2, 5)])[ROUTE:],
     }
     methods = [("DIJ", DIJ, (0, 0, 0), []), ("FULL", FULL, (0, 0, 0), [(1, 3)]),
              ("LDM", LDM, (1, 2, 0), []), ("HYP", HYP, (2, 1, 0), [])]

@@ -20,8 +20,6 @@ sys.path.insert(0, os.path.join(os.path.dirname(os.path.abspath(__file__)), "../
 import answers
 
 VERSION, FAN, SEED = 3, 2, 7
-# the map of five nodes with a sixth beside node 5, whose road makes both ends nodes on a cell's border
-SIX = ([*answers.STREETS[0], (6, 20, 50)], [*answers.STREETS[1], (5, 6, 1)])
 
 
 def shuffled(node):
@@ -71,7 +69,7 @@ class Owner(answers.Owner):
         number, seed, ids = ORDERS[order]
         if streets is answers.LINE:
             parameters = (1, 16, 0)
-        if streets is SIX:
+        if streets is answers.SIX:
             ids = [*ids, 6]
         self.key, self.slot, self.streets, self.fan = key, slot, streets, FAN
         self.book = self.book_in(ids, code, parameters)
@@ -178,7 +176,7 @@ def play_lies(play, key):
     play.lie(1, 3, full.none([1, 3], [(1, 3)]), b"refused Disagrees 9\n")
     play.lie(1, 5, full.none([1, 5]), b"refused MissingPair 1 5\n")
     play.lie(1, 3, hyp.none([1, 2, 3, 4], [(2, 3), (3, 4)]), b"refused Disagrees 5\n")
-    six = Owner(key, 0, SIX, "hyp", "id")
+    six = Owner(key, 0, answers.SIX, "hyp", "id")
     play.lie(1, 5, six.none([1, 2, 4, 5], [(2, 5)]), b"refused MissingPair 4 5\n")
 
 
@@ -207,7 +205,7 @@ def main():
         play.write("secret.hex", b"0" * 96)
         play.write("five.roads", road_file(answers.STREETS))
         play.write("line.roads", road_file(answers.LINE))
-        play.write("six.roads", road_file(SIX))
+        play.write("six.roads", road_file(answers.SIX))
         play.write("owner.key", key.public.hex().encode())
         play.expect(["key", "secret.hex", "h5"], key.public.hex().encode() + b"\n")
         slot = 0
@@ -221,7 +219,7 @@ def main():
         line = Owner(key, slot, answers.LINE, "ldm", "id")
         play.publish(line, "line.roads")
         play.parties(3, 5, line.shows([3, 4, 5], [2, 3, 4, 5]), b"20: 3 4 5\n")
-        six = Owner(key, slot + 1, SIX, "hyp", "id")
+        six = Owner(key, slot + 1, answers.SIX, "hyp", "id")
         play.publish(six, "six.roads")
         play.parties(1, 5, six.none([1, 2, 4, 5], [(2, 5), (4, 5)]), b"none\n")
         play_lies(play, key)

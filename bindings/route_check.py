@@ -4,6 +4,8 @@ import ctypes
 import pathlib
 from dataclasses import dataclass
 
+__version__ = "0.1.0"
+
 _MOST_NODES = 65_536
 _LINE_ROOM = 128
 _APART = 16

@@ -15,7 +15,7 @@ from typing import Iterable
 from xml.sax.saxutils import escape
 
 from proved import Question, accepted, add_arguments
-from replies import APART, PUBLICATION, RADIUS, ROUTE, Reply, map_of, reply_of
+from replies import APART, PUBLICATION, RADIUS, Reply, map_of, reply_of
 from roads import UNITS, Place, Roads, Trouble, end_of, read_roads
 
 TOOL = "draw.py"

@@ -4,13 +4,15 @@ Geodesics on the Ellipsoid with Application of Nested Equations", Survey Review 
 No client trusts it: lengths are what the owner signs. Its error is below a millimetre wherever it comes to
 an end, which is everywhere but between places on nearly opposite sides of the earth.
 """
-from math import atan, atan2, cos, radians, sin, sqrt, tan
+from math import asin, atan, atan2, cos, radians, sin, sqrt, tan
 
 EQUATOR = 6_378_137.0
 FLATTENING = 1 / 298.257223563
 POLE = EQUATOR * (1 - FLATTENING)
 CLOSE = 1e-12
 ROUNDS = 200
+# the earth as a ball, on which a distance is at most a hundredth wrong
+BALL = 6_371_000.0
 
 Degrees = tuple[float, float]
 
@@ -49,3 +51,14 @@ def _stretched(square: float, arc: float, sin_arc: float, cos_arc: float, middle
     b = ratio / 1024 * (256 + ratio * (-128 + ratio * (74 - 47 * ratio)))
     third = b / 6 * middle * (4 * sin_arc**2 - 3) * (4 * middle**2 - 3)
     return a * (arc - b * sin_arc * (middle + b / 4 * (cos_arc * (2 * middle**2 - 1) - third)))
+
+
+def is_within(start: Degrees, end: Degrees, most: float) -> bool:
+    """Whether the two places are at most so many metres apart; the ball decides where it is sure."""
+    east, north = radians(end[0] - start[0]) / 2, radians(end[1] - start[1]) / 2
+    square = sin(north) ** 2 + cos(radians(start[1])) * cos(radians(end[1])) * sin(east) ** 2
+    far = 2 * BALL * asin(min(1.0, sqrt(square)))
+    if far * 0.99 > most or far * 1.01 <= most:
+        return far <= most
+    exact = metres(start, end)
+    return exact is not None and exact <= most

@@ -11,7 +11,7 @@ import sys
 from xml.sax.saxutils import escape, quoteattr
 
 from proved import Accepted, Question, accepted, add_arguments
-from replies import APART, RADIUS, ROUTE
+from replies import RADIUS, ROUTE
 from roads import OSM_LICENCE, UNITS, degrees, end_of, read_table
 
 TOOL = "geojson.py"
@@ -54,7 +54,7 @@ def geojson_of(found: Accepted, places: dict[int, Place], streets: dict[int, str
 
 def point(tag: str, node: int, found: Accepted, place: Place, streets: dict[int, str]) -> str:
     said = " ".join(f"{key} {value}" for key, value in of_node(node, found, streets).items())
-    return f'<{tag} lat="{place[1]!r}" lon="{place[0]!r}"><name>{node}</name><desc>{escape(said)}</desc></{tag}>'
+    return f'<{tag} lat="{place[1]:.7f}" lon="{place[0]:.7f}"><name>{node}</name><desc>{escape(said)}</desc></{tag}>'
 
 
 def gpx_of(found: Accepted, places: dict[int, Place], streets: dict[int, str], asked: argparse.Namespace) -> str:

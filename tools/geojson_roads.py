@@ -10,10 +10,9 @@ No client trusts it: it makes what an owner then looks at and signs.
 import argparse
 import json
 import math
-import sys
 from typing import Iterator
 
-from network import Line, Told, add_arguments, comments_of, network_of
+from network import Line, Told, add_arguments, comments_of, network_of, write
 from osm import place_of
 from roads import Place, Trouble, end_of, write_table
 
@@ -87,20 +86,11 @@ def main() -> None:
     asked = parser.parse_args()
     told = Told()
     survey = Survey(asked.survey, asked, told)
-    network = network_of(list(survey.lines()), survey.places, asked, told)
-    roads = network.roads
-    if not roads.roads:
-        raise Trouble(f"{asked.survey}: no line of it is a road")
-    if roads.too_much():
-        raise Trouble(f"{asked.survey}: {roads.too_much()}: cut a piece with --box or --around")
-    roads.comments = comments_of("made by tools/geojson_roads.py", asked.licence, asked)
+    network = network_of(asked.survey, list(survey.lines()), survey.places, asked, told)
+    network.roads.comments = comments_of("made by tools/geojson_roads.py", asked.licence, asked)
     if asked.ids:
-        write_table(asked.ids, ("node", "streets"), ((node, "; ".join(network.streets[node])) for node in sorted(roads.nodes)))
-    length = sum(road[2] for road in roads.roads)
-    told_lines = [f"{len(roads.nodes):,} nodes, {len(roads.roads):,} roads, {length / 10_000:,.1f} km", *told.lines()]
-    sys.stderr.writelines(f"{TOOL}: {line}\n" for line in told_lines)
-    sys.stdout.reconfigure(encoding="utf-8")
-    roads.write(sys.stdout)
+        write_table(asked.ids, ("node", "streets"), ((node, "; ".join(names)) for node, names in sorted(network.streets.items())))
+    write(TOOL, network.roads, told)
 
 
 if __name__ == "__main__":

@@ -6,6 +6,7 @@ whatever the order of the lines.
 """
 import argparse
 import math
+import sys
 from collections import Counter, defaultdict
 from dataclasses import dataclass, field, replace
 from itertools import pairwise
@@ -80,8 +81,7 @@ class Cut:
             return across and south <= latitude <= north
         if self.around:
             *centre, most = self.around
-            far = geodesic.metres(tuple(centre), (longitude, latitude))
-            return far is not None and far <= most
+            return geodesic.is_within(tuple(centre), (longitude, latitude), most)
         return True
 
     def told(self) -> str | None:
@@ -173,9 +173,9 @@ def pieces(line: Line, met: set[int], measure: Measure) -> Iterator[Road]:
     for at in range(1, len(line.keys)):
         if line.keys[at] not in met:
             continue
-        keys = line.keys[begins : at + 1]
+        road = measure.road(line.keys[begins : at + 1], line, share)
         begins = at
-        yield from halves(measure.road(keys, line, share), measure, share) if keys[0] == keys[-1] else [measure.road(keys, line, share)]
+        yield from halves(road, measure, share) if road.keys[0] == road.keys[-1] else (road,)
 
 
 def halves(road: Road, measure: Measure, share: float) -> tuple[Road, Road]:
@@ -192,7 +192,7 @@ def apart(roads: Iterable[Road], measure: Measure, told: Told) -> list[Road]:
         by_ends[road.ends()].append(road)
     kept = []
     for same in by_ends.values():
-        same.sort(key=lambda road: (len(road.keys) > 2, road.metres, road.keys))
+        same.sort(key=lambda road: (len(road.keys) > 2, round(road.metres, 5), road.keys))
         kept.append(same[0])
         for road in same[1:]:
             if len(road.keys) > 2:
@@ -249,8 +249,20 @@ class Network:
     streets: dict[int, list[str]]
 
 
-def network_of(lines: Iterable[Line], places: dict[int, Place], asked: argparse.Namespace, told: Told) -> Network:
-    """The network of the lines within the cut. `told` learns what was dropped and what was cut."""
+def network_of(path: str, lines: Iterable[Line], places: dict[int, Place], asked: argparse.Namespace, told: Told) -> Network:
+    """The network of a file's lines within the cut. `told` learns what was dropped and what was cut."""
+    try:
+        network = _network(lines, places, asked, told)
+    except Trouble as trouble:
+        raise Trouble(f"{path}: {trouble}") from None
+    if not network.roads.roads:
+        raise Trouble(f"{path}: no road is left of it")
+    if network.roads.too_much():
+        raise Trouble(f"{path}: {network.roads.too_much()}: cut a piece with --box or --around")
+    return network
+
+
+def _network(lines: Iterable[Line], places: dict[int, Place], asked: argparse.Namespace, told: Told) -> Network:
     cut = Cut(asked.box, asked.around)
     kept = sorted(within(lines, places, cut, told), key=lambda line: (_by_number(line.source), line.keys))
     met, measure = meetings(kept), Measure(places)
@@ -272,3 +284,13 @@ def comments_of(what: str, licence: str, asked: argparse.Namespace) -> list[str]
     cut = Cut(asked.box, asked.around).told()
     made = [f"{what}; lengths in decimetres, coordinates in 1e-7 degrees"]
     return [licence] * bool(licence) + made + ([f"{cut}: its routes are the shortest within the cut"] if cut else [])
+
+
+def write(tool: str, roads: Roads, told: Told) -> None:
+    """Writes the road file, and what was done on standard error."""
+    length = sum(road[2] for road in roads.roads)
+    cut = [comment for comment in roads.comments if comment.startswith("cut ")]
+    lines = [f"{len(roads.nodes):,} nodes, {len(roads.roads):,} roads, {length / 10_000:,.1f} km", *told.lines(), *cut]
+    sys.stderr.writelines(f"{tool}: {line}\n" for line in lines)
+    sys.stdout.reconfigure(encoding="utf-8")
+    roads.write(sys.stdout)

@@ -48,23 +48,28 @@ def _opened(path: str) -> BinaryIO:
 
 
 class _Document:
-    """One reading of an XML extract. `last` names the element that was begun last."""
+    """One reading of an XML extract. A node, a way or a relation ends where the next one begins, which spares a call
+    for each end; `last` is what began last."""
 
     kind = ""
 
     def __init__(self, path: str):
-        self.path, self.last, self.root, self.depth = path, "", "", 0
+        self.path, self.last = path, None
         self.parser = expat.ParserCreate()
-        self.parser.StartElementHandler = self.begin
-        self.parser.EndElementHandler = self.end
+        self.parser.StartElementHandler = self.root
         self.parser.StartDoctypeDeclHandler = self.doctype
 
     def trouble(self, what: str) -> Trouble:
-        within = f", {self.last}" if self.last else ""
+        within = ", {} {}".format(self.last[0], self.last[1].get("id", "without id")) if self.last else ""
         return Trouble(f"{self.path}: line {self.parser.CurrentLineNumber}{within}: {what}")
 
     def doctype(self, *_: object) -> None:
         raise self.trouble("a DOCTYPE, which no extract has")
+
+    def root(self, name: str, _: Tags) -> None:
+        if name != "osm":
+            raise self.trouble(f"no OSM extract: its root is <{name}>, and not <osm>")
+        self.parser.StartElementHandler = self.begin
 
     def read(self) -> None:
         try:
@@ -72,6 +77,7 @@ class _Document:
                 while piece := file.read(PIECE):
                     self.parser.Parse(piece, False)
                 self.parser.Parse(b"", True)
+            self.end()
         except expat.ExpatError as error:
             raise self.trouble(f"no whole XML: {expat.ErrorString(error.code)}") from None
         except (EOFError, zlib.error, gzip.BadGzipFile) as error:
@@ -83,25 +89,18 @@ class _Document:
         except ValueError:
             raise self.trouble("a number can't be read") from None
 
+    def outer(self, name: str, attributes: Tags) -> bool:
+        """Ends what was open, and says whether an element of this kind begins that is not deleted."""
+        if name not in ("node", "way", "relation"):
+            return False
+        self.end()
+        self.last = name, attributes
+        return name == self.kind and attributes.get("visible") != "false" and attributes.get("action") != "delete"
+
     def begin(self, name: str, attributes: Tags) -> None:
-        if not self.root:
-            self.root = name
-            if name != "osm":
-                raise self.trouble(f"no OSM extract: its root is <{name}>, and not <osm>")
-        elif name in ("node", "way", "relation"):
-            self.last = f"{name} {attributes.get('id', 'without id')}"
-            if name == self.kind and attributes.get("visible") != "false" and attributes.get("action") != "delete":
-                self.open(attributes)
-        else:
-            self.inner(name, attributes)
-
-    def open(self, attributes: Tags) -> None:
         raise NotImplementedError
 
-    def inner(self, name: str, attributes: Tags) -> None:
-        raise NotImplementedError
-
-    def end(self, name: str) -> None:
+    def end(self) -> None:
         raise NotImplementedError
 
 
@@ -112,22 +111,20 @@ class _Ways(_Document):
         super().__init__(path)
         self.take, self.way = take, None
 
-    def open(self, attributes: Tags) -> None:
-        self.way = int(attributes["id"]), {}, []
-
-    def inner(self, name: str, attributes: Tags) -> None:
-        if self.way is None:
-            return
+    def begin(self, name: str, attributes: Tags) -> None:
         if name == "nd":
-            self.way[2].append(int(attributes["ref"]))
+            if self.way:
+                self.way[2].append(int(attributes["ref"]))
         elif name == "tag":
-            self.way[1][attributes["k"]] = attributes["v"]
+            if self.way:
+                self.way[1][attributes["k"]] = attributes["v"]
+        elif self.outer(name, attributes):
+            self.way = int(attributes["id"]), {}, []
 
-    def end(self, name: str) -> None:
-        if name == "way" and self.way is not None:
-            if "highway" in self.way[1]:
-                self.take(*self.way)
-            self.way = None
+    def end(self) -> None:
+        if self.way and "highway" in self.way[1]:
+            self.take(*self.way)
+        self.way = None
 
 
 class _Nodes(_Document):
@@ -137,18 +134,18 @@ class _Nodes(_Document):
         super().__init__(path)
         self.take, self.node = take, None
 
-    def open(self, attributes: Tags) -> None:
-        where = f"{self.path}: {self.last}"
-        self.node = int(attributes["id"]), place_of(float(attributes["lon"]), float(attributes["lat"]), where), {}
+    def begin(self, name: str, attributes: Tags) -> None:
+        if name == "tag":
+            if self.node:
+                self.node[2][attributes["k"]] = attributes["v"]
+        elif name != "nd" and self.outer(name, attributes):
+            longitude, latitude = float(attributes["lon"]), float(attributes["lat"])
+            self.node = int(attributes["id"]), place_of(longitude, latitude, f"{self.path}: node {attributes['id']}"), {}
 
-    def inner(self, name: str, attributes: Tags) -> None:
-        if self.node is not None and name == "tag":
-            self.node[2][attributes["k"]] = attributes["v"]
-
-    def end(self, name: str) -> None:
-        if name == "node" and self.node is not None:
+    def end(self) -> None:
+        if self.node:
             self.take(*self.node)
-            self.node = None
+        self.node = None
 
 
 def _read_pbf(path: str, take_way: TakeWay | None, take_node: TakeNode | None) -> None:

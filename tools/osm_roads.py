@@ -7,12 +7,11 @@ ellipsoid. What was dropped, and what was done besides, is told on standard erro
 No client trusts it: it makes what an owner then looks at and signs. docs/MAPS.md has a session with it.
 """
 import argparse
-import sys
 from typing import Iterator
 
 import osm
 import profiles
-from network import Line, Network, Told, add_arguments, comments_of, network_of
+from network import Line, Network, Told, add_arguments, comments_of, network_of, write
 from roads import OSM_LICENCE, Place, Trouble, end_of, write_table
 
 TOOL = "osm_roads.py"
@@ -87,7 +86,7 @@ def network_in(path: str, profile: str, asked: argparse.Namespace, told: Told) -
     extract = Extract(path, profiles.PROFILES[profile], told)
     if not extract.ways:
         raise Trouble(f"{path}: no way of it is for {profile}")
-    network = network_of(list(extract.lines()), extract.places, asked, told)
+    network = network_of(path, list(extract.lines()), extract.places, asked, told)
     network.roads.comments = comments_of(f"made by tools/osm_roads.py for {profile}", asked.licence, asked)
     return network, {number: extract.origin.get(key, key) for number, key in network.keys.items()}
 
@@ -101,19 +100,9 @@ def main() -> None:
     asked = parser.parse_args()
     told = Told()
     network, origin = network_in(asked.extract, asked.profile, asked, told)
-    roads = network.roads
-    if not roads.roads:
-        raise Trouble(f"{asked.extract}: no road for {asked.profile} is left of it")
-    if roads.too_much():
-        raise Trouble(f"{asked.extract}: {roads.too_much()}: cut a piece with --box or --around")
     if asked.ids:
-        write_table(asked.ids, ("node", "osm_node", "streets"),
-                    ((node, origin[node], "; ".join(network.streets[node])) for node in sorted(roads.nodes)))
-    length = sum(road[2] for road in roads.roads)
-    told_lines = [f"{len(roads.nodes):,} nodes, {len(roads.roads):,} roads, {length / 10_000:,.1f} km", *told.lines(), *roads.comments[2:]]
-    sys.stderr.writelines(f"{TOOL}: {line}\n" for line in told_lines)
-    sys.stdout.reconfigure(encoding="utf-8")
-    roads.write(sys.stdout)
+        write_table(asked.ids, ("node", "osm_node", "streets"), ((node, origin[node], "; ".join(network.streets[node])) for node in sorted(origin)))
+    write(TOOL, network.roads, told)
 
 
 if __name__ == "__main__":

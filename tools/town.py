@@ -19,6 +19,7 @@ from roads import OSM_LICENCE, end_of
 TOOL = "town.py"
 LONGITUDE, LATITUDE = 3.0, 54.0  # in the North Sea
 DEGREE_NORTH = 111_300.0
+FIRST_NODE = 1001
 DEGREE_EAST = DEGREE_NORTH * cos(LATITUDE * pi / 180)
 COLUMNS, ROWS, BLOCK, RADIUS = 33, 31, 64.0, 900.0
 RIVER = 11.4
@@ -287,10 +288,10 @@ def extract_of(town: Town) -> str:
     for number, spot in enumerate(town.spots, 1):
         longitude, latitude = degrees(spot)
         inner = tag_lines(town.tags.get(number, {}))
-        head = f'  <node id="{number}" version="1" lat="{latitude}" lon="{longitude}"'
+        head = f'  <node id="{FIRST_NODE - 1 + number}" version="1" lat="{latitude}" lon="{longitude}"'
         parts.append(f"{head}>\n{inner}  </node>\n" if inner else f"{head}/>\n")
     for number, (nodes, tags) in enumerate(town.ways, 1):
-        steps = "".join(f'    <nd ref="{node}"/>\n' for node in nodes)
+        steps = "".join(f'    <nd ref="{FIRST_NODE - 1 + node}"/>\n' for node in nodes)
         parts.append(f'  <way id="{number}" version="1">\n{steps}{tag_lines(tags)}  </way>\n')
     return "".join([*parts, "</osm>\n"])
 

@@ -13,7 +13,7 @@ import sys
 from typing import Iterator
 
 from network import largest_of, numbers
-from roads import MOST_NODES, MOST_ROADS, UNITS, Place, Trouble, end_of, write_table
+from roads import MOST_NODES, MOST_ROADS, UNITS, Place, Trouble, command_line, end_of, write_table
 
 TOOL = "dimacs_cut.py"
 Arc = tuple[int, int, int]
@@ -70,12 +70,12 @@ def main() -> None:
     parser = argparse.ArgumentParser(description="Cuts a piece out of a graph of the DIMACS challenge, and writes PIECE.gr and PIECE.co.")
     parser.add_argument("graph", metavar="GRAPH")
     parser.add_argument("places", metavar="PLACES")
-    parser.add_argument("box", metavar="BOX", type=numbers(4), help="W,S,E,N (a negative W behind a word --)")
+    parser.add_argument("box", metavar="BOX", type=numbers(4), help="W,S,E,N")
     parser.add_argument("piece", metavar="PIECE")
     parser.add_argument("--unit", choices=UNITS, default="1e-6", help="what a coordinate is, in degrees (1e-6); with plane, BOX has coordinates")
     parser.add_argument("--largest", action="store_true", help="keep only the largest part that hangs together")
     parser.add_argument("--ids", metavar="FILE", help="write a table from the piece's ids to those of the graph")
-    asked = parser.parse_args()
+    asked = parser.parse_args(command_line())
     places = places_in(asked.places, asked.box, UNITS[asked.unit] or 1)
     arcs = [arc for _, arc in rows_of(asked.graph, b"p sp".split(), b"a") if arc[0] in places and arc[1] in places]
     if asked.largest:

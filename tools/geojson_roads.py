@@ -14,7 +14,7 @@ from typing import Iterator
 
 from network import Line, Told, add_arguments, comments_of, network_of, write
 from osm import place_of
-from roads import Place, Trouble, end_of, write_table
+from roads import Place, Trouble, command_line, end_of, write_table
 
 TOOL = "geojson_roads.py"
 
@@ -83,7 +83,7 @@ def main() -> None:
     parser.add_argument("--name", metavar="NAME", default="name", help="the property that has a street's name (name)")
     parser.add_argument("--licence", default="", help="the licence of the data, for the first comment line")
     add_arguments(parser)
-    asked = parser.parse_args()
+    asked = parser.parse_args(command_line())
     told = Told()
     survey = Survey(asked.survey, asked, told)
     network = network_of(asked.survey, list(survey.lines()), survey.places, asked, told)

@@ -11,7 +11,7 @@ import math
 import sys
 
 import geodesic
-from roads import UNITS, Place, Trouble, degrees, end_of, read_roads, read_table
+from roads import UNITS, Place, Trouble, degrees, command_line, end_of, read_roads, read_table
 
 TOOL = "nearest.py"
 
@@ -51,11 +51,11 @@ def named(asked: argparse.Namespace) -> list[int]:
 def main() -> None:
     parser = argparse.ArgumentParser(description="Writes the id of the node that is nearest to a place, or of those of a street.")
     parser.add_argument("roads", metavar="ROADS", help="a road file")
-    parser.add_argument("place", metavar="LON LAT", nargs="*", type=float, help="a place (negative numbers behind a word --)")
+    parser.add_argument("place", metavar="LON LAT", nargs="*", type=float, help="a place")
     parser.add_argument("--unit", choices=UNITS, default="1e-7", help="what a coordinate of the map is, in degrees (1e-7)")
     parser.add_argument("--name", metavar="STREET", action="append", help="a street; given twice, where both meet")
     parser.add_argument("--ids", metavar="FILE", help="the owner's table of ids, with --name")
-    asked = parser.parse_args()
+    asked = parser.parse_args(command_line())
     if len(asked.place) != (0 if asked.name else 2):
         parser.error("give a longitude and a latitude, or --name")
     print(*(named if asked.name else nearest)(asked), sep="\n")

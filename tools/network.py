@@ -106,7 +106,7 @@ def numbers(count: int):
 def add_arguments(parser: argparse.ArgumentParser) -> None:
     """What each tool that makes a network can be asked for."""
     where = parser.add_mutually_exclusive_group()
-    where.add_argument("--box", type=numbers(4), metavar="W,S,E,N", help="keep only what lies in this box, in degrees (--box=W,S,E,N where W is negative)")
+    where.add_argument("--box", type=numbers(4), metavar="W,S,E,N", help="keep only what lies in this box, in degrees")
     where.add_argument("--around", type=numbers(3), metavar="LON,LAT,METRES", help="keep only what lies within so many metres of a place")
     parser.add_argument("--largest", action="store_true", help="keep only the largest part that hangs together")
     parser.add_argument("--ids", metavar="FILE", help="write a table from node ids to the ids of the source and the names of streets")

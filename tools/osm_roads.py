@@ -12,7 +12,7 @@ from typing import Iterator
 import osm
 import profiles
 from network import Line, Network, Told, add_arguments, comments_of, network_of, write
-from roads import OSM_LICENCE, Place, Trouble, end_of, write_table
+from roads import OSM_LICENCE, Place, Trouble, command_line, end_of, write_table
 
 TOOL = "osm_roads.py"
 
@@ -97,7 +97,7 @@ def main() -> None:
     parser.add_argument("--profile", choices=profiles.PROFILES, default="walk", help="who goes there (walk)")
     parser.add_argument("--licence", default=OSM_LICENCE, help=f"the first comment line ({OSM_LICENCE})")
     add_arguments(parser)
-    asked = parser.parse_args()
+    asked = parser.parse_args(command_line())
     told = Told()
     network, origin = network_in(asked.extract, asked.profile, asked, told)
     if asked.ids:

@@ -4,6 +4,7 @@ No client trusts any of it: a tool makes what an owner then looks at and signs, 
 client has accepted.
 """
 import os
+import re
 import sys
 from collections import Counter
 from dataclasses import dataclass, field
@@ -22,6 +23,12 @@ Place = tuple[int, int]
 
 class Trouble(Exception):
     """What can't be done, as one line: the file, the element where there is one, and the fault."""
+
+
+def command_line() -> list[str]:
+    """The words of the command line, for argparse, which would take `-74,40,-73,41` for an option: a space in front
+    says that it is none."""
+    return [f" {word}" if re.match(r"-[\d.]", word) else word for word in sys.argv[1:]]
 
 
 def end_of(tool: str, main: Callable[[], None]) -> None:

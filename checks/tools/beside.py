@@ -10,7 +10,6 @@ python3-networkx, python3-osmnx, routino). Ends with status 1 where anything dif
 import importlib
 import pathlib
 import random
-import re
 import shutil
 import subprocess
 import sys
@@ -26,6 +25,8 @@ import profiles  # noqa: E402
 import roads  # noqa: E402
 
 PAIRS = 200
+# routino measures on a ball, some thousandths longer or shorter, and rounds each segment down to a metre
+BALL = 0.004
 faults = 0
 
 
@@ -124,8 +125,9 @@ def whole_graph(town: Town, networkx, length):
     return graph
 
 
-def compare_distances(name: str, town: Town, by_roads: dict, other, slack: float) -> None:
-    """Each pair is joined by both or neither; a road adds less than a decimetre by rounding, and `slack` metres besides."""
+def compare_distances(name: str, town: Town, by_roads: dict, other, share: float = 0.0) -> None:
+    """Each pair is joined by both or neither; a road adds less than a decimetre by rounding, and the other program may be
+    off by a share of the length, and then by two metres a road, which may have a bend."""
     worst, apart = 0.0, 0
     for pair, ours in by_roads.items():
         theirs = other(*(town.osm_of[node] for node in pair))
@@ -134,7 +136,7 @@ def compare_distances(name: str, town: Town, by_roads: dict, other, slack: float
         if ours is None:
             apart += 1
             continue
-        over = ours[0] - theirs
+        over, slack = ours[0] - theirs, share * ours[0] + 2 * ours[1] * (share > 0)
         if not -slack - 0.001 <= over <= ours[1] * 0.1 + slack:
             return said(f"distances beside {name}", False, f"from {pair[0]} to {pair[1]}: {ours} and {theirs}")
         worst = max(worst, abs(over))
@@ -152,26 +154,35 @@ def beside_networkx(town: Town, networkx, by_roads: dict) -> None:
             return 0.0
         return networkx.dijkstra_path_length(graph, a, b) if a in graph and b in graph and networkx.has_path(graph, a, b) else None
 
-    compare_distances("networkx", town, by_roads, distance, 0.0)
+    compare_distances("networkx", town, by_roads, distance)
+
+
+def for_walkers(town: Town) -> tuple[pathlib.Path, set[int]]:
+    """The extract with the ways alone that walkers take, each open to them by its tags; and the nodes that are closed."""
+    tree = ElementTree.parse(town.osm)
+    root, walk = tree.getroot(), profiles.PROFILES["walk"]
+    for way in root.findall("way"):
+        tags = {tag.get("k"): tag.get("v") for tag in way.iter("tag")}
+        if "highway" not in tags or profiles.refused(walk, tags) or len(way.findall("nd")) < 2:
+            root.remove(way)
+        elif "foot" not in tags:
+            ElementTree.SubElement(way, "tag", k="foot", v="yes")
+    closed = [node for node in root.iter("node") if any(tag.get("v") in ("wall", "lift_gate") for tag in node.iter("tag"))]
+    for node in closed:
+        ElementTree.SubElement(node, "tag", k="foot", v="no")
+    filtered = town.osm.with_suffix(".walk.osm")
+    tree.write(filtered, encoding="utf-8", xml_declaration=True)
+    return filtered, {int(node.get("id")) for node in closed}
 
 
 def beside_osmnx(town: Town, networkx, by_roads: dict) -> None:
-    """osmnx reads every way with a highway tag, so the extract is filtered by its ways first; its lengths are those of
-    a ball, so they are measured anew."""
+    """osmnx takes every way with a highway tag, passes every barrier, and measures on a ball: its edges are measured anew."""
     osmnx, karney = module("osmnx"), module("geographiclib.geodesic")
     if not osmnx or not karney:
         return
-    tree = ElementTree.parse(town.osm)
-    walk = profiles.PROFILES["walk"]
-    for way in tree.getroot().findall("way"):
-        tags = {tag.get("k"): tag.get("v") for tag in way.iter("tag")}
-        if "highway" not in tags or profiles.refused(walk, tags) or len(way.findall("nd")) < 2:
-            tree.getroot().remove(way)
-    filtered = town.osm.with_suffix(".walk.osm")
-    tree.write(filtered, encoding="utf-8")
+    filtered, barriers = for_walkers(town)
     directed = osmnx.graph_from_xml(str(filtered), bidirectional=True, simplify=False, retain_all=True)
     graph = networkx.Graph()
-    barriers = {int(node.get("id")) for node in tree.getroot().iter("node") if any(tag.get("v") in ("wall", "lift_gate") for tag in node.iter("tag"))}
     for a, b in osmnx.get_undirected(directed).edges(keys=False):
         ends = [(end, other) if end in barriers else end for end, other in ((a, b), (b, a))]
         here, there = directed.nodes[a], directed.nodes[b]
@@ -182,7 +193,7 @@ def beside_osmnx(town: Town, networkx, by_roads: dict) -> None:
             return 0.0
         return networkx.dijkstra_path_length(graph, a, b) if a in graph and b in graph and networkx.has_path(graph, a, b) else None
 
-    compare_distances("osmnx", town, by_roads, distance, 0.0)
+    compare_distances("osmnx", town, by_roads, distance)
 
 
 def beside_routino(town: Town, by_roads: dict) -> None:
@@ -190,10 +201,10 @@ def beside_routino(town: Town, by_roads: dict) -> None:
         print("skipped: routino, which this machine lacks")
         return
     folder = town.osm.parent
-    split = ["planetsplitter", f"--dir={folder}", "--prefix=town", "--tagging=/usr/share/routino/tagging.xml", "--errorlog", str(town.osm)]
+    split = ["planetsplitter", f"--dir={folder}", "--prefix=town", "--tagging=/usr/share/routino/tagging.xml", "--prune-none", str(for_walkers(town)[0])]
     subprocess.run(split, cwd=folder, capture_output=True, check=True)
-    kinds = "primary secondary tertiary unclassified residential service track cycleway path steps trunk motorway".split()
-    alike = [f"--highway-{kind}={0 if kind == 'motorway' else 100}" for kind in kinds] + [f"--property-{kind}=50" for kind in ("paved", "multilane", "bridge", "tunnel", "footroute", "bicycleroute")]
+    kinds = "primary secondary tertiary unclassified residential service track cycleway path steps trunk motorway ferry".split()
+    alike = [f"--highway-{kind}={0 if kind in ('motorway', 'ferry') else 100}" for kind in kinds] + [f"--property-{kind}=50" for kind in ("paved", "multilane", "bridge", "tunnel", "footroute", "bicycleroute")]
     place = {osm: town.chart.nodes[node] for node, osm in town.osm_of.items()}
 
     def distance(a: int, b: int) -> float | None:
@@ -203,9 +214,9 @@ def beside_routino(town: Town, by_roads: dict) -> None:
         ask = ["routino-router", f"--dir={folder}", "--prefix=town", "--transport=foot", "--shortest", "--exact-nodes-only", "--oneway=0", "--output-text-all", "--output-stdout", *alike, *ends]
         done = subprocess.run(ask, cwd=folder, capture_output=True, text=True, check=False)
         rows = [line.split("\t") for line in done.stdout.splitlines() if line and not line.startswith("#")]
-        return float(re.sub(r"[^0-9.]", "", rows[-1][4])) * 1000 if rows else None
+        return sum(float(row[4]) for row in rows) * 1000 if rows else None
 
-    compare_distances("routino", town, by_roads, distance, 40.0)
+    compare_distances("routino", town, by_roads, distance, BALL)
 
 
 def main() -> None:

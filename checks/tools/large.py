@@ -62,8 +62,7 @@ def main() -> None:
         write_extract(extract, count)
         for words in ([], ["--around", "7.1,50.1,12000"], ["--largest", "--box", "7.05,50.05,7.2,50.2"]):
             before = resource.getrusage(resource.RUSAGE_CHILDREN)
-            run = subprocess.run(["/usr/bin/time", "-f", "%M", str(TOOLS / "osm_roads.py"), str(extract), *words], capture_output=True, text=True, check=False) \
-                if os.path.exists("/usr/bin/time") else subprocess.run([str(TOOLS / "osm_roads.py"), str(extract), *words], capture_output=True, text=True, check=False)
+            run = subprocess.run([TOOLS / "osm_roads.py", extract, *words], capture_output=True, text=True, check=False)
             after = resource.getrusage(resource.RUSAGE_CHILDREN)
             took = after.ru_utime + after.ru_stime - before.ru_utime - before.ru_stime
             print(f"{' '.join(words) or 'whole'}: status {run.returncode}, {took:.1f} s of a processor, at most {after.ru_maxrss / 1024:.0f} MB so far, {len(run.stdout):,} octets")

@@ -377,6 +377,10 @@ def play_pictures(town: Town) -> None:
         same(f"the layers of {name}", {path.get("stroke") for path in ElementTree.fromstring(text).iter(tick + "path")}, colours)
         same(f"the licence under {name}", LICENCE in text, LICENCE in words)
     same("a checked route says so", "checked: the shortest route, " in run("draw.py", "hyp.pub", "route.reply", *asked, at=town.at)[1], True)
+    town.keep("page.pub", "publish town.roads ldm 1 hilbert 0 2 16 12 0")
+    town.keep("page.reply", "prove page.pub 346 18")
+    text = run("draw.py", "page.pub", "page.reply", "--check", "owner.key", 346, 18, 1, "--library", LIBRARY, at=town.at)[1]
+    same("README's picture", text, (TOP / "docs/pictures/town.svg").read_text(encoding="utf-8"))
     same("an unlike map", run("draw.py", "near.roads", "route.reply", at=town.at)[:2], (1, ""))
     status, text, told = run("draw.py", "hyp.pub", "route.reply", "--check", "owner.key", town.start, town.island, 4, "--library", LIBRARY, at=town.at)
     same("no picture of a refused reply", (status, text, "refused" in told), (1, "", True))

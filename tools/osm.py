@@ -152,7 +152,7 @@ def _read_pbf(path: str, take_way: TakeWay | None, take_node: TakeNode | None) -
     try:
         import osmium
     except ImportError:
-        raise Trouble(f"{path}: a .pbf is read with osmium's Python module, which this python3 lacks (Debian: python3-pyosmium, seen by /usr/bin/python3)") from None
+        raise Trouble(f"{path}: a .pbf is read with osmium's module, which this python3 lacks (Debian: python3-pyosmium, for /usr/bin/python3)") from None
 
     class Ways(osmium.SimpleHandler):
         def way(self, way) -> None:

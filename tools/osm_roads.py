@@ -1,4 +1,4 @@
-#!/usr/bin/python3
+#!/usr/bin/env python3
 """Makes a road file of an OpenStreetMap extract: tools/osm_roads.py FILE.osm[.gz|.bz2|.pbf] > FILE.roads
 
 Nodes are the places where ways meet or end, roads the pieces of ways between them, as long as the way is on the

@@ -205,15 +205,22 @@ def play_order(at: pathlib.Path) -> None:
 
 
 def play_pbf(at: pathlib.Path, wanted: tuple[int, str, str]) -> None:
+    """By the Python that sees Debian's packages, where there is one."""
+    python = "/usr/bin/python3" if pathlib.Path("/usr/bin/python3").exists() else sys.executable
+
+    def read(name: str) -> tuple[int, str, str]:
+        done = subprocess.run([python, TOOLS / "osm_roads.py", name], cwd=at, capture_output=True, text=True, check=False)
+        return done.returncode, done.stdout, done.stderr
+
     (at / "none.osm.pbf").write_bytes(b"roads 1\n")
-    status, wrote, told = run("osm_roads.py", "none.osm.pbf", at=at)
+    status, wrote, told = read("none.osm.pbf")
     same("a .pbf that is none, or no package", (status, wrote, told.count("\n")), (1, "", 1))
     if "python3-pyosmium" in told:
-        print("skipped: .osm.pbf, since /usr/bin/python3 has no osmium (Debian: python3-pyosmium)")
+        print(f"skipped: .osm.pbf, since {python} has no osmium (Debian: python3-pyosmium)")
         return
     convert = "import osmium,sys\nw=osmium.SimpleWriter(sys.argv[2])\nclass H(osmium.SimpleHandler):\n node=lambda s,n:w.add_node(n)\n way=lambda s,n:w.add_way(n)\nH().apply_file(sys.argv[1]);w.close()"
-    subprocess.run(["/usr/bin/python3", "-c", convert, "town.osm", "town.osm.pbf"], cwd=at, check=True)
-    same("town.osm.pbf", run("osm_roads.py", "town.osm.pbf", at=at), wanted)
+    subprocess.run([python, "-c", convert, "town.osm", "town.osm.pbf"], cwd=at, check=True)
+    same("town.osm.pbf", read("town.osm.pbf"), wanted)
 
 
 def play_cuts(at: pathlib.Path) -> None:

@@ -1,11 +1,11 @@
 #!/usr/bin/env python3
-"""Plays what the documents show: checks/docs/play.py PROGRAM
+"""Plays what the documents show: checks/docs/play.py PROGRAM [DOCUMENT..]
 
-Takes the commands behind `$ ` and the outputs under them out of README.md and the documents of
-docs/, types each document's commands into one shell in a fresh folder, and compares. A command's
+Takes the commands behind `$ ` and the outputs under them out of README.md, docs/COMMANDS.md, docs/WALKTHROUGH.md
+and docs/OPERATING.md, or the documents that are named, types each document's commands into one shell in a fresh folder, and compares. A command's
 output is what stands under it, standard output and standard error together; its status is 0, or
 what an `echo $?` right behind it shows. The fresh folder has the program's crate as a clone has it
-(`crates/road_proof` with `data` and `out`), and `rt run --` and `rt try --` are stood in for by the
+(`crates/road_proof` with `data` and `out`, `tools`, `bindings` and the archive of the client), and `rt run --` and `rt try --` are stood in for by the
 built program, since a proof takes its time. Everything else is run as typed.
 
 A block one of whose commands names a tool that this machine lacks is skipped with the rest of its
@@ -20,6 +20,7 @@ import tempfile
 
 TOP = os.path.dirname(os.path.dirname(os.path.dirname(os.path.abspath(__file__))))
 DOCUMENTS = ["README.md", "docs/COMMANDS.md", "docs/WALKTHROUGH.md", "docs/OPERATING.md"]
+ARCHIVE = "crates/route_check_c/out/libroute_check_c.a"
 PROMPT = "$ "
 SECONDS = 120
 # words of the shell's own, and the two programs that this script puts on the path
@@ -93,6 +94,11 @@ def fresh_folder(room, program):
     shutil.copyfile(program, f"{crate}/out/road_proof")
     os.chmod(f"{crate}/out/road_proof", 0o755)
     os.symlink(f"{crate}/out/road_proof", f"{room}/bin/road_proof")
+    for folder in ("tools", "bindings"):
+        shutil.copytree(f"{TOP}/{folder}", f"{room}/clone/{folder}", ignore=shutil.ignore_patterns("__pycache__"))
+    if os.path.exists(f"{TOP}/{ARCHIVE}"):
+        os.makedirs(os.path.dirname(f"{room}/clone/{ARCHIVE}"))
+        shutil.copyfile(f"{TOP}/{ARCHIVE}", f"{room}/clone/{ARCHIVE}")
     with open(f"{room}/bin/rt", "w", encoding="utf-8") as file:
         file.write(STAND_IN)
     os.chmod(f"{room}/bin/rt", 0o755)
@@ -138,13 +144,13 @@ def play(document, program):
 
 
 def main():
-    if len(sys.argv) != 2:
+    if len(sys.argv) < 2:
         sys.exit(__doc__.split("\n", 1)[0])
     program = os.path.abspath(sys.argv[1])
     if not os.path.isfile(program):
         sys.exit(f"checks/docs/play.py: there is no program {program}")
     passed = failed = 0
-    for document in DOCUMENTS:
+    for document in sys.argv[2:] or DOCUMENTS:
         right, wrong = play(document, program)
         print(f"{document}: {right} commands as shown, {wrong} not")
         passed, failed = passed + right, failed + wrong

@@ -5,7 +5,7 @@ Road files of MEGABYTES MB (64 if not given) of one line, of one number, of empt
 words, of nodes that are too many, and with NUL octets; the same as files of the DIMACS challenge, secrets,
 keys, chains, signatures, publications, replies and frames; and publications, replies, frames and graphs
 whose counts say more than is there, up to the greatest number of their width. Each run must end with the
-status that docs/FORMATS.md and README.md give it, within a second of processor time and 0.15 s more for
+status that docs/SPEC.md and docs/COMMANDS.md give it, within a second of processor time and 0.15 s more for
 each MB of its files, and with at most 64 MB of memory and four times the octets of its files. A line a run
 says what it took: processor seconds, the most memory, and the octets that it read. Memory below some 10 MB
 is that of the process that starts the runs.

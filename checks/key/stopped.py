@@ -2,7 +2,7 @@
 """Stops `key` at random moments, and looks at what it left: checks/key/stopped.py PROGRAM [TIMES]
 
 Each time a fresh folder gets a random secret, `key` is started and killed after a random delay.
-Then `owner.desk` is read by the format in docs/FORMATS.md: its gate is closed, or its block is that
+Then `owner.desk` is read by the format in docs/SPEC.md: its gate is closed, or its block is that
 of the secret and no slot is spent. Last, `key` is run again: it makes the key where the gate was
 closed, and refuses with status 12 where it was open, and then it leaves the file as it was.
 """

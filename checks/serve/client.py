@@ -3,7 +3,7 @@
 
 parties  Three parties hold sessions over two publications under two methods, interleaved frame by
          frame, with the install of a newer publication between them. Each reply is the one that
-         docs/FORMATS.md says, and each answer is checked with `check`, over the least version that
+         docs/SPEC.md says, and each answer is checked with `check`, over the least version that
          its party was told, and compared with what `prove` writes over the publication that the
          session began with.
 speed    Asks a second over grids of 10,000 and of 65,536 nodes, of near and of far ends, beside

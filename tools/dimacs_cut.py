@@ -1,0 +1,97 @@
+#!/usr/bin/env python3
+"""Cuts a piece out of a graph of the DIMACS shortest path challenge: tools/dimacs_cut.py GRAPH PLACES BOX PIECE
+
+GRAPH is a `.gr` and PLACES a `.co` file, plain or packed by gzip; BOX is W,S,E,N. It writes PIECE.gr and PIECE.co,
+with the nodes that lie in the box and the arcs between them, ids from 1 on in the order of the old ones, for
+`road_proof dimacs`. Routes are the shortest within the piece.
+
+No client trusts it: it makes what an owner then looks at and signs.
+"""
+import argparse
+import gzip
+import sys
+from typing import Iterator
+
+from network import largest_of, numbers
+from roads import MOST_NODES, MOST_ROADS, UNITS, Place, Trouble, command_line, end_of, write_table
+
+TOOL = "dimacs_cut.py"
+Arc = tuple[int, int, int]
+Words = tuple[int, list[bytes]]
+
+
+def lines_of(path: str) -> Iterator[Words]:
+    """The words of each line that is no comment, with the line's number."""
+    try:
+        with gzip.open(path) if path.endswith(".gz") else open(path, "rb") as file:
+            for number, line in enumerate(file, 1):
+                words = line.split()
+                if words and not words[0].startswith(b"c"):
+                    yield number, words
+    except (EOFError, gzip.BadGzipFile) as error:
+        raise Trouble(f"{path}: can't be unpacked: {error}") from None
+
+
+def rows_of(path: str, head: list[bytes], kind: bytes) -> Iterator[tuple[int, Arc]]:
+    """The three numbers of each line of a kind, behind a problem line that begins so."""
+    lines = lines_of(path)
+    _, problem = next(lines, (0, []))
+    if problem[: len(head)] != head:
+        raise Trouble(f"{path}: it has no problem line `{b' '.join(head).decode()}`")
+    for number, words in lines:
+        if words[0] != kind or len(words) != 4:
+            raise Trouble(f"{path}: line {number}: not `{kind.decode()}` with three numbers behind it")
+        try:
+            a, b, c = map(int, words[1:])
+        except ValueError:
+            raise Trouble(f"{path}: line {number}: a number can't be read") from None
+        yield number, (a, b, c)
+
+
+def places_in(path: str, box: tuple[float, ...], scale: int) -> dict[int, Place]:
+    """The nodes in the box, by their ids. Its edges belong to it."""
+    west, south, east, north = (edge * scale for edge in box)
+    return {node: (x, y) for _, (node, x, y) in rows_of(path, b"p aux sp co".split(), b"v") if west <= x <= east and south <= y <= north}
+
+
+def write_piece(piece: str, places: dict[int, Place], arcs: list[Arc], told: str) -> dict[int, int]:
+    """Writes both files. Returns each node's new id by its old one."""
+    ids = {node: number for number, node in enumerate(sorted(places), 1)}
+    with open(f"{piece}.gr", "w", encoding="utf-8") as file:
+        file.write(f"c {told}\np sp {len(ids)} {len(arcs)}\n")
+        file.writelines(f"a {ids[a]} {ids[b]} {length}\n" for a, b, length in arcs)
+    with open(f"{piece}.co", "w", encoding="utf-8") as file:
+        file.write(f"c {told}\np aux sp co {len(ids)}\n")
+        file.writelines(f"v {number} {places[node][0]} {places[node][1]}\n" for node, number in ids.items())
+    return ids
+
+
+def main() -> None:
+    parser = argparse.ArgumentParser(description="Cuts a piece out of a graph of the DIMACS challenge, and writes PIECE.gr and PIECE.co.")
+    parser.add_argument("graph", metavar="GRAPH")
+    parser.add_argument("places", metavar="PLACES")
+    parser.add_argument("box", metavar="BOX", type=numbers(4), help="W,S,E,N")
+    parser.add_argument("piece", metavar="PIECE")
+    parser.add_argument("--unit", choices=UNITS, default="1e-6", help="what a coordinate is, in degrees (1e-6); with plane, BOX has coordinates")
+    parser.add_argument("--largest", action="store_true", help="keep only the largest part that hangs together")
+    parser.add_argument("--ids", metavar="FILE", help="write a table from the piece's ids to those of the graph")
+    asked = parser.parse_args(command_line())
+    places = places_in(asked.places, asked.box, UNITS[asked.unit] or 1)
+    arcs = [arc for _, arc in rows_of(asked.graph, b"p sp".split(), b"a") if arc[0] in places and arc[1] in places]
+    if asked.largest:
+        kept = largest_of(places, (arc[:2] for arc in arcs))
+        places = {node: place for node, place in places.items() if node in kept}
+        arcs = [arc for arc in arcs if arc[0] in kept]
+    if not places:
+        raise Trouble(f"{asked.places}: no node lies in the box")
+    if len(places) > MOST_NODES or len(arcs) > 2 * MOST_ROADS:
+        raise Trouble(f"{asked.graph}: {len(places):,} nodes and {len(arcs):,} arcs lie in the box, and {MOST_NODES:,} and {2 * MOST_ROADS:,} are the most: take a smaller one")
+    told = "cut to the box %r,%r,%r,%r by tools/dimacs_cut.py: routes are the shortest within it" % asked.box
+    ids = write_piece(asked.piece, places, arcs, told)
+    if asked.ids:
+        write_table(asked.ids, ("node", "graph_node"), ((number, node) for node, number in ids.items()))
+    sys.stderr.write(f"{TOOL}: {len(ids):,} nodes, {len(arcs):,} arcs: routes are the shortest within the box\n")
+
+
+if __name__ == "__main__":
+    end_of(TOOL, main)

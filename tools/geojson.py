@@ -1,0 +1,98 @@
+#!/usr/bin/env python3
+"""Writes what a reply proves as GeoJSON or GPX: tools/geojson.py PUBKEY REPLY FROM TO LEAST [CHAIN] > FILE
+
+The words are those of `road_proof check`, or of `check-reach` with --reach. The proved client checks the reply
+first; a refused one gives its refusal, status 1, and no geometry. Each coordinate is that of a leaf of the accepted
+reply. No client trusts this file: it shows what the client accepted.
+"""
+import argparse
+import json
+import sys
+from xml.sax.saxutils import escape, quoteattr
+
+from proved import Accepted, Question, accepted, add_arguments
+from replies import RADIUS, ROUTE
+from roads import OSM_LICENCE, UNITS, degrees, end_of, read_table
+
+TOOL = "geojson.py"
+OSM_PAGE = "https://www.openstreetmap.org/copyright"
+Place = tuple[float, float]
+
+
+def told(found: Accepted, asked: argparse.Namespace) -> dict[str, object]:
+    """What was proved, without the places."""
+    said: dict[str, object] = {"from": asked.start, ("radius" if found.kind is RADIUS else "to"): asked.end,
+                               "proved": found.kind, "version": found.version}
+    if found.kind is ROUTE:
+        said |= {"length": found.length, "nodes": found.nodes}
+    return said
+
+
+def of_node(node: int, found: Accepted, streets: dict[int, str]) -> dict[str, object]:
+    """What is said of one node; the names of streets are not signed."""
+    said: dict[str, object] = {"node": node}
+    if found.distances is not None:
+        said["distance"] = found.distances[node]
+    return said | ({"streets": streets[node]} if streets.get(node) else {})
+
+
+def feature(kind: str, coordinates: object, properties: dict[str, object]) -> dict[str, object]:
+    return {"type": "Feature", "properties": properties, "geometry": {"type": kind, "coordinates": coordinates}}
+
+
+def geojson_of(found: Accepted, places: dict[int, Place], streets: dict[int, str], asked: argparse.Namespace) -> str:
+    """A feature collection (RFC 7946): a line for a route of two nodes or more, otherwise a point for each node."""
+    said = told(found, asked)
+    if found.kind is ROUTE and len(found.nodes) > 1:
+        features = [feature("LineString", [places[node] for node in found.nodes], said)]
+    else:
+        features = [feature("Point", places[node], said | of_node(node, found, streets)) for node in found.nodes]
+    head = {"type": "FeatureCollection"} | ({"attribution": asked.licence} if asked.licence else {})
+    lines = ",\n".join(json.dumps(one, ensure_ascii=False) for one in features)
+    return json.dumps(head, ensure_ascii=False)[:-1] + f', "features": [\n{lines}\n]}}\n'
+
+
+def point(tag: str, node: int, found: Accepted, place: Place, streets: dict[int, str]) -> str:
+    said = " ".join(f"{key} {value}" for key, value in of_node(node, found, streets).items())
+    return f'<{tag} lat="{place[1]:.7f}" lon="{place[0]:.7f}"><name>{node}</name><desc>{escape(said)}</desc></{tag}>'
+
+
+def gpx_of(found: Accepted, places: dict[int, Place], streets: dict[int, str], asked: argparse.Namespace) -> str:
+    """GPX 1.1: a route, or a waypoint for each node."""
+    said = escape(" ".join(f"{key} {value}" for key, value in told(found, asked).items() if key != "nodes"))
+    tag = "rtept" if found.kind is ROUTE else "wpt"
+    points = "\n".join(point(tag, node, found, places[node], streets) for node in found.nodes)
+    page = f"<license>{OSM_PAGE}</license>" if asked.licence == OSM_LICENCE else ""
+    copyright = f"<copyright author={quoteattr(asked.licence)}>{page}</copyright>" if asked.licence else ""
+    inner = f"<rte><desc>{said}</desc>\n{points}\n</rte>" if found.kind is ROUTE else points
+    return ('<?xml version="1.0" encoding="UTF-8"?>\n<gpx xmlns="http://www.topografix.com/GPX/1/1" version="1.1" creator="tools/geojson.py">\n'
+            f"<metadata><desc>{said}</desc>{copyright}</metadata>\n{inner}\n</gpx>\n")
+
+
+def arguments() -> argparse.Namespace:
+    parser = argparse.ArgumentParser(description="Writes what a reply proves as GeoJSON, once the proved client has accepted it.")
+    parser.add_argument("key", metavar="PUBKEY", help="the owner's public key")
+    parser.add_argument("reply", metavar="REPLY")
+    parser.add_argument("start", metavar="FROM", type=int)
+    parser.add_argument("end", metavar="TO", type=int)
+    parser.add_argument("least", metavar="LEAST", type=int, help="the least version of the map that is taken")
+    parser.add_argument("chain", metavar="CHAIN", nargs="?", help="the chain file of an owner with later keys")
+    parser.add_argument("--gpx", action="store_true", help="GPX 1.1 instead")
+    parser.add_argument("--unit", choices=UNITS, default="1e-7", help="what a coordinate of the map is, in degrees (1e-7)")
+    parser.add_argument("--ids", metavar="FILE", help="the owner's table of ids, for the names of streets, which are not signed")
+    parser.add_argument("--licence", default="", metavar="TEXT", help=f"the licence of the map's data, as {OSM_LICENCE!r}")
+    add_arguments(parser)
+    return parser.parse_args()
+
+
+def main() -> None:
+    asked = arguments()
+    found = accepted(Question(asked.key, asked.reply, asked.start, asked.end, asked.least, asked.chain, asked.reach, asked.library))
+    places = {node: degrees(found.places[node], asked.unit, f"{asked.reply}: node {node}") for node in found.nodes}
+    streets = {int(row["node"]): row["streets"] for row in read_table(asked.ids)} if asked.ids else {}
+    sys.stdout.reconfigure(encoding="utf-8")
+    sys.stdout.write((gpx_of if asked.gpx else geojson_of)(found, places, streets, asked))
+
+
+if __name__ == "__main__":
+    end_of(TOOL, main)

@@ -1,0 +1,65 @@
+#!/usr/bin/env python3
+"""The node of a road file that is nearest to a place: tools/nearest.py ROADS LON LAT, or --name STREET --ids FILE
+
+Writes the node's id, and on standard error how far it is. With --name it writes the nodes of a street, and given
+twice those where two streets meet, by the owner's table of ids.
+
+No client trusts it: it helps a person to say where a route is to begin.
+"""
+import argparse
+import math
+import sys
+
+import geodesic
+from roads import UNITS, Place, Trouble, degrees, command_line, end_of, read_roads, read_table
+
+TOOL = "nearest.py"
+
+
+def distance(place: Place, spot: tuple[float, float], unit: str, what: str) -> float:
+    """Metres to the spot, or units of the plane."""
+    if UNITS[unit] is None:
+        return math.dist(place, spot)
+    far = geodesic.metres(degrees(place, unit, what), spot)
+    return math.inf if far is None else far
+
+
+def nearest(asked: argparse.Namespace) -> list[int]:
+    spot = asked.place[0], asked.place[1]
+    nodes = read_roads(asked.roads).nodes
+    if UNITS[asked.unit] and not (-180 <= spot[0] <= 180 and -90 <= spot[1] <= 90):
+        raise Trouble(f"longitude {spot[0]}, latitude {spot[1]} is no place on earth")
+    far, node = min(((distance(place, spot, asked.unit, f"{asked.roads}: node {node}"), node) for node, place in nodes.items()),
+                    default=(math.inf, None))
+    if math.isinf(far):
+        raise Trouble(f"{asked.roads}: it has no node near")
+    sys.stderr.write(f"{TOOL}: node {node} is {far:,.1f}{' m' if UNITS[asked.unit] else ''} away\n")
+    return [node]
+
+
+def named(asked: argparse.Namespace) -> list[int]:
+    """The nodes at which all of these streets are, by the table of ids."""
+    if not asked.ids:
+        raise Trouble("--name: the names are those of a table of ids: --ids FILE")
+    rows = {int(row["node"]): row["streets"].split("; ") for row in read_table(asked.ids)}
+    found = [node for node, streets in sorted(rows.items()) if all(name in streets for name in asked.name)]
+    if not found:
+        raise Trouble(f"{asked.ids}: no node is on {' and '.join(asked.name)}")
+    return found
+
+
+def main() -> None:
+    parser = argparse.ArgumentParser(description="Writes the id of the node that is nearest to a place, or of those of a street.")
+    parser.add_argument("roads", metavar="ROADS", help="a road file")
+    parser.add_argument("place", metavar="LON LAT", nargs="*", type=float, help="a place")
+    parser.add_argument("--unit", choices=UNITS, default="1e-7", help="what a coordinate of the map is, in degrees (1e-7)")
+    parser.add_argument("--name", metavar="STREET", action="append", help="a street; given twice, where both meet")
+    parser.add_argument("--ids", metavar="FILE", help="the owner's table of ids, with --name")
+    asked = parser.parse_args(command_line())
+    if len(asked.place) != (0 if asked.name else 2):
+        parser.error("give a longitude and a latitude, or --name")
+    print(*(named if asked.name else nearest)(asked), sep="\n")
+
+
+if __name__ == "__main__":
+    end_of(TOOL, main)

@@ -13,6 +13,8 @@ refused, and how many of these runs ended with 9 and how many as the first.
 2026-11-28: 31 commands, 4,623 allocations, all refused: 4,512 runs with 9, 111 as the first, none differs; a
 quarter of an hour of a busy machine. `survey`, `reach`, `check-reach` and `audit-reach` were played over a
 program of the same commands without the messages on standard error: 682 allocations, none differs.
+2026-11-29: `prove` and `check` without a route, under each method: 1,268 allocations, all refused: 1,243 runs with
+9, 25 as the first, none differs.
 """
 import os
 import shutil

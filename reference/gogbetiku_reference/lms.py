@@ -161,8 +161,9 @@ def verify(public: bytes, text: bytes, octets: bytes) -> None:
         raise Refused("NoMatch")
 
 
+@lru_cache(maxsize=8192)
 def why_not(public: bytes, text: bytes, octets: bytes) -> str | None:
-    """Why a signature is not good, or nothing."""
+    """Why a signature is not good, or nothing. Answers are kept, since many replies have one signed header."""
     try:
         verify(public, text, octets)
     except Refused as refused:

@@ -7,7 +7,7 @@ randomiser is made. Part of the reference: tested, not proved, and trusted by no
 from functools import lru_cache
 
 from .faults import Refused
-from .hashing import sha256
+from .hashing import SHA256, sha256
 from .octets import u8, u16, u32
 
 ONE_TIME_TYPE = 4
@@ -28,7 +28,7 @@ def walked(name: bytes, slot: int, number: int, begin: int, end: int, value: byt
     """A value of a chain after the steps from `begin` up to, but without, `end`."""
     front = name + u32(slot) + u16(number)
     for step in STEPS[begin:end]:
-        value = sha256(front + step + value)
+        value = SHA256(front + step + value).digest()
     return value
 
 

@@ -1,6 +1,6 @@
 """Families of vectors: what a family shows, the form of its cases, and how the reference answers one.
 
-Octets are hex, numbers of 64 bits decimal strings, other numbers JSON numbers. Tested, not proved; no client trusts it.
+Octets are hex, numbers that may need 64 bits decimal strings, other numbers JSON numbers. Tested, not proved; no client trusts it.
 """
 from collections.abc import Callable, Iterator
 from dataclasses import dataclass
@@ -8,7 +8,8 @@ from typing import Any
 
 Fields = dict[str, Any]
 
-HEX = {"type": "string", "pattern": "^([0-9a-f]{2})*$"}
+# octets in hex; where a name in braces stands, the octets of that name at the head of the file
+HEX = {"type": "string", "pattern": r"^([0-9a-f]{2}|\{s[0-9]+\})*$"}
 WIDE = {"type": "string", "pattern": "^(0|[1-9][0-9]*)$"}
 NUMBER = {"type": "integer", "minimum": 0}
 WHOLE = {"type": "integer"}
@@ -69,6 +70,7 @@ class Family:
         case = record({"id": {"type": "string", "pattern": f"^{self.name}-[0-9]{{3}}$"}, "why": TEXT, "given": self.given,
                        "result": self.result})
         file = record({"shows": {"const": self.shows}, "schema": {"const": f"{self.name}.schema.json"},
+                       "signatures": {"type": "object", "additionalProperties": {"type": "string", "pattern": "^[0-9a-f]{2584}$"}},
                        "cases": listed(case)})
         return {"$schema": "http://json-schema.org/draft-07/schema#", "title": self.shows, **file}
 

@@ -16,7 +16,8 @@ from .replies import APART, NodeItem, PairItem, read_near_reply, read_reply
 from .trees import fold
 from .walks import least_lengths
 
-NODES, PAIRS = 1, 2
+NODES, PAIRS = (1,), (2,)
+ONE_TREE = ()
 
 
 @dataclass(frozen=True)
@@ -58,21 +59,19 @@ def test_header(public: bytes, chain: Sequence[Link], header: Header, signature:
         raise Refused("BadSignature", reasons[-1])
 
 
-def cover_fault(leaves: int, fan: int, items: Sequence[NodeItem | PairItem], cover: Sequence[bytes],
-                root: bytes) -> str | None:
-    """Why items and a cover are not under a root, or nothing. Without an item nothing is folded."""
+def test_cover(tree: tuple[int, ...], leaves: int, fan: int, items: Sequence[NodeItem | PairItem], cover: Sequence[bytes],
+               root: bytes) -> None:
+    """Items and a cover are under the root of a tree. Without an item nothing is folded."""
     if not items:
-        return "Long" if cover else None
+        if cover:
+            raise Refused("BadCover", *tree, "Long")
+        return
     try:
         folded = fold(leaves, fan, [item.place for item in items], [item.text for item in items], cover)
     except Fault as fault:
-        return fault.name
-    return None if folded == root else "Differs"
-
-
-def test_cover(tree: int, fault: str | None) -> None:
-    if fault is not None:
-        raise Refused("BadCover", tree, fault)
+        raise Refused("BadCover", *tree, fault.name) from None
+    if folded != root:
+        raise Refused("BadCover", *tree, "Differs")
 
 
 def check(public: bytes, chain: Sequence[Link], octets: bytes, start: int, end: int, least: int) -> Accepted:
@@ -82,8 +81,8 @@ def check(public: bytes, chain: Sequence[Link], octets: bytes, start: int, end: 
         raise Refused("NotAnswer", answer)
     header = answer.header
     test_header(public, chain, header, answer.signature, least)
-    test_cover(NODES, cover_fault(header.nodes, header.fan, answer.nodes, answer.node_cover, header.node_root))
-    test_cover(PAIRS, cover_fault(header.pairs, header.fan, answer.pairs, answer.pair_cover, header.pair_root))
+    test_cover(NODES, header.nodes, header.fan, answer.nodes, answer.node_cover, header.node_root)
+    test_cover(PAIRS, header.pairs, header.fan, answer.pairs, answer.pair_cover, header.pair_root)
     hand = AtHand(tuple(item.leaf for item in answer.nodes), tuple(item.leaf for item in answer.pairs), start, end,
                   header.first)
     if answer.kind == APART:
@@ -97,9 +96,7 @@ def check_near(public: bytes, chain: Sequence[Link], octets: bytes, start: int, 
     reply = read_or_refuse(octets, read_near_reply)
     header = reply.header
     test_header(public, chain, header, reply.signature, least)
-    fault = cover_fault(header.nodes, header.fan, reply.nodes, reply.node_cover, header.node_root)
-    if fault is not None:
-        raise Refused("BadCover", fault)
+    test_cover(ONE_TREE, header.nodes, header.fan, reply.nodes, reply.node_cover, header.node_root)
     leaves = tuple(item.leaf for item in reply.nodes)
     test_repeated(leaves)
     hand = AtHand(leaves, (), start, start, 0)

@@ -51,8 +51,8 @@ def chosen_by_level(leaves: int, fan: int, places: Sequence[int]) -> Places:
 
 
 def children(counts: list[int], fan: int, level: int, place: int) -> range:
-    """The places below a place of this level."""
-    return range(place * fan, min(place * fan + fan, counts[level - 1]))
+    """The places below a place of this level, none below a leaf's."""
+    return range(place * fan, min(place * fan + fan, counts[level - 1])) if level else range(0)
 
 
 def spots(leaves: int, fan: int, places: Sequence[int]) -> list[tuple[int, int]]:
@@ -62,9 +62,8 @@ def spots(leaves: int, fan: int, places: Sequence[int]) -> list[tuple[int, int]]
     def below(level: int, place: int) -> Iterator[tuple[int, int]]:
         if place not in chosen[level]:
             yield level, place
-        elif level > 0:
-            for child in children(counts, fan, level, place):
-                yield from below(level - 1, child)
+        for child in children(counts, fan, level, place) if place in chosen[level] else ():
+            yield from below(level - 1, child)
 
     return list(below(len(counts) - 1, 0)) if places else []
 
@@ -74,19 +73,19 @@ def cover_of(levels: list[list[bytes]], fan: int, places: Sequence[int]) -> list
     return [levels[level][place] for level, place in spots(len(levels[0]), fan, places)]
 
 
-def bad_place(leaves: int, places: Sequence[int]) -> int | None:
-    """The index of the first place that is no leaf, or not above the one before."""
+def test_places(leaves: int, places: Sequence[int]) -> None:
+    """Names the index of the first place that is no leaf, or not above the one before."""
     for index, place in enumerate(places):
-        if place >= leaves or (index > 0 and place <= places[index - 1]):
-            return index
-    return None
+        if place >= leaves:
+            raise Fault("Place", index)
+        if index > 0 and place <= places[index - 1]:
+            raise Fault("Place", index)
 
 
 def fold(leaves: int, fan: int, places: Sequence[int], texts: Sequence[bytes], cover: Sequence[bytes],
          hashed: Hash = sha256) -> bytes:
     """The digest of the top place, from the texts of some leaves and the digests of a cover."""
-    if bad_place(leaves, places) is not None:
-        raise Fault("Place", bad_place(leaves, places))
+    test_places(leaves, places)
     known = folded(leaves, fan, places, texts, cover, hashed)
     return known[len(counts_of(leaves, fan)) - 1, 0]
 

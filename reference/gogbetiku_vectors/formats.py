@@ -204,7 +204,7 @@ def make_leaves() -> Iterator[Case]:
         ("arcs that fall", PLAIN, 0, put(plain, 15, u32(5))), ("an arc to the node itself", PLAIN, 0, put(plain, 15, u32(1))),
         ("a last arc to the node itself", PLAIN, 0, put(put(plain, 1, u32(4)), 23, u32(4))), ("an arc to node 0", PLAIN, 0, put(plain, 15, u32(0))),
         ("codes of its own", VECTOR, 2, own), ("a node near by", VECTOR, 2, near), ("codes of no landmark", VECTOR, 0, own[:-4]),
-        ("a code less", VECTOR, 2, own[:-2]), ("a code more", VECTOR, 2, own + u16(0)), ("a tag of 2", VECTOR, 2, put(own, 23, u8(2))),
+        ("a code less", VECTOR, 2, own[:-2]), ("a code more", VECTOR, 2, own + u16(0)), ("a tag of 2", VECTOR, 2, put(own, 23, u8(2))), ("a tag of 2 before a node near by", VECTOR, 2, put(near, 15, u8(2))),
         ("no tag", VECTOR, 2, own[:23]), ("a plain leaf in place of one with codes", VECTOR, 2, plain), ("a node near by, and an octet more", VECTOR, 2, near + b"\x00"),
         ("a node near by, cut", VECTOR, 2, near[:-1]), ("a node near by that is the node itself", VECTOR, 2, put(near, 16, u32(2))),
         ("the greatest error", VECTOR, 1, put(near, 20, u16(65_535))), ("64 landmarks", VECTOR, 64, own[:24] + bytes(128)),

@@ -181,7 +181,7 @@ def run_fold(given: Fields) -> Fields:
     try:
         folded = fold(given["count"], given["fan"], given["places"], [octets(text) for text in given["texts"]], [octets(digest) for digest in given["cover"]])
     except Fault as fault:
-        return {"fault": fault.name}
+        return {"fault": str(fault)}
     return {"root": folded.hex()}
 
 
@@ -198,12 +198,13 @@ def make_folds() -> Iterator[Case]:
             folding("two leaves of seventeen", 17, 4, [0, 16]), folding("fan-out 32", 33, 32, [32]), folding("no digest where two are needed", 5, 2, [0, 1], []), folding("a digest less", 5, 2, [0, 3], whole[:-1]),
             folding("a digest more", 5, 2, [0, 3], [*whole, bytes(32)]), folding("a digest where none is needed", 1, 2, [0], [bytes(32)]), folding("other digests", 5, 2, [0, 3], [bytes(32)] * len(whole)),
             folding("the digests in another order", 5, 2, [0, 3], whole[::-1]), folding("a place that is no leaf", 5, 2, [0, 5]), folding("the first place is no leaf", 5, 2, [5]),
+            folding("one place twice", 5, 2, [1, 1]), folding("the places fall", 5, 2, [0, 3, 2]),
             folding("another count of leaves", 5, 2, [0], given_count=4), folding("a greater count of leaves, with too few digests", 5, 2, [0], given_count=9), folding("another fan-out", 9, 3, [4])]
     return answered(run_fold, rows)
 
 
 FOLDS = Family(
     "folds", "The digest that some leaves and a cover fold to, or why they don't: a place that is no leaf, too few digests or too many.",
-    record({"count": NUMBER, "fan": NUMBER, "places": listed(NUMBER), "texts": listed(HEX), "cover": listed(DIGEST)}), record({}, {"root": DIGEST, "fault": one_of("Place", "Short", "Long")}), run_fold, make_folds)
+    record({"count": NUMBER, "fan": NUMBER, "places": listed(NUMBER), "texts": listed(HEX), "cover": listed(DIGEST)}), record({}, {"root": DIGEST, "fault": TEXT}), run_fold, make_folds)
 
 FAMILIES = [KEYS, GREAT_KEYS, SIGNATURES, TURNED, TREES, FOLDS]

@@ -4,13 +4,15 @@
 A step is one command of both. Maps, settings, queries and disks are drawn; so are road files, graphs, publications, replies,
 chains, disks and frames that are broken, cut, longer, spliced or lied about, with covers that fit the lie; and words that fit
 no command. Both must end with the same status and output, and leave the same `owner.desk`. Where routes are equally short a
-program may take any: what it writes is then looked at by the reference as an honest reply or a shortest route. Ends after
-STEPS steps or SECONDS seconds (20), with status 1 at the first difference, whose files then stand in the folder that it
-names. Nothing here is proved, and no client trusts it.
+program may take any: what it writes is then looked at by the reference as an honest reply or a shortest route. What a client
+accepts is also compared with distances over the map that was signed. Ends after STEPS steps or SECONDS seconds (20), with
+status 1 at the first difference, whose files then stand in the folder that it names, and says how long the slowest run of the
+program took. Nothing here is proved, and no client trusts it.
 """
 import argparse
 import pathlib
 import random
+import re
 import shutil
 import subprocess
 import sys
@@ -407,18 +409,35 @@ def serves(service: Service, bodies: list[bytes], written: bytes) -> bool:
     return at == len(written)
 
 
+def is_true(scene: Scene, words: list[str], files: dict[str, bytes], line: str) -> bool:
+    """Whether what a client accepts holds of the signed map, by its distances."""
+    front = 1 if words[0] == "check" else 4
+    held = next(held for held in scene.held if held.book.header.octets() == files["reply"][front:front + 104])
+    chart, start, end = held.book.chart, int(words[3]), int(words[4])
+    if line == "accepted none\n":
+        return start in chart.places and end in chart.places and end not in chart.distances(start)
+    number, ids = re.fullmatch(r"\w+ (\d+):((?: \d+)*)\n", line).groups()
+    nodes = tuple(map(int, ids.split()))
+    if words[0] == "check-reach":
+        return nodes == tuple(sorted(node for node, length in chart.distances(start).items() if length <= end))
+    return (nodes[0], nodes[-1], chart.length_of(nodes), chart.distances(start)[end]) == (start, end, int(number), int(number))
+
+
 class Both:
     """Runs each step by the program and by the reference."""
 
     def __init__(self, program: str, folder: pathlib.Path):
         self.program, self.folder, self.counts = str(pathlib.Path(program).resolve()), folder, Counter()
+        self.slowest = 0.0
 
     def by_program(self, words: list[str], files: dict[str, bytes], source: bytes, disk: bytes) -> Ended:
         for name, text in files.items():
             (self.folder / name).write_bytes(text)
         desk = self.folder / "owner.desk"
         desk.write_bytes(disk)
+        begun = time.monotonic()
         done = subprocess.run([self.program, *words], cwd=self.folder, input=source, capture_output=True, check=False)
+        self.slowest = max(self.slowest, time.monotonic() - begun)
         return Ended(done.returncode, done.stdout, desk.read_bytes())
 
     def by_reference(self, words: list[str], files: dict[str, bytes], source: bytes, disk: bytes) -> Ended:
@@ -428,7 +447,7 @@ class Both:
             return files[name]
         return commands.run(words, World(file, disk, source))
 
-    def take(self, step: Step) -> str | None:
+    def take(self, scene: Scene, step: Step) -> str | None:
         """What differs."""
         words, files, source, disk = step
         for path in self.folder.iterdir():
@@ -437,6 +456,9 @@ class Both:
         self.counts[words[0] if words[0] in FORMS else "other words"] += 1
         self.counts["steps"] += 1
         if (seen.status, seen.output, seen.disk) == (wanted.status, wanted.output, wanted.disk):
+            if words[0].startswith("check") and seen.status == 0:
+                self.counts["accepted and true"] += 1
+                return None if is_true(scene, words, files, seen.output.decode()) else f"{words}: {seen.output!r} is accepted, and not true"
             return None
         if wanted.status in (0, 3, 13) and is_free(words, files, source, seen, wanted):
             self.counts["of equally short routes another"] += 1
@@ -462,13 +484,14 @@ def main() -> int:
     while both.counts["steps"] < (asked.steps or 10 ** 9) and time.monotonic() - begun < seconds:
         if both.counts["steps"] % WORLDS_STEPS == 0:
             steps = Steps(Scene(rng, secrets))
-        differs = both.take(steps.draw())
+        differs = both.take(steps.scene, steps.draw())
         if differs:
             print(f"cross, seed {asked.seed}, step {both.counts['steps']}, in {folder}: {differs}")
             return 1
     shutil.rmtree(folder)
     count = both.counts.pop("steps")
-    print(f"cross, seed {asked.seed}: {count} steps without a difference ({', '.join(f'{name} {number}' for name, number in sorted(both.counts.items()))})")
+    kinds = ", ".join(f"{name} {number}" for name, number in sorted(both.counts.items()))
+    print(f"cross, seed {asked.seed}: {count} steps without a difference, the slowest {both.slowest:.2f} s ({kinds})")
     return 0
 
 

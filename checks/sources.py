@@ -19,6 +19,7 @@ from gogbetiku_reference.reductions import reduce  # noqa: E402
 from gogbetiku_reference.replies import NearReply, cover_text, node_items_text  # noqa: E402
 from gogbetiku_reference.servers import Held, answer_near, near_reply  # noqa: E402
 from gogbetiku_reference.surveys import survey  # noqa: E402
+from gogbetiku_vectors import rfc8554  # noqa: E402
 from gogbetiku_vectors.scenes import (LEVEL, LINE, LINE_LDM, PARAMETERS, SEED, STREETS, brings, brings_apart, owner,  # noqa: E402
                                       published, settings_of)
 
@@ -84,6 +85,12 @@ def near_answers() -> dict[str, bytes]:
         "NOTHING_COVERED": node_items_text([]) + cover_text([held.book.node_levels[-1][0]]),
     }
     return arrays
+
+
+def standard() -> dict[str, bytes]:
+    """The arrays of seal_tests: RFC 8554, Appendix F, test case 1."""
+    names = ("FIRST_PUBLIC", "SECOND_PUBLIC", "MESSAGE", "FIRST_SIGNATURE", "SECOND_SIGNATURE")
+    return {name: getattr(rfc8554, name) for name in names}
 
 
 def twice(held: Held) -> NearReply:
@@ -157,10 +164,11 @@ def compare_keys() -> None:
 
 def main() -> int:
     if len(sys.argv) > 1:
-        print({**near_answers(), **answers()}[sys.argv[1]].hex())
+        print({**near_answers(), **answers(), **standard()}[sys.argv[1]].hex())
         return 0
     compare_arrays("crates/audit_tests/src/signed_answers.rt", answers())
     compare_arrays("crates/line_tests/src/signed_near.rt", near_answers())
+    compare_arrays("crates/seal_tests/src/standard.rt", standard())
     compare_digests()
     compare_reductions()
     compare_keys()

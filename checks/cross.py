@@ -41,7 +41,7 @@ from gogbetiku_reference.replies import APART, ROUTE, Answer, NearReply, read_ne
 from gogbetiku_reference.road_files import print_roads, read_roads  # noqa: E402
 from gogbetiku_reference.servers import Held  # noqa: E402
 
-GREATEST = 2 ** 64 - 1
+GREATEST = 2**64 - 1
 WORLDS_STEPS = 400
 Step = tuple[list[str], dict[str, bytes], bytes, bytes]
 
@@ -52,28 +52,32 @@ def broken(rng: random.Random, text: bytes, others: list[bytes]) -> bytes:
         return rng.randbytes(rng.randrange(3))
     kind, at = rng.randrange(6), rng.randrange(len(text))
     if kind == 0:
-        return text[:at] + u8(text[at] ^ 1 << rng.randrange(8)) + text[at + 1:]
+        return text[:at] + u8(text[at] ^ 1 << rng.randrange(8)) + text[at + 1 :]
     if kind == 1:
         return text[:at]
     if kind == 2:
-        more = rng.choice((rng.randbytes(rng.randrange(1, 40)), text[at:at + rng.randrange(1, 80)]))
+        more = rng.choice((rng.randbytes(rng.randrange(1, 40)), text[at : at + rng.randrange(1, 80)]))
         return rng.choice((text + more, text[:at] + more + text[at:]))
     if kind == 3:
         to = rng.randrange(len(text))
-        return text[:at] + text[to:to + 4] + text[at + 4:]
+        return text[:at] + text[to : to + 4] + text[at + 4 :]
     if kind == 4:
-        return text[:at] + rng.choice((b"\xff" * 4, bytes(4), b"\0\1\0\0", b"\x7f\xff\xff\xff", b"\0\0\0\1")) + text[at + 4:]
+        return (
+            text[:at]
+            + rng.choice((b"\xff" * 4, bytes(4), b"\0\1\0\0", b"\x7f\xff\xff\xff", b"\0\0\0\1"))
+            + text[at + 4 :]
+        )
     other = rng.choice(others)
-    return text[:at] + other[rng.choice((at, rng.randrange(len(other) + 1))):]
+    return text[:at] + other[rng.choice((at, rng.randrange(len(other) + 1))) :]
 
 
 def made_map(rng: random.Random) -> Parts:
     """A map of one to thirty nodes, often of several components, with parallel roads and roads of length 0."""
     count = rng.choice((1, 2, 5, 9, 16, 30))
     ids = rng.sample(range(1, 4 * count), count)
-    frame = rng.choice((1, 9, 99, 2 ** 31 - 1))
+    frame = rng.choice((1, 9, 99, 2**31 - 1))
     nodes = tuple((node, rng.randint(-frame, frame), rng.randint(-frame, frame)) for node in ids)
-    lengths = rng.choice(((0, 1, 2, 5, 9, 30), (1, 2, 4, 7), (0,), (2 ** 32 - 1, 2 ** 31, 5), tuple(range(1, 200))))
+    lengths = rng.choice(((0, 1, 2, 5, 9, 30), (1, 2, 4, 7), (0,), (2**32 - 1, 2**31, 5), tuple(range(1, 200))))
     ends = [tuple(rng.sample(ids, 2)) for _ in range(rng.randrange(2 * count))] if count > 1 else []
     ends += [(node, rng.choice(ids[:at])) for at, node in enumerate(ids) if at and rng.random() < 0.8]
     return Parts(nodes, tuple((a, b, rng.choice(lengths)) for a, b in ends))
@@ -81,8 +85,18 @@ def made_map(rng: random.Random) -> Parts:
 
 def drawn_settings(rng: random.Random, nodes: int, version: int) -> Settings:
     method = rng.choice(list(METHODS.values()))
-    parameters = {3: (rng.randint(1, min(5, nodes)), rng.randint(1, 16), rng.choice((0, 1, 4, 65_534))), 4: (rng.randint(1, 5), rng.randint(1, 5), 0)}
-    return Settings(method, version, rng.randrange(6), rng.choice((0, 5, GREATEST)), rng.choice((2, 3, 4, 32)), *parameters.get(method, (0, 0, 0)))
+    parameters = {
+        3: (rng.randint(1, min(5, nodes)), rng.randint(1, 16), rng.choice((0, 1, 4, 65_534))),
+        4: (rng.randint(1, 5), rng.randint(1, 5), 0),
+    }
+    return Settings(
+        method,
+        version,
+        rng.randrange(6),
+        rng.choice((0, 5, GREATEST)),
+        rng.choice((2, 3, 4, 32)),
+        *parameters.get(method, (0, 0, 0)),
+    )
 
 
 class Scene:
@@ -112,14 +126,24 @@ class Scene:
 
     def publish(self, version: int) -> None:
         """One publication more, over the map or over one whose roads are half as long."""
-        parts = self.parts if self.rng.random() < 0.8 else replace(self.parts, roads=tuple((a, b, length // 2) for a, b, length in self.parts.roads))
+        parts = (
+            self.parts
+            if self.rng.random() < 0.8
+            else replace(self.parts, roads=tuple((a, b, length // 2) for a, b, length in self.parts.roads))
+        )
         settings = drawn_settings(self.rng, len(self.ids), version)
         book = book_of(parts, settings)
         self.disk, signature = desks.sign(self.disk, book.header.octets())
-        self.held.append(Held(Publication(book.header, signature, settings.seed, settings.p1, settings.p2, settings.p3, parts), book))
+        self.held.append(
+            Held(Publication(book.header, signature, settings.seed, settings.p1, settings.p2, settings.p3, parts), book)
+        )
 
     def end(self) -> int:
-        return self.rng.choice(self.ids) if self.rng.random() < 0.97 else self.rng.choice((0, 2 ** 32 - 1, self.rng.randrange(200)))
+        return (
+            self.rng.choice(self.ids)
+            if self.rng.random() < 0.97
+            else self.rng.choice((0, 2**32 - 1, self.rng.randrange(200)))
+        )
 
 
 def lied(rng: random.Random, held: Held, octets: bytes, others: list[bytes]) -> bytes:
@@ -155,12 +179,16 @@ def other_route(rng: random.Random, held: Held, reply: Answer) -> Answer:
 def other_items(rng: random.Random, held: Held, reply: Answer | NearReply) -> Answer | NearReply:
     """Items left out or added, with their covers."""
     nodes = {item.leaf.id for item in reply.nodes} & set(held.book.ids)
-    nodes = {node for node in nodes if rng.random() < rng.choice((0.7, 0.9, 1))} | set(rng.sample(held.book.ids, min(len(held.book.ids), rng.choice((0, 0, 1, 3)))))
+    nodes = {node for node in nodes if rng.random() < rng.choice((0.7, 0.9, 1))} | set(
+        rng.sample(held.book.ids, min(len(held.book.ids), rng.choice((0, 0, 1, 3))))
+    )
     items = servers.node_items(held.book, nodes)
     reply = replace(reply, nodes=items, node_cover=servers.node_cover(held.book, items))
     if isinstance(reply, Answer) and held.book.pairs:
         pairs = {(item.leaf.a, item.leaf.b) for item in reply.pairs} & set(held.book.pair_ids)
-        pairs = {pair for pair in pairs if rng.random() < rng.choice((0.7, 1))} | set(rng.sample(held.book.pair_ids, rng.choice((0, 1))))
+        pairs = {pair for pair in pairs if rng.random() < rng.choice((0.7, 1))} | set(
+            rng.sample(held.book.pair_ids, rng.choice((0, 1)))
+        )
         said = servers.pair_items(held.book, pairs)
         reply = replace(reply, pairs=said, pair_cover=servers.pair_cover(held.book, said))
     return reply
@@ -176,8 +204,10 @@ def other_leaf(rng: random.Random, reply: Answer | NearReply) -> Answer | NearRe
         changed = replace(item, place=item.place + rng.choice((1, 1000)))
     else:
         place = rng.randrange(len(item.text))
-        changed = replace(item, text=item.text[:place] + u8(rng.choice((0, 1, 255, rng.randrange(256)))) + item.text[place + 1:])
-    return replace(reply, nodes=(*reply.nodes[:at], changed, *reply.nodes[at + 1:]))
+        changed = replace(
+            item, text=item.text[:place] + u8(rng.choice((0, 1, 255, rng.randrange(256)))) + item.text[place + 1 :]
+        )
+    return replace(reply, nodes=(*reply.nodes[:at], changed, *reply.nodes[at + 1 :]))
 
 
 class Steps:
@@ -189,13 +219,31 @@ class Steps:
         self.radii = [servers.near_reply(held, [scene.rng.choice(scene.ids)]).octets() for held in scene.held]
         self.publications = [held.publication.octets() for held in scene.held]
         self.kinds: list[tuple[int, Callable[[], Step]]] = [
-            (30, self.check), (12, self.check_reach), (10, self.audit), (5, self.audit_reach), (8, self.prove), (5, self.reach), (6, self.publish),
-            (6, self.route), (4, self.root), (4, self.dimacs), (3, self.desk), (3, self.links), (2, self.key), (2, self.succeed), (5, self.reduce), (4, self.serve), (2, self.words)]
+            (30, self.check),
+            (12, self.check_reach),
+            (10, self.audit),
+            (5, self.audit_reach),
+            (8, self.prove),
+            (5, self.reach),
+            (6, self.publish),
+            (6, self.route),
+            (4, self.root),
+            (4, self.dimacs),
+            (3, self.desk),
+            (3, self.links),
+            (2, self.key),
+            (2, self.succeed),
+            (5, self.reduce),
+            (4, self.serve),
+            (2, self.words),
+        ]
 
     def draw(self) -> Step:
         return self.rng.choices([kind for _, kind in self.kinds], [weight for weight, _ in self.kinds])[0]()
 
-    def step(self, words: list[object], files: dict[str, bytes], source: bytes = b"", disk: bytes | None = None) -> Step:
+    def step(
+        self, words: list[object], files: dict[str, bytes], source: bytes = b"", disk: bytes | None = None
+    ) -> Step:
         return [str(word) for word in words], files, source, self.scene.disk if disk is None else disk
 
     def maybe(self, text: bytes, others: list[bytes], chance: float) -> bytes:
@@ -227,13 +275,21 @@ class Steps:
     def route_query(self) -> tuple[list[object], dict[str, bytes], Held]:
         held, start, end = self.rng.choice(self.scene.held), self.scene.end(), self.scene.end()
         reply = self.reply_of(servers.answer(held, start, end), held, self.routes)
-        return [start, end if self.rng.random() < 0.95 else self.scene.end()], {"key": self.key_file(), "reply": reply}, held
+        return (
+            [start, end if self.rng.random() < 0.95 else self.scene.end()],
+            {"key": self.key_file(), "reply": reply},
+            held,
+        )
 
     def near_query(self) -> tuple[list[object], dict[str, bytes], Held]:
         held, start = self.rng.choice(self.scene.held), self.rng.choice(self.scene.ids)
-        radius = self.rng.choice((0, 1, 5, 30, 200, 2 ** 33, GREATEST))
+        radius = self.rng.choice((0, 1, 5, 30, 200, 2**33, GREATEST))
         reply = self.reply_of(servers.answer_near(held, start, radius), held, self.radii)
-        return [start, radius if self.rng.random() < 0.8 else self.rng.choice((0, 7, GREATEST))], {"key": self.key_file(), "reply": reply}, held
+        return (
+            [start, radius if self.rng.random() < 0.8 else self.rng.choice((0, 7, GREATEST))],
+            {"key": self.key_file(), "reply": reply},
+            held,
+        )
 
     def check(self) -> Step:
         query, files, held = self.route_query()
@@ -244,7 +300,9 @@ class Steps:
     def check_reach(self) -> Step:
         query, files, _ = self.near_query()
         words, chain = self.chain_words()
-        return self.step(["check-reach", "key", "reply", *query, self.rng.choice((0, 0, 2)), *words], {**files, **chain})
+        return self.step(
+            ["check-reach", "key", "reply", *query, self.rng.choice((0, 0, 2)), *words], {**files, **chain}
+        )
 
     def audited(self, command: str, query: list[object], files: dict[str, bytes], held: Held) -> Step:
         words, chain = self.chain_words()
@@ -266,7 +324,9 @@ class Steps:
         return self.step(["prove", "pub", self.scene.end(), self.scene.end()], {"pub": self.publication()})
 
     def reach(self) -> Step:
-        return self.step(["reach", "pub", self.scene.end(), self.rng.choice((0, 3, 50, GREATEST))], {"pub": self.publication()})
+        return self.step(
+            ["reach", "pub", self.scene.end(), self.rng.choice((0, 3, 50, GREATEST))], {"pub": self.publication()}
+        )
 
     def road_text(self) -> bytes:
         text = print_roads(self.scene.parts if self.rng.random() < 0.6 else made_map(self.rng))
@@ -275,7 +335,19 @@ class Steps:
         if self.rng.random() < 0.3:
             lines = text.split(b"\n")
             at = self.rng.randrange(len(lines))
-            lines[at] = self.rng.choice((b"node 1 2", b"road 1 1 1", b"node 7 -0 +1", b"road 4294967296 1 1", lines[0], lines[-2], b"\tnode\t5 5 5", b"roads 1", b"x"))
+            lines[at] = self.rng.choice(
+                (
+                    b"node 1 2",
+                    b"road 1 1 1",
+                    b"node 7 -0 +1",
+                    b"road 4294967296 1 1",
+                    lines[0],
+                    lines[-2],
+                    b"\tnode\t5 5 5",
+                    b"roads 1",
+                    b"x",
+                )
+            )
             text = b"\n".join(lines)
         return self.maybe(text, [text, b"roads 1\nnode 1 1 1\n"], 0.2)
 
@@ -293,9 +365,14 @@ class Steps:
             arcs += [(a, b, length), (b, a, length)] if self.rng.random() < 0.9 else [(a, b, length)]
         self.rng.shuffle(arcs)
         graph = b"c x\np sp %d %d\n" % (nodes, len(arcs)) + b"".join(b"a %d %d %d\n" % arc for arc in arcs)
-        places = b"p aux sp co %d\n" % nodes + b"".join(b"v %d %d %d\n" % (node, self.rng.randint(-9, 9), node) for node in self.rng.sample(range(1, nodes + 1), nodes))
+        places = b"p aux sp co %d\n" % nodes + b"".join(
+            b"v %d %d %d\n" % (node, self.rng.randint(-9, 9), node)
+            for node in self.rng.sample(range(1, nodes + 1), nodes)
+        )
         both = [graph, places, b"a 1 1 1\n", b"c\n"]
-        return self.step(["dimacs", "a.gr", "a.co"], {"a.gr": self.maybe(graph, both, 0.2), "a.co": self.maybe(places, both, 0.15)})
+        return self.step(
+            ["dimacs", "a.gr", "a.co"], {"a.gr": self.maybe(graph, both, 0.2), "a.co": self.maybe(places, both, 0.15)}
+        )
 
     def publish(self) -> Step:
         settings = drawn_settings(self.rng, len(self.scene.ids), self.rng.choice((1, 9, GREATEST)))
@@ -303,9 +380,20 @@ class Steps:
         parameters = [settings.p1, settings.p2, settings.p3]
         if self.rng.random() < 0.2:
             parameters[self.rng.randrange(3)] = self.rng.choice((0, 1, 65, 1025, 65_535, GREATEST))
-        words = ["publish", "map.roads", names[0][settings.method], settings.version, names[1][settings.order], settings.seed, settings.fan, *parameters]
+        words = [
+            "publish",
+            "map.roads",
+            names[0][settings.method],
+            settings.version,
+            names[1][settings.order],
+            settings.seed,
+            settings.fan,
+            *parameters,
+        ]
         roads = self.road_text() if self.rng.random() < 0.4 else print_roads(self.scene.parts)
-        return self.step(words, {"map.roads": roads}, disk=self.scene.disk if self.rng.random() < 0.8 else self.other_disk())
+        return self.step(
+            words, {"map.roads": roads}, disk=self.scene.disk if self.rng.random() < 0.8 else self.other_disk()
+        )
 
     def other_disk(self) -> bytes:
         """A disk with an octet changed at a place that is read, a cut or longer one, a younger or an empty one."""
@@ -313,14 +401,32 @@ class Steps:
         if kind == 0:
             return rng_bytes(self.rng)
         if kind == 1:
-            return disk[:self.rng.choice((0, 1, 63, 64, len(disk) - 1, len(disk) // 2))]
+            return disk[: self.rng.choice((0, 1, 63, 64, len(disk) - 1, len(disk) // 2))]
         if kind == 2:
-            at = self.rng.choice((0, 1, 4, 5, 20, 21, 52, 53, 64 + 128 * self.rng.randrange(32), 65 + 128 * self.rng.randrange(32), self.rng.randrange(len(disk))))
-            return disk[:at] + u8(self.rng.choice((0, 1, 5, 6, 255))) + disk[at + 1:]
+            at = self.rng.choice(
+                (
+                    0,
+                    1,
+                    4,
+                    5,
+                    20,
+                    21,
+                    52,
+                    53,
+                    64 + 128 * self.rng.randrange(32),
+                    65 + 128 * self.rng.randrange(32),
+                    self.rng.randrange(len(disk)),
+                )
+            )
+            return disk[:at] + u8(self.rng.choice((0, 1, 5, 6, 255))) + disk[at + 1 :]
         if kind == 3:
             area = desks.open_desk(disk).current()
-            text = self.rng.choice((link_text(key_of(5, self.rng.choice(self.scene.secrets)).public), b"RPK1", b"a text", b""))
-            return desks.spend(disk, area, self.rng.choice((area.key.slots - 1, self.rng.randrange(area.key.slots))), text)
+            text = self.rng.choice(
+                (link_text(key_of(5, self.rng.choice(self.scene.secrets)).public), b"RPK1", b"a text", b"")
+            )
+            return desks.spend(
+                disk, area, self.rng.choice((area.key.slots - 1, self.rng.randrange(area.key.slots))), text
+            )
         return desks.create(b"", 5, self.rng.choice(self.scene.secrets)) if kind == 4 else disk + rng_bytes(self.rng)
 
     def any_disk(self) -> bytes:
@@ -333,7 +439,9 @@ class Steps:
         return self.step(["links"], {}, disk=self.any_disk())
 
     def secret_file(self) -> bytes:
-        return self.maybe(self.rng.choice(self.scene.secrets).hex().encode() + self.rng.choice((b"", b"\n")), [b"0" * 96], 0.2)
+        return self.maybe(
+            self.rng.choice(self.scene.secrets).hex().encode() + self.rng.choice((b"", b"\n")), [b"0" * 96], 0.2
+        )
 
     def key(self) -> Step:
         return self.step(["key", "secret", "h5"], {"secret": self.secret_file()}, disk=self.any_disk())
@@ -347,7 +455,11 @@ class Steps:
         slot = self.rng.randrange(32)
         text = self.rng.choice((b"", b"a text", held.publication.header.octets(), link_text(key.public)))
         signature = self.rng.choice((key.sign(slot, text), held.publication.signature))
-        files = {"key": self.key_file(), "text": text.hex().encode(), "signature": self.maybe(signature, [signature], 0.3).hex().encode()}
+        files = {
+            "key": self.key_file(),
+            "text": text.hex().encode(),
+            "signature": self.maybe(signature, [signature], 0.3).hex().encode(),
+        }
         return self.step(["reduce", "key", "text", "signature"], files, disk=self.any_disk())
 
     def body(self) -> bytes:
@@ -364,14 +476,43 @@ class Steps:
 
     def serve(self) -> Step:
         source = b"".join(framed(self.body()) for _ in range(self.rng.randrange(30)))
-        source += self.rng.choice((b"", b"", b"\0", b"\0\0\0\5x", u32(4_194_305), u32(2 ** 32 - 1) + b"x"))
+        source += self.rng.choice((b"", b"", b"\0", b"\0\0\0\5x", u32(4_194_305), u32(2**32 - 1) + b"x"))
         return self.step(["serve", "pub"], {"pub": self.publications[0]}, source)
 
     def words(self) -> Step:
         """Words that fit no command, or just one."""
         name = self.rng.choice([*FORMS, "", "help me", "Route"])
-        given = [self.rng.choice(("key", "reply", "pub", "0", "1", "00001", "-1", "+1", "1.0", "x", "", "4294967295", "4294967296", str(GREATEST), str(GREATEST + 1), "dij", "id", "h5", "32", "33", "9" * 40)) for _ in range(self.rng.randrange(8))]
-        return self.step([name, *given], {"key": self.key_file(), "reply": self.rng.choice(self.routes), "pub": self.publications[0]})
+        given = [
+            self.rng.choice(
+                (
+                    "key",
+                    "reply",
+                    "pub",
+                    "0",
+                    "1",
+                    "00001",
+                    "-1",
+                    "+1",
+                    "1.0",
+                    "x",
+                    "",
+                    "4294967295",
+                    "4294967296",
+                    str(GREATEST),
+                    str(GREATEST + 1),
+                    "dij",
+                    "id",
+                    "h5",
+                    "32",
+                    "33",
+                    "9" * 40,
+                )
+            )
+            for _ in range(self.rng.randrange(8))
+        ]
+        return self.step(
+            [name, *given], {"key": self.key_file(), "reply": self.rng.choice(self.routes), "pub": self.publications[0]}
+        )
 
 
 def rng_bytes(rng: random.Random) -> bytes:
@@ -383,28 +524,40 @@ def is_free(words: list[str], files: dict[str, bytes], source: bytes, seen: Ende
     if (seen.status, seen.disk) != (wanted.status, wanted.disk):
         return False
     if words[0] == "prove":
-        return servers.is_honest(servers.install(read_publication(Reader(files["pub"]))), int(words[2]), int(words[3]), seen.output)
+        return servers.is_honest(
+            servers.install(read_publication(Reader(files["pub"]))), int(words[2]), int(words[3]), seen.output
+        )
     if words[0] == "route":
         return is_shortest_line(map_of(read_roads(files["map.roads"])), int(words[2]), int(words[3]), seen.output)
-    return words[0] == "serve" and serves(Service(servers.install(read_publication(Reader(files["pub"])))), bodies_of(source)[0], seen.output)
+    return words[0] == "serve" and serves(
+        Service(servers.install(read_publication(Reader(files["pub"])))), bodies_of(source)[0], seen.output
+    )
 
 
 def is_shortest_line(chart: Map, start: int, end: int, line: bytes) -> bool:
     length, ids = line.decode().rstrip("\n").split(":")
     route = tuple(map(int, ids.split()))
-    return chart.is_shortest(start, end, route) and int(length) == chart.distances(start)[end] and line == f"{length}: {' '.join(map(str, route))}\n".encode()
+    return (
+        chart.is_shortest(start, end, route)
+        and int(length) == chart.distances(start)[end]
+        and line == f"{length}: {' '.join(map(str, route))}\n".encode()
+    )
 
 
 def serves(service: Service, bodies: list[bytes], written: bytes) -> bool:
     """Whether framed replies are those of the service, but for the choice among shortest routes."""
     at = 0
     for body in bodies:
-        size = int.from_bytes(written[at:at + 4], "big")
-        reply = written[at + 4:at + 4 + size]
+        size = int.from_bytes(written[at : at + 4], "big")
+        reply = written[at + 4 : at + 4 + size]
         at += 4 + size
         pinned = service.pins.get(body[1]) if len(body) == 10 and body[0] == 2 else None
         good = service.step(body)
-        if reply != good and not (pinned and reply[:2] == good[:2] and servers.is_honest(pinned, int.from_bytes(body[2:6], "big"), int.from_bytes(body[6:], "big"), reply[2:])):
+        if reply != good and not (
+            pinned
+            and reply[:2] == good[:2]
+            and servers.is_honest(pinned, int.from_bytes(body[2:6], "big"), int.from_bytes(body[6:], "big"), reply[2:])
+        ):
             return False
     return at == len(written)
 
@@ -412,7 +565,7 @@ def serves(service: Service, bodies: list[bytes], written: bytes) -> bool:
 def is_true(scene: Scene, words: list[str], files: dict[str, bytes], line: str) -> bool:
     """Whether what a client accepts holds of the signed map, by its distances."""
     front = 1 if words[0] == "check" else 4
-    held = next(held for held in scene.held if held.book.header.octets() == files["reply"][front:front + 104])
+    held = next(held for held in scene.held if held.book.header.octets() == files["reply"][front : front + 104])
     chart, start, end = held.book.chart, int(words[3]), int(words[4])
     if line == "accepted none\n":
         return start in chart.places and end in chart.places and end not in chart.distances(start)
@@ -420,7 +573,12 @@ def is_true(scene: Scene, words: list[str], files: dict[str, bytes], line: str) 
     nodes = tuple(map(int, ids.split()))
     if words[0] == "check-reach":
         return nodes == tuple(sorted(node for node, length in chart.distances(start).items() if length <= end))
-    return (nodes[0], nodes[-1], chart.length_of(nodes), chart.distances(start)[end]) == (start, end, int(number), int(number))
+    return (nodes[0], nodes[-1], chart.length_of(nodes), chart.distances(start)[end]) == (
+        start,
+        end,
+        int(number),
+        int(number),
+    )
 
 
 class Both:
@@ -445,6 +603,7 @@ class Both:
             if name not in files:
                 raise Fault("Missing")
             return files[name]
+
         return commands.run(words, World(file, disk, source))
 
     def take(self, scene: Scene, step: Step) -> str | None:
@@ -458,15 +617,21 @@ class Both:
         if (seen.status, seen.output, seen.disk) == (wanted.status, wanted.output, wanted.disk):
             if words[0].startswith("check") and seen.status == 0:
                 self.counts["accepted and true"] += 1
-                return None if is_true(scene, words, files, seen.output.decode()) else f"{words}: {seen.output!r} is accepted, and not true"
+                return (
+                    None
+                    if is_true(scene, words, files, seen.output.decode())
+                    else f"{words}: {seen.output!r} is accepted, and not true"
+                )
             return None
         if wanted.status in (0, 3, 13) and is_free(words, files, source, seen, wanted):
             self.counts["of equally short routes another"] += 1
             return None
         (self.folder / "input").write_bytes(source)
         (self.folder / "disk.before").write_bytes(disk)
-        return (f"{' '.join(words)}: the program ends with {seen.status} and {seen.output[:80]!r}, the reference with {wanted.status}, {wanted.output[:80]!r}"
-                f" and {wanted.fault}; the disks are {'the same' if seen.disk == wanted.disk else 'others'}")
+        return (
+            f"{' '.join(words)}: the program ends with {seen.status} and {seen.output[:80]!r}, the reference with {wanted.status}, {wanted.output[:80]!r}"
+            f" and {wanted.fault}; the disks are {'the same' if seen.disk == wanted.disk else 'others'}"
+        )
 
 
 def main() -> int:
@@ -476,12 +641,12 @@ def main() -> int:
     parser.add_argument("--seconds", type=float, default=None)
     parser.add_argument("--steps", type=int, default=None)
     asked = parser.parse_args()
-    seconds = asked.seconds or (20 if asked.steps is None else 10 ** 9)
+    seconds = asked.seconds or (20 if asked.steps is None else 10**9)
     rng, begun = random.Random(asked.seed), time.monotonic()
     secrets = [rng.randbytes(48) for _ in range(3)]
     folder = pathlib.Path(tempfile.mkdtemp(prefix="cross-"))
     both, steps = Both(asked.program, folder), None
-    while both.counts["steps"] < (asked.steps or 10 ** 9) and time.monotonic() - begun < seconds:
+    while both.counts["steps"] < (asked.steps or 10**9) and time.monotonic() - begun < seconds:
         if both.counts["steps"] % WORLDS_STEPS == 0:
             steps = Steps(Scene(rng, secrets))
         differs = both.take(steps.scene, steps.draw())

@@ -37,11 +37,15 @@ def compare_map(chart: Map, radius: int) -> int:
     for start in chart.places:
         distances = networkx.single_source_dijkstra_path_length(graph, start)
         wrong += distances != chart.distances(start)
-        wrong += set(networkx.ego_graph(graph, start, radius=radius, distance="weight")) != {node for node, length in chart.distances(start).items() if length <= radius}
+        wrong += set(networkx.ego_graph(graph, start, radius=radius, distance="weight")) != {
+            node for node, length in chart.distances(start).items() if length <= radius
+        }
         for end in chart.places:
             route = chart.route(start, end)
             wrong += (route is None) != (end not in distances)
-            wrong += route is not None and (chart.length_of(route) != distances[end] or not chart.is_shortest(start, end, route))
+            wrong += route is not None and (
+                chart.length_of(route) != distances[end] or not chart.is_shortest(start, end, route)
+            )
     return wrong
 
 
@@ -53,7 +57,7 @@ def compare_maps(rng: random.Random, count: int) -> int:
         except Fault:
             continue
         made += 1
-        wrong += compare_map(chart, rng.choice((0, 5, 30, 2 ** 33)))
+        wrong += compare_map(chart, rng.choice((0, 5, 30, 2**33)))
     return wrong
 
 
@@ -65,7 +69,9 @@ def compare_signatures() -> int:
         kind, secret = re.match(r"(H\d+) secret ([0-9a-f]+)", part).groups()
         key = key_of(KINDS[kind.lower()], bytes.fromhex(secret))
         wrong += key.public.hex() != re.search(r"public ([0-9a-f]+)", part)[1]
-        for slot, text, digest in re.findall(r"slot (\d+) text '(\w*)' octets \d+ sha256 ([0-9a-f]+) verifies true", part):
+        for slot, text, digest in re.findall(
+            r"slot (\d+) text '(\w*)' octets \d+ sha256 ([0-9a-f]+) verifies true", part
+        ):
             wrong += hashlib.sha256(key.sign(int(slot), text.encode())).hexdigest() != digest
     return wrong
 

@@ -20,10 +20,21 @@ from gogbetiku_reference.replies import NearReply, cover_text, node_items_text  
 from gogbetiku_reference.servers import Held, answer_near, near_reply  # noqa: E402
 from gogbetiku_reference.surveys import survey  # noqa: E402
 from gogbetiku_vectors import rfc8554  # noqa: E402
-from gogbetiku_vectors.scenes import (LEVEL, LINE, LINE_LDM, PARAMETERS, SEED, STREETS, brings, brings_apart, owner,  # noqa: E402
-                                      published, settings_of)
+from gogbetiku_vectors.scenes import (
+    LEVEL,
+    LINE,
+    LINE_LDM,
+    PARAMETERS,
+    SEED,
+    STREETS,
+    brings,
+    brings_apart,
+    owner,  # noqa: E402
+    published,
+    settings_of,
+)
 
-GREATEST = 2 ** 64 - 1
+GREATEST = 2**64 - 1
 ORDERS = ("id", "breadth", "depth", "hilbert", "kd", "shuffled")
 # what stands before the route of an answer, and before the items of a reply on a radius
 ROUTE, FRONT = 1 + 104 + 2 + 1292, 4 + 104 + 2 + 1292
@@ -145,10 +156,17 @@ def compare_reductions() -> None:
     """What forgeries show: the rows of the tests of reductions, under the key of the octets 0 to 47."""
     tests = (TOP / "crates/seal_tests/src/reducing.rt").read_text(encoding="utf-8")
     key = key_of(5, bytes(range(48)))
-    rows = [(31, b"version 9", None), (0, b"version 9", b"version 8"), (7, b"version 13", b"version 3"), (7, b"", b"version 3")]
+    rows = [
+        (31, b"version 9", None),
+        (0, b"version 9", b"version 8"),
+        (7, b"version 13", b"version 3"),
+        (7, b"", b"version 3"),
+    ]
     for slot, text, spent in rows:
         found = reduce(key, spent, text, key.sign(slot, text))
-        row = rf'{slot},\s+b"{text.decode()}",[^"]*(?:"[^"]*"\),)?\s+{found.at},\s+{found.step},\s+"{found.value.hex()}"'
+        row = (
+            rf'{slot},\s+b"{text.decode()}",[^"]*(?:"[^"]*"\),)?\s+{found.at},\s+{found.step},\s+"{found.value.hex()}"'
+        )
         same(f"reducing.rt: {slot} {text!r}", re.search(row, tests) is not None, True)
 
 

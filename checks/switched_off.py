@@ -33,7 +33,9 @@ def is_test(node: ast.AST) -> bool:
     """Whether a node refuses something or bounds it: a `raise`, a field whose values are limited, or a comparison."""
     if isinstance(node, ast.Compare):
         return type(node.ops[0]) in MOVED
-    is_field = isinstance(node, ast.Call) and isinstance(node.func, ast.Attribute) and node.func.attr in ("number", "take")
+    is_field = (
+        isinstance(node, ast.Call) and isinstance(node.func, ast.Attribute) and node.func.attr in ("number", "take")
+    )
     return isinstance(node, ast.Raise) or (is_field and len(node.args) > 1)
 
 

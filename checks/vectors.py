@@ -53,7 +53,9 @@ class Program:
     def __init__(self, path: str, folder: pathlib.Path):
         self.path, self.folder, self.runs = str(pathlib.Path(path).resolve()), folder, 0
 
-    def run(self, *words: object, source: bytes = b"", disk: bytes | None = None, **given: bytes) -> tuple[int, bytes, str]:
+    def run(
+        self, *words: object, source: bytes = b"", disk: bytes | None = None, **given: bytes
+    ) -> tuple[int, bytes, str]:
         """A command's status, output and message, over these files and this disk."""
         for name, text in given.items():
             (self.folder / name).write_bytes(text)
@@ -62,7 +64,9 @@ class Program:
         if disk is not None:
             desk.write_bytes(disk)
         self.runs += 1
-        done = subprocess.run([self.path, *map(str, words)], cwd=self.folder, input=source, capture_output=True, check=False)
+        done = subprocess.run(
+            [self.path, *map(str, words)], cwd=self.folder, input=source, capture_output=True, check=False
+        )
         return done.returncode, done.stdout, done.stderr.decode()
 
     def disk(self) -> bytes:
@@ -120,8 +124,12 @@ UNSIGNED = "refused BadSignature BadForm\n"
 LEAF_AT = 1 + 104 + 2 + 8 + 4 + 6
 
 
-def said_of(program: Program, reply: bytes, start: int = 1, end: int = 3, least: str = "0", public: bytes | None = None) -> str:
-    _, output, _ = program.run("check", "key", "reply", start, end, least, key=(public or owner().public).hex().encode(), reply=reply)
+def said_of(
+    program: Program, reply: bytes, start: int = 1, end: int = 3, least: str = "0", public: bytes | None = None
+) -> str:
+    _, output, _ = program.run(
+        "check", "key", "reply", start, end, least, key=(public or owner().public).hex().encode(), reply=reply
+    )
     return output.decode()
 
 
@@ -148,20 +156,43 @@ def header(program: Program, given: Fields, result: Fields) -> None:
 
 
 def chain_file(program: Program, given: Fields, result: Fields) -> None:
-    ended = program.run("check", "key", "reply", 1, 3, 0, "chain", key=owner().public.hex().encode(), reply=b"\x01", chain=octets(given["octets"]))
+    ended = program.run(
+        "check",
+        "key",
+        "reply",
+        1,
+        3,
+        0,
+        "chain",
+        key=owner().public.hex().encode(),
+        reply=b"\x01",
+        chain=octets(given["octets"]),
+    )
     if "malformed" in result:
         return faulty("check", ended, f"Malformed {result['malformed']}")
     same("check", ended[:2], (REFUSED, b"refused NotAnswer 1\n"))
 
 
 def key(program: Program, given: Fields, result: Fields) -> None:
-    same("key", program.run("key", "secret", given["kind"], secret=given["secret"].encode())[:2], (0, f"{result['public']}\n".encode()))
+    same(
+        "key",
+        program.run("key", "secret", given["kind"], secret=given["secret"].encode())[:2],
+        (0, f"{result['public']}\n".encode()),
+    )
 
 
 def reduced_verdict(program: Program, given: Fields) -> str:
     """What `reduce` says of a signature, over a disk of the key that has signed nothing."""
-    _, output, _ = program.run("reduce", "key", "text", "signature", disk=blank_disk(octets(given["secret"])), key=key_file(given["public"]),
-                               text=given["text"].encode(), signature=given["signature"].encode())
+    _, output, _ = program.run(
+        "reduce",
+        "key",
+        "text",
+        "signature",
+        disk=blank_disk(octets(given["secret"])),
+        key=key_file(given["public"]),
+        text=given["text"].encode(),
+        signature=given["signature"].encode(),
+    )
     return "valid" if output.startswith(b"chain ") else output.decode().removeprefix("refused BadSignature ").strip()
 
 
@@ -183,7 +214,9 @@ def turned_signature(program: Program, given: Fields, result: Fields) -> None:
 def tree(program: Program, given: Fields, result: Fields) -> None:
     """By `root`: the leaves are those of the nodes of a line."""
     count = len(given["leaves"])
-    parts = Parts(tuple((node, node, 0) for node in range(1, count + 1)), tuple((node, node + 1, 5) for node in range(1, count)))
+    parts = Parts(
+        tuple((node, node, 0) for node in range(1, count + 1)), tuple((node, node + 1, 5) for node in range(1, count))
+    )
     ended = program.run("root", "map.roads", given["fan"], **{"map.roads": print_roads(parts)})
     same("root", ended[:2], (0, f"{count} {result['levels'][-1][0]}\n".encode()))
 
@@ -193,11 +226,13 @@ def fold(program: Program, given: Fields, result: Fields) -> None:
     if any(place <= before for before, place in zip(given["places"], given["places"][1:])):
         return
     signed = Header(1, 0, given["fan"], 3, given["count"], octets(result.get("root", "00" * 32)), 0, bytes(32), 0, 0)
-    text = b"".join(u32(place) + u16(len(octets(one))) + octets(one) for place, one in zip(given["places"], given["texts"]))
+    text = b"".join(
+        u32(place) + u16(len(octets(one))) + octets(one) for place, one in zip(given["places"], given["texts"])
+    )
     items = u32(len(given["places"])) + text + u32(0)
     cover = u32(len(given["cover"])) + octets("".join(given["cover"])) + u32(0)
     seal = owner().sign(0, signed.octets())
-    said = said_of(program, u8(0) + signed.octets() + u16(len(seal)) + seal + u32(1) + u32(10 ** 9) + items + cover)
+    said = said_of(program, u8(0) + signed.octets() + u16(len(seal)) + seal + u32(1) + u32(10**9) + items + cover)
     wanted = f"refused BadCover 1 {result['fault'].split()[0]}\n" if "fault" in result else "refused BadRoute 0\n"
     same("check", said, wanted)
 
@@ -207,7 +242,20 @@ def order(program: Program, given: Fields, result: Fields) -> None:
     parts = Parts(tuple(map(tuple, given["nodes"])), tuple(map(tuple, given["roads"])))
     chart = map_of(parts)
     root = root_of([NodeLeaf(node, *chart.places[node], chart.arcs[node]).text() for node in result["ids"]], 2)
-    ended = program.run("publish", "map.roads", "dij", 1, given["order"], given["seed"], 2, 0, 0, 0, disk=blank_disk(), **{"map.roads": print_roads(parts)})
+    ended = program.run(
+        "publish",
+        "map.roads",
+        "dij",
+        1,
+        given["order"],
+        given["seed"],
+        2,
+        0,
+        0,
+        0,
+        disk=blank_disk(),
+        **{"map.roads": print_roads(parts)},
+    )
     same("publish", (ended[0], ended[1][24:56]), (0, root))
 
 
@@ -266,8 +314,19 @@ def survey(program: Program, given: Fields, result: Fields) -> None:
 
 
 def checked(program: Program, given: Fields) -> tuple[int, str]:
-    words = ["check-reach", "key", "reply", given["from"], given["radius"]] if "radius" in given else ["check", "key", "reply", given["from"], given["to"]]
-    status, output, _ = program.run(*words, given["least"], "chain", key=key_file(given["public"]), reply=octets(given["reply"]), chain=octets(given["chain"]))
+    words = (
+        ["check-reach", "key", "reply", given["from"], given["radius"]]
+        if "radius" in given
+        else ["check", "key", "reply", given["from"], given["to"]]
+    )
+    status, output, _ = program.run(
+        *words,
+        given["least"],
+        "chain",
+        key=key_file(given["public"]),
+        reply=octets(given["reply"]),
+        chain=octets(given["chain"]),
+    )
     return status, output.decode()
 
 
@@ -295,7 +354,9 @@ def place_by(program: Program, sort: str, text: bytes) -> int | None:
         return placed(program.run("prove", "pub", 1, 3, pub=text))
     if sort == "chain":
         return placed(program.run("check", "key", "reply", 1, 3, 0, "chain", key=public, reply=b"\x01", chain=text))
-    _, output, _ = program.run("check-reach" if sort == "radius reply" else "check", "key", "reply", 1, 3, 0, key=public, reply=text)
+    _, output, _ = program.run(
+        "check-reach" if sort == "radius reply" else "check", "key", "reply", 1, 3, 0, key=public, reply=text
+    )
     found = re.fullmatch(rb"refused Malformed (\d+)\n", output)
     return int(found[1]) if found else None
 
@@ -332,21 +393,72 @@ def ended_as(what: str, ended: tuple[int, bytes, str], result: Fields) -> None:
 
 
 def audit(program: Program, given: Fields, result: Fields) -> None:
-    words = ["audit-reach", "key", "pub", "reply", given["from"], given["radius"]] if "radius" in given else ["audit", "key", "pub", "reply", given["from"], given["to"]]
-    ended_as("audit", program.run(*words, "chain", disk=owners.image_in(given["image"]), key=key_file(given["public"]), pub=octets(given["publication"]),
-                                  reply=octets(given["reply"]), chain=octets(given["chain"])), result)
+    words = (
+        ["audit-reach", "key", "pub", "reply", given["from"], given["radius"]]
+        if "radius" in given
+        else ["audit", "key", "pub", "reply", given["from"], given["to"]]
+    )
+    ended_as(
+        "audit",
+        program.run(
+            *words,
+            "chain",
+            disk=owners.image_in(given["image"]),
+            key=key_file(given["public"]),
+            pub=octets(given["publication"]),
+            reply=octets(given["reply"]),
+            chain=octets(given["chain"]),
+        ),
+        result,
+    )
 
 
 def reduction(program: Program, given: Fields, result: Fields) -> None:
-    ended_as("reduce", program.run("reduce", "key", "text", "signature", disk=owners.image_in(given["image"]), key=key_file(given["public"]),
-                                   text=given["text"].encode(), signature=given["signature"].encode()), result)
+    ended_as(
+        "reduce",
+        program.run(
+            "reduce",
+            "key",
+            "text",
+            "signature",
+            disk=owners.image_in(given["image"]),
+            key=key_file(given["public"]),
+            text=given["text"].encode(),
+            signature=given["signature"].encode(),
+        ),
+        result,
+    )
 
 
 PLAYS: dict[str, Callable[[Program, Fields, Fields], None]] = {
-    "road_files": road_file, "dimacs_files": dimacs_file, "leaves": leaf, "headers": header, "chain_files": chain_file, "cuts": cut, "keys": key, "great_keys": key,
-    "signatures": signature, "turned_signatures": turned_signature, "trees": tree, "folds": fold, "orders": order, "publications": publication, "installs": installing,
-    "replies": reply, "radii": radius, "routes": route, "services": service, "surveys": survey, "client": client, "client_radius": client, "turned": turned_reply,
-    "desks": desk, "desk_changes": desk_change, "audits": audit, "reductions": reduction}
+    "road_files": road_file,
+    "dimacs_files": dimacs_file,
+    "leaves": leaf,
+    "headers": header,
+    "chain_files": chain_file,
+    "cuts": cut,
+    "keys": key,
+    "great_keys": key,
+    "signatures": signature,
+    "turned_signatures": turned_signature,
+    "trees": tree,
+    "folds": fold,
+    "orders": order,
+    "publications": publication,
+    "installs": installing,
+    "replies": reply,
+    "radii": radius,
+    "routes": route,
+    "services": service,
+    "surveys": survey,
+    "client": client,
+    "client_radius": client,
+    "turned": turned_reply,
+    "desks": desk,
+    "desk_changes": desk_change,
+    "audits": audit,
+    "reductions": reduction,
+}
 
 
 def by_library(library: str) -> Callable[[Fields], Fields]:
@@ -367,6 +479,7 @@ def by_library(library: str) -> Callable[[Fields], Fields]:
         if isinstance(found, route_check.Apart):
             return told("accepted none\n", 16, 0, 0, found.version)
         return told(f"accepted {found.length}:{''.join(f' {node}' for node in found.nodes)}\n", 0, 0, 0, found.version)
+
     return run
 
 
@@ -374,13 +487,19 @@ def told(line: str, code: int, first: int, second: int, version: int) -> Fields:
     return {"line": line, "code": code, "first": str(first), "second": str(second), "version": str(version)}
 
 
-def library_plays(run: Callable[[Fields], Fields], name: str, given: Fields, result: Fields, strides: tuple[int, int]) -> int:
+def library_plays(
+    run: Callable[[Fields], Fields], name: str, given: Fields, result: Fields, strides: tuple[int, int]
+) -> int:
     """Plays a case by the library, where it is one of a client; how many checks that took."""
     if name in ("client", "client_radius"):
         same("library", run(given), result)
         return 1
     if name == "turned":
-        bits = [(bit, line) for (begin, end), line in zip(given["bits"], result["lines"]) for bit in range(begin, end, strides[0])]
+        bits = [
+            (bit, line)
+            for (begin, end), line in zip(given["bits"], result["lines"])
+            for bit in range(begin, end, strides[0])
+        ]
         for bit, line in bits:
             changed = turned(octets(given["reply"]), bit // 8, 128 >> bit % 8).hex()
             same(f"library, bit {bit}", run({**given, "reply": changed})["line"], line)
@@ -401,14 +520,18 @@ def library_cuts(run: Callable[[Fields], Fields], given: Fields, result: Fields,
         query = clients.near_asked(b"", 1, 3, 0)
     for (begin, end), place in zip(given["lengths"], result["places"]):
         for length in range(begin, end, stride):
-            line = run({**query, "reply": given["octets"][:2 * length]})["line"]
+            line = run({**query, "reply": given["octets"][: 2 * length]})["line"]
             same(f"library, cut at {length}", line, f"refused Malformed {place}\n")
             count += 1
     return count
 
 
 def reference_plays(family, case: Fields, everything: bool) -> None:
-    runs = {"turned": (clients.run_turned, BITS), "turned_signatures": (signing.run_turned, SIGNED_BITS), "cuts": (formats.run_cut, 1)}
+    runs = {
+        "turned": (clients.run_turned, BITS),
+        "turned_signatures": (signing.run_turned, SIGNED_BITS),
+        "cuts": (formats.run_cut, 1),
+    }
     if family.name in runs:
         run, stride = runs[family.name]
         same("reference", run(case["given"], 1 if everything else stride), case["result"])
@@ -428,7 +551,9 @@ def play(words: list[str], everything: bool, folder: pathlib.Path) -> tuple[Coun
                 if program is not None:
                     PLAYS[family.name](program, case["given"], case["result"])
                 if library is not None:
-                    counts["library"] += library_plays(library, family.name, case["given"], case["result"], (1, 1) if everything else (BITS, LENGTHS))
+                    counts["library"] += library_plays(
+                        library, family.name, case["given"], case["result"], (1, 1) if everything else (BITS, LENGTHS)
+                    )
             except Differs as fault:
                 faults.append(f"{case['id']} ({case['why']}): {fault}")
     counts["program"] = program.runs if program else 0
@@ -441,7 +566,9 @@ def main() -> int:
         counts, faults = play(words, "--all" in sys.argv, pathlib.Path(folder))
     for fault in faults:
         print(fault)
-    print(f"vectors: {counts['cases']} cases, {counts['program']} runs of the program and {counts['library']} checks of the library beside the reference, {len(faults)} differ")
+    print(
+        f"vectors: {counts['cases']} cases, {counts['program']} runs of the program and {counts['library']} checks of the library beside the reference, {len(faults)} differ"
+    )
     return 1 if faults else 0
 
 

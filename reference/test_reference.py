@@ -43,7 +43,13 @@ class Rows(unittest.TestCase):
 
     def test_orders_of_five_nodes(self) -> None:
         chart = map_of(STREETS)
-        by_hand = {"id": [1, 2, 3, 4, 5], "breadth": [1, 2, 4, 3, 5], "depth": [1, 2, 3, 4, 5], "hilbert": [1, 4, 2, 3, 5], "kd": [1, 2, 4, 3, 5]}
+        by_hand = {
+            "id": [1, 2, 3, 4, 5],
+            "breadth": [1, 2, 4, 3, 5],
+            "depth": [1, 2, 3, 4, 5],
+            "hilbert": [1, 4, 2, 3, 5],
+            "kd": [1, 2, 4, 3, 5],
+        }
         for name, ids in by_hand.items():
             self.assertEqual(order_of(chart, ORDERS[name], 0), ids, name)
 
@@ -93,7 +99,9 @@ class Rows(unittest.TestCase):
     def test_sizes(self) -> None:
         held = published(STREETS, settings_of("dij"))
         self.assertEqual([len(level) for level in held.book.node_levels], [5, 3, 2, 1])
-        self.assertEqual((len(held.publication.octets()), len(answer(held, 1, 3)), len(answer_near(held, 1, 4))), (1550, 1611, 1585))
+        self.assertEqual(
+            (len(held.publication.octets()), len(answer(held, 1, 3)), len(answer_near(held, 1, 4))), (1550, 1611, 1585)
+        )
         leaf = "4e000000010000000000000000000200000002000000040000000400000003"
         self.assertEqual(held.book.node_texts[0].hex(), leaf)
 
@@ -101,7 +109,9 @@ class Rows(unittest.TestCase):
         nodes = Parts(tuple((node, node, 0) for node in range(1025)), ())
         with self.assertRaisesRegex(Fault, "TooManyNodes 1025"):
             book_of(nodes, settings_of("full"))
-        rows = Parts(tuple((node, node % 2, 0) for node in range(2050)), tuple((node, node + 1, 1) for node in range(0, 2050, 2)))
+        rows = Parts(
+            tuple((node, node % 2, 0) for node in range(2050)), tuple((node, node + 1, 1) for node in range(0, 2050, 2))
+        )
         with self.assertRaisesRegex(Fault, "TooManyBorders 2050"):
             book_of(rows, Settings(4, 1, 0, 0, 2, 2, 1, 0))
 

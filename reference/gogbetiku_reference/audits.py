@@ -46,23 +46,32 @@ def forged(desk: Desk, chain: Sequence[Link], header: Header, signature: bytes) 
     return next((Forged(*signed) for signed in texts if not desk.has_signed(signed[0])), None)
 
 
-def clash_under(texts: Sequence[bytes], fan: int, items: Sequence[NodeItem | PairItem],
-                cover: Sequence[bytes]) -> Clash | None:
+def clash_under(
+    texts: Sequence[bytes], fan: int, items: Sequence[NodeItem | PairItem], cover: Sequence[bytes]
+) -> Clash | None:
     return clash(texts, fan, [item.place for item in items], [item.text for item in items], cover) if items else None
 
 
 def route_clash(held: Held, reply: Answer) -> Clash | None:
     book, fan = held.book, held.book.settings.fan
-    return (clash_under(book.node_texts, fan, reply.nodes, reply.node_cover)
-            or clash_under(book.pair_texts, fan, reply.pairs, reply.pair_cover))
+    return clash_under(book.node_texts, fan, reply.nodes, reply.node_cover) or clash_under(
+        book.pair_texts, fan, reply.pairs, reply.pair_cover
+    )
 
 
 def near_clash(held: Held, reply: NearReply) -> Clash | None:
     return clash_under(held.book.node_texts, held.book.settings.fan, reply.nodes, reply.node_cover)
 
 
-def audit_reply(public: bytes, chain: Sequence[Link], publication: Publication, desk: Desk, checked: Callable[[], object],
-                reply_of: Callable[[], Answer | NearReply], clash_of: Callable[[Held, object], Clash | None]) -> Finding:
+def audit_reply(
+    public: bytes,
+    chain: Sequence[Link],
+    publication: Publication,
+    desk: Desk,
+    checked: Callable[[], object],
+    reply_of: Callable[[], Answer | NearReply],
+    clash_of: Callable[[Held, object], Clash | None],
+) -> Finding:
     """The first finding that holds. A refusal of the client, and each other reason to find nothing, is raised."""
     desk.area_of(public)
     checked()
@@ -77,13 +86,29 @@ def audit_reply(public: bytes, chain: Sequence[Link], publication: Publication, 
     return Right() if found is None else Collision(*found)
 
 
-def audit(public: bytes, chain: Sequence[Link], publication: Publication, octets: bytes, start: int, end: int,
-          desk: Desk) -> Finding:
-    return audit_reply(public, chain, publication, desk, lambda: check(public, chain, octets, start, end, 0),
-                       lambda: read_reply(Reader(octets)), route_clash)
+def audit(
+    public: bytes, chain: Sequence[Link], publication: Publication, octets: bytes, start: int, end: int, desk: Desk
+) -> Finding:
+    return audit_reply(
+        public,
+        chain,
+        publication,
+        desk,
+        lambda: check(public, chain, octets, start, end, 0),
+        lambda: read_reply(Reader(octets)),
+        route_clash,
+    )
 
 
-def audit_near(public: bytes, chain: Sequence[Link], publication: Publication, octets: bytes, start: int, radius: int,
-               desk: Desk) -> Finding:
-    return audit_reply(public, chain, publication, desk, lambda: check_near(public, chain, octets, start, radius, 0),
-                       lambda: read_near_reply(Reader(octets)), near_clash)
+def audit_near(
+    public: bytes, chain: Sequence[Link], publication: Publication, octets: bytes, start: int, radius: int, desk: Desk
+) -> Finding:
+    return audit_reply(
+        public,
+        chain,
+        publication,
+        desk,
+        lambda: check_near(public, chain, octets, start, radius, 0),
+        lambda: read_near_reply(Reader(octets)),
+        near_clash,
+    )

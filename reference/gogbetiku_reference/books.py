@@ -61,8 +61,18 @@ class Book:
     @cached_property
     def header(self) -> Header:
         wanted = self.settings
-        return Header(wanted.method, wanted.order, wanted.fan, wanted.version, len(self.nodes), self.node_levels[-1][0],
-                      len(self.pairs), self.pair_levels[-1][0], self.first, self.second)
+        return Header(
+            wanted.method,
+            wanted.order,
+            wanted.fan,
+            wanted.version,
+            len(self.nodes),
+            self.node_levels[-1][0],
+            len(self.pairs),
+            self.pair_levels[-1][0],
+            self.first,
+            self.second,
+        )
 
 
 def parameter_ranges(settings: Settings, nodes: int) -> tuple[range, range, range]:
@@ -110,7 +120,9 @@ def hyp_book(chart: Map, settings: Settings, order: list[int]) -> Book:
     if len(borders) > MOST_BORDERS:
         raise Fault("TooManyBorders", len(borders))
     added = {node: InCell(cells[node], node in borders) for node in order}
-    return Book(chart, settings, node_leaves(chart, order, added), pair_leaves(chart, borders), settings.p1, settings.p2)
+    return Book(
+        chart, settings, node_leaves(chart, order, added), pair_leaves(chart, borders), settings.p1, settings.p2
+    )
 
 
 def book_on(chart: Map, settings: Settings) -> Book:

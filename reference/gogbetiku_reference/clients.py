@@ -59,8 +59,14 @@ def test_header(public: bytes, chain: Sequence[Link], header: Header, signature:
         raise Refused("BadSignature", reasons[-1])
 
 
-def test_cover(tree: tuple[int, ...], leaves: int, fan: int, items: Sequence[NodeItem | PairItem], cover: Sequence[bytes],
-               root: bytes) -> None:
+def test_cover(
+    tree: tuple[int, ...],
+    leaves: int,
+    fan: int,
+    items: Sequence[NodeItem | PairItem],
+    cover: Sequence[bytes],
+    root: bytes,
+) -> None:
     """Items and a cover are under the root of a tree. Without an item nothing is folded."""
     if not items:
         if cover:
@@ -83,8 +89,9 @@ def check(public: bytes, chain: Sequence[Link], octets: bytes, start: int, end: 
     test_header(public, chain, header, answer.signature, least)
     test_cover(NODES, header.nodes, header.fan, answer.nodes, answer.node_cover, header.node_root)
     test_cover(PAIRS, header.pairs, header.fan, answer.pairs, answer.pair_cover, header.pair_root)
-    hand = AtHand(tuple(item.leaf for item in answer.nodes), tuple(item.leaf for item in answer.pairs), start, end,
-                  header.first)
+    hand = AtHand(
+        tuple(item.leaf for item in answer.nodes), tuple(item.leaf for item in answer.pairs), start, end, header.first
+    )
     if answer.kind == APART:
         judge_apart(header.method, hand)
         return Accepted(None, 0, header)

@@ -24,8 +24,20 @@ from .publications import Publication, Settings, read_publication
 from .road_files import print_roads, read_roads
 from .trees import root_of
 
-STATUSES = {"Words": 2, "KeysUsedUp": 8, "UnknownNode": 11, "NoRoute": 11, "Held": 12, "NoKey": 12, "BadBlock": 12,
-            "TooManyKeys": 12, "NoSuccession": 12, "SameSecret": 12, "TooManyFrames": 13, "OtherPublication": 14}
+STATUSES = {
+    "Words": 2,
+    "KeysUsedUp": 8,
+    "UnknownNode": 11,
+    "NoRoute": 11,
+    "Held": 12,
+    "NoKey": 12,
+    "BadBlock": 12,
+    "TooManyKeys": 12,
+    "NoSuccession": 12,
+    "SameSecret": 12,
+    "TooManyFrames": 13,
+    "OtherPublication": 14,
+}
 DONE, REFUSED, FAULTY, EVIDENCE = 0, 1, 3, 10
 MOST_FILE = 268_435_456
 SECRET_DIGITS, PUBLIC_DIGITS = 96, 112
@@ -143,7 +155,9 @@ def links(world: World) -> Ended:
     return world.ended(DONE, write_chain(desks.open_desk(world.disk).links()))
 
 
-def publish(world: World, roads: str, method: int, version: int, order: int, seed: int, fan: int, *parameters: int) -> Ended:
+def publish(
+    world: World, roads: str, method: int, version: int, order: int, seed: int, fan: int, *parameters: int
+) -> Ended:
     parts = read_roads(world.load(roads))
     desks.open_desk(world.disk)
     book = book_of(parts, Settings(method, version, order, seed, fan, *parameters))
@@ -181,8 +195,16 @@ def check_reach(world: World, public: str, reply: str, start: int, radius: int, 
     return told(world, lambda: within_line(clients.check_near(owner, followed, octets, start, radius, least)))
 
 
-def audited(world: World, audit: Callable[..., audits.Finding], public: str, publication: str, reply: str, start: int,
-            end: int, chain: tuple[str, ...]) -> Ended:
+def audited(
+    world: World,
+    audit: Callable[..., audits.Finding],
+    public: str,
+    publication: str,
+    reply: str,
+    start: int,
+    end: int,
+    chain: tuple[str, ...],
+) -> Ended:
     owner, published = world.hex_file(public, PUBLIC_DIGITS), world.publication(publication)
     octets, followed = world.load(reply), world.chain(chain)
     opened = desks.open_desk(world.disk)
@@ -222,10 +244,12 @@ def file_name(word: str) -> str:
 
 def number(values: range) -> Callable[[str], int | None]:
     """A word that is a number of this range."""
+
     def read(word: str) -> int | None:
         significant = word.lstrip("0") or "0"
         is_number = re.fullmatch("[0-9]+", word) and len(significant) <= 20
         return int(significant) if is_number and int(significant) in values else None
+
     return read
 
 
@@ -233,7 +257,7 @@ def one_of(names: dict[str, int]) -> Callable[[str], int | None]:
     return names.get
 
 
-FILE, ID, WIDE, FAN = file_name, number(range(2 ** 32)), number(range(2 ** 64)), number(range(2, 33))
+FILE, ID, WIDE, FAN = file_name, number(range(2**32)), number(range(2**64)), number(range(2, 33))
 METHOD, ORDER, KIND = one_of(METHODS), one_of(ORDERS), one_of(KINDS)
 FORMS: dict[str, tuple[Callable[..., Ended], list, bool]] = {
     "route": (route, [FILE, ID, ID], False),

@@ -62,22 +62,24 @@ class Desk:
 
     def links(self) -> tuple[Link, ...]:
         """The chain from the first key to the current one."""
-        return tuple(Link(after.key.public, before.key.sign(before.key.slots - 1, link_text(after.key.public)))
-                     for before, after in zip(self.areas, self.areas[1:]))
+        return tuple(
+            Link(after.key.public, before.key.sign(before.key.slots - 1, link_text(after.key.public)))
+            for before, after in zip(self.areas, self.areas[1:])
+        )
 
 
 def slot_text(image: bytes, at: int) -> bytes | None:
     """The text of the slot that begins there, nothing where it is not spent."""
     length = min(image[at + 1], MOST_TEXT)
-    return image[at + 2:at + 2 + length] if image[at] != 0 else None
+    return image[at + 2 : at + 2 + length] if image[at] != 0 else None
 
 
 def read_area(image: bytes, at: int) -> Area:
     """The area that begins there."""
-    kind = int.from_bytes(image[at + 1:at + 5], "big")
+    kind = int.from_bytes(image[at + 1 : at + 5], "big")
     if kind not in HEIGHTS or at + area_octets(kind) > len(image):
         raise Fault("BadBlock")
-    key = key_of(kind, image[at + 5:at + 53])
+    key = key_of(kind, image[at + 5 : at + 53])
     texts = tuple(slot_text(image, at + BLOCK + SLOT * slot) for slot in range(key.slots))
     if any(text is not None and is_link_text(text) for text in texts[:-1]):
         raise Fault("BadBlock")
@@ -104,7 +106,7 @@ def open_desk(image: bytes) -> Desk:
 
 def written(image: bytes, at: int, octets: bytes) -> bytes:
     """An image after octets were written at a place that is not past its end."""
-    return image[:at] + octets + image[at + len(octets):]
+    return image[:at] + octets + image[at + len(octets) :]
 
 
 def blank_area(kind: int, secret: bytes, gate: int) -> bytes:

@@ -25,9 +25,9 @@ def told_lines(text: bytes) -> Lines:
 def problem(lines: Lines, file: int, begins: list[bytes], counts: int) -> tuple[int, ...]:
     """The counts of the problem line, the first line of all."""
     number, words = next(lines, (0, []))
-    if words[:len(begins)] != begins or len(words) != len(begins) + counts:
+    if words[: len(begins)] != begins or len(words) != len(begins) + counts:
         raise Fault("NoProblem", file)
-    numbers = numbers_of(words[len(begins):], (unsigned,) * counts)
+    numbers = numbers_of(words[len(begins) :], (unsigned,) * counts)
     if numbers is None:
         raise Fault("BadNumber", file, number)
     if numbers[0] > MOST_NODES or (counts == 2 and numbers[1] > MOST_ARCS):
@@ -61,7 +61,7 @@ def read_graph(text: bytes) -> tuple[int, list[Arc]]:
 def read_places(text: bytes, nodes: int) -> list[tuple[int, int, int]]:
     """The nodes with their places, by rising id."""
     lines = told_lines(text)
-    count, = problem(lines, PLACES, [b"p", b"aux", b"sp", b"co"], 1)
+    (count,) = problem(lines, PLACES, [b"p", b"aux", b"sp", b"co"], 1)
     places = list(rows(lines, PLACES, b"v", (unsigned, coordinate, coordinate), 1, count))
     if count != nodes or len(places) != count:
         raise Fault("Count", PLACES)

@@ -10,10 +10,10 @@ class Draw:
     """Numbers from 0 to 32,767, the same ones for the same seed."""
 
     def __init__(self, seed: int):
-        self.state = seed % 2 ** 31
+        self.state = seed % 2**31
 
     def next(self) -> int:
-        self.state = (self.state * 1103515245 + 12345) % 2 ** 31
+        self.state = (self.state * 1103515245 + 12345) % 2**31
         return self.state // 65536
 
 

@@ -76,14 +76,14 @@ def framed(body: bytes) -> bytes:
 
 def next_frame(text: bytes, at: int) -> bytes:
     """The body of the frame that begins there."""
-    length = int.from_bytes(text[at:at + 4], "big")
+    length = int.from_bytes(text[at : at + 4], "big")
     if len(text) - at < 4:
         raise Fault("TruncatedFrame")
     if length > MOST_OCTETS:
         raise Fault("FrameTooLong")
     if len(text) - at - 4 < length:
         raise Fault("TruncatedFrame")
-    return text[at + 4:at + 4 + length]
+    return text[at + 4 : at + 4 + length]
 
 
 def bodies_of(text: bytes) -> tuple[list[bytes], Fault | None]:

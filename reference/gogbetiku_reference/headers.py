@@ -13,7 +13,7 @@ DIJ, FULL, LDM, HYP = 1, 2, 3, 4
 METHODS = {"dij": DIJ, "full": FULL, "ldm": LDM, "hyp": HYP}
 NONE = range(1)
 PAIRS = {DIJ: NONE, FULL: range(523_777), LDM: NONE, HYP: range(2_096_129)}
-FIRST = {DIJ: NONE, FULL: NONE, LDM: range(1, 2 ** 64), HYP: range(1, 1025)}
+FIRST = {DIJ: NONE, FULL: NONE, LDM: range(1, 2**64), HYP: range(1, 1025)}
 SECOND = {DIJ: NONE, FULL: NONE, LDM: range(1, 65), HYP: range(1, 1025)}
 NO_ROOT = bytes(32)
 
@@ -32,8 +32,20 @@ class Header:
     second: int
 
     def octets(self) -> bytes:
-        return (HEADER + u8(self.method) + u8(self.order) + u8(self.fan) + u8(0) + u64(self.version) + u32(self.nodes)
-                + self.node_root + u32(self.pairs) + self.pair_root + u64(self.first) + u64(self.second))
+        return (
+            HEADER
+            + u8(self.method)
+            + u8(self.order)
+            + u8(self.fan)
+            + u8(0)
+            + u64(self.version)
+            + u32(self.nodes)
+            + self.node_root
+            + u32(self.pairs)
+            + self.pair_root
+            + u64(self.first)
+            + u64(self.second)
+        )
 
     def kind(self) -> Kind:
         """What the leaves of the nodes add."""

@@ -31,13 +31,17 @@ def farness(chart: Map, chosen: list[int], node: int) -> float:
 
 def step_of(chart: Map, chosen: list[int], bits: int) -> int:
     greatest = max(length for mark in chosen for length in chart.distances(mark).values())
-    return greatest // (2 ** bits - 1) + 1
+    return greatest // (2**bits - 1) + 1
 
 
 def codes_of(chart: Map, chosen: list[int], step: int) -> dict[int, Codes]:
     """The codes of each node, one a landmark."""
-    return {node: tuple(chart.distances(mark)[node] // step if node in chart.distances(mark) else GREATEST_CODE
-                        for mark in chosen) for node in chart.places}
+    return {
+        node: tuple(
+            chart.distances(mark)[node] // step if node in chart.distances(mark) else GREATEST_CODE for mark in chosen
+        )
+        for node in chart.places
+    }
 
 
 def error_of(own: Codes, other: Codes) -> int | None:

@@ -6,7 +6,7 @@ from dataclasses import dataclass
 
 from .octets import Malformed, Reader, i32, u8, u16, u32, u64
 
-NO_WALK = 2 ** 64 - 1
+NO_WALK = 2**64 - 1
 PLAIN, VECTOR, CELL = "plain", "vector", "cell"
 PAIR_OCTETS = 17
 

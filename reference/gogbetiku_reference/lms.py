@@ -108,14 +108,14 @@ class Signature:
             raise Refused("BadForm")
         self.slot = int.from_bytes(octets[:4], "big")
         self.randomiser = octets[8:40]
-        self.values = [octets[at:at + 32] for at in range(40, 40 + 32 * CHAINS, 32)]
+        self.values = [octets[at : at + 32] for at in range(40, 40 + 32 * CHAINS, 32)]
         path_at = 44 + 32 * CHAINS
-        self.path = [octets[at:at + 32] for at in range(path_at, path_at + 32 * height, 32)]
+        self.path = [octets[at : at + 32] for at in range(path_at, path_at + 32 * height, 32)]
         if octets[4:8] != u32(ONE_TIME_TYPE):
             raise Refused("BadForm")
-        if octets[path_at - 4:path_at] != u32(kind):
+        if octets[path_at - 4 : path_at] != u32(kind):
             raise Refused("BadForm")
-        if self.slot >= 2 ** height:
+        if self.slot >= 2**height:
             raise Refused("BadForm")
 
 
@@ -137,8 +137,10 @@ def kind_of(public: bytes) -> int:
 def claimed_ends(name: bytes, signature: Signature, text: bytes) -> list[bytes]:
     """The last values of the chains, from those that a signature shows."""
     digits = digits_of(name, signature.slot, signature.randomiser, text)
-    return [walked(name, signature.slot, number, digit, LAST_STEP, value)
-            for number, (digit, value) in enumerate(zip(digits, signature.values))]
+    return [
+        walked(name, signature.slot, number, digit, LAST_STEP, value)
+        for number, (digit, value) in enumerate(zip(digits, signature.values))
+    ]
 
 
 def claimed_root(name: bytes, signature: Signature, leaf: bytes) -> bytes:

@@ -65,9 +65,13 @@ class Map:
 
     def is_shortest(self, start: int, end: int, route: tuple[int, ...]) -> bool:
         """Whether this is a shortest route between the two that meets no node twice."""
-        return (len(route) > 0 and (route[0], route[-1]) == (start, end) and len(set(route)) == len(route)
-                and self.length_of(route) is not None
-                and self.length_of(route) == self.distances(start).get(end))
+        return (
+            len(route) > 0
+            and (route[0], route[-1]) == (start, end)
+            and len(set(route)) == len(route)
+            and self.length_of(route) is not None
+            and self.length_of(route) == self.distances(start).get(end)
+        )
 
 
 def way_back(came: dict[int, int], start: int, end: int) -> tuple[int, ...]:

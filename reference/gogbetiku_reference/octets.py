@@ -26,7 +26,7 @@ class Reader:
         self.begins.append(self.at)
         if len(self.octets) - self.at < count:
             raise Malformed(self.at)
-        piece = self.octets[self.at:self.at + count]
+        piece = self.octets[self.at : self.at + count]
         if wanted is not None and piece != wanted:
             raise Malformed(self.at)
         self.at += count

@@ -20,8 +20,10 @@ def frame_slot(value: int, least: int, greatest: int, count: int) -> int:
 def slots(chart: Map, columns: int, rows: int) -> dict[int, tuple[int, int]]:
     """The column and the row of each node in the frame of all nodes."""
     xs, ys = [x for x, _ in chart.places.values()], [y for _, y in chart.places.values()]
-    return {node: (frame_slot(x, min(xs), max(xs), columns), frame_slot(y, min(ys), max(ys), rows))
-            for node, (x, y) in chart.places.items()}
+    return {
+        node: (frame_slot(x, min(xs), max(xs), columns), frame_slot(y, min(ys), max(ys), rows))
+        for node, (x, y) in chart.places.items()
+    }
 
 
 def by_id(chart: Map, _seed: int) -> list[int]:

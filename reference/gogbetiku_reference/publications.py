@@ -46,17 +46,26 @@ class Publication:
         settings = u64(self.seed) + u64(self.p1) + u64(self.p2) + u64(self.p3)
         nodes = b"".join(u32(node) + i32(x) + i32(y) for node, x, y in self.parts.nodes)
         roads = b"".join(u32(a) + u32(b) + u32(length) for a, b, length in self.parts.roads)
-        return (PUBLICATION + signed_text(self.header, self.signature) + settings + u32(len(self.parts.nodes)) + nodes
-                + u32(len(self.parts.roads)) + roads)
+        return (
+            PUBLICATION
+            + signed_text(self.header, self.signature)
+            + settings
+            + u32(len(self.parts.nodes))
+            + nodes
+            + u32(len(self.parts.roads))
+            + roads
+        )
 
 
 def read_publication(reader: Reader) -> Publication:
     reader.take(4, PUBLICATION)
     header, signature = read_header(reader), read_signature(reader)
     seed, p1, p2, p3 = (reader.number(8) for _ in range(4))
-    nodes = tuple((reader.number(4), reader.signed(4), reader.signed(4))
-                  for _ in range(reader.number(4, range(MOST_NODES + 1))))
-    roads = tuple((reader.number(4), reader.number(4), reader.number(4))
-                  for _ in range(reader.number(4, range(MOST_ROADS + 1))))
+    nodes = tuple(
+        (reader.number(4), reader.signed(4), reader.signed(4)) for _ in range(reader.number(4, range(MOST_NODES + 1)))
+    )
+    roads = tuple(
+        (reader.number(4), reader.number(4), reader.number(4)) for _ in range(reader.number(4, range(MOST_ROADS + 1)))
+    )
     reader.end()
     return Publication(header, signature, seed, p1, p2, p3, Parts(nodes, roads))

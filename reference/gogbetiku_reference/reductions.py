@@ -10,8 +10,24 @@ from dataclasses import dataclass
 from .audits import Collision
 from .faults import Refused
 from .hashing import sha256
-from .lms import (CHAINS, D_INTR, D_LEAF, D_MESG, D_PBLC, LAST_STEP, STEPS, Key, Signature, claimed_ends, digits_of,
-                  ends_hash, inner_value, leaf_value, verify, walked)
+from .lms import (
+    CHAINS,
+    D_INTR,
+    D_LEAF,
+    D_MESG,
+    D_PBLC,
+    LAST_STEP,
+    STEPS,
+    Key,
+    Signature,
+    claimed_ends,
+    digits_of,
+    ends_hash,
+    inner_value,
+    leaf_value,
+    verify,
+    walked,
+)
 from .octets import u16, u32
 
 Texts = tuple[bytes, bytes]
@@ -59,8 +75,10 @@ def chain_texts(key: Key, signature: Signature, text: bytes) -> Iterator[Texts]:
     for number, digit in enumerate(digits_of(key.name, signature.slot, signature.randomiser, text)):
         for step in range(LAST_STEP - 1, digit - 1, -1):
             front = key.name + u32(signature.slot) + u16(number) + STEPS[step]
-            yield (front + key.value(signature.slot, number, step),
-                   front + walked(key.name, signature.slot, number, digit, step, signature.values[number]))
+            yield (
+                front + key.value(signature.slot, number, step),
+                front + walked(key.name, signature.slot, number, digit, step, signature.values[number]),
+            )
 
 
 def collision_in(texts: Iterator[Texts]) -> Collision | None:
@@ -97,5 +115,7 @@ def reduce(key: Key, spent: bytes | None, text: bytes, octets: bytes) -> Signed 
 def shows_own(key: Key, signature: Signature, text: bytes) -> bool:
     """Whether each value is the key's own after as many steps as its digit says."""
     digits = digits_of(key.name, signature.slot, signature.randomiser, text)
-    return all(value == key.value(signature.slot, number, digit)
-               for number, (digit, value) in enumerate(zip(digits, signature.values)))
+    return all(
+        value == key.value(signature.slot, number, digit)
+        for number, (digit, value) in enumerate(zip(digits, signature.values))
+    )

@@ -45,8 +45,15 @@ class Answer:
 
     def octets(self) -> bytes:
         route = u32(len(self.route)) + b"".join(map(u32, self.route)) if self.kind == ROUTE else b""
-        return (u8(self.kind) + signed_text(self.header, self.signature) + route + node_items_text(self.nodes)
-                + pair_items_text(self.pairs) + cover_text(self.node_cover) + cover_text(self.pair_cover))
+        return (
+            u8(self.kind)
+            + signed_text(self.header, self.signature)
+            + route
+            + node_items_text(self.nodes)
+            + pair_items_text(self.pairs)
+            + cover_text(self.node_cover)
+            + cover_text(self.pair_cover)
+        )
 
 
 @dataclass(frozen=True)
@@ -59,8 +66,12 @@ class NearReply:
     node_cover: tuple[bytes, ...]
 
     def octets(self) -> bytes:
-        return (RADIUS + signed_text(self.header, self.signature) + node_items_text(self.nodes)
-                + cover_text(self.node_cover))
+        return (
+            RADIUS
+            + signed_text(self.header, self.signature)
+            + node_items_text(self.nodes)
+            + cover_text(self.node_cover)
+        )
 
 
 def signed_text(header: Header, signature: bytes) -> bytes:
@@ -89,7 +100,7 @@ def read_route(reader: Reader) -> tuple[int, ...]:
 
 def read_place(reader: Reader, before: int | None) -> int:
     """The place of an item, which is above that of the item before it."""
-    return reader.number(4, range(0 if before is None else before + 1, 2 ** 32))
+    return reader.number(4, range(0 if before is None else before + 1, 2**32))
 
 
 def read_leaf(reader: Reader, length: int, read: Callable[[bytes], NodeLeaf | PairLeaf]) -> tuple:

@@ -9,7 +9,7 @@ from .faults import Fault
 from .maps import MOST_NODES, MOST_ROADS, Parts
 
 UNSIGNED = re.compile(rb"[0-9]+")
-U32 = range(2 ** 32)
+U32 = range(2**32)
 MOST_DIGITS = 20
 
 
@@ -34,8 +34,8 @@ def unsigned(word: bytes, values: range = U32) -> int | None:
 def coordinate(word: bytes) -> int | None:
     """A number of 32 bits, with `-` in front of a negative one."""
     if not word.startswith(b"-"):
-        return unsigned(word, range(2 ** 31))
-    number = unsigned(word[1:], range(2 ** 31 + 1))
+        return unsigned(word, range(2**31))
+    number = unsigned(word[1:], range(2**31 + 1))
     return None if number is None else -number
 
 

@@ -52,12 +52,16 @@ def with_references(book: Book, nodes: set[int]) -> set[int]:
     return nodes | {added.reference for added in named if isinstance(added, Near)}
 
 
-def pairs_between(hand: AtHand, from_start: dict[int, int], from_end: dict[int, int],
-                  below: int | None) -> set[tuple[int, int]]:
+def pairs_between(
+    hand: AtHand, from_start: dict[int, int], from_end: dict[int, int], below: int | None
+) -> set[tuple[int, int]]:
     """The pairs of a border near the start and another near the end whose inner lengths are together below that."""
-    return {(min(one, other), max(one, other)) for one in borders_among(hand, from_start)
-            for other in borders_among(hand, from_end)
-            if one != other and (below is None or from_start[one] + from_end[other] < below)}
+    return {
+        (min(one, other), max(one, other))
+        for one in borders_among(hand, from_start)
+        for other in borders_among(hand, from_end)
+        if one != other and (below is None or from_start[one] + from_end[other] < below)
+    }
 
 
 def gathered_hyp(hand: AtHand, below: int | None) -> Gathered:
@@ -122,8 +126,16 @@ def pair_cover(book: Book, items: Iterable[PairItem]) -> tuple[bytes, ...]:
 def shows(held: Held, kind: int, route: tuple[int, ...], found: Gathered) -> Answer:
     """The answer of this kind that brings these leaves with their covers."""
     nodes, pairs = node_items(held.book, found[0]), pair_items(held.book, found[1])
-    return Answer(kind, held.publication.header, held.publication.signature, route, nodes, pairs,
-                  node_cover(held.book, nodes), pair_cover(held.book, pairs))
+    return Answer(
+        kind,
+        held.publication.header,
+        held.publication.signature,
+        route,
+        nodes,
+        pairs,
+        node_cover(held.book, nodes),
+        pair_cover(held.book, pairs),
+    )
 
 
 def is_known(held: Held, node: int) -> bool:

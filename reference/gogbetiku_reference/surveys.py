@@ -26,7 +26,7 @@ def surveyed(width: int, seed: int, method: int) -> Held:
 
 
 def queries(width: int, seed: int, count: int) -> list[tuple[int, int]]:
-    draw, nodes = Draw((seed + 1) % 2 ** 64), width * width
+    draw, nodes = Draw((seed + 1) % 2**64), width * width
     drawn = [1 + (draw.next() * 32_768 + draw.next()) % nodes for _ in range(2 * count)]
     return list(zip(drawn[::2], drawn[1::2]))
 

@@ -34,7 +34,7 @@ def levels_of(texts: Sequence[bytes], fan: int, hashed: Hash = sha256) -> list[l
     levels = [[leaf_digest(text, hashed) for text in texts]]
     while len(levels[-1]) > 1:
         below = levels[-1]
-        levels.append([above(below[at:at + fan], hashed) for at in range(0, len(below), fan)])
+        levels.append([above(below[at : at + fan], hashed) for at in range(0, len(below), fan)])
     return levels
 
 
@@ -82,16 +82,18 @@ def test_places(leaves: int, places: Sequence[int]) -> None:
             raise Fault("Place", index)
 
 
-def fold(leaves: int, fan: int, places: Sequence[int], texts: Sequence[bytes], cover: Sequence[bytes],
-         hashed: Hash = sha256) -> bytes:
+def fold(
+    leaves: int, fan: int, places: Sequence[int], texts: Sequence[bytes], cover: Sequence[bytes], hashed: Hash = sha256
+) -> bytes:
     """The digest of the top place, from the texts of some leaves and the digests of a cover."""
     test_places(leaves, places)
     known = folded(leaves, fan, places, texts, cover, hashed)
     return known[len(counts_of(leaves, fan)) - 1, 0]
 
 
-def folded(leaves: int, fan: int, places: Sequence[int], texts: Sequence[bytes], cover: Sequence[bytes],
-           hashed: Hash = sha256) -> dict[tuple[int, int], bytes]:
+def folded(
+    leaves: int, fan: int, places: Sequence[int], texts: Sequence[bytes], cover: Sequence[bytes], hashed: Hash = sha256
+) -> dict[tuple[int, int], bytes]:
     """The digest of each place that is given or has a chosen leaf at or below it, by level and place."""
     needed = spots(leaves, fan, places)
     if len(cover) < len(needed):
@@ -103,12 +105,20 @@ def folded(leaves: int, fan: int, places: Sequence[int], texts: Sequence[bytes],
     counts = counts_of(leaves, fan)
     for level, chosen in enumerate(chosen_by_level(leaves, fan, places)):
         for place in sorted(chosen) if level > 0 else ():
-            known[level, place] = above([known[level - 1, child] for child in children(counts, fan, level, place)], hashed)
+            known[level, place] = above(
+                [known[level - 1, child] for child in children(counts, fan, level, place)], hashed
+            )
     return known
 
 
-def clash(texts: Sequence[bytes], fan: int, places: Sequence[int], given: Sequence[bytes], cover: Sequence[bytes],
-          hashed: Hash = sha256) -> tuple[bytes, bytes] | None:
+def clash(
+    texts: Sequence[bytes],
+    fan: int,
+    places: Sequence[int],
+    given: Sequence[bytes],
+    cover: Sequence[bytes],
+    hashed: Hash = sha256,
+) -> tuple[bytes, bytes] | None:
     """Two different texts with one digest, where a cover and texts that fold to a tree's root differ from the tree.
 
     From the top down: the first place whose digests agree, and whose hashed texts, the tree's and the given one, differ.

@@ -13,8 +13,12 @@ def always(_node: int, _length: int) -> bool:
     return True
 
 
-def least_lengths(start: int, arcs_of: Callable[[int], Arcs | None], lets: Callable[[int, int], bool] = always,
-                  below: int | None = None) -> dict[int, int]:
+def least_lengths(
+    start: int,
+    arcs_of: Callable[[int], Arcs | None],
+    lets: Callable[[int, int], bool] = always,
+    below: int | None = None,
+) -> dict[int, int]:
     """Each node at which such a walk from `start` ends, with the least length of one.
 
     `arcs_of` answers nothing for a node whose arcs are not known. `lets` says whether a walk goes on from a node after

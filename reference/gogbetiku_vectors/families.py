@@ -27,8 +27,12 @@ def row(*items: Fields) -> Fields:
 
 
 def record(required: Fields, optional: Fields | None = None) -> Fields:
-    return {"type": "object", "properties": {**required, **(optional or {})}, "required": list(required),
-            "additionalProperties": False}
+    return {
+        "type": "object",
+        "properties": {**required, **(optional or {})},
+        "required": list(required),
+        "additionalProperties": False,
+    }
 
 
 def one_of(*words: str) -> Fields:
@@ -61,17 +65,33 @@ class Family:
 
     def made(self) -> Fields:
         """The content of the file."""
-        cases = [{"id": f"{self.name}-{number:03}", "why": case.why, "given": case.given, "result": case.result}
-                 for number, case in enumerate(self.make(), 1)]
+        cases = [
+            {"id": f"{self.name}-{number:03}", "why": case.why, "given": case.given, "result": case.result}
+            for number, case in enumerate(self.make(), 1)
+        ]
         return {"shows": self.shows, "schema": f"{self.name}.schema.json", "cases": cases}
 
     def schema(self) -> Fields:
         """The JSON Schema of the file."""
-        case = record({"id": {"type": "string", "pattern": f"^{self.name}-[0-9]{{3}}$"}, "why": TEXT, "given": self.given,
-                       "result": self.result})
-        file = record({"shows": {"const": self.shows}, "schema": {"const": f"{self.name}.schema.json"},
-                       "signatures": {"type": "object", "additionalProperties": {"type": "string", "pattern": "^[0-9a-f]{2584}$"}},
-                       "cases": listed(case)})
+        case = record(
+            {
+                "id": {"type": "string", "pattern": f"^{self.name}-[0-9]{{3}}$"},
+                "why": TEXT,
+                "given": self.given,
+                "result": self.result,
+            }
+        )
+        file = record(
+            {
+                "shows": {"const": self.shows},
+                "schema": {"const": f"{self.name}.schema.json"},
+                "signatures": {
+                    "type": "object",
+                    "additionalProperties": {"type": "string", "pattern": "^[0-9a-f]{2584}$"},
+                },
+                "cases": listed(case),
+            }
+        )
         return {"$schema": "http://json-schema.org/draft-07/schema#", "title": self.shows, **file}
 
 

@@ -23,7 +23,10 @@ SIGNATURE = re.compile("050c(000000[0-9a-f]{2}00000004[0-9a-f]{2568})")
 def named_signatures(cases: str) -> dict[str, str]:
     """The signatures that stand more than once, by the names that they are given."""
     counted = Counter(SIGNATURE.findall(cases))
-    return {f"s{number}": digits for number, digits in enumerate((digits for digits, count in counted.items() if count > 1), 1)}
+    return {
+        f"s{number}": digits
+        for number, digits in enumerate((digits for digits, count in counted.items() if count > 1), 1)
+    }
 
 
 def case_lines(made: Fields) -> str:
@@ -33,7 +36,9 @@ def case_lines(made: Fields) -> str:
     for name, digits in named.items():
         cases = cases.replace(digits, f"{{{name}}}")
     head = {"shows": made["shows"], "schema": made["schema"], "signatures": named}
-    return "".join(f'"{name}": {json.dumps(value)},\n' for name, value in head.items()).join(("{", f'"cases": [\n{cases}\n]}}\n'))
+    return "".join(f'"{name}": {json.dumps(value)},\n' for name, value in head.items()).join(
+        ("{", f'"cases": [\n{cases}\n]}}\n')
+    )
 
 
 def texts(slow: bool) -> Iterator[tuple[str, str]]:

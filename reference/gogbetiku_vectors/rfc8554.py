@@ -4,24 +4,31 @@ Their randomisers were drawn, as those of this project are not. Typed in from th
 borne out by their being good signatures under its key. Tested, not proved; no client trusts it.
 """
 
-FIRST_PUBLIC = bytes.fromhex("""
+FIRST_PUBLIC = bytes.fromhex(
+    """
     00000005
     00000004
     61a5d57d37f5e46bfb7520806b07a1b8
     50650e3b31fe4a773ea29a07f09cf2ea30e579f0df58ef8e298da0434cb2b878
-    """)
+    """
+)
 
-SECOND_PUBLIC = bytes.fromhex("""
+SECOND_PUBLIC = bytes.fromhex(
+    """
     00000005
     00000004
     d2f14ff6346af964569f7d6cb880a1b6
     6c5004917da6eafe4d9ef6c6407b3db0e5485b122d9ebe15cda93cfec582d7ab
-    """)
+    """
+)
 
-MESSAGE = (b"The powers not delegated to the United States by the Constitution, nor prohibited by it to the States, are "
-           b"reserved to the States respectively, or to the people.\n")
+MESSAGE = (
+    b"The powers not delegated to the United States by the Constitution, nor prohibited by it to the States, are "
+    b"reserved to the States respectively, or to the people.\n"
+)
 
-FIRST_SIGNATURE = bytes.fromhex("""
+FIRST_SIGNATURE = bytes.fromhex(
+    """
     00000005
     00000004
     d32b56671d7eb98833c49b433c272586bc4a1c8a8970528ffa04b966f9426eb9
@@ -65,9 +72,11 @@ FIRST_SIGNATURE = bytes.fromhex("""
     12f5dbe400bd49e4501e859f885bf0736e90a509b30a26bfac8c17b5991c157e
     b5971115aa39efd8d564a6b90282c3168af2d30ef89d51bf14654510a12b8a14
     4cca1848cf7da59cc2b3d9d0692dd2a20ba3863480e25b1b85ee860c62bf5136
-    """)
+    """
+)
 
-SECOND_SIGNATURE = bytes.fromhex("""
+SECOND_SIGNATURE = bytes.fromhex(
+    """
     0000000a
     00000004
     0703c491e7558b35011ece3592eaa5da4d918786771233e8353bc4f62323185c
@@ -111,4 +120,5 @@ SECOND_SIGNATURE = bytes.fromhex("""
     2335b525f484e9b40d6a4a969394843bdcf6d14c48e8015e08ab92662c05c6e9
     f90b65a7a6201689999f32bfd368e5e3ec9cb70ac7b8399003f175c40885081a
     09ab3034911fe125631051df0408b3946b0bde790911e8978ba07dd56c73e7ee
-    """)
+    """
+)

@@ -17,9 +17,12 @@ from gogbetiku_reference.servers import Held, node_cover, pair_cover, shows
 
 # five nodes, of which 5 has no road; a line of five; three nodes with roads of length 0; and the first with a sixth node
 # beside 5, whose road makes both ends borders under HYP with three columns
-STREETS = Parts(((1, 0, 0), (2, 10, 0), (3, 20, 0), (4, 10, 10), (5, 50, 50)),
-                ((1, 2, 4), (2, 3, 5), (1, 4, 3), (4, 3, 7)))
-LINE = Parts(((1, 0, 0), (2, 10, 0), (3, 20, 0), (4, 30, 0), (5, 40, 0)), ((1, 2, 10), (2, 3, 10), (3, 4, 10), (4, 5, 10)))
+STREETS = Parts(
+    ((1, 0, 0), (2, 10, 0), (3, 20, 0), (4, 10, 10), (5, 50, 50)), ((1, 2, 4), (2, 3, 5), (1, 4, 3), (4, 3, 7))
+)
+LINE = Parts(
+    ((1, 0, 0), (2, 10, 0), (3, 20, 0), (4, 30, 0), (5, 40, 0)), ((1, 2, 10), (2, 3, 10), (3, 4, 10), (4, 5, 10))
+)
 LEVEL = Parts(((1, 0, 0), (2, 1, 0), (3, 2, 0)), ((1, 2, 0), (2, 3, 0)))
 SIX = Parts((*STREETS.nodes, (6, 20, 50)), (*STREETS.roads, (5, 6, 1)))
 
@@ -35,8 +38,14 @@ def owner() -> Key:
     return key_of(KINDS["h5"], ZEROS)
 
 
-def settings_of(method: str, order: str = "id", version: int = VERSION, seed: int = 0, fan: int = FAN,
-                parameters: tuple[int, int, int] | None = None) -> Settings:
+def settings_of(
+    method: str,
+    order: str = "id",
+    version: int = VERSION,
+    seed: int = 0,
+    fan: int = FAN,
+    parameters: tuple[int, int, int] | None = None,
+) -> Settings:
     return Settings(METHODS[method], version, ORDERS[order], seed, fan, *(parameters or PARAMETERS[method]))
 
 
@@ -59,8 +68,14 @@ def brings_apart(held: Held, nodes: Iterable[int], pairs: Iterable[tuple[int, in
     return shows(held, APART, (), (set(nodes), set(pairs)))
 
 
-def by_hand(method: str, nodes: Iterable[NodeLeaf], pairs: Iterable[PairLeaf] = (), first: int = 0, second: int = 0,
-            fan: int = FAN) -> Held:
+def by_hand(
+    method: str,
+    nodes: Iterable[NodeLeaf],
+    pairs: Iterable[PairLeaf] = (),
+    first: int = 0,
+    second: int = 0,
+    fan: int = FAN,
+) -> Held:
     """A signed header over leaves that need not be those of any map."""
     settings = settings_of(method, fan=fan)
     book = Book(NO_MAP, settings, tuple(nodes), tuple(pairs), first, second)
@@ -76,5 +91,13 @@ def at_places(held: Held, kind: int, route: Iterable[int], nodes: Iterable[int],
     book = held.book
     brought = tuple(NodeItem(place, book.nodes[place], book.node_texts[place]) for place in sorted(nodes))
     said = tuple(PairItem(place, book.pairs[place], book.pair_texts[place]) for place in sorted(pairs))
-    return Answer(kind, held.publication.header, held.publication.signature, tuple(route), brought, said,
-                  node_cover(book, brought), pair_cover(book, said))
+    return Answer(
+        kind,
+        held.publication.header,
+        held.publication.signature,
+        tuple(route),
+        brought,
+        said,
+        node_cover(book, brought),
+        pair_cover(book, said),
+    )

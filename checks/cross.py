@@ -43,6 +43,8 @@ from gogbetiku_reference.servers import Held  # noqa: E402
 
 GREATEST = 2**64 - 1
 WORLDS_STEPS = 400
+# where it stands, the program's syncs of its disk take no time
+IN_MEMORY = "/dev/shm" if pathlib.Path("/dev/shm").is_dir() else None
 Step = tuple[list[str], dict[str, bytes], bytes, bytes]
 
 
@@ -644,7 +646,7 @@ def main() -> int:
     seconds = asked.seconds or (20 if asked.steps is None else 10**9)
     rng, begun = random.Random(asked.seed), time.monotonic()
     secrets = [rng.randbytes(48) for _ in range(3)]
-    folder = pathlib.Path(tempfile.mkdtemp(prefix="cross-"))
+    folder = pathlib.Path(tempfile.mkdtemp(prefix="cross-", dir=IN_MEMORY))
     both, steps = Both(asked.program, folder), None
     while both.counts["steps"] < (asked.steps or 10**9) and time.monotonic() - begun < seconds:
         if both.counts["steps"] % WORLDS_STEPS == 0:

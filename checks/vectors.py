@@ -26,13 +26,15 @@ from gogbetiku_reference.octets import u8, u16, u32  # noqa: E402
 from gogbetiku_reference.road_files import print_roads  # noqa: E402
 from gogbetiku_reference.trees import root_of  # noqa: E402
 from gogbetiku_vectors import files, formats, owners, signing  # noqa: E402
-from gogbetiku_vectors import client as clients  # noqa: E402
-from gogbetiku_vectors.client import turned  # noqa: E402
+from gogbetiku_vectors import asking, client as clients  # noqa: E402
+from gogbetiku_vectors.asking import turned  # noqa: E402
 from gogbetiku_vectors.families import Fields, octets  # noqa: E402
 from gogbetiku_vectors.scenes import ZEROS, owner  # noqa: E402
 
 # ranges are played at each of so many places
 BITS, LENGTHS, SIGNED_BITS = 97, 89, 997
+# where it stands, the program's syncs of its disk take no time
+IN_MEMORY = "/dev/shm" if pathlib.Path("/dev/shm").is_dir() else None
 FAULTY, REFUSED, NO_NODE, USED_WRONG = 3, 1, 11, 12
 # what a message of the program says of a fault that has numbers: the numbers, in their order
 NUMBERLESS = {"Settings", "RepeatedNode", "UnknownEnd", "SelfRoad", "Crowded", "Count", "TooMany", "NoProblem"}
@@ -507,7 +509,7 @@ def library_plays(
     if name == "cuts" and given["sort"].endswith("reply"):
         return library_cuts(run, given, result, strides[1])
     if name == "chain_files" and "malformed" in result:
-        query = clients.asked(b"\x01", 1, 3, 0)
+        query = asking.asked(b"\x01", 1, 3, 0)
         seen = run({**query, "chain": given["octets"]})
         same("library", (seen["code"], seen["first"]), (15, str(result["malformed"])))
         return 1
@@ -515,9 +517,9 @@ def library_plays(
 
 
 def library_cuts(run: Callable[[Fields], Fields], given: Fields, result: Fields, stride: int) -> int:
-    count, query = 0, clients.asked(b"", 1, 3, 0)
+    count, query = 0, asking.asked(b"", 1, 3, 0)
     if given["sort"] == "radius reply":
-        query = clients.near_asked(b"", 1, 3, 0)
+        query = asking.near_asked(b"", 1, 3, 0)
     for (begin, end), place in zip(given["lengths"], result["places"]):
         for length in range(begin, end, stride):
             line = run({**query, "reply": given["octets"][: 2 * length]})["line"]
@@ -562,7 +564,7 @@ def play(words: list[str], everything: bool, folder: pathlib.Path) -> tuple[Coun
 
 def main() -> int:
     words = [word for word in sys.argv[1:] if not word.startswith("--")]
-    with tempfile.TemporaryDirectory() as folder:
+    with tempfile.TemporaryDirectory(dir=IN_MEMORY) as folder:
         counts, faults = play(words, "--all" in sys.argv, pathlib.Path(folder))
     for fault in faults:
         print(fault)

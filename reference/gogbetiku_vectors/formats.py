@@ -32,7 +32,7 @@ from gogbetiku_reference.road_files import print_roads, read_roads
 from gogbetiku_reference.servers import answer, answer_near
 from gogbetiku_reference.trees import root_of
 
-from .client import GREATEST, books, good_chain, honest, put
+from .asking import GREATEST, books, good_chain, honest, put
 from .families import (
     DIGEST,
     HEX,

@@ -14,7 +14,7 @@ from gogbetiku_reference.lms import KINDS, Key, key_of
 from gogbetiku_reference.octets import u8, u32
 from gogbetiku_reference.servers import Held, answer, answer_near, near_reply
 
-from .client import link, put, turned
+from .asking import link, put, turned
 from .families import HEX, NUMBER, TEXT, WIDE, Case, Family, Fields, answered, listed, octets, one_of, record
 from .scenes import STREETS, ZEROS, brings, owner, published, settings_of
 from .signing import RISING

@@ -21,7 +21,7 @@ from gogbetiku_reference.road_files import print_roads, read_roads
 from gogbetiku_reference.servers import Held, install
 from gogbetiku_reference.surveys import survey
 
-from .client import GREATEST, books, put, turned
+from .asking import GREATEST, books, put, turned
 from .families import HEX, NUMBER, TEXT, WIDE, Case, Family, Fields, answered, listed, octets, one_of, record
 from .formats import PARTS, parts_fields
 from .scenes import LINE, LINE_LDM, PARAMETERS, SEED, SIX, STREETS, ZEROS, owner, published, settings_of

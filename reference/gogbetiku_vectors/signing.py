@@ -28,7 +28,7 @@ from gogbetiku_reference.lms import (
 from gogbetiku_reference.octets import u32
 from gogbetiku_reference.trees import cover_of, fold, levels_of
 
-from .client import keys, put, turned
+from .asking import keys, put, turned
 from .families import DIGEST, HEX, NUMBER, SPAN, TEXT, Case, Family, Fields, answered, listed, octets, one_of, record
 from .rfc8554 import FIRST_PUBLIC, FIRST_SIGNATURE, MESSAGE, SECOND_PUBLIC, SECOND_SIGNATURE
 from .scenes import ZEROS, owner

@@ -26,6 +26,7 @@ from gogbetiku_vectors.scenes import (
     LINE_LDM,
     PARAMETERS,
     SEED,
+    SIX,
     STREETS,
     brings,
     brings_apart,
@@ -71,6 +72,9 @@ def answers() -> dict[str, bytes]:
         "FULL_APART_JOINED": brings_apart(full, [1, 3], [(1, 3)]).octets()[ROUTE:],
         "BORDER_APART": brings_apart(hyp, [1, 2, 4, 5]).octets()[ROUTE:],
     }
+    six = published(SIX, settings_of("hyp"), 8)
+    arrays["SIX_APART"] = brings_apart(six, [1, 2, 4, 5], [(2, 5), (4, 5)]).octets()
+    arrays["SIX_APART_WITHOUT_PAIR"] = brings_apart(six, [1, 2, 4, 5], [(2, 5)]).octets()[ROUTE:]
     parameters = {**PARAMETERS, "hyp": (2, 1, 0)}
     for slot, (method, numbers) in enumerate(parameters.items(), 4):
         held = published(LEVEL, settings_of(method, version=1, parameters=numbers), slot)
@@ -123,8 +127,8 @@ def octets_in(path: pathlib.Path) -> dict[str, bytes]:
 
 def compare_arrays(path: str, made: dict[str, bytes]) -> None:
     tested = octets_in(TOP / path)
-    for name in sorted(made.keys() | tested.keys()):
-        same(f"{path}: {name}", tested.get(name), made.get(name))
+    for name in sorted(tested):
+        same(f"{path}: {name}", tested[name], made.get(name))
 
 
 def unsigned(held: Held) -> Held:

@@ -4,7 +4,8 @@
 Builds the library with bindings/build, lets PROGRAM make a key, publications under the four methods, replies
 and a chain, and compares what the examples in C and in Python say with what PROGRAM's `check` and
 `check-reach` write. Compares the header's numbers, and those of the Python module, with the crate's
-definitions. With --long, turns each bit of a reply of each method, and checks from eight threads.
+definitions, and shows that a code that the module does not know is a refusal. With --long, turns each bit of
+a reply of each method, and checks from eight threads.
 Ends with status 1 where anything differs."""
 
 import pathlib
@@ -108,6 +109,16 @@ def routes(played):
         played.compare(f"owner.key turned.reply 1 3 {least}")
 
 
+def unknown_codes(folder, key):
+    """A code that the module does not know is a refusal."""
+    client = route_check.Client(key, library=folder / "libroute_check.so")
+    client._route = lambda *words: 17
+    try:
+        faults.append(f"the code 17 is taken: {client.check_route(b'', 1, 3)}")
+    except route_check.Unknown as refusal:
+        same("a code that the module does not know", refusal.code, 17)
+
+
 def chains(played):
     """After a succession, a reply under the new key is accepted with the chain alone."""
     played.run("succeed next.hex h5")
@@ -166,6 +177,7 @@ def main(program, is_long):
         client = route_check.Client(key, library=folder / "libroute_check.so")
         routes(played)
         radii(played, client)
+        unknown_codes(folder, key)
         if is_long:
             long_runs(played, client)
         chains(played)

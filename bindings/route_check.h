@@ -10,6 +10,9 @@
 extern "C" {
 #endif
 
+/* The version of the library that this header is of. */
+#define ROUTE_CHECK_VERSION "0.1.0"
+
 /* The greatest number of nodes that a map has. */
 #define ROUTE_MOST_NODES 65536u
 

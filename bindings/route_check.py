@@ -4,6 +4,8 @@ import ctypes
 import pathlib
 from dataclasses import dataclass
 
+__version__ = "0.1.0"
+
 _MOST_NODES = 65_536
 _LINE_ROOM = 128
 _APART = 16
@@ -59,7 +61,7 @@ class Refused(Exception):
 
 
 class NotAnswer(Refused):
-    """The reply says without proof that an end is no node, or that no route joins the two."""
+    """The reply says without proof that an end is no node, or, as older servers do, that no route joins the two."""
 
 
 class Malformed(Refused):
@@ -92,6 +94,10 @@ class TooLong(Refused):
 
 class MalformedChain(Refused):
     """The octets of the chain spell none."""
+
+
+class Unknown(Refused):
+    """The library answers a code that this module does not know."""
 
 
 _REFUSALS = {
@@ -145,6 +151,7 @@ class Client:
             self._key, len(self._key), self._chain, len(self._chain), reply, len(reply), start, end, least,
             ctypes.addressof(room), len(room), line, _LINE_ROOM, ctypes.byref(verdict),
         )
-        if code not in (0, _APART):
+        if code != 0 and not (code == _APART and call is self._route):
             text = line.raw[: min(verdict.line, _LINE_ROOM)].decode("ascii").rstrip("\n")
-            raise _REFUSALS[code](code, verdict.first, verdict.second, text or _REFUSALS[code].__doc__)
+            refused = _REFUSALS.get(code, Unknown)
+            raise refused(code, verdict.first, verdict.second, text or refused.__doc__)

@@ -19,7 +19,7 @@ import sys
 import tempfile
 
 TOP = os.path.dirname(os.path.dirname(os.path.dirname(os.path.abspath(__file__))))
-DOCUMENTS = ["README.md", "docs/WALKTHROUGH.md"]
+DOCUMENTS = ["README.md", "docs/COMMANDS.md", "docs/WALKTHROUGH.md", "docs/OPERATING.md"]
 PROMPT = "$ "
 SECONDS = 120
 # words of the shell's own, and the two programs that this script puts on the path

@@ -95,6 +95,7 @@ def prepared(folder):
     for version, (method, numbers) in enumerate(METHODS.items(), 1):
         folder.must(f"publish map.roads {method} {version} hilbert 0 3 {numbers}", f"{method}.pub")
         folder.must(f"prove {method}.pub 1 16", f"{method}.reply")
+        folder.must(f"prove {method}.pub 1 99", f"{method}.none")
     folder.must("reach dij.pub 6 4", "near.reply")
     folder.write("cut.reply", folder.read("dij.reply")[:-1])
     publication = folder.read("dij.pub")
@@ -111,11 +112,13 @@ def commands(folder):
         rows += [(f"publish map.roads {method} 9 kd 0 2 {numbers}", b"", False),
                  (f"prove {method}.pub 1 16", b"", False),
                  (f"check owner.key {method}.reply 1 16 1", b"", False),
-                 (f"audit owner.key {method}.pub {method}.reply 1 16", b"", False)]
+                 (f"audit owner.key {method}.pub {method}.reply 1 16", b"", False),
+                 (f"prove {method}.pub 1 99", b"", False),
+                 (f"check owner.key {method}.none 1 99 1", b"", False)]
     asks = frames(b"\1\0", struct.pack(">BBII", 2, 0, 1, 16), b"\4" + folder.read("hyp.pub"), b"\1\1",
                   struct.pack(">BBII", 2, 1, 16, 1), struct.pack(">BBII", 2, 0, 2, 15), b"\3\0", b"\5")
     return rows + [
-        ("prove dij.pub 1 99", b"", False), ("check owner.key cut.reply 1 16 1", b"", False),
+        ("prove dij.pub 1 98", b"", False), ("check owner.key cut.reply 1 16 1", b"", False),
         ("audit owner.key ldm.pub dij.reply 1 16", b"", False), ("serve ldm.pub", asks, False),
         ("reduce owner.key header.hex signature.hex", b"", False), ("survey 2 0 hyp 2", b"", False),
         ("reach dij.pub 6 4", b"", False), ("check-reach owner.key near.reply 6 4 1", b"", False),

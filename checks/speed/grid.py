@@ -1,14 +1,15 @@
 #!/usr/bin/env python3
-"""Writes the road file of a grid of WIDTH by WIDTH nodes: checks/speed/grid.py WIDTH > FILE
+"""Writes the road file of a grid of WIDTH by WIDTH nodes: checks/speed/grid.py WIDTH [halves] > FILE
 
 Node ids go by rows from 1. Each node has a road to its right and to its lower neighbour, of lengths
-1 to 1000 from the linear congruential generator of the C standard's example.
+1 to 1000 from the linear congruential generator of the C standard's example. With `halves` the roads
+between the two middle columns are left out, so that no walk joins the left half and the right one.
 """
 import sys
 
 
 def main():
-    width = int(sys.argv[1])
+    width, cut = int(sys.argv[1]), sys.argv[2:] == ["halves"]
     state = 0
     print("roads 1")
     for row in range(width):
@@ -20,7 +21,8 @@ def main():
             for there, exists in ((here + 1, column + 1 < width), (here + width, row + 1 < width)):
                 if exists:
                     state = (state * 1103515245 + 12345) % 2**31
-                    print("road", here, there, 1 + state // 65536 % 1000)
+                    if not (cut and there == here + 1 and column + 1 == width // 2):
+                        print("road", here, there, 1 + state // 65536 % 1000)
 
 
 if __name__ == "__main__":

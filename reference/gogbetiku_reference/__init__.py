@@ -1,6 +1,6 @@
 """A second implementation of Gogbetiku, in plain Python over the standard library alone.
 
-It says in words that can be run what docs/FORMATS.md, docs/METHODS.md and RFC 8554 say: read it beside them, check a
+It says in words that can be run what docs/SPEC.md and RFC 8554 say: read it beside them, check a
 client of your own against it, or doubt the proved program with it. It was written from these texts, and no line of it
 from the program. It is tested and not proved, it is slow, and it knows no crash of a disk: no client trusts it, and no
 owner signs with it. `python3 -m gogbetiku_reference help`, from the folder reference, lists its commands.

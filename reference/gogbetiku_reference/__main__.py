@@ -1,4 +1,4 @@
-"""The commands over real files: `python3 -m gogbetiku_reference COMMAND ..`, as README.md, "Commands", says.
+"""The commands over real files: `python3 -m gogbetiku_reference COMMAND ..`, as docs/COMMANDS.md says.
 
 The owner's disk is `owner.desk` of the working folder. No lock guards it and no sync, so keep no key there that is to
 protect anything. Part of the reference: tested, not proved, and trusted by no client.

@@ -1,7 +1,6 @@
 """The audit: what an accepted reply is evidence of.
 
-docs/METHODS.md, "The audit of an accepted reply" and, of radii, "Nodes within a radius"; docs/FORMATS.md, "The lines of
-an audit". Part of the reference: tested, not proved, and trusted by no client.
+docs/SPEC.md, 9.1 The audit. Part of the reference: tested, not proved, and trusted by no client.
 """
 from collections.abc import Callable, Sequence
 from dataclasses import dataclass

@@ -1,7 +1,7 @@
 """The book of a map and settings: the leaves in their order, and the header over their trees.
 
-docs/METHODS.md, "The book" and "Settings"; docs/FORMATS.md, "Headers". Part of the reference: tested, not proved, and
-trusted by no client.
+docs/SPEC.md, 5.1 Settings, 5.2 Books and 6.1 Headers. Part of the reference: tested, not proved, and trusted by no
+client.
 """
 from dataclasses import dataclass
 from functools import cached_property

@@ -1,6 +1,6 @@
 """Cells, and the borders between them.
 
-docs/METHODS.md, "The book": HYP. Part of the reference: tested, not proved, and trusted by no client.
+docs/SPEC.md, 5.4 HYP: cells and borders. Part of the reference: tested, not proved, and trusted by no client.
 """
 from .maps import Map
 from .orders import slots

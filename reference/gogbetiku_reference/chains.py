@@ -1,7 +1,6 @@
 """Links from an owner's key to the next one, and chain files.
 
-docs/FORMATS.md, "Chain files", and of link texts "The owner's disk". Part of the reference: tested, not proved, and
-trusted by no client.
+docs/SPEC.md, 4.4 Links and chain files. Part of the reference: tested, not proved, and trusted by no client.
 """
 from collections.abc import Sequence
 from dataclasses import dataclass

@@ -1,7 +1,7 @@
 """The client: what it says of a reply, with the owner's public key alone.
 
-docs/METHODS.md, "The whole check of a reply" and "Nodes within a radius". Part of the reference: tested, not proved,
-and trusted by no client.
+docs/SPEC.md, 8.1 The tests, in order, and 8.4 Range queries. Part of the reference: tested, not proved, and trusted by
+no client.
 """
 from collections.abc import Sequence
 from dataclasses import dataclass

@@ -1,8 +1,8 @@
 """The commands, over files, an image of the owner's disk and an input that are given as octets.
 
-README.md, "Commands" and "Statuses"; docs/FORMATS.md, "Secret files". Each command loads its files in the order of its
-words, each read before the next is loaded, then opens the desk, then does the rest. Mirrors are left out. Part of the
-reference: tested, not proved, and trusted by no client.
+docs/COMMANDS.md, and 4.2 Key files of docs/SPEC.md. Each command loads its files in the order of its words, each read
+before the next is loaded, then opens the desk, then does the rest. Mirrors are left out. Part of the reference: tested,
+not proved, and trusted by no client.
 """
 import re
 from collections.abc import Callable

@@ -1,6 +1,6 @@
 """The owner's disk: keys in areas, and the slots that hold what was signed.
 
-docs/FORMATS.md, "The owner's disk" and "Chain files". An image is the content of `owner.desk`; each call gives the
+docs/SPEC.md, 4.3 The desk and 4.4 Links and chain files. An image is the content of `owner.desk`; each call gives the
 image that is left where nothing fails. Of crashes and of the order of device calls nothing is said here. Part of the
 reference: tested, not proved; no owner signs with it.
 """

@@ -1,7 +1,6 @@
 """Files of the DIMACS shortest path challenge, read as the parts of a map.
 
-docs/FORMATS.md, "Files of the DIMACS shortest path challenge". Part of the reference: tested, not proved, and trusted
-by no client.
+docs/SPEC.md, 2.2 DIMACS files. Part of the reference: tested, not proved, and trusted by no client.
 """
 from collections import Counter
 from collections.abc import Iterator

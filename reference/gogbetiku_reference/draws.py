@@ -1,7 +1,6 @@
 """Drawn numbers, and grids whose lengths are drawn.
 
-docs/FORMATS.md, "The line of a survey": "Draws" and "The grid". Part of the reference: tested, not proved, and trusted
-by no client.
+docs/SPEC.md, 10.1 The survey. Part of the reference: tested, not proved, and trusted by no client.
 """
 from .maps import Parts
 

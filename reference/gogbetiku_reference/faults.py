@@ -1,7 +1,7 @@
 """What a reader, a map, a book, a desk or a command answers in place of a value, and what a client refuses with.
 
-The names are those of docs/FORMATS.md, docs/METHODS.md and README.md, "Statuses". Part of the reference: tested, not
-proved, and trusted by no client.
+The names are those of docs/SPEC.md and of docs/COMMANDS.md, Statuses. Part of the reference: tested, not proved, and
+trusted by no client.
 """
 
 

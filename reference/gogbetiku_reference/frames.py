@@ -1,6 +1,6 @@
 """The service: sessions over publications, and the frames that it reads and writes.
 
-docs/FORMATS.md, "Frames". Part of the reference: tested, not proved, and trusted by no client.
+docs/SPEC.md, 6.5 Frames. Part of the reference: tested, not proved, and trusted by no client.
 """
 from .faults import Fault
 from .octets import Malformed, Reader, u8, u32, u64

@@ -1,4 +1,4 @@
-"""SHA-256 of FIPS 180-4, as the standard library of Python has it. `H` in docs/FORMATS.md.
+"""SHA-256 of FIPS 180-4, as the standard library of Python has it. `H` in docs/SPEC.md.
 
 Python brings two implementations: `hashlib` gives OpenSSL's, which takes several microseconds to begin. Its own one, which
 stands under a name that depends on the version, begins at once, and a key is made of hundreds of thousands of short texts.

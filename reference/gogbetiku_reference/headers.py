@@ -1,6 +1,6 @@
 """Headers, which an owner signs.
 
-docs/FORMATS.md, "Headers". Part of the reference: tested, not proved, and trusted by no client.
+docs/SPEC.md, 6.1 Headers. Part of the reference: tested, not proved, and trusted by no client.
 """
 from dataclasses import dataclass
 

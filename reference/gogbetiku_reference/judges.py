@@ -1,7 +1,7 @@
 """The judgement of a route by the leaves at hand, and of the claim that there is none, under the four methods.
 
-docs/METHODS.md, "What is sent, and how it is judged" and "Where no route exists". Part of the reference: tested, not
-proved, and trusted by no client.
+docs/SPEC.md, 8.2 Judging a route and 8.3 Judging that there is no route. Part of the reference: tested, not proved, and
+trusted by no client.
 """
 from collections import Counter
 from collections.abc import Callable, Iterator, Sequence

@@ -1,7 +1,7 @@
 """Landmarks, the codes of nodes, the nodes near by that stand for others, bounds, and nodes that are apart.
 
-docs/METHODS.md, "The book": LDM, and "Where no route exists". Part of the reference: tested, not proved, and trusted by
-no client.
+docs/SPEC.md, 5.3 LDM: landmarks, codes, bound, and 7.2 No route. Part of the reference: tested, not proved, and trusted
+by no client.
 """
 from collections.abc import Mapping
 

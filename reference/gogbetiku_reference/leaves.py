@@ -1,6 +1,6 @@
 """The leaves of nodes and of pairs, read and written.
 
-docs/FORMATS.md, "Leaves". Part of the reference: tested, not proved, and trusted by no client.
+docs/SPEC.md, 3.1 Node leaves and 3.2 Pair leaves. Part of the reference: tested, not proved, and trusted by no client.
 """
 from dataclasses import dataclass
 

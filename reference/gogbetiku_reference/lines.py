@@ -1,8 +1,6 @@
 """The lines that commands write.
 
-docs/FORMATS.md: "The line of a route", "The lines of a verdict", "The lines of a verdict on a radius", "The lines of an
-audit", "The lines of a reduction" and "The line of a root". Part of the reference: tested, not proved, and trusted by
-no client.
+docs/SPEC.md, 10 Lines. Part of the reference: tested, not proved, and trusted by no client.
 """
 from collections.abc import Iterable
 

@@ -1,7 +1,7 @@
 """Keys and signatures of LMS, and the values that a one-time key is made of.
 
 RFC 8554, "LM-OTS One-Time Signatures" and "Leighton-Micali Signatures", with secret values from a seed as in its
-appendix on pseudorandom key generation; docs/FORMATS.md, "Signatures", says which types there are and how the
+appendix on pseudorandom key generation; docs/SPEC.md, 4.1 LMS, says which types there are and how the
 randomiser is made. Part of the reference: tested, not proved, and trusted by no client.
 """
 from functools import lru_cache

@@ -1,7 +1,7 @@
 """Numbers and pieces taken from the front of octets, field by field.
 
-docs/FORMATS.md, its first paragraph, and "Replies": a reader answers the first field that can't be read with the place
-where it begins. Part of the reference: tested, not proved, and trusted by no client.
+docs/SPEC.md, 1.1 Notation: a reader answers the offset of the first field that can't be read. Part of the reference:
+tested, not proved, and trusted by no client.
 """
 
 

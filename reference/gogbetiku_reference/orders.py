@@ -1,6 +1,6 @@
 """The six orders in which a map's nodes have their leaves.
 
-docs/METHODS.md, "Leaf orders". Part of the reference: tested, not proved, and trusted by no client.
+docs/SPEC.md, 5.5 Orders. Part of the reference: tested, not proved, and trusted by no client.
 """
 from collections.abc import Callable
 

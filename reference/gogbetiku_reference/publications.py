@@ -1,6 +1,6 @@
 """Publications, read and written.
 
-docs/FORMATS.md, "Publications". Part of the reference: tested, not proved, and trusted by no client.
+docs/SPEC.md, 6.2 Publications. Part of the reference: tested, not proved, and trusted by no client.
 """
 from dataclasses import dataclass
 

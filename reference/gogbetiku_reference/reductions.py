@@ -1,6 +1,6 @@
 """What a good signature comes down to where its slot has not signed the text.
 
-docs/FORMATS.md, "The lines of a reduction"; RFC 8554, "LM-OTS Public Key", "LM-OTS Signature Generation" and "LMS
+docs/SPEC.md, 9.2 The reduction of a forgery; RFC 8554, "LM-OTS Public Key", "LM-OTS Signature Generation" and "LMS
 Signature Verification", for what is hashed on the way to the root. Part of the reference: tested, not proved, and
 trusted by no client.
 """

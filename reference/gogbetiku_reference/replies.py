@@ -1,7 +1,6 @@
 """Replies to queries for routes and for the nodes within a radius, read and written.
 
-docs/FORMATS.md, "Replies" and "Replies on a radius". Part of the reference: tested, not proved, and trusted by no
-client.
+docs/SPEC.md, 6.3 Replies and 6.4 Range replies. Part of the reference: tested, not proved, and trusted by no client.
 """
 from collections.abc import Callable, Sequence
 from dataclasses import dataclass

@@ -1,6 +1,6 @@
 """Road files, read and printed.
 
-docs/FORMATS.md, "Road files". Part of the reference: tested, not proved, and trusted by no client.
+docs/SPEC.md, 2.1 Road files. Part of the reference: tested, not proved, and trusted by no client.
 """
 import re
 from collections.abc import Iterator

@@ -1,7 +1,6 @@
 """The server: a publication's book, and honest replies over it.
 
-docs/METHODS.md, "What is sent, and how it is judged", "Where no route exists" and "Nodes within a radius". Part of the
-reference: tested, not proved, and trusted by no client.
+docs/SPEC.md, 7 What a server sends. Part of the reference: tested, not proved, and trusted by no client.
 """
 from collections.abc import Callable, Iterable
 from dataclasses import dataclass

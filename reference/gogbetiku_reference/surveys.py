@@ -1,7 +1,7 @@
 """The survey of a method over a grid.
 
-docs/FORMATS.md, "The line of a survey". Where routes are equally short, another line than this one may be right too.
-Part of the reference: tested, not proved, and trusted by no client.
+docs/SPEC.md, 10.1 The survey. Where routes are equally short, another line than this one may be right too. Part of the
+reference: tested, not proved, and trusted by no client.
 """
 import hashlib
 

@@ -1,7 +1,6 @@
 """Trees over the texts of leaves, covers of chosen leaves, and folds.
 
-docs/FORMATS.md, "Trees, covers and folds" and "The line of a root". Part of the reference: tested, not proved, and
-trusted by no client.
+docs/SPEC.md, 3.3 Trees and 3.4 Covers and folds. Part of the reference: tested, not proved, and trusted by no client.
 """
 from collections.abc import Iterator, Sequence
 

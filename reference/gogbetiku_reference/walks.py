@@ -1,6 +1,6 @@
 """Least lengths of walks: over a map, or over the leaves at hand.
 
-docs/METHODS.md, "What is sent, and how it is judged": a walk takes a hop only from a node whose arcs are known and that
+docs/SPEC.md, 7.1 A route and 8.2 Judging a route: a walk takes a hop only from a node whose arcs are known and that
 lets it go on. Part of the reference: tested, not proved, and trusted by no client.
 """
 import heapq

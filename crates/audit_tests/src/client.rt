@@ -5,7 +5,8 @@ use crate::octets::{octets_of, spliced};
 use crate::signed_answers::{
     APART, APART_BACK, APART_WITHOUT_4, BORDER_APART, BORDER_REPLY, FOURTH_DIGEST, FULL_APART,
     FULL_APART_JOINED, FULL_DETOUR, FULL_REPLY, FULL_WITHOUT_PAIR, LDM_REPLY, LDM_WITHOUT_2,
-    ONE_PAIR_COVER, PUBLIC, REPLY, ZERO_DIJ_REPLY, ZERO_FULL_REPLY, ZERO_HYP_REPLY, ZERO_LDM_REPLY,
+    ONE_PAIR_COVER, PUBLIC, REPLY, SIX_APART, SIX_APART_WITHOUT_PAIR, ZERO_DIJ_REPLY,
+    ZERO_FULL_REPLY, ZERO_HYP_REPLY, ZERO_LDM_REPLY,
 };
 use book_model::Query;
 use lms_tree::SealError;
@@ -380,4 +381,15 @@ fn signed_answers_without_a_route_are_judged(rt: HostRuntime) -> Result<(), Fail
         assert_apart(&rt, alloc, (signed, rest), ends, wanted)?;
     }
     Ok(())
+}
+
+#[test]
+fn a_left_out_pair_of_borders_of_two_sides_is_found(rt: HostRuntime) -> Result<(), Fail> {
+    let alloc = rt.alloc();
+    let whole = octets_of(alloc, SIX_APART)?;
+    let ends = Query { from: 1, to: 5 };
+    assert_same(&rt, &apart_version(alloc, &whole, ends), &Ok(Some(3)));
+    let missing = refused(Refusal::MissingPair(4, 5));
+    let lacking = (SIX_APART, SIX_APART_WITHOUT_PAIR);
+    assert_apart(&rt, alloc, lacking, (1, 5), missing)
 }

@@ -8,7 +8,7 @@ use std::alloc::Global;
 use std::process::Abort;
 use std::test::Fail;
 
-/// How many octets each field of the reply has: by `docs/FORMATS.md` those of the kind, the header,
+/// How many octets each field of the reply has: by `docs/SPEC.md` those of the kind, the header,
 /// the signature, the route of three ids, four node items, no pair item and the covers of one
 /// digest and none.
 const FIELDS: [usize; 36] = [

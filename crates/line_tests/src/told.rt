@@ -97,7 +97,8 @@ fn the_wrong_word_is_named(rt: HostRuntime) -> Result<(), Fail> {
 fn a_commands_line_is_printed(rt: HostRuntime) -> Result<(), Fail> {
     let words = words_of(&rt, rt.alloc(), "prove m1.pub 1")?;
     let text = told_of(rt.alloc(), &words)?;
-    let end = "\n  prove PUB S T\n      writes a reply that shows a shortest route from S to T";
+    let end = "\n  prove PUB S T\n      \
+        writes a reply that shows a shortest route from S to T, or that there is none";
     assert_row(&rt, text.as_str(), text.ends_with(end), true);
     Ok(())
 }
@@ -253,37 +254,60 @@ fn looks_and_settings_are_printed(rt: HostRuntime) -> Result<(), AllocError> {
     Ok(())
 }
 
-static ROUTES: [(CheckError, &str); 5] = [
+static ROUTES: [(CheckError, &str); 9] = [
     (
         CheckError::NotAnswer(2),
-        "The route is not to be used: \
+        "The answer is not to be used: \
          there is none, and the server says, without proof, that no route joins the two ends.",
     ),
     (
         CheckError::Stale(3),
-        "The route is not to be used: \
+        "The answer is not to be used: \
          the reply is of version 3 of the map, which is older than LEAST asks for.",
     ),
     (
         CheckError::BadChain(0, SealError::NoMatch),
-        "The route is not to be used: \
+        "The answer is not to be used: \
          link 0 of the chain, counted from 0 on, is not signed by the key before it.",
     ),
     (
         CheckError::BadSignature(SealError::NoMatch),
-        "The route is not to be used: \
+        "The answer is not to be used: \
          the reply is not signed under this public key, \
          nor under a key of the chain where one is named.",
     ),
     (
         CheckError::Judged(Refusal::Shorter(9)),
-        "The route is not to be used: \
-         the signed roads have a walk of length 9, which is shorter.",
+        "The answer is not to be used: \
+         the signed roads have a walk of length 9 from S to T, \
+         and the reply has no route as short.",
+    ),
+    (
+        CheckError::Judged(Refusal::MissingTuple(4)),
+        "The answer is not to be used: \
+         the reply leaves out the node 4, \
+         without which it shows neither a shortest route nor that there is none.",
+    ),
+    (
+        CheckError::Judged(Refusal::MissingPair(4, 5)),
+        "The answer is not to be used: \
+         the reply leaves out how far apart the nodes 4 and 5 are, \
+         without which it shows neither a shortest route nor that there is none.",
+    ),
+    (
+        CheckError::Judged(Refusal::Disagrees(9)),
+        "The answer is not to be used: \
+         the reply brings a signed distance, 9, that says otherwise.",
+    ),
+    (
+        CheckError::Judged(Refusal::BadRoute(1)),
+        "The answer is not to be used: \
+         its route does not lead from S to T over signed roads.",
     ),
 ];
 
 #[test]
-fn refused_routes_are_told_to_planners(rt: HostRuntime) -> Result<(), AllocError> {
+fn refused_answers_are_told_to_planners(rt: HostRuntime) -> Result<(), AllocError> {
     for (why, message) in &ROUTES {
         assert_printed(&rt, rt.alloc(), Unusable::Route(*why), *message)?;
     }

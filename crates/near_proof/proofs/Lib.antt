@@ -1,2 +1,3 @@
+pub mod NearAccepted
 pub mod NearMarks
 pub mod NearHonest

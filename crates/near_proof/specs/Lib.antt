@@ -1,1 +1,2 @@
+pub mod NearAcceptance
 pub mod NearLaws

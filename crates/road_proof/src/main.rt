@@ -83,6 +83,7 @@ fn main(rt: HostRuntime) -> ExitCode {
         sink_error: sink.last_error(),
         desk_error: disk.last_error(),
         refusal: again.refusal,
+        apart: again.apart,
         left: again.left,
     };
     if let Some(message) = message_on(&words, ended, facts) {

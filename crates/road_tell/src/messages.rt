@@ -8,7 +8,7 @@ use crate::refusals::Unusable;
 use crate::roads::place_of;
 use crate::usage::Commands;
 use crate::words::wrong_words;
-use book_model::PlanError;
+use book_model::{PlanError, Query};
 use command_files::{Ended, Fault};
 use dimacs_reader::DimacsError;
 use road_command::{Command, Words, command_of};
@@ -34,6 +34,8 @@ pub struct Facts<'a> {
     pub desk_error: Option<io::Error>,
     /// Why the client refuses the reply, where one was refused.
     pub refusal: Option<Unusable>,
+    /// The ends between which no walk leads, by a reply that was accepted without a route.
+    pub apart: Option<Query>,
     /// How many one-time keys are left in the owner's file, where it was read again.
     pub left: Option<u32>,
 }
@@ -58,7 +60,7 @@ pub fn message_on<'a>(words: &'a Words, ended: Ended, facts: Facts<'a>) -> Optio
         Some(left) => left <= FEW,
         None => false,
     };
-    if ended.status == 0 && !few {
+    if ended.status == 0 && !few && facts.apart.is_none() {
         return None;
     }
     Some(Message {
@@ -93,7 +95,10 @@ impl<'a> Message<'a> {
         }
         let reply = reply_of(self.command);
         match (self.ended.status, self.facts.refusal) {
-            (0, _) => self.few_left(f),
+            (0, _) => match self.facts.apart {
+                Some(ends) => apart(f, reply, ends),
+                None => self.few_left(f),
+            },
             (1, Some(why)) => {
                 write!(f, "road_proof: {reply}: {why}")?;
                 self.look(f, reply_look(self.command))
@@ -362,6 +367,15 @@ impl<'a> Message<'a> {
     }
 }
 
+/// What an accepted reply without a route says.
+fn apart<W: fmt::Write>(f: &mut Formatter<W>, reply: &str, ends: Query) -> fmt::Result {
+    let Query { from, to } = ends;
+    write!(
+        f,
+        "road_proof: {reply}: No road leads from {from} to {to}, and the owner's map shows it."
+    )
+}
+
 /// The system's reason, and the sentence's end.
 fn reason<W: fmt::Write>(f: &mut Formatter<W>, error: Option<io::Error>) -> fmt::Result {
     match error {
@@ -387,7 +401,7 @@ fn reply_of(command: Option<Command<'_>>) -> &str {
 fn brought(command: Option<Command<'_>>) -> &'static str {
     match command {
         Some(Command::CheckReach { .. } | Command::AuditReach { .. }) => "The nodes are",
-        _ => "The route is",
+        _ => "The answer is",
     }
 }
 

@@ -15,9 +15,9 @@ const MEMORY: &str = "there was not enough memory to check it.";
 /// The sentence on a reply that a client refused for this reason.
 #[derive(Clone, Copy)]
 pub enum Unusable {
-    /// The reply brings a route.
+    /// The reply is to bring a shortest route, or to show that there is none.
     Route(CheckError),
-    /// The reply brings the nodes within a radius.
+    /// The reply is to bring the nodes within a radius.
     Nodes(NearError),
 }
 
@@ -25,7 +25,7 @@ impl Display for Unusable {
     fn fmt<W: fmt::Write>(&self, f: &mut Formatter<W>) -> fmt::Result {
         match self {
             Unusable::Route(why) => {
-                f.write_str("The route is not to be used: ")?;
+                f.write_str("The answer is not to be used: ")?;
                 Unusable::route(f, *why)
             }
             Unusable::Nodes(why) => {
@@ -37,7 +37,7 @@ impl Display for Unusable {
 }
 
 impl Unusable {
-    /// Why a route is refused.
+    /// Why a reply on a route is refused.
     fn route<W: fmt::Write>(f: &mut Formatter<W>, why: CheckError) -> fmt::Result {
         match why {
             CheckError::NotAnswer(1) => f.write_str(
@@ -105,26 +105,29 @@ impl Unusable {
         })
     }
 
-    /// What the signed roads say against the route.
+    /// What the signed roads say against the reply. It has a route or says that there is none, and each
+    /// sentence holds of both.
     fn judged<W: fmt::Write>(f: &mut Formatter<W>, why: Refusal) -> fmt::Result {
         match why {
             Refusal::RepeatedNode(id) => write!(f, "the reply has the node {id} twice."),
-            Refusal::BadRoute(_) => f.write_str("it does not lead from S to T over signed roads."),
+            Refusal::BadRoute(_) => f.write_str(
+                "its route does not lead from S to T over signed roads.",
+            ),
             Refusal::MissingTuple(id) => write!(
                 f,
-                "the reply leaves out the node {id}, without which the route is not shown to be a shortest one."
+                "the reply leaves out the node {id}, without which it shows neither a shortest route nor that there is none."
             ),
             Refusal::MissingPair(a, b) => write!(
                 f,
-                "the reply leaves out how far apart the nodes {a} and {b} are, without which the route is not shown to be a shortest one."
+                "the reply leaves out how far apart the nodes {a} and {b} are, without which it shows neither a shortest route nor that there is none."
             ),
             Refusal::Shorter(length) => write!(
                 f,
-                "the signed roads have a walk of length {length}, which is shorter."
+                "the signed roads have a walk of length {length} from S to T, and the reply has no route as short."
             ),
             Refusal::Disagrees(distance) => write!(
                 f,
-                "it is not as long as the signed distance of its ends, {distance}."
+                "the reply brings a signed distance, {distance}, that says otherwise."
             ),
             Refusal::Memory => f.write_str(MEMORY),
         }

@@ -26,6 +26,8 @@ pub struct Again {
     pub text: Vec<u8>,
     /// Why the client refuses the reply, where one was refused.
     pub refusal: Option<Unusable>,
+    /// The ends of a query to which a reply was accepted that has no route.
+    pub apart: Option<Query>,
     /// How many one-time keys are left in the owner's file, where a command used it.
     pub left: Option<u32>,
 }
@@ -41,6 +43,7 @@ pub fn look_again<L: Library>(
     let mut found = Again {
         text: Vec::new(alloc),
         refusal: None,
+        apart: None,
         left: None,
     };
     match (ended.fault, command_of(words)) {
@@ -53,6 +56,12 @@ pub fn look_again<L: Library>(
         (None, Some(Command::Publish { .. } | Command::Desk)) => {
             found.left = keys_left(&load(alloc, library, "owner.desk"));
         }
+        (None, Some(Command::Check { reply, query, .. } | Command::Audit { reply, query, .. }))
+            if ended.status == 0 => {
+            if is_apart(&load(alloc, library, reply)) {
+                found.apart = Some(query);
+            }
+        }
         (None, Some(command)) if ended.status == 1 => {
             if let Some(refused) = refused_by(command) {
                 found.text = load(alloc, library, refused.reply);
@@ -62,6 +71,11 @@ pub fn look_again<L: Library>(
         _ => {}
     }
     found
+}
+
+/// Whether a reply that was accepted has no route, by its first octet.
+fn is_apart(reply: &[u8]) -> bool {
+    matches!(reply, [3, ..])
 }
 
 /// What was asked of a reply that was refused.

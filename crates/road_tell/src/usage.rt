@@ -50,7 +50,7 @@ pub const USAGES: [Usage; 17] = [
     },
     Usage {
         words: "prove PUB S T",
-        does: "writes a reply that shows a shortest route from S to T",
+        does: "writes a reply that shows a shortest route from S to T, or that there is none",
     },
     Usage {
         words: "serve PUB",
@@ -58,7 +58,7 @@ pub const USAGES: [Usage; 17] = [
     },
     Usage {
         words: "check PUBKEY REPLY S T LEAST [CHAIN]",
-        does: "writes what a client says of a reply: that it accepts a route of version LEAST\n      or later, or why it does not; CHAIN is the chain file of an owner with later keys",
+        does: "writes what a client says of a reply: that it accepts a route, or that there\n      is none, of version LEAST or later, or why it does not; CHAIN is the chain file\n      of an owner with later keys",
     },
     Usage {
         words: "audit PUBKEY PUB REPLY S T [CHAIN]",

@@ -3,7 +3,7 @@
 
 use crate::holding::{
     CELLS, CODES, FULL, first_reply, header_of, installed, read_answer, read_apart, refusal_of,
-    refusal_with,
+    refusal_with, reply_over,
 };
 use crate::octets::{assert_digest, assert_hex};
 use crate::same::{assert_row, assert_same};
@@ -161,6 +161,28 @@ fn books_of_each_method_show_that_no_walk_joins_two_nodes(rt: HostRuntime) -> Re
     for row in &APARTS {
         assert_apart(&rt, rt.alloc(), row)?;
     }
+    Ok(())
+}
+
+// The five nodes with a sixth beside the fifth, whose road makes both of its ends borders.
+const SIX: [(u32, i32, i32); 6] = [
+    (1, 0, 0),
+    (2, 10, 0),
+    (3, 20, 0),
+    (4, 10, 10),
+    (5, 50, 50),
+    (6, 20, 50),
+];
+
+const SIX_ROADS: [(u32, u32, u32); 5] = [(1, 2, 4), (2, 3, 5), (1, 4, 3), (4, 3, 7), (5, 6, 1)];
+
+#[test]
+fn pairs_of_borders_of_two_sides_are_brought(rt: HostRuntime) -> Result<(), Fail> {
+    let octets = reply_over(rt.alloc(), &SIX, &SIX_ROADS, &CELLS, (1, 5))?;
+    let answer = read_apart(rt.alloc(), &octets)?;
+    // The borders are 2 to 6, so these are the pairs of 2 and 5 and of 4 and 5.
+    assert_same(&rt, answer.pair_places.as_slice(), [2, 7].as_slice());
+    assert_same(&rt, answer.node_places.as_slice(), [0, 1, 3, 4].as_slice());
     Ok(())
 }
 

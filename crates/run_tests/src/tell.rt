@@ -61,6 +61,7 @@ fn told_again(
         sink_error: None,
         desk_error: None,
         refusal: again.refusal,
+        apart: again.apart,
         left: again.left,
     };
     told(alloc, words, ended, facts)
@@ -150,6 +151,40 @@ fn each_end_is_told(rt: HostRuntime) -> Result<(), Fail> {
     Ok(())
 }
 
+/// Compares what is said of a line that accepted the reply `r`, whose octets these are.
+fn says_of_accepted(
+    rt: &impl Abort,
+    alloc: Global,
+    line: &str,
+    reply: &[u8],
+    wanted: &str,
+) -> Result<(), Fail> {
+    let words = words_of(rt, alloc, line)?;
+    let mut library = MemLibrary::new(alloc, Vec::new(alloc));
+    library.put("r", reply)?;
+    let ended = Ended {
+        status: 0,
+        fault: None,
+    };
+    let again = look_again(alloc, &mut library, &words, ended, "r");
+    let text = told_again(alloc, &words, ended, "r", &again)?;
+    assert_octets(rt, line, text.as_bytes(), wanted.as_bytes());
+    Ok(())
+}
+
+#[test]
+fn an_accepted_reply_without_a_route_is_told(rt: HostRuntime) -> Result<(), Fail> {
+    let none = "road_proof: r: No road leads from 1 to 5, and the owner's map shows it.";
+    for (line, kind, wanted) in [
+        ("check k r 1 5 3", 3, none),
+        ("audit k p r 1 5 c", 3, none),
+        ("check k r 1 5 3", 0, ""),
+    ] {
+        says_of_accepted(&rt, rt.alloc(), line, &[kind], wanted)?;
+    }
+    Ok(())
+}
+
 /// Compares what is said of a run of a line that ended so, where each object has this error.
 fn assert_told(
     rt: &impl Abort,
@@ -169,6 +204,7 @@ fn assert_told(
         sink_error: Some(io::Error::from(error)),
         desk_error: Some(io::Error::from(error)),
         refusal,
+        apart: None,
         left: Some(1),
     };
     let text = told(alloc, &words, ended, facts)?;
@@ -245,7 +281,7 @@ fn ends_over_real_files_are_told(rt: HostRuntime) -> Result<(), Fail> {
             None,
             ErrorKind::Other,
             None,
-            "road_proof: r: The route is not to be used: the reply rests on a text that the owner never signed, or on two texts of one digest, as the line that was written says. Keep that line with the three files.",
+            "road_proof: r: The answer is not to be used: the reply rests on a text that the owner never signed, or on two texts of one digest, as the line that was written says. Keep that line with the three files.",
         ),
         (
             audit,
@@ -253,7 +289,7 @@ fn ends_over_real_files_are_told(rt: HostRuntime) -> Result<(), Fail> {
             Some(Fault::OtherPublication),
             ErrorKind::Other,
             None,
-            "road_proof: r: The route is not to be used before the reply is audited with its own publication, which is another one of the owner's.",
+            "road_proof: r: The answer is not to be used before the reply is audited with its own publication, which is another one of the owner's.",
         ),
         (
             check,
@@ -261,7 +297,7 @@ fn ends_over_real_files_are_told(rt: HostRuntime) -> Result<(), Fail> {
             None,
             ErrorKind::Other,
             Some(Unusable::Route(CheckError::Malformed(0))),
-            "road_proof: r: The route is not to be used: the file is no reply, and can't be read from place 0 on. It looks like a publication.",
+            "road_proof: r: The answer is not to be used: the file is no reply, and can't be read from place 0 on. It looks like a publication.",
         ),
         (
             "check-reach k r 1 4 3",

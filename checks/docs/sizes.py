@@ -1,0 +1,108 @@
+#!/usr/bin/env python3
+"""Counts what the documents may have: checks/docs/sizes.py
+
+Words beside code blocks of README.md and docs/*.md, sentences of more than 40 words, and links to files or headings
+that are not there, in these and in the documents at the top; and looks that the version of the file VERSION is the one
+that the program, the changelog, the C header and the Python module say, and that Git tracks nothing under an out
+folder. Ends with status 1 where one is above its budget or differs.
+"""
+import glob
+import os
+import re
+import subprocess
+import sys
+
+TOP = os.path.dirname(os.path.dirname(os.path.dirname(os.path.abspath(__file__))))
+README_WORDS, ALL_WORDS, SENTENCE_WORDS = 1_100, 20_000, 40
+VERSIONS = {"crates/road_tell/src/usage.rt": r'VERSION: &str = "([^"]*)"', "CHANGELOG.md": r"^## (\S+)",
+            "bindings/route_check.h": r'ROUTE_CHECK_VERSION "([^"]*)"', "bindings/route_check.py": r'__version__ = "([^"]*)"'}
+APART = ["SECURITY.md", "CONTRIBUTING.md", "CHANGELOG.md", "checks/README.md"]
+
+
+def read(document):
+    with open(f"{TOP}/{document}", encoding="utf-8") as file:
+        return file.read()
+
+
+def prose_of(text):
+    """The lines of a text outside its code blocks."""
+    lines, is_fenced = [], False
+    for line in text.split("\n"):
+        if line.startswith("```"):
+            is_fenced = not is_fenced
+        elif not is_fenced and not line.startswith("    "):
+            lines.append(line)
+    return lines
+
+
+def sentences_of(lines):
+    """The sentences of prose: of each paragraph, list item and cell of a table."""
+    for line in lines:
+        cells = line.strip().strip("|").split(" | ") if line.lstrip().startswith("|") else [line]
+        for cell in cells:
+            plain = re.sub(r"\]\([^)]*\)", "]", cell)
+            yield from re.split(r"(?<=[.?!:;])[\"')*]*\s+(?=[A-Z`*\"(])", plain)
+
+
+def headings_of(text):
+    """The anchors of a document's headings, as a browser of repositories makes them."""
+    found = set()
+    for line in prose_of(text):
+        if line.startswith("#"):
+            plain = re.sub(r"[^\w\- ]", "", line.lstrip("# ").lower())
+            found.add(plain.replace(" ", "-"))
+    return found
+
+
+def dead_links(document, text):
+    folder = os.path.dirname(f"{TOP}/{document}")
+    for target in re.findall(r"\]\(([^)\s]+)\)", "\n".join(prose_of(text))):
+        if target.startswith("http"):
+            continue
+        name, _, anchor = target.partition("#")
+        path = os.path.normpath(os.path.join(folder, name)) if name else f"{TOP}/{document}"
+        if not os.path.exists(path):
+            yield target
+        elif anchor and anchor not in headings_of(read(os.path.relpath(path, TOP))):
+            yield target
+
+
+def versions_that_differ():
+    version = read("VERSION").strip()
+    for name, pattern in VERSIONS.items():
+        found = re.search(pattern, read(name), re.M)
+        if not found or found[1] != version:
+            yield f"{name}: it says version {found[1] if found else 'nothing'}, and VERSION says {version}"
+
+
+def tracked_in_out():
+    listed = subprocess.run(["git", "ls-files"], cwd=TOP, capture_output=True, text=True, check=False).stdout.split("\n")
+    return [f"{name}: Git tracks a file under out/" for name in listed if re.search(r"(^|/)out/", name)]
+
+
+def main():
+    documents = ["README.md"] + sorted(os.path.relpath(name, TOP) for name in glob.glob(f"{TOP}/docs/*.md"))
+    faults, total = [*versions_that_differ(), *tracked_in_out()], 0
+    for document in documents + APART:
+        text = read(document)
+        lines = prose_of(text)
+        words = sum(len(line.split()) for line in lines)
+        if document not in APART:
+            total += words
+            print(f"{words:6} {document}")
+        for sentence in sentences_of(lines):
+            count = len(re.findall(r"[A-Za-z0-9`'’\-]*[A-Za-z0-9][^\s]*", sentence))
+            if count > SENTENCE_WORDS and document not in ["checks/README.md"]:
+                faults.append(f"{document}: a sentence of {count} words: {sentence.strip()[:90]} ..")
+        faults += [f"{document}: {target} is not there" for target in dead_links(document, text)]
+        if document == "README.md" and words > README_WORDS:
+            faults.append(f"README.md has {words} words, and may have {README_WORDS}")
+    print(f"{total:6} together")
+    if total > ALL_WORDS:
+        faults.append(f"README.md and docs/*.md have {total} words, and may have {ALL_WORDS}")
+    print("\n".join(faults) if faults else "0 faults")
+    sys.exit(1 if faults else 0)
+
+
+if __name__ == "__main__":
+    main()

@@ -1,9 +1,9 @@
 #!/usr/bin/env python3
-"""Switches off each test of the reference's client in turn: checks/switched_off.py [WORD]
+"""Switches off each test of the reference's client in turn: checks/switched_off.py [WORD] [--bounds]
 
 A test is a `raise`, or a range or a wanted text of a field that is read, in the modules that a client's verdict stands on;
-each is left out alone. So is each bound there, `<`, `<=`, `>` or `>=`, moved by one. The vectors of the client and of its parts are played: at least one must come out otherwise.
-With WORD, only the tests of modules whose name has it. Prints the tests that no vector misses, and ends with status 1 where
+each is left out alone. With --bounds, each bound there, `<`, `<=`, `>` or `>=`, is moved by one as well. The vectors of
+the client and of its parts are played: at least one must come out otherwise. With WORD, only the tests of modules whose name has it. Prints the tests that no vector misses, and ends with status 1 where
 there is one. Nothing here is proved, and no client trusts it.
 """
 import ast
@@ -32,7 +32,7 @@ MOVED = {ast.Lt: ast.LtE, ast.LtE: ast.Lt, ast.Gt: ast.GtE, ast.GtE: ast.Gt}
 def is_test(node: ast.AST) -> bool:
     """Whether a node refuses something or bounds it: a `raise`, a field whose values are limited, or a comparison."""
     if isinstance(node, ast.Compare):
-        return type(node.ops[0]) in MOVED
+        return "--bounds" in sys.argv and type(node.ops[0]) in MOVED
     is_field = (
         isinstance(node, ast.Call) and isinstance(node.func, ast.Attribute) and node.func.attr in ("number", "take")
     )
@@ -130,7 +130,8 @@ def too_long(_signal, _frame) -> None:
 def main() -> int:
     signal.signal(signal.SIGALRM, too_long)
     cases, why_not = whole()
-    word, missed, count = (sys.argv[1:] + [""])[0], [], 0
+    words, missed, count = [word for word in sys.argv[1:] if word != "--bounds"], [], 0
+    word = words[0] if words else ""
     for name in MODULES:
         source = (PACKAGE / f"{name}.py").read_text(encoding="utf-8")
         for at, test in enumerate(tests_of(ast.parse(source)) if word in name else []):

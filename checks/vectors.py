@@ -1,11 +1,12 @@
 #!/usr/bin/env python3
 """Plays the vectors by the reference, by the program and by the library: checks/vectors.py [PROGRAM [LIBRARY]] [--all]
 
-Each case of vectors/ is given to reference/gogbetiku_reference; to PROGRAM by the command that has a use for it, in a fresh
-folder; and, where it is one of a client, to LIBRARY (libroute_check.so, which bindings/build makes) through
-bindings/route_check.py. What no command takes alone is wrapped: a leaf or a header stands in a reply, a fold in a signed
-reply. Ranges of bits and of lengths are played at some of their places, with --all at each, and with it the case whose
-key takes a minute. Nothing here is proved, and no client trusts it. Ends with status 1 where anything comes out otherwise.
+Each case of vectors/ is given to reference/gogbetiku_reference, with PROGRAM behind it only where --all stands too,
+since the reference made them; to PROGRAM by the command that has a use for it, in a fresh folder; and, where it is one
+of a client, to LIBRARY (libroute_check.so, which bindings/build makes) through bindings/route_check.py. What no command
+takes alone is wrapped: a leaf or a header stands in a reply, a fold in a signed reply. Ranges of bits and of lengths
+are played at some of their places, with --all at each, and with it the case whose key takes a minute. Nothing here is
+proved, and no client trusts it. Ends with status 1 where anything comes out otherwise.
 """
 import pathlib
 import re
@@ -549,7 +550,8 @@ def play(words: list[str], everything: bool, folder: pathlib.Path) -> tuple[Coun
         for case in files.read_family(TOP / "vectors", family) if everything or not family.slow else []:
             counts["cases"] += 1
             try:
-                reference_plays(family, case, everything)
+                if program is None or everything:
+                    reference_plays(family, case, everything)
                 if program is not None:
                     PLAYS[family.name](program, case["given"], case["result"])
                 if library is not None:

@@ -132,7 +132,7 @@ def check():
         for number, line in enumerate(read(f"{TOP}/{document}").split("\n"), 1):
             for quoted in re.findall(r"`([^`]+)`", line):
                 is_name = re.fullmatch(r"[A-Za-z]\w*(?:(?:::|\.)\w+)*", quoted) and not quoted.endswith("_")
-                if not is_name or os.path.exists(f"{TOP}/{quoted}"):
+                if not is_name or any(os.path.exists(f"{TOP}/{folder}{quoted}") for folder in ("", "checks/", "reference/")):
                     continue
                 for word in re.split(r"::|\.", quoted):
                     if word not in words | OTHERS:

@@ -1,5 +1,5 @@
 //! What no clause says: signed answers of another program are accepted, and changed ones are
-//! refused. `checks/client/answers.py` is that program.
+//! refused. The reference is that program (`checks/sources.py`).
 use crate::asserts::{assert_octets, assert_same};
 use crate::octets::{octets_of, spliced};
 use crate::signed_answers::{

@@ -1,5 +1,5 @@
-//! Signed answers as hex text, worked out by `checks/client/answers.py`: each is signed with a one-time
-//! key, the first to the eighth in turn, of the key of height 5 whose secret is 48 zeros. The order is
+//! Signed answers as hex text, worked out by the reference (`checks/sources.py`): each is signed with a
+//! one-time key, the first to the eighth in turn, of the key of height 5 whose secret is 48 zeros. The order is
 //! by id and the fan-out 2.
 
 /// The public key.

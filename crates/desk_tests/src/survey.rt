@@ -26,7 +26,7 @@ fn assert_surveyed(
     Ok(())
 }
 
-/// The line is that of checks/survey/line.py: a query from 3 to 4, and one from 4 to 4.
+/// The line is that of the reference (`checks/sources.py`): a query from 3 to 4, and one from 4 to 4.
 #[test]
 fn surveys_over_grids(rt: HostRuntime) -> Result<(), Fail> {
     let line =

@@ -1,5 +1,5 @@
 //! What no clause says: signed replies of another program are accepted, and changed ones are refused.
-//! `checks/near/answers.py` is that program.
+//! The reference is that program (`checks/sources.py`).
 use crate::same::assert_same;
 use crate::signed_near::{
     FRONT, NOTHING, NOTHING_COVERED, PUBLIC, TWO_WITH_ONE_ID, WITH_5, WITHIN_0, WITHIN_4,

@@ -1,5 +1,5 @@
-//! Replies on radii: octets that an independent program computed, which is
-//! `checks/near/answers.py`.
+//! Replies on radii: octets that an independent program computed, the reference
+//! (`checks/sources.py`).
 
 use crate::holding::{CELLS, CODES, FULL, installed};
 use crate::octets::assert_digest;

@@ -9,3 +9,5 @@ mod desk;
 mod reducing;
 #[cfg(test)]
 mod signatures;
+#[cfg(test)]
+mod standard;

@@ -39,7 +39,7 @@ fn hex(alloc: Global, octets: &[u8]) -> Result<String, Fail> {
     Ok(text)
 }
 
-// `checks/reduce/chains.py` prints these: a slot that holds nothing, one that holds another text, one where
+// The reference computes these (`checks/sources.py`): a slot that holds nothing, one that holds another text, one where
 // three digits are not lesser, and a text of no octets, of which a secret value is shown.
 #[test]
 fn forgeries_show_what_an_independent_program_says(rt: HostRuntime) -> Result<(), Fail> {

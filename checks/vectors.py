@@ -1,0 +1,580 @@
+#!/usr/bin/env python3
+"""Plays the vectors by the reference, by the program and by the library: checks/vectors.py [PROGRAM [LIBRARY]] [--all]
+
+Each case of vectors/ is given to reference/gogbetiku_reference, with PROGRAM behind it only where --all stands too,
+since the reference made them; to PROGRAM by the command that has a use for it, in a fresh folder; and, where it is one
+of a client, to LIBRARY (libroute_check.so, which bindings/build makes) through bindings/route_check.py. What no command
+takes alone is wrapped: a leaf or a header stands in a reply, a fold in a signed reply. Ranges of bits and of lengths
+are played at some of their places, with --all at each, and with it the case whose key takes a minute. Nothing here is
+proved, and no client trusts it. Ends with status 1 where anything comes out otherwise.
+"""
+import pathlib
+import re
+import subprocess
+import sys
+import tempfile
+from collections import Counter
+from collections.abc import Callable
+
+TOP = pathlib.Path(__file__).resolve().parent.parent
+sys.path[:0] = [str(TOP / "reference"), str(TOP / "bindings")]
+
+from gogbetiku_reference import desks  # noqa: E402
+from gogbetiku_reference.headers import HYP, LDM, Header  # noqa: E402
+from gogbetiku_reference.leaves import NodeLeaf  # noqa: E402
+from gogbetiku_reference.maps import Parts, map_of  # noqa: E402
+from gogbetiku_reference.octets import u8, u16, u32  # noqa: E402
+from gogbetiku_reference.road_files import print_roads  # noqa: E402
+from gogbetiku_reference.trees import root_of  # noqa: E402
+from gogbetiku_vectors import files, formats, owners, signing  # noqa: E402
+from gogbetiku_vectors import asking, client as clients  # noqa: E402
+from gogbetiku_vectors.asking import turned  # noqa: E402
+from gogbetiku_vectors.families import Fields, octets  # noqa: E402
+from gogbetiku_vectors.scenes import ZEROS, owner  # noqa: E402
+
+# ranges are played at each of so many places
+BITS, LENGTHS, SIGNED_BITS = 97, 89, 997
+# where it stands, the program's syncs of its disk take no time
+IN_MEMORY = "/dev/shm" if pathlib.Path("/dev/shm").is_dir() else None
+FAULTY, REFUSED, NO_NODE, USED_WRONG = 3, 1, 11, 12
+# what a message of the program says of a fault that has numbers: the numbers, in their order
+NUMBERLESS = {"Settings", "RepeatedNode", "UnknownEnd", "SelfRoad", "Crowded", "Count", "TooMany", "NoProblem"}
+
+
+class Differs(Exception):
+    """A case came out otherwise."""
+
+
+def same(what: str, seen: object, wanted: object) -> None:
+    if seen != wanted:
+        raise Differs(f"{what}: {str(seen)[:200]}, and not {str(wanted)[:200]}")
+
+
+class Program:
+    """The program in a folder, with the files that a command is given."""
+
+    def __init__(self, path: str, folder: pathlib.Path):
+        self.path, self.folder, self.runs = str(pathlib.Path(path).resolve()), folder, 0
+
+    def run(
+        self, *words: object, source: bytes = b"", disk: bytes | None = None, **given: bytes
+    ) -> tuple[int, bytes, str]:
+        """A command's status, output and message, over these files and this disk."""
+        for name, text in given.items():
+            (self.folder / name).write_bytes(text)
+        desk = self.folder / "owner.desk"
+        desk.unlink(missing_ok=True)
+        if disk is not None:
+            desk.write_bytes(disk)
+        self.runs += 1
+        done = subprocess.run(
+            [self.path, *map(str, words)], cwd=self.folder, input=source, capture_output=True, check=False
+        )
+        return done.returncode, done.stdout, done.stderr.decode()
+
+    def disk(self) -> bytes:
+        desk = self.folder / "owner.desk"
+        return desk.read_bytes() if desk.exists() else b""
+
+
+def faulty(what: str, ended: tuple[int, bytes, str], fault: str, status: int = FAULTY) -> None:
+    """A command that ended with a fault, whose numbers its message has."""
+    same(f"{what}: status", ended[:2], (status, b""))
+    name, *numbers = fault.split()
+    if name not in NUMBERLESS:
+        said = re.findall(r"\d+", ended[2])
+        numbers = numbers[1:] if len(numbers) == 2 else numbers
+        same(f"{what}: the message names {fault}", [number for number in numbers if number not in said], [])
+
+
+def key_file(public: str) -> bytes:
+    return public.encode()
+
+
+def blank_disk(secret: bytes = ZEROS) -> bytes:
+    return desks.create(b"", 5, secret)
+
+
+def spent_below(slot: int, secret: bytes) -> bytes:
+    """A disk whose next free slot is this one."""
+    image = blank_disk(secret)
+    for number in range(slot):
+        image = desks.spend(image, desks.open_desk(image).current(), number, b"spent")
+    return image
+
+
+def road_file(program: Program, given: Fields, result: Fields) -> None:
+    ended = program.run("root", "map.roads", 2, **{"map.roads": octets(given["text"])})
+    if "fault" in result or "map_fault" in result:
+        return faulty("root", ended, result.get("fault", result.get("map_fault")))
+    same("root", ended[:2], (0, f"{len(result['nodes'])} {result['root']}\n".encode()))
+
+
+def dimacs_file(program: Program, given: Fields, result: Fields) -> None:
+    ended = program.run("dimacs", "a.gr", "a.co", **{"a.gr": octets(given["graph"]), "a.co": octets(given["places"])})
+    if "fault" in result:
+        return faulty("dimacs", ended, result["fault"])
+    same("dimacs", ended[:2], (0, octets(result["printed"])))
+
+
+def bare_reply(header: Header, rest: bytes) -> bytes:
+    """A reply with no signature, whose first fault behind its form is the signature."""
+    return u8(0) + header.octets() + u16(0) + u32(1) + u32(1) + rest
+
+
+PLAIN_HEADER = Header(1, 0, 2, 3, 5, bytes(32), 0, bytes(32), 0, 0)
+UNSIGNED = "refused BadSignature BadForm\n"
+LEAF_AT = 1 + 104 + 2 + 8 + 4 + 6
+
+
+def said_of(
+    program: Program, reply: bytes, start: int = 1, end: int = 3, least: str = "0", public: bytes | None = None
+) -> str:
+    _, output, _ = program.run(
+        "check", "key", "reply", start, end, least, key=(public or owner().public).hex().encode(), reply=reply
+    )
+    return output.decode()
+
+
+def leaf(program: Program, given: Fields, result: Fields) -> None:
+    text, kind = octets(given["text"]), given["kind"]
+    method = {"vector": LDM, "cell": HYP}.get(kind, 2)
+    first, second = {LDM: (1, given["landmarks"]), HYP: (1, 1)}.get(method, (0, 0))
+    if method == LDM and second == 0 or kind == "pair" and len(text) != 17:
+        return
+    header = Header(method, 0, 2, 3, 5, bytes(32), 1 if kind == "pair" else 0, bytes(32), first, second)
+    items = u32(0) + u32(1) + u32(0) + text if kind == "pair" else u32(1) + u32(0) + u16(len(text)) + text + u32(0)
+    at = LEAF_AT + 2 if kind == "pair" else LEAF_AT
+    wanted = f"refused Malformed {at}\n" if "fault" in result else UNSIGNED
+    same("check", said_of(program, bare_reply(header, items + u32(0) + u32(0))), wanted)
+
+
+def header(program: Program, given: Fields, result: Fields) -> None:
+    text = octets(given["octets"])
+    if len(text) != 104:
+        return
+    rest = u16(0) + u32(1) + u32(1) + u32(0) + u32(0) + u32(0) + u32(0)
+    wanted = f"refused Malformed {1 + result['malformed']}\n" if "malformed" in result else UNSIGNED
+    same("check", said_of(program, u8(0) + text + rest), wanted)
+
+
+def chain_file(program: Program, given: Fields, result: Fields) -> None:
+    ended = program.run(
+        "check",
+        "key",
+        "reply",
+        1,
+        3,
+        0,
+        "chain",
+        key=owner().public.hex().encode(),
+        reply=b"\x01",
+        chain=octets(given["octets"]),
+    )
+    if "malformed" in result:
+        return faulty("check", ended, f"Malformed {result['malformed']}")
+    same("check", ended[:2], (REFUSED, b"refused NotAnswer 1\n"))
+
+
+def key(program: Program, given: Fields, result: Fields) -> None:
+    same(
+        "key",
+        program.run("key", "secret", given["kind"], secret=given["secret"].encode())[:2],
+        (0, f"{result['public']}\n".encode()),
+    )
+
+
+def reduced_verdict(program: Program, given: Fields) -> str:
+    """What `reduce` says of a signature, over a disk of the key that has signed nothing."""
+    _, output, _ = program.run(
+        "reduce",
+        "key",
+        "text",
+        "signature",
+        disk=blank_disk(octets(given["secret"])),
+        key=key_file(given["public"]),
+        text=given["text"].encode(),
+        signature=given["signature"].encode(),
+    )
+    return "valid" if output.startswith(b"chain ") else output.decode().removeprefix("refused BadSignature ").strip()
+
+
+def signature(program: Program, given: Fields, result: Fields) -> None:
+    of_owner = given["public"] == owner().public.hex()
+    if "secret" in given or of_owner:
+        same("reduce", reduced_verdict(program, {"secret": ZEROS.hex(), **given}), result["verdict"])
+
+
+def turned_signature(program: Program, given: Fields, result: Fields) -> None:
+    if "secret" not in given:
+        return
+    for (begin, end), wanted in zip(given["bits"], result["verdicts"]):
+        for bit in range(begin, end, SIGNED_BITS):
+            changed = turned(octets(given["signature"]), bit // 8, 128 >> bit % 8).hex()
+            same(f"reduce, bit {bit}", reduced_verdict(program, {**given, "signature": changed}), wanted)
+
+
+def tree(program: Program, given: Fields, result: Fields) -> None:
+    """By `root`: the leaves are those of the nodes of a line."""
+    count = len(given["leaves"])
+    parts = Parts(
+        tuple((node, node, 0) for node in range(1, count + 1)), tuple((node, node + 1, 5) for node in range(1, count))
+    )
+    ended = program.run("root", "map.roads", given["fan"], **{"map.roads": print_roads(parts)})
+    same("root", ended[:2], (0, f"{count} {result['levels'][-1][0]}\n".encode()))
+
+
+def fold(program: Program, given: Fields, result: Fields) -> None:
+    """By `check`: the items and the cover of a signed reply, whose root is the one that must come."""
+    if any(place <= before for before, place in zip(given["places"], given["places"][1:])):
+        return
+    signed = Header(1, 0, given["fan"], 3, given["count"], octets(result.get("root", "00" * 32)), 0, bytes(32), 0, 0)
+    text = b"".join(
+        u32(place) + u16(len(octets(one))) + octets(one) for place, one in zip(given["places"], given["texts"])
+    )
+    items = u32(len(given["places"])) + text + u32(0)
+    cover = u32(len(given["cover"])) + octets("".join(given["cover"])) + u32(0)
+    seal = owner().sign(0, signed.octets())
+    said = said_of(program, u8(0) + signed.octets() + u16(len(seal)) + seal + u32(1) + u32(10**9) + items + cover)
+    wanted = f"refused BadCover 1 {result['fault'].split()[0]}\n" if "fault" in result else "refused BadRoute 0\n"
+    same("check", said, wanted)
+
+
+def order(program: Program, given: Fields, result: Fields) -> None:
+    """By `publish`, whose header has the root of the leaves in the order."""
+    parts = Parts(tuple(map(tuple, given["nodes"])), tuple(map(tuple, given["roads"])))
+    chart = map_of(parts)
+    root = root_of([NodeLeaf(node, *chart.places[node], chart.arcs[node]).text() for node in result["ids"]], 2)
+    ended = program.run(
+        "publish",
+        "map.roads",
+        "dij",
+        1,
+        given["order"],
+        given["seed"],
+        2,
+        0,
+        0,
+        0,
+        disk=blank_disk(),
+        **{"map.roads": print_roads(parts)},
+    )
+    same("publish", (ended[0], ended[1][24:56]), (0, root))
+
+
+def publication(program: Program, given: Fields, result: Fields) -> None:
+    settings = given["settings"]
+    words = [settings[name] for name in ("method", "version", "order", "seed", "fan", "p1", "p2", "p3")]
+    disk = spent_below(given["slot"], octets(given["secret"]))
+    ended = program.run("publish", "map.roads", *words, disk=disk, **{"map.roads": octets(given["roads"])})
+    if "fault" in result:
+        return faulty("publish", ended, result["fault"])
+    same("publish", ended[:2], (0, octets(result["publication"])))
+    image = desks.spend(disk, desks.open_desk(disk).current(), given["slot"], ended[1][4:108])
+    same("owner.desk", program.disk(), image)
+
+
+def installing(program: Program, given: Fields, result: Fields) -> None:
+    ended = program.run("reach", "pub", 1, 0, pub=octets(given["publication"]))
+    if "fault" in result:
+        return faulty("reach", ended, result["fault"])
+    same("reach", ended[0] in (0, NO_NODE), True)
+
+
+def reply(program: Program, given: Fields, result: Fields) -> None:
+    status, output, _ = program.run("prove", "pub", given["from"], given["to"], pub=octets(given["publication"]))
+    same("prove", output.hex() in result["replies"], True)
+    same("prove", status, NO_NODE if output == b"\x01" else 0)
+    version = str(int(given["publication"][24:40], 16))
+    for one, line in zip(result["replies"], result["lines"]):
+        same("check", said_of(program, octets(one), given["from"], given["to"], version, octets(given["public"])), line)
+
+
+def radius(program: Program, given: Fields, result: Fields) -> None:
+    ended = program.run("reach", "pub", given["from"], given["radius"], pub=octets(given["publication"]))
+    if "fault" in result:
+        return faulty("reach", ended, result["fault"], NO_NODE)
+    same("reach", ended[:2], (0, octets(result["reply"])))
+
+
+def route(program: Program, given: Fields, result: Fields) -> None:
+    ended = program.run("route", "map.roads", given["from"], given["to"], **{"map.roads": octets(given["roads"])})
+    if "fault" in result:
+        return faulty("route", ended, result["fault"], NO_NODE)
+    same("route", (ended[0], ended[1].decode() in result["lines"]), (0, True))
+
+
+def service(program: Program, given: Fields, result: Fields) -> None:
+    ended = program.run("serve", "pub", pub=octets(given["publication"]), source=octets(given["input"]))
+    same("serve", ended[:2], (0 if result["end"] == "End" else FAULTY, octets(result["output"])))
+
+
+def survey(program: Program, given: Fields, result: Fields) -> None:
+    ended = program.run("survey", given["width"], given["seed"], given["method"], given["queries"])
+    if "fault" in result:
+        return faulty("survey", ended, result["fault"])
+    same("survey", ended[:2], (0, result["line"].encode()))
+
+
+def checked(program: Program, given: Fields) -> tuple[int, str]:
+    words = (
+        ["check-reach", "key", "reply", given["from"], given["radius"]]
+        if "radius" in given
+        else ["check", "key", "reply", given["from"], given["to"]]
+    )
+    status, output, _ = program.run(
+        *words,
+        given["least"],
+        "chain",
+        key=key_file(given["public"]),
+        reply=octets(given["reply"]),
+        chain=octets(given["chain"]),
+    )
+    return status, output.decode()
+
+
+def client(program: Program, given: Fields, result: Fields) -> None:
+    same("check", checked(program, given), (0 if result["code"] in (0, 16) else REFUSED, result["line"]))
+
+
+def turned_reply(program: Program, given: Fields, result: Fields) -> None:
+    for (begin, end), line in zip(given["bits"], result["lines"]):
+        for bit in range(begin, end, BITS * 8):
+            changed = turned(octets(given["reply"]), bit // 8, 128 >> bit % 8).hex()
+            same(f"check, bit {bit}", checked(program, {**given, "reply": changed}), (REFUSED, line))
+
+
+def cut(program: Program, given: Fields, result: Fields) -> None:
+    for (begin, end), place in zip(given["lengths"], result["places"]):
+        for length in range(begin, end, LENGTHS):
+            same(f"cut at {length}", place_by(program, given["sort"], octets(given["octets"])[:length]), place)
+
+
+def place_by(program: Program, sort: str, text: bytes) -> int | None:
+    """Where the program says that octets can't be read."""
+    public = owner().public.hex().encode()
+    if sort == "publication":
+        return placed(program.run("prove", "pub", 1, 3, pub=text))
+    if sort == "chain":
+        return placed(program.run("check", "key", "reply", 1, 3, 0, "chain", key=public, reply=b"\x01", chain=text))
+    _, output, _ = program.run(
+        "check-reach" if sort == "radius reply" else "check", "key", "reply", 1, 3, 0, key=public, reply=text
+    )
+    found = re.fullmatch(rb"refused Malformed (\d+)\n", output)
+    return int(found[1]) if found else None
+
+
+def placed(ended: tuple[int, bytes, str]) -> int | None:
+    found = re.search(r"from place (\d+) on", ended[2])
+    return int(found[1]) if found else None
+
+
+def desk(program: Program, given: Fields, result: Fields) -> None:
+    image = owners.image_in(given["image"])
+    ended = program.run("desk", disk=image)
+    if "fault" in result:
+        faulty("links", program.run("links", disk=image), result["fault"], USED_WRONG)
+        return faulty("desk", ended, result["fault"], USED_WRONG)
+    same("desk", ended[:2], (0, f"{result['keys'][-1]} {result['left']} {result['total']}\n".encode()))
+    same("links", program.run("links", disk=image)[:2], (0, octets(result["links"])))
+
+
+def desk_change(program: Program, given: Fields, result: Fields) -> None:
+    image = owners.image_in(given["image"])
+    ended = program.run(given["do"], "secret", given["kind"], secret=given["secret"].encode(), disk=image)
+    if "fault" in result:
+        same("owner.desk", program.disk(), image)
+        return faulty(given["do"], ended, result["fault"], USED_WRONG)
+    same(given["do"], ended[:2], (0, f"{result['public']}\n".encode()))
+    same("owner.desk", owners.image_fields(program.disk()), result["image"])
+
+
+def ended_as(what: str, ended: tuple[int, bytes, str], result: Fields) -> None:
+    if "fault" in result:
+        return faulty(what, ended, result["fault"], result["status"])
+    same(what, ended[:2], (result["status"], result["line"].encode()))
+
+
+def audit(program: Program, given: Fields, result: Fields) -> None:
+    words = (
+        ["audit-reach", "key", "pub", "reply", given["from"], given["radius"]]
+        if "radius" in given
+        else ["audit", "key", "pub", "reply", given["from"], given["to"]]
+    )
+    ended_as(
+        "audit",
+        program.run(
+            *words,
+            "chain",
+            disk=owners.image_in(given["image"]),
+            key=key_file(given["public"]),
+            pub=octets(given["publication"]),
+            reply=octets(given["reply"]),
+            chain=octets(given["chain"]),
+        ),
+        result,
+    )
+
+
+def reduction(program: Program, given: Fields, result: Fields) -> None:
+    ended_as(
+        "reduce",
+        program.run(
+            "reduce",
+            "key",
+            "text",
+            "signature",
+            disk=owners.image_in(given["image"]),
+            key=key_file(given["public"]),
+            text=given["text"].encode(),
+            signature=given["signature"].encode(),
+        ),
+        result,
+    )
+
+
+PLAYS: dict[str, Callable[[Program, Fields, Fields], None]] = {
+    "road_files": road_file,
+    "dimacs_files": dimacs_file,
+    "leaves": leaf,
+    "headers": header,
+    "chain_files": chain_file,
+    "cuts": cut,
+    "keys": key,
+    "great_keys": key,
+    "signatures": signature,
+    "turned_signatures": turned_signature,
+    "trees": tree,
+    "folds": fold,
+    "orders": order,
+    "publications": publication,
+    "installs": installing,
+    "replies": reply,
+    "radii": radius,
+    "routes": route,
+    "services": service,
+    "surveys": survey,
+    "client": client,
+    "client_radius": client,
+    "turned": turned_reply,
+    "desks": desk,
+    "desk_changes": desk_change,
+    "audits": audit,
+    "reductions": reduction,
+}
+
+
+def by_library(library: str) -> Callable[[Fields], Fields]:
+    """What the library says of what a client is given."""
+    import route_check
+
+    def run(given: Fields) -> Fields:
+        client_of = route_check.Client(octets(given["public"]), octets(given["chain"]), library)
+        start, least = given["from"], int(given["least"])
+        try:
+            if "radius" in given:
+                found = client_of.check_reach(octets(given["reply"]), start, int(given["radius"]), least)
+                ids = "".join(f" {node}" for node in found.distances)
+                return told(f"within {len(found.distances)}:{ids}\n", 0, 0, 0, found.version)
+            found = client_of.check_route(octets(given["reply"]), start, given["to"], least)
+        except route_check.Refused as refused:
+            return told(refused.line + "\n", refused.code, refused.first, refused.second, 0)
+        if isinstance(found, route_check.Apart):
+            return told("accepted none\n", 16, 0, 0, found.version)
+        return told(f"accepted {found.length}:{''.join(f' {node}' for node in found.nodes)}\n", 0, 0, 0, found.version)
+
+    return run
+
+
+def told(line: str, code: int, first: int, second: int, version: int) -> Fields:
+    return {"line": line, "code": code, "first": str(first), "second": str(second), "version": str(version)}
+
+
+def library_plays(
+    run: Callable[[Fields], Fields], name: str, given: Fields, result: Fields, strides: tuple[int, int]
+) -> int:
+    """Plays a case by the library, where it is one of a client; how many checks that took."""
+    if name in ("client", "client_radius"):
+        same("library", run(given), result)
+        return 1
+    if name == "turned":
+        bits = [
+            (bit, line)
+            for (begin, end), line in zip(given["bits"], result["lines"])
+            for bit in range(begin, end, strides[0])
+        ]
+        for bit, line in bits:
+            changed = turned(octets(given["reply"]), bit // 8, 128 >> bit % 8).hex()
+            same(f"library, bit {bit}", run({**given, "reply": changed})["line"], line)
+        return len(bits)
+    if name == "cuts" and given["sort"].endswith("reply"):
+        return library_cuts(run, given, result, strides[1])
+    if name == "chain_files" and "malformed" in result:
+        query = asking.asked(b"\x01", 1, 3, 0)
+        seen = run({**query, "chain": given["octets"]})
+        same("library", (seen["code"], seen["first"]), (15, str(result["malformed"])))
+        return 1
+    return 0
+
+
+def library_cuts(run: Callable[[Fields], Fields], given: Fields, result: Fields, stride: int) -> int:
+    count, query = 0, asking.asked(b"", 1, 3, 0)
+    if given["sort"] == "radius reply":
+        query = asking.near_asked(b"", 1, 3, 0)
+    for (begin, end), place in zip(given["lengths"], result["places"]):
+        for length in range(begin, end, stride):
+            line = run({**query, "reply": given["octets"][: 2 * length]})["line"]
+            same(f"library, cut at {length}", line, f"refused Malformed {place}\n")
+            count += 1
+    return count
+
+
+def reference_plays(family, case: Fields, everything: bool) -> None:
+    runs = {
+        "turned": (clients.run_turned, BITS),
+        "turned_signatures": (signing.run_turned, SIGNED_BITS),
+        "cuts": (formats.run_cut, 1),
+    }
+    if family.name in runs:
+        run, stride = runs[family.name]
+        same("reference", run(case["given"], 1 if everything else stride), case["result"])
+    else:
+        same("reference", family.run(case["given"]), case["result"])
+
+
+def play(words: list[str], everything: bool, folder: pathlib.Path) -> tuple[Counter, list[str]]:
+    program = Program(words[0], folder) if words else None
+    library = by_library(words[1]) if len(words) > 1 else None
+    counts, faults = Counter(), []
+    for family in files.FAMILIES:
+        for case in files.read_family(TOP / "vectors", family) if everything or not family.slow else []:
+            counts["cases"] += 1
+            try:
+                if program is None or everything:
+                    reference_plays(family, case, everything)
+                if program is not None:
+                    PLAYS[family.name](program, case["given"], case["result"])
+                if library is not None:
+                    counts["library"] += library_plays(
+                        library, family.name, case["given"], case["result"], (1, 1) if everything else (BITS, LENGTHS)
+                    )
+            except Differs as fault:
+                faults.append(f"{case['id']} ({case['why']}): {fault}")
+    counts["program"] = program.runs if program else 0
+    return counts, faults
+
+
+def main() -> int:
+    words = [word for word in sys.argv[1:] if not word.startswith("--")]
+    with tempfile.TemporaryDirectory(dir=IN_MEMORY) as folder:
+        counts, faults = play(words, "--all" in sys.argv, pathlib.Path(folder))
+    for fault in faults:
+        print(fault)
+    print(
+        f"vectors: {counts['cases']} cases, {counts['program']} runs of the program and {counts['library']} checks of the library beside the reference, {len(faults)} differ"
+    )
+    return 1 if faults else 0
+
+
+if __name__ == "__main__":
+    sys.exit(main())

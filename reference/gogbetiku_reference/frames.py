@@ -1,0 +1,101 @@
+"""The service: sessions over publications, and the frames that it reads and writes.
+
+docs/SPEC.md, 6.5 Frames. Part of the reference: tested, not proved, and trusted by no client.
+"""
+from .faults import Fault
+from .octets import Malformed, Reader, u8, u32, u64
+from .publications import read_publication
+from .servers import Held, answer, install
+
+SESSIONS, MOST_OCTETS, MOST_FRAMES = 16, 4_194_304, 1_000_000
+BEGIN, ASK, FINISH, INSTALL = 1, 2, 3, 4
+LENGTHS = {BEGIN: 2, ASK: 10, FINISH: 2}
+MAP_FAULTS = {"Empty", "TooMany", "RepeatedNode", "UnknownEnd", "SelfRoad", "Crowded"}
+
+
+class Service:
+    """The newest publication, and what each session is pinned to."""
+
+    def __init__(self, first: Held):
+        self.newest = first
+        self.pins: dict[int, Held] = {}
+
+    def step(self, body: bytes) -> bytes:
+        """The reply to a body, which changes nothing where it is refused."""
+        kind = body[0] if body else 0
+        if kind == INSTALL:
+            return self.install(body[1:])
+        if LENGTHS.get(kind) != len(body):
+            return b"\xe1"
+        return self.session(kind, body[1], body[2:])
+
+    def session(self, kind: int, session: int, rest: bytes) -> bytes:
+        if session >= SESSIONS:
+            return b"\xe2" + u8(session)
+        if kind == BEGIN and session in self.pins:
+            return b"\xe3" + u8(session)
+        if kind != BEGIN and session not in self.pins:
+            return b"\xe4" + u8(session)
+        return {BEGIN: self.begin, ASK: self.ask, FINISH: self.finish}[kind](session, rest)
+
+    def begin(self, session: int, _rest: bytes) -> bytes:
+        self.pins[session] = self.newest
+        return b"\x81" + u8(session) + u64(self.newest.publication.header.version)
+
+    def ask(self, session: int, rest: bytes) -> bytes:
+        start, end = int.from_bytes(rest[:4], "big"), int.from_bytes(rest[4:], "big")
+        return b"\x82" + u8(session) + answer(self.pins[session], start, end)
+
+    def finish(self, session: int, _rest: bytes) -> bytes:
+        del self.pins[session]
+        return b"\x83" + u8(session)
+
+    def install(self, octets: bytes) -> bytes:
+        try:
+            publication = read_publication(Reader(octets))
+        except Malformed:
+            return b"\xe5\x01"
+        newest = self.newest.publication.header.version
+        if publication.header.version <= newest:
+            return b"\xe6" + u64(newest)
+        try:
+            self.newest = install(publication)
+        except Fault as fault:
+            return b"\xe5" + u8(install_code(fault))
+        return b"\x84" + u64(publication.header.version)
+
+
+def install_code(fault: Fault) -> int:
+    """Why a publication whose octets can be read is not installed."""
+    return 2 if fault.name in MAP_FAULTS else 4 if fault.name == "HeaderWrong" else 3
+
+
+def framed(body: bytes) -> bytes:
+    return u32(len(body)) + body
+
+
+def next_frame(text: bytes, at: int) -> bytes:
+    """The body of the frame that begins there."""
+    length = int.from_bytes(text[at : at + 4], "big")
+    if len(text) - at < 4:
+        raise Fault("TruncatedFrame")
+    if length > MOST_OCTETS:
+        raise Fault("FrameTooLong")
+    if len(text) - at - 4 < length:
+        raise Fault("TruncatedFrame")
+    return text[at + 4 : at + 4 + length]
+
+
+def bodies_of(text: bytes) -> tuple[list[bytes], Fault | None]:
+    """The bodies of all frames that are whole, and why the input does not end between two of them."""
+    bodies: list[bytes] = []
+    at = 0
+    while at < len(text):
+        if len(bodies) == MOST_FRAMES:
+            return bodies, Fault("TooManyFrames")
+        try:
+            bodies.append(next_frame(text, at))
+        except Fault as fault:
+            return bodies, fault
+        at += 4 + len(bodies[-1])
+    return bodies, None

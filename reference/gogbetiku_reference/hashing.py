@@ -1,0 +1,29 @@
+"""SHA-256 of FIPS 180-4, as the standard library of Python has it. `H` in docs/SPEC.md.
+
+Python brings two implementations: `hashlib` gives OpenSSL's, which takes several microseconds to begin. Its own one, which
+stands under a name that depends on the version, begins at once, and a key is made of hundreds of thousands of short texts.
+Both are the same function (`test_reference.py` compares them). Part of the reference: tested, not proved, and trusted by no
+client.
+"""
+import hashlib
+import importlib
+from collections.abc import Callable
+
+Hash = Callable[[bytes], bytes]
+
+
+def implementation():
+    """Python's own implementation where it is found, else OpenSSL's."""
+    for name in ("_sha2", "_sha256"):
+        try:
+            return importlib.import_module(name).sha256
+        except ImportError:
+            continue
+    return hashlib.sha256
+
+
+SHA256 = implementation()
+
+
+def sha256(text: bytes) -> bytes:
+    return SHA256(text).digest()

@@ -1,0 +1,70 @@
+"""The files of the folder vectors/: all families, and how their cases and schemas are written.
+
+A signature that stands more than once in a file has a name there, and `{name}` stands in its place.
+
+Tested, not proved; no client trusts it.
+"""
+import json
+import pathlib
+import re
+from collections import Counter
+from collections.abc import Iterator
+
+from . import client, formats, owners, parties, signing
+from .families import Family, Fields
+
+FAMILIES: list[Family] = [*formats.FAMILIES, *signing.FAMILIES, *parties.FAMILIES, *client.FAMILIES, *owners.FAMILIES]
+
+
+# a signature of height 5 behind its length
+SIGNATURE = re.compile("050c(000000[0-9a-f]{2}00000004[0-9a-f]{2568})")
+
+
+def named_signatures(cases: str) -> dict[str, str]:
+    """The signatures that stand more than once, by the names that they are given."""
+    counted = Counter(SIGNATURE.findall(cases))
+    return {
+        f"s{number}": digits
+        for number, digits in enumerate((digits for digits, count in counted.items() if count > 1), 1)
+    }
+
+
+def case_lines(made: Fields) -> str:
+    """A file's text: a case a line."""
+    cases = ",\n".join(json.dumps(case) for case in made["cases"])
+    named = named_signatures(cases)
+    for name, digits in named.items():
+        cases = cases.replace(digits, f"{{{name}}}")
+    head = {"shows": made["shows"], "schema": made["schema"], "signatures": named}
+    return "".join(f'"{name}": {json.dumps(value)},\n' for name, value in head.items()).join(
+        ("{", f'"cases": [\n{cases}\n]}}\n')
+    )
+
+
+def texts(slow: bool) -> Iterator[tuple[str, str]]:
+    """The names and texts of all files; with `slow` also those that take a minute."""
+    for family in FAMILIES:
+        yield f"{family.name}.schema.json", json.dumps(family.schema(), indent=1) + "\n"
+        if slow or not family.slow:
+            yield f"{family.name}.json", case_lines(family.made())
+
+
+def write_all(folder: pathlib.Path) -> None:
+    for name, text in texts(slow=True):
+        (folder / name).write_text(text, encoding="ascii")
+
+
+def differences(folder: pathlib.Path) -> list[str]:
+    """What is not as the reference makes it."""
+    found, named = [], {f"{family.name}{end}" for family in FAMILIES for end in (".json", ".schema.json")}
+    for name, text in texts(slow=False):
+        if not (folder / name).exists() or (folder / name).read_text(encoding="ascii") != text:
+            found.append(f"{name} is not what the reference makes")
+    return found + [f"{path.name} is of no family" for path in sorted(folder.glob("*.json")) if path.name not in named]
+
+
+def read_family(folder: pathlib.Path, family: Family) -> list[Fields]:
+    """The cases of a family's file, with each signature in its place."""
+    text = (folder / f"{family.name}.json").read_text(encoding="ascii")
+    named = json.loads(text)["signatures"]
+    return json.loads(re.sub(r"\{(s[0-9]+)\}", lambda found: named[found[1]], text))["cases"]

@@ -10,7 +10,7 @@ from gogbetiku_reference import commands, desks
 from gogbetiku_reference.chains import Link, link_text, write_chain
 from gogbetiku_reference.commands import World
 from gogbetiku_reference.faults import Fault
-from gogbetiku_reference.lms import KINDS, Key, key_of
+from gogbetiku_reference.lms import KINDS, Key, digits_of, key_of
 from gogbetiku_reference.octets import u8, u32
 from gogbetiku_reference.servers import Held, answer, answer_near, near_reply
 
@@ -434,8 +434,6 @@ def make_reductions() -> Iterator[Case]:
 
 def with_randomiser(key: Key, slot: int, text: bytes) -> bytes:
     """A signature whose randomiser is zeros, as who has the secret can make it."""
-    from gogbetiku_reference.lms import digits_of
-
     shown = [key.value(slot, number, digit) for number, digit in enumerate(digits_of(key.name, slot, bytes(32), text))]
     return u32(slot) + u32(4) + bytes(32) + b"".join(shown) + u32(key.kind) + b"".join(key.path(slot))
 

@@ -1,13 +1,14 @@
 -- A walk between two places is a chain of walks that stop at walls.
-use Rattle.std.proofs.Common.{◌≡◌, ℕ, ◌+◌, ◌<◌, ◌≤◌, ◌==◌, ◌||◌, not, Bool, true, false, IsTrue, Option, None, Some, List, [], ◌∷◌, ◌++◌, inl, inr, length, slice_get, get_or, refl, arith, ap, sym, ◌∙◌, subst}
+use Rattle.std.proofs.Common.{◌≡◌, ℕ, ◌+◌, ◌<◌, ◌≤◌, ◌==◌, ◌||◌, not, Bool, true, false, IsTrue, None, Some, List, [], ◌∷◌, ◌++◌, inl, inr, length, slice_get, get_or, refl, arith, ap, sym, ◌∙◌, subst}
 use Rattle.std.specs.Option.{unwrap_or}
 use Rattle.std.proofs.lemmas.Bool.{cases_eq}
 use Rattle.std.proofs.lemmas.Option.{slice_get-get_or, slice_get_within}
 use Rattle.road_map.specs.declared.arc.Arc.{Arc}
 use Rattle.road_map.specs.Routes.{last_stop, walk_length, stops}
-use Rattle.road_search.specs.Passing.{Leaves, Passes, Reaches, IsLeastPassing}
+use Rattle.road_search.specs.Passing.{Leaves, Passes, Reaches}
 use Rattle.road_search.specs.Nets.{net_ways}
-use Rattle.pair_dist.specs.Chains.{walled_ways, too_long, AreWalls, IsChain}
+use Rattle.pair_dist.specs.Chains.{walled_ways, too_long, AreWalls, IsChain, Keeps}
+use Rattle.pair_dist.proofs.WalkLaws.{join, join_length, join_end, Way, nearer, after}
 
 module _ (rows : List (List Arc)) (walls : List Bool) (places : List ℕ) (chain : List (List Arc)) (are : AreWalls places walls) (is : IsChain rows walls places chain) where
   -- walks over the rows, whatever length they begin with
@@ -21,23 +22,6 @@ module _ (rows : List (List Arc)) (walls : List Bool) (places : List ℕ) (chain
   free : (start u k l : ℕ) (walk : List Arc) → Passes (walled_ways rows walls start) u k walk → Passes (net_ways rows) u l walk
   free start u k l [] h = tt
   free start u k l (a ∷ walk) h = (net_leaves start u a h.0, refl, free start a.to (k + a.length) (l + a.length) walk h.2)
-
-  -- one walk after another
-  join : (u k l : ℕ) (walk more : List Arc) → Passes (net_ways rows) u k walk → Passes (net_ways rows) (last_stop u walk) l more → Passes (net_ways rows) u k (walk ++ more)
-  join u k l [] more h g = moved u l k more g
-    where
-      moved : (u l k : ℕ) (more : List Arc) → Passes (net_ways rows) u l more → Passes (net_ways rows) u k more
-      moved u l k [] g = tt
-      moved u l k (a ∷ more) g = (g.0, refl, moved a.to (l + a.length) (k + a.length) more g.2)
-  join u k l (a ∷ walk) more h g = (h.0, refl, join a.to (k + a.length) l walk more h.2 g)
-
-  join_length : (walk more : List Arc) → walk_length (walk ++ more) ≡ walk_length walk + walk_length more
-  join_length [] more = omega arith
-  join_length (a ∷ walk) more = let e : walk_length (walk ++ more) ≡ walk_length walk + walk_length more = join_length walk more in omega (arith, e)
-
-  join_end : (u : ℕ) (walk more : List Arc) → last_stop u (walk ++ more) ≡ last_stop (last_stop u walk) more
-  join_end u [] more = refl
-  join_end u (a ∷ walk) more = join_end a.to walk more
 
   -- one arc more from where walls let on
   abbrev lets_on : ℕ → ℕ → Type 0
@@ -67,21 +51,12 @@ module _ (rows : List (List Arc)) (walls : List Bool) (places : List ℕ) (chain
       let end : last_stop p (first.walk ++ rest.walk) ≡ last_stop there.0 rest.walk = join_end p first.walk rest.walk ∙ ap (λ t. last_stop t rest.walk) first.ends in
       record {
         walk = first.walk ++ rest.walk;
-        passes = join p 0 0 first.walk rest.walk (free p p 0 0 first.walk first.passes) on;
+        passes = join rows p 0 0 first.walk rest.walk (free p p 0 0 first.walk first.passes) on;
         long = (let l : walk_length (first.walk ++ rest.walk) ≡ walk_length first.walk + walk_length rest.walk = join_length first.walk rest.walk in let f : walk_length first.walk ≡ a.length = first.sums in let r : walk_length rest.walk ≡ walk_length links = rest.long in omega (arith, l, f, r));
         ends = rest.ends ∙ ap Some (sym end);
       }
 
   -- ---- and for each walk over the rows the chain has one that is no longer
-  record Over (i j e : ℕ) : Type 0 where
-    links : List Arc
-    passes : (k : ℕ) → Passes (net_ways chain) i k links
-    ends : last_stop i links ≡ j
-    near : walk_length links ≤ e
-
-  nearer : (i j d e : ℕ) → d ≤ e → Over i j d → Over i j e
-  nearer i j d e le h = record { links = h.links; passes = h.passes; ends = h.ends; near = omega (arith, le, h.near) }
-
   -- a walk from a place so far, that may go on
   record Inner (p u e : ℕ) : Type 0 where
     walk : List Arc
@@ -122,7 +97,7 @@ module _ (rows : List (List Arc)) (walls : List Bool) (places : List ℕ) (chain
   one_place i p q a b = cc
 
   -- a link to another place
-  link : (i p j q e : ℕ) → slice_get places i ≡ Some p → slice_get places j ≡ Some q → Inner p q e → e < too_long → Over i j e
+  link : (i p j q e : ℕ) → slice_get places i ≡ Some p → slice_get places j ≡ Some q → Inner p q e → e < too_long → Way chain i j e
   link i p j q e at to h lt = elim (cases_eq j i) [
     | inl same ↦ record { links = []; passes = λ k. tt; ends = sym same; near = omega arith }
     | inr apart ↦
@@ -136,32 +111,20 @@ module _ (rows : List (List Arc)) (walls : List Bool) (places : List ℕ) (chain
         }
   ]
 
-  after : (i m j d e : ℕ) → Over i m d → Over m j e → Over i j (d + e)
-  after i m j d e f g = record {
-    links = f.links ++ g.links;
-    passes = λ k. joined i k f.links (f.passes k) (λ l. subst (λ t. Passes (net_ways chain) t l g.links) (sym f.ends) (g.passes l));
-    ends = join_end i f.links g.links ∙ (ap (λ t. last_stop t g.links) f.ends ∙ g.ends);
-    near = (let l : walk_length (f.links ++ g.links) ≡ walk_length f.links + walk_length g.links = join_length f.links g.links in omega (arith, l, f.near, g.near));
-  }
-    where
-      joined : (u k : ℕ) (walk : List Arc) → Passes (net_ways chain) u k walk → ((l : ℕ) → Passes (net_ways chain) (last_stop u walk) l g.links) → Passes (net_ways chain) u k (walk ++ g.links)
-      joined u k [] h on = on k
-      joined u k (a ∷ walk) h on = (h.0, refl, joined a.to (k + a.length) walk h.2 on)
-
-  over : (j q : ℕ) → slice_get places j ≡ Some q → (walk : List Arc) (i p u e k : ℕ) → slice_get places i ≡ Some p → Inner p u e → lets_on p u → Passes (net_ways rows) u k walk → last_stop u walk ≡ q → e + walk_length walk < too_long → Over i j (e + walk_length walk)
+  over : (j q : ℕ) → slice_get places j ≡ Some q → (walk : List Arc) (i p u e k : ℕ) → slice_get places i ≡ Some p → Inner p u e → lets_on p u → Passes (net_ways rows) u k walk → last_stop u walk ≡ q → e + walk_length walk < too_long → Way chain i j (e + walk_length walk)
   over j q to [] i p u e k at h on passes ends lt =
-      nearer i j e (e + 0) (omega arith) (link i p j q e at to (subst (λ t. Inner p t e) ends h) (let l : e + 0 < too_long = lt in omega (arith, l)))
+      nearer chain i j e (e + 0) (omega arith) (link i p j q e at to (subst (λ t. Inner p t e) ends h) (let l : e + 0 < too_long = lt in omega (arith, l)))
   over j q to (a ∷ walk) i p u e k at h on passes ends lt =
       by_wall (unwrap_or (slice_get walls a.to) false) refl
       (λ free. over j q to walk i p a.to (e + a.length) (k + a.length) at (more p u e a h passes.0 on) free passes.2 ends (omega (arith, lt)))
       (λ m there. over j q to walk m a.to a.to 0 (k + a.length) there (begin a.to) (same_lets a.to) passes.2 ends (omega (arith, lt)))
     where
-      by_wall : (b : Bool) → unwrap_or (slice_get walls a.to) false ≡ b → (lets_on p a.to → Over i j ((e + a.length) + walk_length walk)) → ((m : ℕ) → slice_get places m ≡ Some a.to → Over m j (0 + walk_length walk)) → Over i j (e + (a.length + walk_length walk))
-      by_wall false free inside beyond = nearer i j ((e + a.length) + walk_length walk) (e + (a.length + walk_length walk)) (omega arith) (inside (free_lets p a.to free))
+      by_wall : (b : Bool) → unwrap_or (slice_get walls a.to) false ≡ b → (lets_on p a.to → Way chain i j ((e + a.length) + walk_length walk)) → ((m : ℕ) → slice_get places m ≡ Some a.to → Way chain m j (0 + walk_length walk)) → Way chain i j (e + (a.length + walk_length walk))
+      by_wall false free inside beyond = nearer chain i j ((e + a.length) + walk_length walk) (e + (a.length + walk_length walk)) (omega arith) (inside (free_lets p a.to free))
       by_wall true barred inside beyond =
           let m : (m : ℕ) × (slice_get places m ≡ Some a.to) = are a.to barred in
-          let first : Over i m.0 (e + a.length) = link i p m.0 a.to (e + a.length) at m.1 (more p u e a h passes.0 on) (omega (arith, lt)) in
-          nearer i j ((e + a.length) + (0 + walk_length walk)) (e + (a.length + walk_length walk)) (omega arith) (after i m.0 j (e + a.length) (0 + walk_length walk) first (beyond m.0 m.1))
+          let first : Way chain i m.0 (e + a.length) = link i p m.0 a.to (e + a.length) at m.1 (more p u e a h passes.0 on) (omega (arith, lt)) in
+          nearer chain i j ((e + a.length) + (0 + walk_length walk)) (e + (a.length + walk_length walk)) (omega arith) (after chain i m.0 j (e + a.length) (0 + walk_length walk) first (beyond m.0 m.1))
 
   -- ---- so the least lengths are the same
   to_rows : (i j p q d : ℕ) → slice_get places i ≡ Some p → slice_get places j ≡ Some q → Reaches (net_ways chain) i too_long j d → Reaches (net_ways rows) p too_long q d
@@ -174,10 +137,10 @@ module _ (rows : List (List Arc)) (walls : List Bool) (places : List ℕ) (chain
   to_chain i j p q d at to r =
       let sums : walk_length r.1.walk ≡ d = r.1.sums in
       let below : d < too_long = r.1.below in
-      let o : Over i j (0 + walk_length r.1.walk) = over j q to r.1.walk i p p 0 0 at (begin p) (same_lets p) r.1.passes r.1.ends (omega (arith, sums, below)) in
+      let o : Way chain i j (0 + walk_length r.1.walk) = over j q to r.1.walk i p p 0 0 at (begin p) (same_lets p) r.1.passes r.1.ends (omega (arith, sums, below)) in
       let near : walk_length o.links ≤ 0 + walk_length r.1.walk = o.near in
       (walk_length o.links, (stops i o.links, record { walk = o.links; passes = o.passes 0; visits = refl; ends = o.ends; sums = refl; below = omega (arith, near, sums, below) }), omega (arith, near, sums))
 
-  pub chain_least : (i j p q : ℕ) (o : Option ℕ) → slice_get places i ≡ Some p → slice_get places j ≡ Some q → IsLeastPassing (net_ways chain) i too_long j o → IsLeastPassing (net_ways rows) p too_long q o
+  pub chain_least : Keeps rows places chain
   chain_least i j p q None at to h = λ d r. let c = to_chain i j p q d at to r in h c.0 c.1
   chain_least i j p q (Some d) at to h = (to_rows i j p q d at to h.0, λ e r. let c = to_chain i j p q e at to r in let least : d ≤ c.0 = h.1 c.0 c.1 in let le : c.0 ≤ e = c.2 in omega (arith, least, le))

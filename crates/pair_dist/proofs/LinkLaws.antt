@@ -11,13 +11,13 @@ use Rattle.road_map.proofs.NetLaws.{last_or_before}
 use Rattle.road_search.specs.Passing.{Reaches, IsLeastPassing}
 use Rattle.pair_dist.specs.Chains.{walled_ways, too_long, AreWalls, IsLink, IsLinkBelow, IsChainBelow}
 
-in_first : {X : Type 0} (x : X) (xs ys : List X) → Contains xs x → Contains (xs ++ ys) x
+pub in_first : {X : Type 0} (x : X) (xs ys : List X) → Contains xs x → Contains (xs ++ ys) x
 in_first x xs ys h = Contains-append_left xs ys x h
 
-earlier : (j n : ℕ) → j < n + 1 → (j < n) ⊎ (j ≡ n)
+pub earlier : (j n : ℕ) → j < n + 1 → (j < n) ⊎ (j ≡ n)
 earlier j n lt = grind (arith, lt)
 
-same_at : {X : Type 0} (xs : List X) (j n : ℕ) (p q : X) → j ≡ n → slice_get xs n ≡ Some p → slice_get xs j ≡ Some q → q ≡ p
+pub same_at : {X : Type 0} (xs : List X) (j n : ℕ) (p q : X) → j ≡ n → slice_get xs n ≡ Some p → slice_get xs j ≡ Some q → q ≡ p
 same_at xs j n p q e a b = let c : slice_get xs j ≡ Some p = ap (slice_get xs) e ∙ a in cc
 
 module _ (rows : List (List Arc)) (walls : List Bool) (places : List ℕ) (i p : ℕ) where

@@ -1,5 +1,5 @@
 -- What searches over a net, and over a chain, find at the stations of ids.
-use Rattle.std.proofs.Common.{◌≡◌, ℕ, ◌<◌, Bool, Some, List, length, slice_get, get_or, arith, ◌∙◌, subst}
+use Rattle.std.proofs.Common.{◌≡◌, ℕ, ◌<◌, Some, List, length, slice_get, get_or, arith, ◌∙◌, subst}
 use Rattle.std.proofs.lemmas.Option.{slice_get-get_or, slice_get_within}
 use Rattle.road_map.specs.declared.arc.Arc.{Arc}
 use Rattle.road_map.specs.declared.parts.Node.{Node}
@@ -12,8 +12,7 @@ use Rattle.road_search.specs.Passing.{IsLeastPassing}
 use Rattle.road_search.specs.Nets.{net_ways}
 use Rattle.road_search.proofs.NetLaws.{net_distance}
 use Rattle.pair_dist.specs.Placing.{ArePlaces}
-use Rattle.pair_dist.specs.Chains.{too_long, AreWalls, IsChain, Measured}
-use Rattle.pair_dist.proofs.ChainLaws.{chain_least}
+use Rattle.pair_dist.specs.Chains.{too_long, Keeps, Measured}
 
 module _ (parts : Parts) (order : List Node) (rows : List (List Arc)) (chosen places : List ℕ) (m : IsMap parts) (by : IsById parts.nodes order) (net : IsNet parts order rows) (laws : DistanceLaws parts) (h : ArePlaces order chosen places) where
   pub by_places : Measured (distance parts) (net_ways rows) chosen places
@@ -25,10 +24,10 @@ module _ (parts : Parts) (order : List Node) (rows : List (List Arc)) (chosen pl
   at_place : (i a : ℕ) → slice_get chosen i ≡ Some a → slice_get places i ≡ Some (get_or places i 0)
   at_place i a at = slice_get-get_or places i 0 (let lt : i < length chosen = slice_get_within chosen i a at in omega (arith, lt, h.long))
 
-  pub by_chain : (walls : List Bool) (chain : List (List Arc)) (stations : List ℕ) → AreWalls places walls → IsChain rows walls places chain → length stations ≡ length places → ((i n : ℕ) → slice_get stations i ≡ Some n → n ≡ i) → Measured (distance parts) (net_ways chain) chosen stations
-  by_chain walls chain stations are is long each = record {
+  pub by_chain : (chain : List (List Arc)) (stations : List ℕ) → Keeps rows places chain → length stations ≡ length places → ((i n : ℕ) → slice_get stations i ≡ Some n → n ≡ i) → Measured (distance parts) (net_ways chain) chosen stations
+  by_chain chain stations keeps long each = record {
     long = long ∙ h.long;
     each = λ i j a b n k o ci cj si sj l. by_places.each i j a b (get_or places i 0) (get_or places j 0) o ci cj (at_place i a ci) (at_place j b cj)
-        (chain_least rows walls places chain are is i j (get_or places i 0) (get_or places j 0) o (at_place i a ci) (at_place j b cj)
+        (keeps i j (get_or places i 0) (get_or places j 0) o (at_place i a ci) (at_place j b cj)
         (subst (λ t. IsLeastPassing (net_ways chain) i too_long t o) (each j k sj) (subst (λ t. IsLeastPassing (net_ways chain) t too_long k o) (each i n si) l)));
   }

@@ -3,6 +3,7 @@ use Rattle.std.specs.Prelude.{◌≡◌, ◌≢◌, ℕ, ◌<◌, ◌≤◌, ◌
 use Rattle.std.specs.Option.{unwrap_or}
 use Rattle.road_map.specs.declared.arc.Arc.{Arc}
 use Rattle.road_search.specs.Passing.{Ways, Reaches, IsLeastPassing}
+use Rattle.road_search.specs.Nets.{net_ways}
 
 -- no walk is as long as this
 abbrev pub too_long : ℕ
@@ -36,6 +37,12 @@ pub record IsChain (rows : List (List Arc)) (walls : List Bool) (places : List �
   pub long : length chain ≡ length places
   pub each : (i p : ℕ) (row : List Arc) → slice_get places i ≡ Some p →
       slice_get chain i ≡ Some row → IsLink rows walls places i p row
+
+-- least lengths over the chain, from number to number, are least lengths from place to place
+abbrev pub Keeps : List (List Arc) → List ℕ → List (List Arc) → Type 0
+Keeps rows places chain = (i j p q : ℕ) (o : Option ℕ) → slice_get places i ≡ Some p →
+    slice_get places j ≡ Some q → IsLeastPassing (net_ways chain) i too_long j o →
+    IsLeastPassing (net_ways rows) p too_long q o
 
 -- a search from the station of one id finds its distance at the station of another
 pub record Measured (dist : ℕ → ℕ → Option ℕ) (w : Ways) (chosen stations : List ℕ) : Type 0 where

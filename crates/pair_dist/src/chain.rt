@@ -16,7 +16,7 @@ use std::marker::Model;
 /// The arcs out of each place, at its number, each to the number of a place.
 #[derive(Drop)]
 pub struct Chain {
-    rows: Vec<Arcs>,
+    pub(crate) rows: Vec<Arcs>,
 }
 
 impl Model for Chain {
@@ -134,7 +134,7 @@ fn link<T: Marks>(
             return Ok(None);
         }
     }
-    Ok(Some(Arcs::from_vec(row)))
+    Ok(Some(Arcs::from_vec(row.as_slice().to_vec(alloc)?)))
 }
 
 /// The chain of some places, by a search from each that goes on from no other, unless an arc of it

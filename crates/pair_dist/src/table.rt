@@ -1,19 +1,20 @@
 //! The table, row by row.
 
-ghost use Rattle.std.specs.Prelude.{◌≡◌, ◌≤◌, ◌<◌, ◌↔◌, ℕ, Some, ◌++◌, Err, IfOk, OnOk, Contains, drop, length, map, slice_get};
+ghost use Rattle.std.specs.Prelude.{◌≡◌, ◌≤◌, ◌<◌, ◌↔◌, ℕ, Some, ◌++◌, Err, IfOk, IfSome, OnOk, Contains, drop, length, map, slice_get};
 ghost use Rattle.road_map.specs.Walks.{Knows, distance};
 ghost use Rattle.road_search.specs.Labelling.{length_in};
 ghost use Rattle.book_model.specs.Pairs.{pair_leaf, pairs_of, said};
 ghost use Rattle.pair_dist.specs.Placing.{ArePlaces};
-ghost use Rattle.pair_dist.specs.Chains.{Measured, Finds};
+ghost use Rattle.pair_dist.specs.Chains.{Keeps, Measured, Finds};
 ghost use Rattle.pair_dist.specs.declared.error.PairError.TheVariants as pair_error;
 
-use crate::chain::{chain_of, length_of, walls_at};
+use crate::chain::{Chain, chain_of, length_of, walls_at};
 use crate::error::PairError;
+use crate::thin::thinned;
 use book_model::PairLeaves;
 use octet_text::NoMemory;
 use road_leaf::PairLeaf;
-use road_map::{Map, map_laws};
+use road_map::{Map, Net, map_laws};
 use road_search::{Ground, Marks, Numbered, search_in};
 use std::alloc::{AllocError, Global};
 
@@ -97,8 +98,25 @@ fn leaves_over<G: Ground>(
     Ok(leaves)
 }
 
+/// A chain of some places, among so many positions, that keeps their distances, unless an arc of it is too long
+/// or the places are all that there are.
+fn chain_at(alloc: Global, net: &Net, count: u32, places: &[u32]) -> Result<Option<Chain>, NoMemory>
+    requires within { (i p : ℕ) → slice_get places.now i ≡ Some p → p < count }
+    requires few { length places.now ≤ 65536 }
+    ensures { IfOk result (λ found. IfSome found (Keeps net.now places.now)) }
+{
+    if places.len() == count as usize {
+        return Ok(None);
+    }
+    let walls = walls_at(alloc, count, places)?;
+    match chain_of(alloc, net, walls.as_slice(), places)? {
+        None => Ok(None),
+        Some(chain) => Ok(Some(thinned(alloc, chain)?)),
+    }
+}
+
 /// The leaves of all pairs of some nodes at these places: over their chain, or over the whole map where
-/// a link of the chain is too long for an arc.
+/// they have none.
 fn leaves_at(
     alloc: Global,
     map: &Map,
@@ -112,8 +130,7 @@ fn leaves_at(
     map_laws();
     let _parts = map.parts();
     let net = map.net();
-    let walls = walls_at(alloc, map.count(), places)?;
-    match chain_of(alloc, net, walls.as_slice(), places)? {
+    match chain_at(alloc, net, map.count(), places)? {
         None => leaves_over(alloc, net, map, chosen, places),
         Some(chain) => {
             let stations = numbers(alloc, places.len() as u32)?;

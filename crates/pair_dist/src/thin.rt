@@ -1,0 +1,117 @@
+//! Arcs that two others make needless.
+
+ghost use Rattle.std.specs.Prelude.{◌≡◌, ◌<◌, ◌+◌, ◌⊎◌, ℕ, true, Some, IfOk, OnOk, [], ◌∷◌, ◌++◌, Contains, slice_get};
+ghost use Rattle.road_map.specs.declared.arc.Arc.{Arc};
+ghost use Rattle.pair_dist.specs.Chains.{too_long};
+ghost use Rattle.pair_dist.specs.Thinning.{AreSteps, IsNeedless, IsThinned, Agrees};
+
+use crate::chain::Chain;
+use octet_text::NoMemory;
+use road_map::{Arc, Arcs};
+use std::alloc::{AllocError, Global};
+
+/// Lowers the length of where the second of two arcs leads to that of both, where each is longer than 0.
+fn lower(lengths: &mut Vec<u64>, first: Arc, second: Arc)
+    ensures { (j v : ℕ) → slice_get lengths.new.items j ≡ Some v →
+        (slice_get lengths.old.items j ≡ Some v) ⊎ ((second.to ≡ j) × (0 < first.length) ×
+        (0 < second.length) × (v ≡ first.length + second.length)) }
+{
+    let to = second.to as usize;
+    if first.length == 0 || second.length == 0 || to >= lengths.len() {
+        return;
+    }
+    let length = u64::from(first.length) + u64::from(second.length);
+    if length < lengths[to] {
+        lengths[to] = length;
+    }
+}
+
+/// Lowers the lengths of where two arcs lead: one, and then any of these.
+fn lower_each(lengths: &mut Vec<u64>, first: Arc, out: &[Arc])
+    ensures { (j v : ℕ) → slice_get lengths.new.items j ≡ Some v →
+        (slice_get lengths.old.items j ≡ Some v) ⊎ ((a : Arc) × Contains out.now a × (a.to ≡ j) ×
+        (0 < first.length) × (0 < a.length) × (v ≡ first.length + a.length)) }
+{
+    for second in out {
+        lower(lengths, first, *second);
+    }
+}
+
+/// Lowers the lengths of where an arc of a row leads with one more out of where it ends.
+fn lower_beyond(lengths: &mut Vec<u64>, rows: &[Arcs], row: &[Arc], first: Arc)
+    requires among { Contains row.now first }
+    requires steps { AreSteps rows.now row.now lengths.old.items }
+    ensures { AreSteps rows.now row.now lengths.new.items }
+{
+    if let Some(out) = rows.get(first.to as usize) {
+        lower_each(lengths, first, out.as_slice());
+    }
+}
+
+/// The least length of two arcs to each number, one of a row and one out of where it leads: the
+/// greatest number where there are none.
+fn lengths_beyond(alloc: Global, rows: &[Arcs], row: &[Arc]) -> Result<Vec<u64>, AllocError>
+    ensures { IfOk result (λ lengths. AreSteps rows.now row.now lengths.items) }
+{
+    let mut lengths = vec![in alloc; u64::MAX; rows.len()]?;
+    for first in row {
+        lower_beyond(&mut lengths, rows, row, *first);
+    }
+    Ok(lengths)
+}
+
+/// Whether two arcs lead to where this one does, and are together no longer.
+fn is_needless(lengths: &[u64], arc: Arc) -> bool
+    ensures { result ≡ true → IsNeedless lengths.now arc }
+{
+    match lengths.get(arc.to as usize) {
+        None => false,
+        Some(length) => *length <= u64::from(arc.length),
+    }
+}
+
+/// Puts an arc behind others, unless it is needless.
+fn put_needed(thin: &mut Vec<Arc>, lengths: &[u64], arc: Arc) -> Result<(), AllocError>
+    ensures { OnOk result ((thin.new.items ≡ thin.old.items ++ arc ∷ []) ⊎
+        ((thin.new.items ≡ thin.old.items) × IsNeedless lengths.now arc)) }
+{
+    if !is_needless(lengths, arc) {
+        thin.push(arc)?;
+    }
+    Ok(())
+}
+
+/// The arcs of a row that are not needless.
+fn needed(alloc: Global, row: &[Arc], lengths: &[u64]) -> Result<Arcs, AllocError>
+    ensures among { IfOk result (λ thin. (a : Arc) → Contains thin a → Contains row.now a) }
+    ensures rest { IfOk result (λ thin. (a : Arc) → Contains row.now a → Contains thin a ⊎
+        IsNeedless lengths.now a) }
+{
+    let mut thin = Vec::with_capacity(alloc, row.len())?;
+    for arc in row {
+        put_needed(&mut thin, lengths, *arc)?;
+    }
+    Ok(Arcs::from_vec(thin))
+}
+
+/// The row at a number, without the arcs that two others are no longer than.
+fn thin_row(alloc: Global, rows: &[Arcs], row: &[Arc]) -> Result<Arcs, AllocError>
+    ensures { IfOk result (IsThinned rows.now row.now) }
+{
+    let lengths = lengths_beyond(alloc, rows, row)?;
+    let thin = needed(alloc, row, lengths.as_slice())?;
+    Ok(thin)
+}
+
+/// The chain without the arcs that two others, each of them longer than 0, make needless: row by row, each
+/// over the rows that are thinned and those that are not yet.
+pub fn thinned(alloc: Global, chain: Chain) -> Result<Chain, NoMemory>
+    ensures { IfOk result (Agrees chain) }
+{
+    let Chain { mut rows } = chain;
+    for number in 0..rows.len() {
+        let thin = thin_row(alloc, rows.as_slice(), rows[number].as_slice())?;
+        rows[number] = thin;
+    }
+    Ok(Chain { rows })
+}

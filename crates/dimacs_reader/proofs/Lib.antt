@@ -9,3 +9,4 @@ pub mod ReadLaws
 pub mod ArcLaws
 pub mod CountLaws
 pub mod ListLaws
+pub mod SortedArcs

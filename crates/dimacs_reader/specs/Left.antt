@@ -1,16 +1,42 @@
--- How many arcs are left, by a map from their ends and lengths.
-use Rattle.std.specs.Prelude.{◌≡◌, ◌≢◌, ℕ, ◌+◌, ◌==◌, ◌&&◌, ◌||◌, nat_lt, Bool, if◌then◌else◌}
-use Rattle.std.specs.Option.{unwrap_or}
-use Rattle.std.specs.HashMap.{HashMap, get}
+-- How many arcs are left, by the places of sorted arcs.
+use Rattle.std.specs.Prelude.{◌≡◌, ◌≢◌, ℕ, ◌+◌, ◌==◌, ◌||◌, nat_lt, Bool, if◌then◌else◌, Option, None, Some, List, get_or}
+use Rattle.std.specs.List.{position}
+use Rattle.std.specs.List.Sorted.{IsSortedByKey}
+use Rattle.std.specs.Ordering.{nat_cmp, ordering_then, ordering_index}
+use Rattle.std.specs.declared.cmp.Ordering.{Ordering}
 use Rattle.dimacs_reader.specs.declared.arc.Arc.{Arc}
 use Rattle.dimacs_reader.specs.Dimacs.{is_arc, turned}
 
--- the three numbers of two arcs are the same
-abbrev pub same_three : ℕ × ℕ × ℕ → ℕ × ℕ × ℕ → Bool
-same_three x y = (x.0 == y.0) && (x.1 == y.1) && (x.2 == y.2)
+-- the numbers by which arcs are sorted: the two ends, then the length
+abbrev pub three_of : Arc → ℕ × ℕ × ℕ
+three_of arc = (arc.from, arc.to, arc.length)
 
-abbrev pub left_of : {S : Type 0} → HashMap (ℕ × ℕ × ℕ) ℕ S → Arc → ℕ
-left_of counts arc = unwrap_or (get same_three counts (arc.from, arc.to, arc.length)) 0
+abbrev pub three_cmp : ℕ × ℕ × ℕ → ℕ × ℕ × ℕ → Ordering
+three_cmp x y = ordering_then (ordering_then (nat_cmp x.0 y.0) (nat_cmp x.1 y.1)) (nat_cmp x.2 y.2)
+
+abbrev pub AreSorted : List Arc → Type 0
+AreSorted arcs = IsSortedByKey three_of three_cmp arcs
+
+-- where an arc stands against another: 0 before it, 1 with it, 2 behind it
+abbrev pub rank : Arc → Arc → ℕ
+rank arc other = ordering_index (three_cmp (three_of other) (three_of arc))
+
+-- another arc comes before an arc
+abbrev pub precedes : Arc → Arc → Bool
+precedes arc other = nat_lt (rank arc other) 1
+
+-- the first place of an arc, if it stands in the list
+abbrev pub place_in : List Arc → Arc → Option ℕ
+place_in arcs arc = position (is_arc arc) arcs
+
+-- how many are left at a place that may be there
+abbrev pub left_at : List ℕ → Option ℕ → ℕ
+left_at left None = 0
+left_at left (Some place) = get_or left place 0
+
+-- how many arcs like this one are left: each number stands at the first place of its arc
+abbrev pub left_of : List Arc → List ℕ → Arc → ℕ
+left_of arcs left arc = left_at left (place_in arcs arc)
 
 -- the arc needs no arc back, or one is left
 abbrev pub has_back : (Arc → ℕ) → Arc → Bool

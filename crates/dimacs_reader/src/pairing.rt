@@ -1,88 +1,148 @@
 //! Pairs of arcs: each arc between two nodes has an arc back of its own.
 
-ghost use Rattle.std.specs.Prelude.{◌≡◌, ◌^◌, ◌<◌, ◌⊎◌, ℕ, true, None, Some, IfOk, IfErr, OnOk, length, count_by, if◌then◌else◌};
+ghost use Rattle.std.specs.Prelude.{◌≡◌, ◌+◌, ◌-◌, ◌^◌, ◌<◌, ◌⊎◌, ℕ, nat_lt, true, None, Some, IfOk, IfErr, OnOk, IsPermutation, length, count_by, get_or, set};
 ghost use Rattle.dimacs_reader.specs.declared.arc.Arc.{Arc};
 ghost use Rattle.dimacs_reader.specs.Dimacs.{is_arc, first_unpaired, road_of, roads_of};
-ghost use Rattle.dimacs_reader.specs.Left.{left_of, has_back, TakesBack};
+ghost use Rattle.dimacs_reader.specs.Left.{AreSorted, precedes, place_in, left_of, has_back, TakesBack};
 
 use crate::arc::Arc;
 use crate::error::DimacsError;
 use road_map::Road;
 use std::alloc::{AllocError, Global};
-use std::collections::HashMap;
 
-/// How many arcs there are from one node to another, of this length.
-type Counts = HashMap<(u32, u32, u32), u32>;
-
-/// How many arcs like this one are left.
-fn count_of(counts: &Counts, arc: Arc) -> u32
-    ensures { result ≡ left_of counts.now arc }
+/// Arcs by rising ends and lengths.
+fn sorted_arcs(alloc: Global, arcs: &[Arc]) -> Result<Vec<Arc>, AllocError>
+    ensures sorted { IfOk result (λ sorted. AreSorted sorted.items) }
+    ensures same { IfOk result (λ sorted. IsPermutation arcs.now sorted.items) }
 {
-    counts
-        .get(&(arc.from, arc.to, arc.length))
-        .copied()
-        .unwrap_or(0)
+    let mut sorted = arcs.to_vec(alloc)?;
+    sorted.sort_unstable_by_key(|arc| (arc.from, arc.to, arc.length));
+    Ok(sorted)
 }
 
-/// Notes how many arcs like this one are left.
-fn set_count(counts: &mut Counts, arc: Arc, count: u32) -> Result<(), AllocError>
-    ensures { OnOk result ((other : Arc) →
-        left_of counts.new other ≡ (if is_arc arc other then count else left_of counts.old other)) }
+/// Whether an arc comes before another one.
+fn precedes(other: &Arc, arc: Arc) -> bool
+    ensures { result ≡ precedes arc other.now }
 {
-    counts.insert((arc.from, arc.to, arc.length), count)?;
-    Ok(())
+    other.from < arc.from
+        || (other.from == arc.from
+            && (other.to < arc.to || (other.to == arc.to && other.length < arc.length)))
 }
 
-/// How many of each arc there are.
-fn count_arcs(alloc: Global, arcs: &[Arc]) -> Result<Counts, AllocError>
-    requires { length arcs.now < 2 ^ 32 }
-    ensures { IfOk result (λ counts. (arc : Arc) →
-        left_of counts arc ≡ count_by (is_arc arc) arcs.now) }
+/// Whether two arcs are the same.
+fn is_arc(arc: Arc, other: Arc) -> bool
+    ensures { result ≡ is_arc arc other }
 {
-    let mut counts = HashMap::new(alloc);
-    for arc in arcs {
-        let count = count_of(&counts, *arc);
-        set_count(&mut counts, *arc, count + 1)?;
+    arc.from == other.from && arc.to == other.to && arc.length == other.length
+}
+
+/// The first place of an arc among sorted arcs.
+fn place_in(sorted: &[Arc], arc: Arc) -> Option<usize>
+    requires { AreSorted sorted.now }
+    ensures { result ≡ place_in sorted.now arc }
+{
+    let place = sorted.partition_point(|other| precedes(other, arc));
+    match sorted.get(place) {
+        None => None,
+        Some(other) => {
+            if is_arc(arc, *other) {
+                Some(place)
+            } else {
+                None
+            }
+        }
     }
-    Ok(counts)
+}
+
+/// No number above 0.
+fn zeros(alloc: Global, count: usize) -> Result<Vec<u32>, AllocError>
+    ensures long { IfOk result (λ left. length left.items ≡ count) }
+    ensures zero { IfOk result (λ left. (k : ℕ) → get_or left.items k 0 ≡ 0) }
+{
+    vec![in alloc; 0; count]
+}
+
+/// One more at a place.
+fn add_one(left: &mut Vec<u32>, place: usize)
+    requires within { place < length left.old.items }
+    requires room { get_or left.old.items place 0 + 1 < 2 ^ 32 }
+    ensures { left.new.items ≡ set left.old.items place (get_or left.old.items place 0 + 1) }
+{
+    left[place] += 1;
+}
+
+/// How many of each arc there are, at its first place among sorted arcs.
+fn count_arcs(alloc: Global, sorted: &[Arc]) -> Result<Vec<u32>, AllocError>
+    requires few { length sorted.now < 2 ^ 32 }
+    requires sorted { AreSorted sorted.now }
+    ensures long { IfOk result (λ left. length left.items ≡ length sorted.now) }
+    ensures counts { IfOk result (λ left. (arc : Arc) →
+        left_of sorted.now left.items arc ≡ count_by (is_arc arc) sorted.now) }
+{
+    let mut left = zeros(alloc, sorted.len())?;
+    for arc in sorted {
+        let place = place_in(sorted, *arc).unwrap();
+        add_one(&mut left, place);
+    }
+    Ok(left)
+}
+
+/// One less at a place, and answers whether one was left.
+fn take_one(left: &mut Vec<u32>, place: usize) -> bool
+    requires { place < length left.old.items }
+    ensures some { result ≡ nat_lt 0 (get_or left.old.items place 0) }
+    ensures long { length left.new.items ≡ length left.old.items }
+    ensures less { result ≡ true →
+        left.new.items ≡ set left.old.items place (get_or left.old.items place 0 - 1) }
+{
+    if left[place] == 0 {
+        return false;
+    }
+    left[place] -= 1;
+    true
 }
 
 /// Takes the arc back of an arc, and answers whether one was left. An arc from a node to itself
 /// needs none.
-fn take_back(counts: &mut Counts, arc: Arc) -> Result<bool, AllocError>
-    ensures paired { IfOk result (λ paired. paired ≡ has_back (left_of counts.old) arc) }
-    ensures left { IfOk result (λ paired. paired ≡ true →
-        TakesBack (left_of counts.old) (left_of counts.new) arc) }
+fn take_back(sorted: &[Arc], left: &mut Vec<u32>, arc: Arc) -> bool
+    requires sorted { AreSorted sorted.now }
+    requires long { length left.old.items ≡ length sorted.now }
+    ensures long { length left.new.items ≡ length sorted.now }
+    ensures paired { result ≡ has_back (left_of sorted.now left.old.items) arc }
+    ensures left { result ≡ true →
+        TakesBack (left_of sorted.now left.old.items) (left_of sorted.now left.new.items) arc }
 {
     if arc.from == arc.to {
-        return Ok(true);
+        return true;
     }
     let back = Arc {
         from: arc.to,
         to: arc.from,
         length: arc.length,
     };
-    let left = count_of(counts, back);
-    if left == 0 {
-        return Ok(false);
+    match place_in(sorted, back) {
+        None => false,
+        Some(place) => take_one(left, place),
     }
-    set_count(counts, back, left - 1)?;
-    Ok(true)
 }
 
 /// Finds the first arc between two nodes for which no arc back is left, where the counts are those
 /// of all arcs.
-fn find_unpaired(mut counts: Counts, arcs: &[Arc]) -> Result<Option<u32>, AllocError>
+fn find_unpaired(sorted: &[Arc], left: Vec<u32>, arcs: &[Arc]) -> Option<u32>
     requires few { length arcs.now < 2 ^ 32 }
-    requires counts { (arc : Arc) → left_of counts arc ≡ count_by (is_arc arc) arcs.now }
-    ensures { IfOk result (λ found. found ≡ first_unpaired arcs.now) }
+    requires sorted { AreSorted sorted.now }
+    requires long { length left.items ≡ length sorted.now }
+    requires counts { (arc : Arc) →
+        left_of sorted.now left.items arc ≡ count_by (is_arc arc) arcs.now }
+    ensures { result ≡ first_unpaired arcs.now }
 {
+    let mut left = left;
     for (index, arc) in arcs.iter().enumerate() {
-        if !take_back(&mut counts, *arc)? {
-            return Ok(Some(index as u32));
+        if !take_back(sorted, &mut left, *arc) {
+            return Some(index as u32);
         }
     }
-    Ok(None)
+    None
 }
 
 /// Refuses arcs of which one between two nodes has no arc back of its own.
@@ -93,8 +153,9 @@ pub fn check_pairs(alloc: Global, arcs: &[Arc]) -> Result<(), DimacsError>
         ⊎ ((index : ℕ) × (fault ≡ DimacsError.Unpaired index) ×
         (first_unpaired arcs.now ≡ Some index))) }
 {
-    let counts = count_arcs(alloc, arcs)?;
-    match find_unpaired(counts, arcs)? {
+    let sorted = sorted_arcs(alloc, arcs)?;
+    let left = count_arcs(alloc, &sorted)?;
+    match find_unpaired(&sorted, left, arcs) {
         None => Ok(()),
         Some(index) => Err(DimacsError::Unpaired(index)),
     }

@@ -1,5 +1,5 @@
 -- What an audit's answer lets the command end with.
-use Rattle.std.proofs.Common.{◌≡◌, inl, inr, ℕ, ◌≤◌, true, List, [], Some, length, refl, sym, ap, subst, ◌∙◌, IfSome, arith}
+use Rattle.std.proofs.Common.{◌≡◌, inl, inr, ℕ, ◌≤◌, true, List, [], Some, refl, subst, ◌∙◌, IfSome, arith}
 use Rattle.std.specs.declared.option.Option.{Option}
 use Rattle.std.specs.declared.option.Option.TheVariants.{None}
 use Rattle.std.specs.declared.result.Result.{Result}
@@ -9,7 +9,7 @@ use Rattle.road_io.specs.Causes.{Rose}
 use Rattle.sha2.specs.Sha256.{sha256}
 use Rattle.road_io.specs.declared.disk.Disk.{Ghosts}
 use Rattle.road_io.specs.Disk.{Stays}
-use Rattle.road_io.specs.Moments.{Image, EachImage, AtEachMoment}
+use Rattle.road_io.specs.Moments.{Image, AtEachMoment}
 use Rattle.road_io.specs.Contents.{Folder}
 use Rattle.lms_tree.specs.declared.links.Link.{Link}
 use Rattle.desk_areas.specs.Faults.{IsUsable}
@@ -26,7 +26,7 @@ use Rattle.proof_octets.specs.Headers.{header_text}
 use Rattle.route_server.specs.declared.errors.BuildError.TheVariants as build
 use Rattle.route_server.specs.declared.errors.InstallError.TheVariants as install
 use Rattle.route_audit.specs.Kinds.{AreReplies, ReplyKind}
-use Rattle.route_audit.specs.Findings.{Audited, Finds, IsInstalled}
+use Rattle.route_audit.specs.Findings.{Finds, IsInstalled}
 use Rattle.route_audit.proofs.FindingLemmas.{at}
 use Rattle.route_audit.specs.declared.errors.AuditError.{AuditError}
 use Rattle.route_audit.specs.declared.errors.AuditError.TheVariants as audit

@@ -1,5 +1,5 @@
 -- The headline, by the ends of an audit and what its lines rest on.
-use Rattle.std.proofs.Common.{◌≡◌, ◌≢◌, ◌⊎◌, inl, inr, ℕ, List, [], refl, sym, ap, subst, ◌∙◌, IfSome, arith}
+use Rattle.std.proofs.Common.{◌≡◌, ◌≢◌, ◌⊎◌, inl, inr, ℕ, List, [], refl, sym, ap, subst, ◌∙◌, IfSome}
 use Rattle.std.specs.declared.option.Option.{Option}
 use Rattle.std.specs.declared.option.Option.TheVariants.{None, Some}
 use Rattle.std.specs.declared.result.Result.{Result}
@@ -21,7 +21,7 @@ use Rattle.command_files.specs.Reading.{octets_at, publication_at, chain_at}
 use Rattle.command_files.specs.HexFiles.{public_key_at}
 use Rattle.command_books.specs.Installing.{AfterBuild, IfInstalled, EndsInstalling}
 use Rattle.command_files.specs.Endings.{Ending, Answered, EndsReading}
-use Rattle.audit_commands.specs.Auditing.{EndsOwnersKey, EndsClient, EndsSigned, EndsSameHeader, EndsComparing, EndsAudit, ends_audit}
+use Rattle.audit_commands.specs.Auditing.{EndsOwnersKey, EndsSigned, EndsSameHeader, EndsComparing, EndsAudit, ends_audit}
 use Rattle.audit_commands.specs.Owners.{look_everywhere}
 use Rattle.audit_commands.specs.Headline.{IsBrought, IsAcceptedHeader, IsEvidence, WritesFindings, IsTrue, IsOthers, FindsTruth, IsAcceptedFile, AuditsAccepted}
 use Rattle.audit_commands.proofs.Steps.{RestsOnNone}

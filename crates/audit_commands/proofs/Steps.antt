@@ -1,5 +1,5 @@
 -- What the steps of an audit and their files give, whatever was asked for.
-use Rattle.std.proofs.Common.{◌≡◌, ◌≤◌, ◌⊎◌, inl, inr, ℕ, List, [], Some, length, sym, ap, subst, ◌∙◌, IfSome, IfOk, IfErr, arith}
+use Rattle.std.proofs.Common.{◌≡◌, ◌⊎◌, inl, inr, ℕ, List, [], Some, length, sym, ap, subst, ◌∙◌, IfSome, IfOk, IfErr, arith}
 use Rattle.std.specs.declared.option.Option.{Option}
 use Rattle.std.specs.declared.option.Option.TheVariants.{None}
 use Rattle.std.specs.declared.result.Result.{Result}

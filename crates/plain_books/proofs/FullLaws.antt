@@ -14,7 +14,7 @@ use Rattle.road_map.specs.declared.parts.Parts.{Parts}
 use Rattle.road_map.specs.Walks.{Knows, distance}
 use Rattle.road_map.specs.Maps.{IsMap, IsById}
 use Rattle.road_map.specs.Routes.{IsShortest}
-use Rattle.road_map.proofs.Among.{Contains-none, Contains-here, Contains-there, Contains-cases, place_at}
+use Rattle.road_map.proofs.Among.{Contains-none, Contains-here, Contains-cases, place_at}
 use Rattle.road_leaf.specs.declared.pair.PairLeaf.{PairLeaf}
 use Rattle.book_model.specs.declared.items.Query.{Query}
 use Rattle.book_model.specs.declared.settings.Settings.{Settings}

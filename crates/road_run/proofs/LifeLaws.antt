@@ -1,5 +1,5 @@
 -- No one-time key signs twice, over whole lives of an owner's disk.
-use Rattle.std.proofs.Common.{◌≡◌, ℕ, ◌≤◌, List, [], ◌∷◌, ◌++◌, map, arith, sym, subst, IfSome, IfNone}
+use Rattle.std.proofs.Common.{◌≡◌, ℕ, ◌≤◌, List, [], ◌∷◌, map, arith, sym, subst, IfSome, IfNone}
 use Rattle.std.specs.List.{All, range_with_len}
 use Rattle.std.specs.Option.{ForSome}
 use Rattle.std.specs.declared.option.Option.{Option}

@@ -2,7 +2,7 @@
 use Rattle.std.proofs.Common.{◌≡◌, ℕ, List, [], ◌∷◌, map, refl}
 use Rattle.std.specs.List.{range_with_len}
 use Rattle.std.specs.declared.option.Option.{Option}
-use Rattle.std.specs.declared.option.Option.TheVariants.{None, Some}
+use Rattle.std.specs.declared.option.Option.TheVariants.{Some}
 use Rattle.std.specs.declared.result.Result.TheVariants.{Ok, Err}
 use Rattle.road_io.specs.declared.disk.Disk.{Ghosts}
 use Rattle.road_io.specs.Contents.{Folder}
@@ -10,7 +10,7 @@ use Rattle.book_model.specs.declared.settings.Settings.{Settings}
 use Rattle.road_command.specs.Requests.{Publish, Succeed, Links}
 use Rattle.command_files.specs.declared.fault.Fault.TheVariants.{Sink, MirrorLost}
 use Rattle.command_files.specs.declared.ended.Conclusion.TheVariants.{Done}
-use Rattle.owner_commands.specs.Releases.{Release, header_release, link_release}
+use Rattle.owner_commands.specs.Releases.{header_release, link_release}
 use Rattle.road_run.specs.Commands.{OnDisk, OnMirrors}
 use Rattle.road_run.specs.Lives.{given_by}
 

@@ -8,9 +8,7 @@ use Rattle.book_model.specs.declared.items.Query.{Query}
 use Rattle.book_model.specs.Books.{Kind}
 use Rattle.lms_tree.specs.declared.links.Link.{Link}
 use Rattle.lms_tree.specs.Chains.{verified_along}
-use Rattle.merkle_cover.specs.declared.clashes.TwoTexts.{TwoTexts}
 use Rattle.proof_method.specs.Laws.{KeepsTrue}
-use Rattle.proof_octets.specs.declared.publication.Publication.{Publication}
 use Rattle.proof_octets.specs.declared.reply.Answer as answers
 use Rattle.proof_octets.specs.declared.reply.Reply.{Reply}
 use Rattle.proof_octets.specs.declared.reply.Reply.TheVariants as replies
@@ -25,13 +23,13 @@ use Rattle.route_client.specs.declared.errors.CheckError.{CheckError}
 use Rattle.route_client.specs.Verdicts.{IsVerdict, Accepts, Says, reply_by, as_checked, header_in as header_of_taken}
 use Rattle.route_server.specs.Keeping.{Kept, IsKept, HasSpellings, header_in, publication_in}
 use Rattle.route_audit.specs.Comparing.{Compares, node_part_of, pair_part_of}
-use Rattle.route_audit.specs.Evidence.{two_texts, IsRight, Collides}
+use Rattle.route_audit.specs.Evidence.{two_texts, IsRight}
 use Rattle.route_audit.specs.Kinds.{AreReplies}
 use Rattle.route_audit.specs.Routes.{SpellsAnswer, AcceptsAs, routes}
 use Rattle.route_audit.specs.Steps.{Compared}
 use Rattle.route_audit.specs.declared.finding.Finding.{Finding}
 use Rattle.route_audit.specs.declared.finding.Finding.TheVariants.{Right, Collision, Forged}
-use Rattle.route_audit.proofs.Judged.{Met, SoundLaws, right_of, collides_of}
+use Rattle.route_audit.proofs.Judged.{SoundLaws, right_of, collides_of}
 
 abbrev pub OneVerdict : Type 0
 OneVerdict = (hash : List ℕ → List ℕ) (key : List ℕ) (links : List Link) (octets : List ℕ) (q : Query) (least : ℕ) (v w : Result Checked CheckError) → IsVerdict hash key links octets q least v → IsVerdict hash key links octets q least w → v ≡ w

@@ -3,7 +3,6 @@ use Rattle.std.proofs.Common.{◌≡◌, ◌≢◌, ℕ, List, Ok, Err, refl}
 use Rattle.road_io.specs.declared.disk.Disk.{Ghosts}
 use Rattle.key_desk.specs.declared.desk.Desk.{Desk as TheDesk}
 use Rattle.key_desk.specs.declared.desk.DeskError.{DeskError}
-use Rattle.key_desk.specs.declared.desk.DeskError.TheVariants as desk_errors
 use Rattle.desk_look.specs.Forgeries.{AreSigned, forgery}
 use Rattle.desk_look.specs.Looks.{Look}
 use Rattle.proof_octets.specs.declared.header.Header.{Header}

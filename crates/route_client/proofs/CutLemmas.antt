@@ -15,7 +15,6 @@ use Rattle.leaf_texts.proofs.TextRoom.{all_short}
 use Rattle.proof_octets.specs.declared.items.NodeItem.{NodeItem}
 use Rattle.proof_octets.specs.declared.items.PairItem.{PairItem}
 use Rattle.proof_octets.specs.declared.reply.Answer as answers
-use Rattle.proof_octets.specs.declared.reply.Reply.TheVariants as replies
 use Rattle.proof_octets.specs.Good.{IsGood}
 use Rattle.proof_octets.specs.Headers.{header}
 use Rattle.proof_octets.specs.Replies.{signature, digests, joined, joined_pairs, pair_item, pair_items, tag_of, reply_with, reply_of, reply_text}

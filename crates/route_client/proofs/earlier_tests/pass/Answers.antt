@@ -1,4 +1,4 @@
-use Rattle.route_client.proofs.VerdictLaws.{passed_so, refused_so}
+use Rattle.route_client.proofs.VerdictLaws.{passed_so}
 use Rattle.route_client.proofs.FewItems.{few_nodes}
 use Rattle.route_client.proofs.earlier_tests.pass.Goals as goal
 

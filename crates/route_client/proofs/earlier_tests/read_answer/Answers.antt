@@ -1,7 +1,7 @@
 use Rattle.std.proofs.Common.{◌≡◌, Ok, subst, sym, ap, ◌∙◌}
 use Rattle.octet_text.specs.Format.{whole}
 use Rattle.proof_octets.specs.declared.reply.Reply.{Reply}
-use Rattle.proof_octets.specs.Replies.{reply, reply_of, reply_text}
+use Rattle.proof_octets.specs.Replies.{reply, reply_text}
 use Rattle.proof_octets.proofs.Good.{reply_is, is_routed, is_apart}
 use Rattle.route_client.specs.Verdicts.{answered}
 use Rattle.route_client.proofs.earlier_tests.read_answer.Goals as goal

@@ -1,8 +1,7 @@
-use Rattle.std.proofs.Common.{◌≡◌, [], Some, Ok, Err, refl, ap, sym, ◌∙◌}
+use Rattle.std.proofs.Common.{◌≡◌, [], Ok, Err, refl, sym, ◌∙◌}
 use Rattle.sha2.specs.Sha256.{sha256}
 use Rattle.lms_tree.specs.Signatures.{public_key}
 use Rattle.route_server.specs.Keeping.{publication_in}
-use Rattle.route_client.specs.declared.accepted.Checked.TheVariants.{Route}
 use Rattle.route_laws.specs.Honest.{AreAccepted}
 use Rattle.route_laws.proofs.Honest.{leads_itself}
 use Rattle.route_survey.specs.Surveys.{survey_key}

@@ -1,0 +1,11 @@
+-- Collisions of a hash.
+use Rattle.std.specs.Prelude.{◌≡◌, ◌≢◌, ℕ, List}
+use Rattle.octet_text.specs.Exact.{IsBytes}
+
+-- Two different texts with one digest. They are octets: the words of SHA-256 also take lists of
+-- greater numbers, and give some of these one digest.
+pub record AreCollision (hash : List ℕ → List ℕ) (left right : List ℕ) : Type 0 where
+  pub left_octets : IsBytes left
+  pub right_octets : IsBytes right
+  pub differ : left ≢ right
+  pub one_digest : hash left ≡ hash right

@@ -2,7 +2,7 @@
 ghost use Rattle.std.specs.Prelude.{◌≡◌, ◌≢◌, ◌+◌, ◌*◌, ◌<◌, ◌≤◌, ◌^◌, ◌↔◌, List, ℕ, Some, true, false, length, take, drop, min, IfOk, IsErr, slice_index_or, OnOk};
 ghost use Rattle.std.specs.Option.{ForSome};
 ghost use Rattle.road_io.specs.Causes.{HasCause};
-ghost use Rattle.road_io.specs.Disk.{Stays};
+ghost use Rattle.road_io.specs.Disk.{Narrows, Stays};
 ghost use Rattle.road_io.specs.Moments.{Image, EachImage, AtEachMoment};
 ghost use Rattle.desk_areas.specs.Layout.{place_in, base_of, text_at};
 ghost use Rattle.desk_areas.specs.Reading.{IsLaidOut, FindsIn, FindsEarlier};
@@ -15,10 +15,10 @@ fn has_text<D: Disk>(disk: &mut D, place: u64, text: &[u8]) -> Result<bool, Fail
     requires within { ForSome (D.content disk.old) (λ c. place + 128 ≤ length c) }
     requires place { place < 2 ^ 63 }
     ensures yes { IfOk result (λ b. b ≡ true →
-        ForSome (D.content disk.old) (λ c. text_at c place ≡ text.now)) }
+        ForSome (D.content disk.new) (λ c. text_at c place ≡ text.now)) }
     ensures no { IfOk result (λ b. b ≡ false →
-        ForSome (D.content disk.old) (λ c. text_at c place ≢ text.now)) }
-    ensures content { D.content disk.new ≡ D.content disk.old }
+        ForSome (D.content disk.new) (λ c. text_at c place ≢ text.now)) }
+    ensures content { Narrows (D.content disk.old) (D.content disk.new) }
     ensures moments { AtEachMoment D.Disk disk.old disk.new Stays }
     ensures cause { HasCause (D.faults disk.old) (D.faults disk.new) result }
     ensures kept { OnOk result (D.faults disk.new ≡ D.faults disk.old) }
@@ -49,10 +49,10 @@ pub fn find_text<D: Disk>(
     requires few { length counts.now ≤ 1024 }
     requires low { base ≤ 917952 }
     ensures yes { IfOk result (λ found. found ≡ true →
-        ForSome (D.content disk.old) (FindsIn counts.now base text.now)) }
+        ForSome (D.content disk.new) (FindsIn counts.now base text.now)) }
     ensures no { IfOk result (λ found. found ≡ false →
-        ForSome (D.content disk.old) (λ c. FindsIn counts.now base text.now c → ⊥)) }
-    ensures content { D.content disk.new ≡ D.content disk.old }
+        ForSome (D.content disk.new) (λ c. FindsIn counts.now base text.now c → ⊥)) }
+    ensures content { Narrows (D.content disk.old) (D.content disk.new) }
     ensures moments { AtEachMoment D.Disk disk.old disk.new Stays }
     ensures cause { HasCause (D.faults disk.old) (D.faults disk.new) result }
     ensures kept { OnOk result (D.faults disk.new ≡ D.faults disk.old) }
@@ -74,10 +74,10 @@ pub fn find_earlier<D: Disk>(areas: &[Area], disk: &mut D, text: &[u8]) -> Resul
     requires laid_out { ForSome (D.content disk.old) (IsLaidOut areas.now) }
     requires few { length areas.now ≤ 7 }
     ensures yes { IfOk result (λ found. found ≡ true →
-        ForSome (D.content disk.old) (FindsEarlier areas.now text.now)) }
+        ForSome (D.content disk.new) (FindsEarlier areas.now text.now)) }
     ensures no { IfOk result (λ found. found ≡ false →
-        ForSome (D.content disk.old) (λ c. FindsEarlier areas.now text.now c → ⊥)) }
-    ensures content { D.content disk.new ≡ D.content disk.old }
+        ForSome (D.content disk.new) (λ c. FindsEarlier areas.now text.now c → ⊥)) }
+    ensures content { Narrows (D.content disk.old) (D.content disk.new) }
     ensures moments { AtEachMoment D.Disk disk.old disk.new Stays }
     ensures cause { HasCause (D.faults disk.old) (D.faults disk.new) result }
     ensures kept { OnOk result (D.faults disk.new ≡ D.faults disk.old) }
@@ -98,10 +98,10 @@ pub fn read_text<D: Disk>(disk: &mut D, place: u64, into: &mut [u8; 126]) -> Res
     requires within { ForSome (D.content disk.old) (λ c. place + 128 ≤ length c) }
     requires place { place < 2 ^ 63 }
     ensures text { IfOk result (λ n.
-        ForSome (D.content disk.old) (λ c. text_at c place ≡ take n into.new)) }
+        ForSome (D.content disk.new) (λ c. text_at c place ≡ take n into.new)) }
     ensures short { IfOk result (λ n. n ≤ 126) }
     ensures refused { IsErr result → into.new ≡ into.old }
-    ensures content { D.content disk.new ≡ D.content disk.old }
+    ensures content { Narrows (D.content disk.old) (D.content disk.new) }
     ensures moments { AtEachMoment D.Disk disk.old disk.new Stays }
     ensures cause { HasCause (D.faults disk.old) (D.faults disk.new) result }
     ensures kept { OnOk result (D.faults disk.new ≡ D.faults disk.old) }

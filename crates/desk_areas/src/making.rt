@@ -2,7 +2,7 @@
 ghost use Rattle.std.specs.Prelude.{◌≡◌, ◌≢◌, ◌⊎◌, ◌+◌, ◌*◌, ◌^◌, ◌<◌, ◌≤◌, Some, Err, length, take, drop, replicate, IfOk, OnOk, IsErrOf, IsErr, get_or};
 ghost use Rattle.std.specs.Option.{ForSome};
 ghost use Rattle.road_io.specs.Causes.{HasCause, Rose};
-ghost use Rattle.road_io.specs.Disk.{Torn, Stays};
+ghost use Rattle.road_io.specs.Disk.{Narrows, Torn, Stays};
 ghost use Rattle.road_io.specs.Moments.{EachImage, AtEachMoment};
 ghost use Rattle.desk_areas.specs.Layout.{slots_of, place_in, gate_at, IsOpen, AgreesOutside};
 ghost use Rattle.desk_areas.specs.Keys.{key_from};
@@ -17,16 +17,16 @@ pub fn look_for_key<D: Disk>(disk: &mut D) -> Result<u64, StartError>
     ensures shut { IfOk result (λ n.
         EachImage D.Disk disk.new (λ i. (IsOpen i → ⊥) × (length i ≡ n))) }
     ensures was_shut { IfOk result
-        (λ n. ForSome (D.content disk.old) (λ c. (IsOpen c → ⊥) × (length c ≡ n))) }
+        (λ n. ForSome (D.content disk.new) (λ c. (IsOpen c → ⊥) × (length c ≡ n))) }
     ensures one { OnOk result (EachImage D.Disk disk.new (λ i. D.content disk.old ≡ Some i)) }
-    ensures held { IsErrOf result StartError.Held → ForSome (D.content disk.old) IsOpen }
+    ensures held { IsErrOf result StartError.Held → ForSome (D.content disk.new) IsOpen }
     ensures other { IsErr result → (result ≡ Err StartError.DiskFault) ⊎
         (result ≡ Err StartError.Held) }
     ensures fault { IsErrOf result StartError.DiskFault →
         Rose (D.faults disk.old) (D.faults disk.new) }
     ensures kept { result ≢ Err StartError.DiskFault → D.faults disk.new ≡ D.faults disk.old }
     ensures faults { D.faults disk.old ≤ D.faults disk.new }
-    ensures content { OnOk result (D.content disk.new ≡ D.content disk.old) }
+    ensures content { OnOk result (Narrows (D.content disk.old) (D.content disk.new)) }
     ensures moments { AtEachMoment D.Disk disk.old disk.new Stays }
 {
     disk.sync()?;

@@ -2,7 +2,7 @@
 ghost use Rattle.std.specs.Prelude.{◌≡◌, ◌≢◌, ◌+◌, ◌*◌, ◌<◌, ◌≤◌, ◌-◌, ◌^◌, ◌↔◌, List, ℕ, Some, length, take, drop, min, IfOk, OnOk, IfSome, IfNone, IsErrOf, IsErr, Err, ◌⊎◌, true, false, slice_index_or, get_or};
 ghost use Rattle.std.specs.Option.{ForSome};
 ghost use Rattle.road_io.specs.Causes.{HasCause, Rose};
-ghost use Rattle.road_io.specs.Disk.{Stays};
+ghost use Rattle.road_io.specs.Disk.{Narrows, Stays};
 ghost use Rattle.road_io.specs.Moments.{Image, EachImage, AtEachMoment};
 ghost use Rattle.desk_areas.specs.Area.{area_in};
 ghost use Rattle.desk_areas.specs.Faults.{IsBadArea, IsBadBlock};
@@ -26,10 +26,10 @@ struct Block {
 
 fn read_block<D: Disk>(disk: &mut D, base: u64) -> Result<Block, Failed>
     requires within { ForSome (D.content disk.old) (λ c. base + 64 ≤ length c) }
-    ensures kind { IfOk result (λ b. ForSome (D.content disk.old) (λ c. b.kind ≡ kind_at c base)) }
+    ensures kind { IfOk result (λ b. ForSome (D.content disk.new) (λ c. b.kind ≡ kind_at c base)) }
     ensures secret { IfOk result (λ b.
-        ForSome (D.content disk.old) (λ c. b.secret ≡ secret_at c base)) }
-    ensures content { D.content disk.new ≡ D.content disk.old }
+        ForSome (D.content disk.new) (λ c. b.secret ≡ secret_at c base)) }
+    ensures content { Narrows (D.content disk.old) (D.content disk.new) }
     ensures moments { AtEachMoment D.Disk disk.old disk.new Stays }
     ensures cause { HasCause (D.faults disk.old) (D.faults disk.new) result }
     ensures kept { OnOk result (D.faults disk.new ≡ D.faults disk.old) }
@@ -47,10 +47,10 @@ fn read_block<D: Disk>(disk: &mut D, base: u64) -> Result<Block, Failed>
 pub fn read_gate<D: Disk>(disk: &mut D, place: u64) -> Result<bool, Failed>
     requires { ForSome (D.content disk.old) (λ c. place + 1 ≤ length c) }
     ensures shut { IfOk result (λ b. b ≡ false →
-        ForSome (D.content disk.old) (λ c. gate_at c place ≡ 0)) }
+        ForSome (D.content disk.new) (λ c. gate_at c place ≡ 0)) }
     ensures open { IfOk result (λ b. b ≡ true →
-        ForSome (D.content disk.old) (λ c. 0 < gate_at c place)) }
-    ensures content { D.content disk.new ≡ D.content disk.old }
+        ForSome (D.content disk.new) (λ c. 0 < gate_at c place)) }
+    ensures content { Narrows (D.content disk.old) (D.content disk.new) }
     ensures moments { AtEachMoment D.Disk disk.old disk.new Stays }
     ensures cause { HasCause (D.faults disk.old) (D.faults disk.new) result }
     ensures kept { OnOk result (D.faults disk.new ≡ D.faults disk.old) }
@@ -70,11 +70,11 @@ fn read_gates<D: Disk>(
     requires few { slots ≤ 1024 }
     requires low { base ≤ 917952 }
     ensures size { IfOk result (λ v. length v.items ≡ slots) }
-    ensures gates { IfOk result (λ v. ForSome (D.content disk.old) (HasGates v.items base)) }
+    ensures gates { IfOk result (λ v. ForSome (D.content disk.new) (HasGates v.items base)) }
     ensures either { IfOk result (λ v. (s : ℕ) →
         (slice_index_or v.items s Count.Spent ≡ Count.Free) ⊎
         (slice_index_or v.items s Count.Spent ≡ Count.Spent)) }
-    ensures content { D.content disk.new ≡ D.content disk.old }
+    ensures content { Narrows (D.content disk.old) (D.content disk.new) }
     ensures moments { AtEachMoment D.Disk disk.old disk.new Stays }
     ensures faults { D.faults disk.old ≤ D.faults disk.new }
     ensures fault { IsErrOf result StartError.DiskFault →
@@ -96,10 +96,10 @@ fn read_link<D: Disk>(disk: &mut D, place: u64) -> Result<Option<[u8; 56]>, Fail
     requires within { ForSome (D.content disk.old) (λ c. place + 128 ≤ length c) }
     requires low { place < 2 ^ 63 }
     ensures some { IfOk result (λ found.
-        IfSome found (λ key. ForSome (D.content disk.old) (λ c. IsLinkTo (text_at c place) key))) }
+        IfSome found (λ key. ForSome (D.content disk.new) (λ c. IsLinkTo (text_at c place) key))) }
     ensures none { IfOk result (λ found.
-        IfNone found (ForSome (D.content disk.old) (λ c. IsLink (text_at c place) → ⊥))) }
-    ensures content { D.content disk.new ≡ D.content disk.old }
+        IfNone found (ForSome (D.content disk.new) (λ c. IsLink (text_at c place) → ⊥))) }
+    ensures content { Narrows (D.content disk.old) (D.content disk.new) }
     ensures moments { AtEachMoment D.Disk disk.old disk.new Stays }
     ensures cause { HasCause (D.faults disk.old) (D.faults disk.new) result }
     ensures kept { OnOk result (D.faults disk.new ≡ D.faults disk.old) }
@@ -132,10 +132,10 @@ fn has_stray<D: Disk>(disk: &mut D, base: u64, counts: &[Count]) -> Result<bool,
     requires few { length counts.now ≤ 1024 }
     requires low { base ≤ 917952 }
     ensures yes { IfOk result (λ found. found ≡ true →
-        ForSome (D.content disk.old) (HasStray counts.now base)) }
+        ForSome (D.content disk.new) (HasStray counts.now base)) }
     ensures no { IfOk result (λ found. found ≡ false →
-        ForSome (D.content disk.old) (λ c. HasStray counts.now base c → ⊥)) }
-    ensures content { D.content disk.new ≡ D.content disk.old }
+        ForSome (D.content disk.new) (λ c. HasStray counts.now base c → ⊥)) }
+    ensures content { Narrows (D.content disk.old) (D.content disk.new) }
     ensures moments { AtEachMoment D.Disk disk.old disk.new Stays }
     ensures cause { HasCause (D.faults disk.old) (D.faults disk.new) result }
     ensures kept { OnOk result (D.faults disk.new ≡ D.faults disk.old) }
@@ -160,8 +160,8 @@ fn last_link<D: Disk>(disk: &mut D, base: u64, counts: &[Count]) -> Result<Optio
     requires few { length counts.now ≤ 1024 }
     requires low { base ≤ 917952 }
     ensures link { IfOk result (λ found.
-        ForSome (D.content disk.old) (IsLastLink counts.now base found)) }
-    ensures content { D.content disk.new ≡ D.content disk.old }
+        ForSome (D.content disk.new) (IsLastLink counts.now base found)) }
+    ensures content { Narrows (D.content disk.old) (D.content disk.new) }
     ensures moments { AtEachMoment D.Disk disk.old disk.new Stays }
     ensures cause { HasCause (D.faults disk.old) (D.faults disk.new) result }
     ensures kept { OnOk result (D.faults disk.new ≡ D.faults disk.old) }
@@ -177,7 +177,7 @@ fn last_link<D: Disk>(disk: &mut D, base: u64, counts: &[Count]) -> Result<Optio
 fn read_area<D: Disk>(alloc: Global, disk: &mut D, base: u64, len: u64) -> Result<Area, StartError>
     requires len { ForSome (D.content disk.old) (λ c. length c ≡ len) }
     requires low { base ≤ 917952 }
-    ensures area { IfOk result (λ a. ForSome (D.content disk.old) (IsReadArea a base)) }
+    ensures area { IfOk result (λ a. ForSome (D.content disk.new) (IsReadArea a base)) }
     ensures known { IfOk result (λ a. (0 < slots_of a.key.kind) ×
         (length a.counts ≡ slots_of a.key.kind)) }
     ensures named { IfOk result (λ a. length a.key.i ≡ 16) }
@@ -185,9 +185,9 @@ fn read_area<D: Disk>(alloc: Global, disk: &mut D, base: u64, len: u64) -> Resul
         (slice_index_or a.counts s Count.Spent ≡ Count.Free) ⊎
         (slice_index_or a.counts s Count.Spent ≡ Count.Spent)) }
     ensures bad { IsErrOf result StartError.BadBlock →
-        ForSome (D.content disk.old) (λ c. IsBadArea c base) }
+        ForSome (D.content disk.new) (λ c. IsBadArea c base) }
     ensures not_others { (result ≢ Err StartError.NoKey) × (result ≢ Err StartError.Held) }
-    ensures content { D.content disk.new ≡ D.content disk.old }
+    ensures content { Narrows (D.content disk.old) (D.content disk.new) }
     ensures moments { AtEachMoment D.Disk disk.old disk.new Stays }
     ensures faults { D.faults disk.old ≤ D.faults disk.new }
     ensures fault { IsErrOf result StartError.DiskFault →
@@ -255,7 +255,7 @@ pub fn read_next<D: Disk>(
     requires read { ForSome (D.content disk.old) (HasRead earlier.now base named.now) }
     requires low { base ≤ 917952 }
     requires few { length earlier.now ≤ 7 }
-    ensures area { IfOk result (λ f. ForSome (D.content disk.old) (IsReadArea f.area base)) }
+    ensures area { IfOk result (λ f. ForSome (D.content disk.new) (IsReadArea f.area base)) }
     ensures known { IfOk result (λ f. (0 < slots_of f.area.key.kind) ×
         (length f.area.counts ≡ slots_of f.area.key.kind)) }
     ensures i { IfOk result (λ f. length f.area.key.i ≡ 16) }
@@ -266,11 +266,11 @@ pub fn read_next<D: Disk>(
         (λ f. (a : ℕ) → a < length earlier.now → (area_in earlier.now a).key.i ≢ f.area.key.i) }
     ensures named { IfOk result (λ f. IsNamed named.now f.area.key) }
     ensures link { IfOk result (λ f.
-        ForSome (D.content disk.old) (IsLastLink f.area.counts base f.link)) }
+        ForSome (D.content disk.new) (IsLastLink f.area.counts base f.link)) }
     ensures eighth { IfOk result (λ f. IfSome f.link (λ key. length earlier.now < 7)) }
-    ensures bad { IsErrOf result StartError.BadBlock → ForSome (D.content disk.old) IsBadBlock }
+    ensures bad { IsErrOf result StartError.BadBlock → ForSome (D.content disk.new) IsBadBlock }
     ensures not_others { (result ≢ Err StartError.NoKey) × (result ≢ Err StartError.Held) }
-    ensures content { D.content disk.new ≡ D.content disk.old }
+    ensures content { Narrows (D.content disk.old) (D.content disk.new) }
     ensures moments { AtEachMoment D.Disk disk.old disk.new Stays }
     ensures faults { D.faults disk.old ≤ D.faults disk.new }
     ensures fault { IsErrOf result StartError.DiskFault →

@@ -84,7 +84,7 @@ chained_at m key (first ∷ links) (suc n) so lt =
 
 -- ---- what is said of a chain and a header
 
-module _ {D : Type 0} (g : Ghosts D) (desk : Desk) (disk new : D) (fits : Fits g desk disk) (key : List ℕ) (links : List Link) (header signature : List ℕ)
+module _ {D : Type 0} (g : Ghosts D) (desk : Desk) (disk new : D) (fits : Fits g desk new) (key : List ℕ) (links : List Link) (header signature : List ℕ)
     (own : IsKeyFrom desk 0 key) (chain : chained key links ≡ Ok tt) where
   -- a key to which links lead on is one of the desk's
   owned : (n : ℕ) → ((m : ℕ) → m < n → IsKeyFrom desk 1 (link_at links m).key) → IsKeyFrom desk 0 (key_before key links n)
@@ -92,11 +92,11 @@ module _ {D : Type 0} (g : Ghosts D) (desk : Desk) (disk new : D) (fits : Fits g
   owned (suc n) led = let from = led n (omega arith) in record { area = from.area; from = omega arith; upto = from.upto; is = from.is }
 
   linked : desk.is_open ≡ true → (n : ℕ) → IsKeyFrom desk 1 (link_at links n).key → (look_at g desk disk new).Signed (text_at links n)
-  linked opened n from = (opened, named g desk disk fits (link_at links n).key from)
+  linked opened n from = (opened, named g desk new fits (link_at links n).key from)
 
   found_link : desk.is_open ≡ true → (n : ℕ) → IsFirstStray desk links n → (f : Forgery) → f ≡ forgery_of key links n → Forges (look_at g desk disk new) key links header signature f
   found_link opened n stray f is =
-      let unsigned : (look_at g desk disk new).Unsigned (text_at links n) = (opened, unnamed g desk disk fits (link_at links n).key stray.long stray.stray) in
+      let unsigned : (look_at g desk disk new).Unsigned (text_at links n) = (opened, unnamed g desk new fits (link_at links n).key stray.long stray.stray) in
       record {
         first = inl (record { number = n; known = stray.known; before = λ m lt. linked opened m (stray.before m lt); unsigned = unsigned; is = is });
         forgery = rw is (record { own = owned n stray.before; good = chained_at 0 key links n chain stray.known; unsigned = unsigned });

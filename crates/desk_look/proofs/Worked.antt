@@ -101,10 +101,10 @@ module _ {D : Type 0} (g : Ghosts D) (desk : Desk) (old new : D) where
   fault_of_an_open_desk h = h.0
 
   -- one slot holds a signed text in every image, and none does one that isn't
-  in_one_slot : (text : List ℕ) → (look_at g desk old new).Signed text → (slot : SlotId) × EachImage g old (λ i. IsSigned i slot text)
+  in_one_slot : (text : List ℕ) → (look_at g desk old new).Signed text → (slot : SlotId) × EachImage g new (λ i. IsSigned i slot text)
   in_one_slot text h = h.1
 
-  in_no_slot : (text : List ℕ) → (look_at g desk old new).Unsigned text → EachImage g old (λ i. (slot : SlotId) → ¬ IsSigned i slot text)
+  in_no_slot : (text : List ℕ) → (look_at g desk old new).Unsigned text → EachImage g new (λ i. (slot : SlotId) → ¬ IsSigned i slot text)
   in_no_slot text h = h.1
 
   -- ---- what a look leaves

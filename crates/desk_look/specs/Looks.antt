@@ -38,9 +38,9 @@ abbrev pub look_at : {D : Type 0} → Ghosts D → Desk → D → D → Look
 look_at g desk old new = record {
   Owns = IsKeyFrom desk 0;
   Signed = λ text. (desk.is_open ≡ true) ×
-      ((slot : SlotId) × EachImage g old (λ i. IsSigned i slot text));
+      ((slot : SlotId) × EachImage g new (λ i. IsSigned i slot text));
   Unsigned = λ text. (desk.is_open ≡ true) ×
-      EachImage g old (λ i. (slot : SlotId) → ¬ IsSigned i slot text);
+      EachImage g new (λ i. (slot : SlotId) → ¬ IsSigned i slot text);
   Fails = LookFails g desk old new;
 }
 

@@ -34,10 +34,12 @@ impl Desk {
             (λ desk. (s : ℕ) → s < slots_of kind → count_at desk s ≡ Count.Free) }
         ensures blank { IfOk result (λ desk. EachImage D.Disk disk.new (IsBlank desk.key)) }
         ensures unsigned { OnOk result (EachImage D.Disk disk.new (λ i. signed i ≡ [])) }
-        ensures was_shut { OnOk result (ForSome (D.content disk.old) (λ c. IsOpen c → ⊥)) }
-        ensures held { IsErrOf result StartError.Held → ForSome (D.content disk.old) IsOpen }
-        ensures held_else { ForSome (D.content disk.old)
-            (λ c. IsOpen c → (result ≡ Err StartError.Held) ⊎ (result ≡ Err StartError.DiskFault)) }
+        ensures was_shut { OnOk result (ForSome (D.content disk.new)
+            (λ _. ForSome (D.content disk.old) (λ c. IsOpen c → ⊥))) }
+        ensures held { IsErrOf result StartError.Held → ForSome (D.content disk.new) IsOpen }
+        ensures held_else { ForSome (D.content disk.new) (λ _. ForSome (D.content disk.old)
+            (λ c. IsOpen c → (result ≡ Err StartError.Held) ⊎
+            (result ≡ Err StartError.DiskFault))) }
         ensures untouched { IsErr result → result ≢ Err StartError.DiskFault →
             AtEachMoment D.Disk disk.old disk.new Stays }
         ensures held_stays { ForSome (D.content disk.old) IsOpen →

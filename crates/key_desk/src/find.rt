@@ -18,9 +18,9 @@ impl Desk {
         requires fits { Fits D.Disk self.old disk.old }
         ensures fits { Fits D.Disk self.new disk.new }
         ensures yes { IfOk result (λ b. b ≡ true → (slot : SlotId) ×
-            EachImage D.Disk disk.old (λ i. IsSigned i slot text.now)) }
+            EachImage D.Disk disk.new (λ i. IsSigned i slot text.now)) }
         ensures no { IfOk result (λ b. b ≡ false →
-            EachImage D.Disk disk.old (λ i. (slot : SlotId) → IsSigned i slot text.now → ⊥)) }
+            EachImage D.Disk disk.new (λ i. (slot : SlotId) → IsSigned i slot text.now → ⊥)) }
         ensures same { SameAreas self.old self.new × (self.new.counts ≡ self.old.counts) }
         ensures known { KeepsAllKnown D.Disk self.old disk.old self.new disk.new }
         ensures moments { AtEachMoment D.Disk disk.old disk.new Stays }

@@ -2,7 +2,7 @@
 ghost use Rattle.std.specs.Prelude.{◌≡◌, ◌≢◌, ◌+◌, ◌*◌, ◌<◌, ◌≤◌, ◌-◌, List, ℕ, Some, length, IfOk, OnOk, IsErr, IsErrOf, Err, ◌⊎◌, true};
 ghost use Rattle.std.specs.Option.{ForSome};
 ghost use Rattle.road_io.specs.Causes.{Rose};
-ghost use Rattle.road_io.specs.Disk.{Stays};
+ghost use Rattle.road_io.specs.Disk.{Narrows, Stays};
 ghost use Rattle.road_io.specs.Moments.{Image, EachImage, AtEachMoment};
 ghost use Rattle.desk_areas.specs.Faults.{IsBadBlock};
 ghost use Rattle.desk_areas.specs.Layout.{IsOpen, keys_left};
@@ -23,22 +23,22 @@ impl Desk {
         ensures counts { IfOk result
             (λ desk. (s : ℕ) → (count_at desk s ≡ Count.Free) ⊎ (count_at desk s ≡ Count.Spent)) }
         ensures areas { IfOk result
-            (λ desk. ForSome (D.content disk.old) (λ c. IsOpen c × HasAreas desk c)) }
+            (λ desk. ForSome (D.content disk.new) (λ c. IsOpen c × HasAreas desk c)) }
         ensures left { IfOk result
-            (λ desk. ForSome (D.content disk.old) (λ c. free_slots desk ≡ keys_left c desk.base)) }
-        ensures no_key_else { ForSome (D.content disk.old)
+            (λ desk. ForSome (D.content disk.new) (λ c. free_slots desk ≡ keys_left c desk.base)) }
+        ensures no_key_else { ForSome (D.content disk.new)
             (λ c. (IsOpen c → ⊥) → (result ≡ Err StartError.NoKey) ⊎
             (result ≡ Err StartError.DiskFault)) }
-        ensures bad_block_else { ForSome (D.content disk.old)
+        ensures bad_block_else { ForSome (D.content disk.new)
             (λ c. IsOpen c → IsBadBlock c → (result ≡ Err StartError.BadBlock) ⊎
             ((result ≡ Err StartError.DiskFault) ⊎ (result ≡ Err StartError.Memory))) }
         ensures no_key { IsErrOf result StartError.NoKey →
-            ForSome (D.content disk.old) (λ c. IsOpen c → ⊥) }
+            ForSome (D.content disk.new) (λ c. IsOpen c → ⊥) }
         ensures bad_block { IsErrOf result StartError.BadBlock →
-            ForSome (D.content disk.old) (λ c. IsOpen c × IsBadBlock c) }
-        ensures content { OnOk result (D.content disk.new ≡ D.content disk.old) }
+            ForSome (D.content disk.new) (λ c. IsOpen c × IsBadBlock c) }
+        ensures content { OnOk result (Narrows (D.content disk.old) (D.content disk.new)) }
         ensures refused { IsErr result → result ≢ Err StartError.DiskFault →
-            D.content disk.new ≡ D.content disk.old }
+            Narrows (D.content disk.old) (D.content disk.new) }
         ensures moments { AtEachMoment D.Disk disk.old disk.new Stays }
         ensures faults { D.faults disk.old ≤ D.faults disk.new }
         ensures fault { IsErrOf result StartError.DiskFault →
@@ -70,9 +70,9 @@ impl Desk {
         ensures counts { IfOk result
             (λ desk. (s : ℕ) → (count_at desk s ≡ Count.Free) ⊎ (count_at desk s ≡ Count.Spent)) }
         ensures bad_block { IsErrOf result StartError.BadBlock →
-            ForSome (D.content disk.old) IsBadBlock }
+            ForSome (D.content disk.new) IsBadBlock }
         ensures not_others { (result ≢ Err StartError.NoKey) × (result ≢ Err StartError.Held) }
-        ensures content { D.content disk.new ≡ D.content disk.old }
+        ensures content { Narrows (D.content disk.old) (D.content disk.new) }
         ensures moments { AtEachMoment D.Disk disk.old disk.new Stays }
         ensures faults { D.faults disk.old ≤ D.faults disk.new }
         ensures fault { IsErrOf result StartError.DiskFault →

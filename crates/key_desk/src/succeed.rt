@@ -213,9 +213,9 @@ impl Desk {
             (EachImage D.Disk disk.new
             (λ i. (a : ℕ) × IsCurrent i (suc a) ×
             IsSigned i (last_slot i a) (link_text (public_key (key_from kind secret.now))))) }
-        ensures refused { IfErr result (IsCalledFor (D.content disk.old) (take 16 secret.now)) }
-        ensures refused_else { ForSome (D.content disk.old)
-            (λ c. AnswersRefusal c (take 16 secret.now) result) }
+        ensures refused { IfErr result (IsCalledFor (D.content disk.new) (take 16 secret.now)) }
+        ensures refused_else { ForSome (D.content disk.new) (λ _. ForSome (D.content disk.old)
+            (λ c. AnswersRefusal c (take 16 secret.now) result)) }
         ensures moments { AtEachMoment D.Disk disk.old disk.new
             (λ d i. (i ≡ d) ⊎ SignsLink (link_text (public_key (key_from kind secret.now))) d i) }
         ensures keys { AtEachMoment D.Disk disk.old disk.new SameKeys }

@@ -62,7 +62,7 @@ impl Desk {
         requires slot { IsSlotOf self.old (record { area = area; number = slot }) }
         ensures fits { Fits D.Disk self.new disk.new }
         ensures text { IfOk result
-            (HasInSlot D.Disk disk.old (record { area = area; number = slot }) into.new) }
+            (HasInSlot D.Disk disk.new (record { area = area; number = slot }) into.new) }
         ensures spent { IfOk result (λ found. IsSome found ↔
             (count_of self.old (record { area = area; number = slot }) ≡ Count.Spent)) }
         ensures kept { IfOk result (λ found. IfNone found (into.new ≡ into.old)) }

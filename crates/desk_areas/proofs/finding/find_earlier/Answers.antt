@@ -24,7 +24,7 @@ none_more areas text c i base item item_is base_is none before a lt finds = elim
 
 pub loop-area-init : goal.loop-area-init
 loop-area-init g c = record {
-  content = refl;
+  content = λ x told. told;
   moments = nothing g.D.Disk c.args.disk.now Stays (λ d now. refl);
   faults = refl;
   low = omega arith;
@@ -42,27 +42,27 @@ module _ (g : Over) (c : After-counts-counts g) where
   size_is : length c.counts-counts.result.now ≡ length (area_in c.args.areas.now c.loop-area.area-index).counts
   size_is = ap (λ (l : List Count). length l) c.counts-counts.ensures.counts ∙ ap (λ (a : AreaView). length a.counts) item_is
 
-  here : (x : List ℕ) → g.D.Disk.content c.args.disk.now ≡ Some x → place_in c.loop-area.base (length c.counts-counts.result.now) ≡ base_of x (suc c.loop-area.area-index)
-  here x told = end_at c.args.areas.now x c.loop-area.area-index c.loop-area.base (length c.counts-counts.result.now) (c.requires.laid_out x told) lt (c.loop-area.invariant.based x told) size_is
+  here : (x : List ℕ) → g.D.Disk.content c.loop-area.disk ≡ Some x → place_in c.loop-area.base (length c.counts-counts.result.now) ≡ base_of x (suc c.loop-area.area-index)
+  here x told = end_at c.args.areas.now x c.loop-area.area-index c.loop-area.base (length c.counts-counts.result.now) (c.requires.laid_out x (c.loop-area.invariant.content x told)) lt (c.loop-area.invariant.based x told) size_is
 
 pub find_text-requires-clause-within : goal.find_text-requires-clause-within
 find_text-requires-clause-within g c x told =
     let at = (goal.at.find_text-requires-clause-within g c).After-counts-counts in
-    let was : g.D.Disk.content c.args.disk.now ≡ Some x = sym c.loop-area.invariant.content ∙ told in
+    let was : g.D.Disk.content c.args.disk.now ≡ Some x = c.loop-area.invariant.content x told in
     let whole = (c.requires.laid_out x was).whole c.loop-area.area-index (lt g at) in
-    omega (arith, whole, here g at x was)
+    omega (arith, whole, here g at x told)
 
 pub loop-area-preserved : goal.loop-area-preserved
 loop-area-preserved g c =
     let at = (goal.at.loop-area-preserved g c).After-counts-counts in
     let more : c.loop-area.area-index + 1 ≡ suc c.loop-area.area-index = omega arith in
     record {
-      content = c.find_text.ensures.content ∙ c.loop-area.invariant.content;
+      content = λ x told. c.loop-area.invariant.content x (c.find_text.ensures.content x told);
       moments = continued g.D.Disk c.args.disk.now c.loop-area.disk c.find_text.new.disk Stays Stays Stays c.loop-area.invariant.moments c.find_text.ensures.moments (λ d i now h. h) (λ d e i now_d now_e h k. k ∙ h);
       faults = c.in_ok-find_text.ensures.kept ∙ c.loop-area.invariant.faults;
       low = omega (arith, c.loop-area.invariant.low, c.place_in-base.ensures.place, c.counts-counts.ensures.few);
-      based = λ x told. c.place_in-base.ensures.place ∙ here g at x told ∙ ap (λ (n : ℕ). base_of x n) (sym more);
-      none = λ x told. none_more c.args.areas.now c.args.text.now x c.loop-area.area-index c.loop-area.base c.area-item.result (item_is g at) (c.loop-area.invariant.based x told)
-          (λ finds. c.in_ok-find_text.ensures.no c.if-branch.false x (c.loop-area.invariant.content ∙ told) (subst (λ (l : List Count). FindsIn l c.loop-area.base c.args.text.now x) (sym c.counts-counts.ensures.counts) finds))
-          (c.loop-area.invariant.none x told);
+      based = λ x told. c.place_in-base.ensures.place ∙ here g at x (c.find_text.ensures.content x told) ∙ ap (λ (n : ℕ). base_of x n) (sym more);
+      none = λ x told. none_more c.args.areas.now c.args.text.now x c.loop-area.area-index c.loop-area.base c.area-item.result (item_is g at) (c.loop-area.invariant.based x (c.find_text.ensures.content x told))
+          (λ finds. c.in_ok-find_text.ensures.no c.if-branch.false x told (subst (λ (l : List Count). FindsIn l c.loop-area.base c.args.text.now x) (sym c.counts-counts.ensures.counts) finds))
+          (c.loop-area.invariant.none x (c.find_text.ensures.content x told));
     }

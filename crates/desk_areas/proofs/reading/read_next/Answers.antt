@@ -9,22 +9,23 @@ use Rattle.desk_areas.proofs.reading.read_next.Goals as goal
 pub returns-in_err-area-clause-bad : goal.returns-in_err-area-clause-bad
 returns-in_err-area-clause-bad g c is x told =
     let bad : IsErrOf c.read_area.result BadBlock = search rules in
-    alone_bad x c.args.earlier.now c.args.base c.args.named.now (c.requires.read x told) (c.read_area.ensures.bad bad x told)
+    alone_bad x c.args.earlier.now c.args.base c.args.named.now (c.requires.read x (c.read_area.ensures.content x told)) (c.read_area.ensures.bad bad x told)
 
 pub returns-then-has_name-clause-bad : goal.returns-then-has_name-clause-bad
 returns-then-has_name-clause-bad g c _ x told =
     let found = c.has_name.ensures.yes c.if-has_name.true in
     let name : c.i.result ≡ c.in_ok-area.area.key.i = (let h = c.i.ensures in let k = c.key.ensures in cc) in
-    same_name_bad x c.args.earlier.now c.args.base c.args.named.now (c.requires.read x told) c.in_ok-area.area (c.in_ok-area.ensures.area x told) found.0 found.1 (found.2 ∙ name)
+    same_name_bad x c.args.earlier.now c.args.base c.args.named.now (c.requires.read x (c.read_area.ensures.content x told)) c.in_ok-area.area (c.in_ok-area.ensures.area x told) found.0 found.1 (found.2 ∙ name)
 
 pub returns-then-not-is_named-clause-bad : goal.returns-then-not-is_named-clause-bad
 returns-then-not-is_named-clause-bad g c _ x told =
     let key : c.key-2.result.now ≡ c.in_ok-area.area.key = (let k = c.key-2.ensures in cc) in
-    other_key_bad x c.args.earlier.now c.args.base c.args.named.now (c.requires.read x told) c.in_ok-area.area (c.in_ok-area.ensures.area x told)
+    other_key_bad x c.args.earlier.now c.args.base c.args.named.now (c.requires.read x (c.read_area.ensures.content x told)) c.in_ok-area.area (c.in_ok-area.ensures.area x told)
     (λ named. absurd (cc (c.is_named.ensures.1 (rw (← key) at named), c.if-not-is_named.true)))
 
 pub returns-then-earlier-eq7-clause-bad : goal.returns-then-earlier-eq7-clause-bad
 returns-then-earlier-eq7-clause-bad g c _ x told =
     let counts : c.counts.result.now ≡ c.in_ok-area.area.counts = (let k = c.counts.ensures.counts in cc) in
-    ninth_bad x c.args.earlier.now c.args.base c.args.named.now (c.requires.read x told) c.in_ok-area.area (c.in_ok-area.ensures.area x told) c.in_ok-area.ensures.known.1 c.in_ok-link.link (sym c.is_some.ensures ∙ c.if-is_some.true)
-    (subst (λ (l : List Count). IsLastLink l c.args.base c.in_ok-link.link x) counts (c.in_ok-link.ensures.link x (c.read_area.ensures.content ∙ told))) c.if-earlier-eq7.true
+    let was = c.last_link.ensures.content x told in
+    ninth_bad x c.args.earlier.now c.args.base c.args.named.now (c.requires.read x (c.read_area.ensures.content x was)) c.in_ok-area.area (c.in_ok-area.ensures.area x was) c.in_ok-area.ensures.known.1 c.in_ok-link.link (sym c.is_some.ensures ∙ c.if-is_some.true)
+    (subst (λ (l : List Count). IsLastLink l c.args.base c.in_ok-link.link x) counts (c.in_ok-link.ensures.link x told)) c.if-earlier-eq7.true

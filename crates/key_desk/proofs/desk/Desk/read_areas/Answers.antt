@@ -9,6 +9,7 @@ use Rattle.desk_areas.specs.Layout.{slots_of, place_in}
 use Rattle.key_desk.specs.Desk.{Fits, key_of}
 use Rattle.desk_areas.specs.Reading.{HasRead, IsLastLink}
 use Rattle.key_desk.proofs.ReadFits.{IsEither, IsWhole, desk_of, read_fits}
+use Rattle.key_desk.proofs.Finding.{some_is}
 use Rattle.key_desk.proofs.ReadMore.{none_read, more_read, wholes_more, names_more}
 use Rattle.key_desk.proofs.desk.Desk.read_areas.Given.{Over}
 use Rattle.key_desk.proofs.desk.Desk.read_areas.Goals as goal
@@ -19,7 +20,7 @@ loop-round-init g c =
     let none : c.new-earlier.result.items ≡ [] = search rules in
     let size : length c.new-earlier.result.items ≡ 0 = ap (λ (l : List AreaView). length l) none in
     record {
-      content = refl;
+      content = λ x told. told;
       moments = nothing g.D.Disk c.args.disk.now Stays (λ d now. refl);
       faults = refl;
       count = size;
@@ -31,10 +32,10 @@ loop-round-init g c =
     }
 
 pub read_next-requires-clause-len : goal.read_next-requires-clause-len
-read_next-requires-clause-len g c x told = c.requires.len x (sym c.loop-round.invariant.content ∙ told)
+read_next-requires-clause-len g c x told = c.requires.len x (c.loop-round.invariant.content x told)
 
 pub read_next-requires-clause-read : goal.read_next-requires-clause-read
-read_next-requires-clause-read g c x told = subst (λ (l : List AreaView). HasRead l c.loop-round.base c.loop-round.named x) (sym c.deref.ensures.value) (c.loop-round.invariant.read x (sym c.loop-round.invariant.content ∙ told))
+read_next-requires-clause-read g c x told = subst (λ (l : List AreaView). HasRead l c.loop-round.base c.loop-round.named x) (sym c.deref.ensures.value) (c.loop-round.invariant.read x told)
 
 pub read_next-requires-clause-low : goal.read_next-requires-clause-low
 read_next-requires-clause-low g c = omega (arith, c.loop-round.invariant.low, c.loop-round.invariant.few)
@@ -55,8 +56,13 @@ module _ (g : Over) (c : After-read_next g) where
   all : AtEachMoment g.D.Disk c.args.disk.now c.read_next.new.disk Stays
   all = continued g.D.Disk c.args.disk.now c.loop-round.disk c.read_next.new.disk Stays Stays Stays c.loop-round.invariant.moments c.read_next.ensures.moments (λ d i now h. h) (λ d e i now_d now_e h k. k ∙ h)
 
-  one : EachImage g.D.Disk c.read_next.new.disk (λ i. g.D.Disk.content c.args.disk.now ≡ Some i)
-  one i now = let e = at_end g.D.Disk c.args.disk.now c.read_next.new.disk Stays all i now in subst (λ (y : List ℕ). g.D.Disk.content c.args.disk.now ≡ Some y) (sym e.2) (c.requires.one e.0 e.1)
+  one : EachImage g.D.Disk c.read_next.new.disk (λ i. g.D.Disk.content c.read_next.new.disk ≡ Some i)
+  one i now =
+      let e = at_end g.D.Disk c.args.disk.now c.read_next.new.disk Stays all i now in
+      let was = subst (λ (y : List ℕ). g.D.Disk.content c.args.disk.now ≡ Some y) (sym e.2) (c.requires.one e.0 e.1) in
+      let told = g.met.D.Disk.image_tells c.read_next.new.disk i now in
+      let first = c.loop-round.invariant.content told.0 (c.read_next.ensures.content told.0 told.1) in
+      subst (λ (y : List ℕ). g.D.Disk.content c.read_next.new.disk ≡ Some y) (some_is (g.D.Disk.content c.args.disk.now) told.0 i was first) told.1
 
 pub returns-in_err-area-clause-moments : goal.returns-in_err-area-clause-moments
 returns-in_err-area-clause-moments g c = all g (goal.at.returns-in_err-area-clause-moments g c).After-read_next
@@ -68,7 +74,7 @@ pub returns-in-None-clause-moments : goal.returns-in-None-clause-moments
 returns-in-None-clause-moments g c = all g (goal.at.returns-in-None-clause-moments g c).After-read_next
 
 pub returns-in-None-clause-content : goal.returns-in-None-clause-content
-returns-in-None-clause-content g c = c.read_next.ensures.content ∙ c.loop-round.invariant.content
+returns-in-None-clause-content g c x told = c.loop-round.invariant.content x (c.read_next.ensures.content x told)
 
 pub returns-in-None-clause-faults : goal.returns-in-None-clause-faults
 returns-in-None-clause-faults g c = omega (arith, c.loop-round.invariant.faults, c.read_next.ensures.faults)
@@ -86,9 +92,9 @@ returns-in-None-clause-fits g c =
     (read_fits c.loop-round.earlier.items c.loop-round.base c.in_ok-area.field-0.area (omega (arith, c.loop-round.invariant.count, c.loop-round.invariant.few)) c.loop-round.invariant.wholes
     (whole_of c.in_ok-area.field-0.area c.in_ok-area.ensures.known c.in_ok-area.ensures.i c.in_ok-area.ensures.either) c.loop-round.invariant.names
     (last_names c.deref.result.now c.loop-round.earlier.items c.in_ok-area.field-0.area c.deref.ensures.value c.in_ok-area.ensures.distinct)
-    g.D.Disk c.read_next.new.disk (g.D.Disk.content c.args.disk.now) c.loop-round.named (one g (goal.at.returns-in-None-clause-fits g c).After-read_next)
-    c.loop-round.invariant.read (λ x told. c.in_ok-area.ensures.area x (c.loop-round.invariant.content ∙ told)) c.in_ok-area.ensures.named
-    (λ x told. subst (λ (o : Option (List ℕ)). IsLastLink c.in_ok-area.field-0.area.counts c.loop-round.base o x) c.in-None.is (c.in_ok-area.ensures.link x (c.loop-round.invariant.content ∙ told))))
+    g.D.Disk c.read_next.new.disk (g.D.Disk.content c.read_next.new.disk) c.loop-round.named (one g (goal.at.returns-in-None-clause-fits g c).After-read_next)
+    (λ x told. c.loop-round.invariant.read x (c.read_next.ensures.content x told)) c.in_ok-area.ensures.area c.in_ok-area.ensures.named
+    (λ x told. subst (λ (o : Option (List ℕ)). IsLastLink c.in_ok-area.field-0.area.counts c.loop-round.base o x) c.in-None.is (c.in_ok-area.ensures.link x told)))
 
 pub returns-clause-bad_block : goal.returns-clause-bad_block
 returns-clause-bad_block g c _ x told = absurd (omega (arith, c.loop-round.invariant.few, c.loop-round-test.false))
@@ -103,7 +109,7 @@ loop-round-preserved g c =
     let place : c.place_in-base.result ≡ place_in c.loop-round.base (length c.in_ok-area.field-0.area.counts) = c.place_in-base.ensures.place ∙ ap (λ (l : List Count). place_in c.loop-round.base (length l)) c.counts.ensures.counts in
     let whole = whole_of c.in_ok-area.field-0.area c.in_ok-area.ensures.known c.in_ok-area.ensures.i c.in_ok-area.ensures.either in
     record {
-      content = c.read_next.ensures.content ∙ c.loop-round.invariant.content;
+      content = λ x told. c.loop-round.invariant.content x (c.read_next.ensures.content x told);
       moments = all g at;
       faults = c.in_ok-area.ensures.kept (λ e. cc) ∙ c.loop-round.invariant.faults;
       count = longer ∙ ap (λ (n : ℕ). n + 1) c.loop-round.invariant.count;
@@ -112,8 +118,8 @@ loop-round-preserved g c =
       read = λ x told.
           subst (λ (l : List AreaView). HasRead l c.place_in-base.result (Some c.in-Some.key) x) (sym items)
           (subst (λ (b : ℕ). HasRead (c.loop-round.earlier.items ++ c.in_ok-area.field-0.area ∷ []) b (Some c.in-Some.key) x) (sym place)
-          (more_read c.loop-round.earlier.items c.in_ok-area.field-0.area x c.loop-round.base c.loop-round.named (c.loop-round.invariant.read x told) (c.in_ok-area.ensures.area x (c.loop-round.invariant.content ∙ told)) c.in_ok-area.ensures.known.1 c.in_ok-area.ensures.named c.in-Some.key
-          (subst (λ (o : Option (List ℕ)). IsLastLink c.in_ok-area.field-0.area.counts c.loop-round.base o x) c.in-Some.is (c.in_ok-area.ensures.link x (c.loop-round.invariant.content ∙ told)))
+          (more_read c.loop-round.earlier.items c.in_ok-area.field-0.area x c.loop-round.base c.loop-round.named (c.loop-round.invariant.read x (c.read_next.ensures.content x told)) (c.in_ok-area.ensures.area x told) c.in_ok-area.ensures.known.1 c.in_ok-area.ensures.named c.in-Some.key
+          (subst (λ (o : Option (List ℕ)). IsLastLink c.in_ok-area.field-0.area.counts c.loop-round.base o x) c.in-Some.is (c.in_ok-area.ensures.link x told))
           (omega (arith, seven, same))));
       wholes = subst (λ (l : List AreaView). (a : ℕ) → a < length l → IsWhole (area_in l a)) (sym items) (wholes_more c.loop-round.earlier.items c.in_ok-area.field-0.area c.loop-round.invariant.wholes whole);
       names = subst (λ (l : List AreaView). (a b : ℕ) → a < b → b < length l → (area_in l a).key.i ≢ (area_in l b).key.i) (sym items)

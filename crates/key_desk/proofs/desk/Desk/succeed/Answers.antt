@@ -8,6 +8,11 @@ use Rattle.lms_tree.specs.Links.{link_text}
 use Rattle.key_desk.specs.declared.desk.Desk.{Desk}
 use Rattle.key_desk.specs.declared.succeed.SucceedError.{SucceedError}
 use Rattle.key_desk.specs.declared.succeed.SucceedError.TheVariants.{DiskFault, Memory}
+use Rattle.key_desk.specs.declared.succeed.SucceedError.TheVariants as succeed
+use Rattle.std.specs.Prelude.{IsErr, Some}
+use Rattle.std.proofs.Common.{◌≢◌}
+use Rattle.key_desk.proofs.Told.{told_before}
+use Rattle.key_desk.proofs.Finding.{some_is}
 use Rattle.desk_areas.specs.declared.errors.StartError.{StartError}
 use Rattle.desk_areas.specs.declared.errors.StartError.TheVariants as start
 use Rattle.desk_areas.specs.Faults.{IsBadBlock, IsUsable}
@@ -74,32 +79,52 @@ usable_on c desk is_open bad_else = record {
   good_block = λ bad. elim (bad_else is_open bad) [ inl e ↦ cc | inr other ↦ elim other [ inl e ↦ cc | inr e ↦ cc ] ];
 }
 
+-- a refusal leaves the disk
+called_after : {D : Type 0} (g : Ghosts D) (mid new : D) (name : List ℕ) (r : Result Desk SucceedError) → (IsErr r → r ≢ Err DiskFault → new ≡ mid) → IfErr r (IsCalledFor (g.content mid) name) → IfErr r (IsCalledFor (g.content new) name)
+called_after g mid new name (Ok v) stays h = tt
+called_after g mid new name (Err succeed.DiskFault) stays h = tt
+called_after g mid new name (Err succeed.Memory) stays h = tt
+called_after {D} g mid new name (Err succeed.NoKey) stays h = subst (λ (d : D). IsCalledFor (g.content d) name succeed.NoKey) (sym (stays refl (λ e. cc))) h
+called_after {D} g mid new name (Err succeed.BadBlock) stays h = subst (λ (d : D). IsCalledFor (g.content d) name succeed.BadBlock) (sym (stays refl (λ e. cc))) h
+called_after {D} g mid new name (Err succeed.TooManyKeys) stays h = subst (λ (d : D). IsCalledFor (g.content d) name succeed.TooManyKeys) (sym (stays refl (λ e. cc))) h
+called_after {D} g mid new name (Err succeed.NoSuccession) stays h = subst (λ (d : D). IsCalledFor (g.content d) name succeed.NoSuccession) (sym (stays refl (λ e. cc))) h
+called_after {D} g mid new name (Err succeed.SameSecret) stays h = subst (λ (d : D). IsCalledFor (g.content d) name succeed.SameSecret) (sym (stays refl (λ e. cc))) h
+
+abbrev started_err : StartError → Result Desk StartError
+started_err e = Err e
+
 pub returns-in-Ok-clause-refused : goal.returns-in-Ok-clause-refused
 returns-in-Ok-clause-refused g c =
-    if_err c.pass_on.result (IsDeskCalledFor c.in-Ok.desk (take 16 c.args.secret.now)) (IsCalledFor (g.D.Disk.content c.args.disk.now) (take 16 c.args.secret.now))
-    (λ e h. called_on (g.D.Disk.content c.args.disk.now) c.in-Ok.desk (take 16 c.args.secret.now) e
-    (λ x told f is. to_image g.D.Disk c.in-Ok.desk c.reopen.new.disk c.in-Ok.ensures.fits c.in-Ok.ensures.opened x (g.met.D.Disk.reads_image c.reopen.new.disk x (c.in-Ok.ensures.content ∙ told))
+    called_after g.D.Disk c.reopen.new.disk c.pass_on.new.disk (take 16 c.args.secret.now) c.pass_on.result c.pass_on.ensures.untouched
+    (if_err c.pass_on.result (IsDeskCalledFor c.in-Ok.desk (take 16 c.args.secret.now)) (IsCalledFor (g.D.Disk.content c.reopen.new.disk) (take 16 c.args.secret.now))
+    (λ e h. called_on (g.D.Disk.content c.reopen.new.disk) c.in-Ok.desk (take 16 c.args.secret.now) e
+    (λ x told f is. to_image g.D.Disk c.in-Ok.desk c.reopen.new.disk c.in-Ok.ensures.fits c.in-Ok.ensures.opened x (g.met.D.Disk.reads_image c.reopen.new.disk x told)
     (usable_on x c.in-Ok.desk (c.in-Ok.ensures.areas x told).0 (c.in-Ok.ensures.bad_block_else x told)) (take 16 c.args.secret.now) f is) h)
-    c.pass_on.ensures.refused
+    c.pass_on.ensures.refused)
 
 pub returns-in-Ok-clause-refused_else : goal.returns-in-Ok-clause-refused_else
-returns-in-Ok-clause-refused_else g c x told f h =
+returns-in-Ok-clause-refused_else g c y end x was f h =
+    let b = told_before g.D.Disk c.reopen.new.disk c.pass_on.new.disk _ (g.met.D.Disk.reads_image c.pass_on.new.disk) (g.met.D.Disk.image_tells c.reopen.new.disk) c.pass_on.ensures.moments y end in
+    let is : b.0 ≡ x = some_is (g.D.Disk.content c.args.disk.now) b.0 x was (c.in-Ok.ensures.content b.0 b.1) in
+    let told : g.D.Disk.content c.reopen.new.disk ≡ Some x = b.1 ∙ ap (λ (l : List ℕ). Some l) is in
     inl (c.pass_on.ensures.refused_else f
-    (from_image g.D.Disk c.in-Ok.desk c.reopen.new.disk c.in-Ok.ensures.fits c.in-Ok.ensures.opened x (g.met.D.Disk.reads_image c.reopen.new.disk x (c.in-Ok.ensures.content ∙ told))
+    (from_image g.D.Disk c.in-Ok.desk c.reopen.new.disk c.in-Ok.ensures.fits c.in-Ok.ensures.opened x (g.met.D.Disk.reads_image c.reopen.new.disk x told)
     (usable_on x c.in-Ok.desk (c.in-Ok.ensures.areas x told).0 (c.in-Ok.ensures.bad_block_else x told)) (take 16 c.args.secret.now) f h))
 
 pub returns-in-Err-clause-refused : goal.returns-in-Err-clause-refused
 returns-in-Err-clause-refused g c =
-    subst (IsCalledFor (g.D.Disk.content c.args.disk.now) (take 16 c.args.secret.now)) (sym c.started.ensures)
-    (start_called (g.D.Disk.content c.args.disk.now) (take 16 c.args.secret.now) c.in-Err.e (λ is. c.in-Err.ensures.no_key (ap (λ x. Err x) is)) (λ is. c.in-Err.ensures.bad_block (ap (λ x. Err x) is)))
+    subst (IsCalledFor (g.D.Disk.content c.reopen.new.disk) (take 16 c.args.secret.now)) (sym c.started.ensures)
+    (start_called (g.D.Disk.content c.reopen.new.disk) (take 16 c.args.secret.now) c.in-Err.e (λ is. c.in-Err.ensures.no_key (ap (λ x. Err x) is)) (λ is. c.in-Err.ensures.bad_block (ap (λ x. Err x) is)))
 
 pub returns-in-Err-clause-fault : goal.returns-in-Err-clause-fault
 returns-in-Err-clause-fault g c is = c.in-Err.ensures.fault (ap (λ x. Err x) (start_fault c.in-Err.e (sym c.started.ensures ∙ same_error c.started.result DiskFault is)))
 
 pub returns-in-Err-clause-refused_else : goal.returns-in-Err-clause-refused_else
-returns-in-Err-clause-refused_else g c x told =
+returns-in-Err-clause-refused_else g c y end x was =
+    let told : (started_err c.in-Err.e ≢ started_err start.DiskFault) → g.D.Disk.content c.reopen.new.disk ≡ Some x = λ other.
+    end ∙ ap (λ (l : List ℕ). Some l) (some_is (g.D.Disk.content c.args.disk.now) y x was (c.in-Err.ensures.refused refl other y end)) in
     subst (λ (r : SucceedError). (f : SucceedError) → Refuses x (take 16 c.args.secret.now) f → (refused_by r ≡ Err f) ⊎ ((refused_by r ≡ Err DiskFault) ⊎ (refused_by r ≡ Err Memory))) (sym c.started.ensures)
-    (start_called_else x (take 16 c.args.secret.now) c.in-Err.e (λ is. c.in-Err.ensures.no_key (ap (λ x. Err x) is) x told) (λ is. c.in-Err.ensures.bad_block (ap (λ x. Err x) is) x told))
+    (start_called_else x (take 16 c.args.secret.now) c.in-Err.e (λ is. c.in-Err.ensures.no_key (ap (λ x. Err x) is) x (told (λ bad. cc (is, bad)))) (λ is. c.in-Err.ensures.bad_block (ap (λ x. Err x) is) x (told (λ bad. cc (is, bad)))))
 
 -- after a succession, the area before the current one has signed its key
 module _ {D : Type 0} (g : Ghosts D) (desk : Desk) (key : KeyOf) (new : D) (text : List ℕ) where

@@ -3,14 +3,14 @@ use Rattle.std.proofs.Common.{◌≡◌, ◌⊎◌, ℕ, zero, suc, ◌-◌, ◌
 use Rattle.std.proofs.lemmas.Bool.{cases_lt}
 use Rattle.std.proofs.lemmas.List.{places}
 use Rattle.std.specs.Str.{bytes_eq}
-use Rattle.std.specs.Option.{option_map, IsSomeAnd}
+use Rattle.std.specs.Option.{ForSome, option_map, IsSomeAnd}
 use Rattle.std.specs.declared.option.Option.{Option}
 use Rattle.std.specs.declared.option.Option.TheVariants.{None, Some}
-use Rattle.std.specs.Result.{OnErr}
+use Rattle.std.specs.Result.{OnErr, OnOk}
 use Rattle.std.specs.declared.result.Result.{Result}
 use Rattle.std.specs.declared.result.Result.TheVariants.{Ok, Err}
 use Rattle.road_io.specs.Disk.{written, Torn, Stays}
-use Rattle.road_io.specs.Worlds.{Call, Holding, after_call, after, holding, reads, Comes, Leaves, LeavesAt, reads_left}
+use Rattle.road_io.specs.Worlds.{Call, Holding, after_call, noted_write, noted_sync, after, holding, reads, Comes, Leaves, LeavesAt, reads_left}
 
 pub torn_part : (at n : ℕ) (octets content : List ℕ) → length octets ≤ n → Torn at n content (written at octets content)
 torn_part at n octets content le = record {
@@ -221,3 +221,58 @@ torn_failed world world' history history' at octets same noted c is =
     let read : reads world history ≡ Some was.0.content = ap (λ (o : Option Holding). option_map (λ h. h.content) o) was.1 in
     subst (λ (o : Option (List ℕ)). IsSomeAnd o (λ b. Torn at (length octets) b c)) (sym read)
     (subst (λ (x : List ℕ). Torn at (length octets) was.0.content x) it (torn_part at (length octets) (take (length octets) left) was.0.content (short octets left)))
+
+-- ---- by an answer
+
+put_in : (at : ℕ) (octets left : List ℕ) (o : Option Holding) → option_map (λ h. h.content) (after (2 ∷ at ∷ [], octets) left o) ≡ option_map (written at octets) (option_map (λ h. h.content) o)
+put_in at octets left None = refl
+put_in at octets left (Some h) = refl
+
+stays_put : (left : List ℕ) (o : Option Holding) → option_map (λ h. h.content) (after (4 ∷ [], []) left o) ≡ option_map (λ h. h.content) o
+stays_put left None = refl
+stays_put left (Some h) = refl
+
+read_as : (world world' history history' : List Call) (call : Call) → world' ≡ world → history' ≡ call ∷ history → reads world' history' ≡ reads world (call ∷ history)
+read_as world world' history history' call same noted = ap (λ (x : List Call). reads x history') same ∙ ap (λ (x : List Call). reads world x) noted
+
+module _ {T E : Type 0} (world world' history history' : List Call) (same : world' ≡ world) where
+  -- a write
+  module _ (at : ℕ) (octets : List ℕ) where
+    pub wrote : (r : Result T E) → history' ≡ noted_write r at octets ∷ history → OnOk r (reads world' history' ≡ option_map (written at octets) (reads world history))
+    wrote (Ok done) noted = read_as world world' history history' (2 ∷ at ∷ [], octets) same noted ∙ put_in at octets (get_or world (suc (length history)) ([], [])).1 (holding world history)
+    wrote (Err failed) noted = tt
+
+    pub tore : (r : Result T E) → history' ≡ noted_write r at octets ∷ history → OnErr r (ForSome (reads world' history') (λ c. IsSomeAnd (reads world history) (λ b. Torn at (length octets) b c)))
+    tore (Ok done) noted = tt
+    tore (Err failed) noted = λ c is. torn_failed world world' history history' at octets same noted c is
+
+    pub write_step : (r : Result T E) (d i : List ℕ) → StepOf (slice_index (noted_write r at octets).0 0) (slice_index (noted_write r at octets).0 1) (noted_write r at octets).1 d i → Torn at (length octets) d i
+    write_step (Ok done) d i s = s
+    write_step (Err failed) d i s = s
+
+  -- a sync
+  pub settled : (r : Result T E) → history' ≡ noted_sync r ∷ history → OnOk r (reads world' history' ≡ reads world history)
+  settled (Ok done) noted = read_as world world' history history' (4 ∷ [], []) same noted ∙ stays_put (get_or world (suc (length history)) ([], [])).1 (holding world history)
+  settled (Err failed) noted = tt
+
+  pub one_left : (r : Result T E) → history' ≡ noted_sync r ∷ history → OnOk r ((i : List ℕ) → LeavesAt world' history' (length history') i → reads world' history' ≡ Some i)
+  one_left (Ok done) noted = λ i h.
+      let call : Call = (4 ∷ [], []) in
+      let plain : LeavesAt world (call ∷ history) (length (call ∷ history)) i = subst (λ (x : List Call). LeavesAt world x (length x) i) noted (subst (λ (x : List Call). LeavesAt x history' (length history') i) same h) in
+      let n : length (call ∷ history) - length (call ∷ history) ≡ 0 = omega arith in
+      let leaves : Leaves world (call ∷ history) i = subst (λ (m : ℕ). Leaves world (drop m (call ∷ history)) i) n plain.leaves in
+      elim leaves [
+        | inl e ↦ read_as world world' history history' call same noted ∙ e
+        | inr e ↦ absurd e
+      ]
+  one_left (Err failed) noted = tt
+
+  pub left_dropped : (r : Result T E) → history' ≡ noted_sync r ∷ history → OnErr r (ForSome (reads world' history') (LeavesAt world history (length history)))
+  left_dropped (Ok done) noted = tt
+  left_dropped (Err failed) noted = λ c is.
+      let e = came world world' history history' (5 ∷ [], []) same noted c is in
+      subst (λ (x : List ℕ). LeavesAt world history (length history) x) (sym e.2) e.1
+
+  pub sync_step : (r : Result T E) (d i : List ℕ) → StepOf (slice_index (noted_sync r).0 0) (slice_index (noted_sync r).0 1) (noted_sync r).1 d i → Stays d i
+  sync_step (Ok done) d i s = s
+  sync_step (Err failed) d i s = s

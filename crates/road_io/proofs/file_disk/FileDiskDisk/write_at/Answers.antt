@@ -1,7 +1,7 @@
-use Rattle.std.proofs.Common.{◌≡◌, [], ◌∷◌, rules, length}
-use Rattle.road_io.specs.Worlds.{Call}
+use Rattle.std.proofs.Common.{◌≡◌, ◌∷◌, rules, length}
+use Rattle.road_io.specs.Worlds.{Call, noted_write}
 use Rattle.road_io.specs.Disk.{Torn}
-use Rattle.road_io.proofs.WorldLaws.{later_noted, past_noted, each_noted, later_kept, past_kept, each_kept, torn_same, torn_failed}
+use Rattle.road_io.proofs.WorldLaws.{later_noted, past_noted, each_noted, later_kept, past_kept, each_kept, torn_same, write_step, wrote, tore}
 use Rattle.road_io.proofs.file_disk.FileDiskDisk.write_at.Goals as goal
 
 pub returns-in_err-begin-clause-moments : goal.returns-in_err-begin-clause-moments
@@ -30,39 +30,35 @@ returns-in_err-counted-clause-moments g c =
       each = each_kept d.world.events w d.history.events h same noted (Torn c.args.at (length c.args.octets.now)) (λ d. torn_same c.args.at (length c.args.octets.now) d);
     }
 
-pub returns-in-Ok-clause-moments : goal.returns-in-Ok-clause-moments
-returns-in-Ok-clause-moments g c =
+pub returns-clause-moments : goal.returns-clause-moments
+returns-clause-moments g c =
     let d = c.args.self.now in
-    let w = c.counted-2.new.self.world.events in
-    let h = c.note.new.self.events in
-    let call : Call = (2 ∷ c.args.at ∷ [], c.args.octets.now) in
+    let w = c.put.new.self.world.events in
+    let h = c.put.new.self.history.events in
+    let call : Call = noted_write c.put.result c.args.at c.args.octets.now in
     let same : w ≡ d.world.events = search rules in
     let noted : h ≡ call ∷ d.history.events = search rules in
     record {
       later = later_noted d.world.events w d.history.events h call same noted;
       past = past_noted d.world.events w d.history.events h call same noted;
-      each = each_noted d.world.events w d.history.events h call same noted (Torn c.args.at (length c.args.octets.now)) (λ d. torn_same c.args.at (length c.args.octets.now) d) (λ d i s. s);
+      each = each_noted d.world.events w d.history.events h call same noted (Torn c.args.at (length c.args.octets.now)) (λ d. torn_same c.args.at (length c.args.octets.now) d)
+          (write_step d.world.events w d.history.events h same c.args.at c.args.octets.now c.put.result);
     }
 
-pub returns-in-Err-clause-moments : goal.returns-in-Err-clause-moments
-returns-in-Err-clause-moments g c =
+pub returns-clause-written : goal.returns-clause-written
+returns-clause-written g c =
     let d = c.args.self.now in
-    let w = c.counted-2.new.self.world.events in
-    let h = c.note-in-Err.new.self.events in
-    let call : Call = (3 ∷ c.args.at ∷ [], c.args.octets.now) in
+    let w = c.put.new.self.world.events in
+    let h = c.put.new.self.history.events in
     let same : w ≡ d.world.events = search rules in
-    let noted : h ≡ call ∷ d.history.events = search rules in
-    record {
-      later = later_noted d.world.events w d.history.events h call same noted;
-      past = past_noted d.world.events w d.history.events h call same noted;
-      each = each_noted d.world.events w d.history.events h call same noted (Torn c.args.at (length c.args.octets.now)) (λ d. torn_same c.args.at (length c.args.octets.now) d) (λ d i s. s);
-    }
+    let noted : h ≡ noted_write c.put.result c.args.at c.args.octets.now ∷ d.history.events = search rules in
+    wrote d.world.events w d.history.events h same c.args.at c.args.octets.now c.put.result noted
 
-pub returns-in-Err-clause-torn : goal.returns-in-Err-clause-torn
-returns-in-Err-clause-torn g c = λ b is.
+pub returns-clause-torn : goal.returns-clause-torn
+returns-clause-torn g c =
     let d = c.args.self.now in
-    let w = c.counted-2.new.self.world.events in
-    let h = c.note-in-Err.new.self.events in
+    let w = c.put.new.self.world.events in
+    let h = c.put.new.self.history.events in
     let same : w ≡ d.world.events = search rules in
-    let noted : h ≡ (3 ∷ c.args.at ∷ [], c.args.octets.now) ∷ d.history.events = search rules in
-    torn_failed d.world.events w d.history.events h c.args.at c.args.octets.now same noted b is
+    let noted : h ≡ noted_write c.put.result c.args.at c.args.octets.now ∷ d.history.events = search rules in
+    tore d.world.events w d.history.events h same c.args.at c.args.octets.now c.put.result noted

@@ -27,6 +27,8 @@ pub fn look_for_key<D: Disk>(disk: &mut D) -> Result<u64, StartError>
     ensures kept { result ≢ Err StartError.DiskFault → D.faults disk.new ≡ D.faults disk.old }
     ensures faults { D.faults disk.old ≤ D.faults disk.new }
     ensures content { OnOk result (Narrows (D.content disk.old) (D.content disk.new)) }
+    ensures refused { IsErrOf result StartError.Held →
+        Narrows (D.content disk.old) (D.content disk.new) }
     ensures moments { AtEachMoment D.Disk disk.old disk.new Stays }
 {
     disk.sync()?;

@@ -43,7 +43,7 @@ fn holds(rt: &impl Abort, mirror: Option<&MemMirror>, label: u32, octets: &[u8])
         return;
     };
     assert_eq!(rt; mirror.label(), label);
-    assert_eq!(rt; mirror.held(), Some(octets));
+    assert_eq!(rt; mirror.held(), octets);
 }
 
 /// Publishes to the two mirrors, of which so many stay: the output and what stays have all octets.

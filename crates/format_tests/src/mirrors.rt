@@ -16,23 +16,18 @@ fn three_pieces<M: Mirror>(rt: &impl Abort, spreader: &mut Spreader, mirrors: &m
     }
 }
 
-// Compares the only mirror that is lost, and the only one that is left, with what it tells that it
-// holds.
+// Compares the only mirror that is lost, and the only one that is left.
 fn assert_left<M: Mirror>(
     rt: &impl Abort,
     spreader: &Spreader,
     mirrors: &[M],
     lost: u32,
     left: u32,
-    held: &[u8],
 ) {
     assert_same(rt, &spreader.lost().first().copied(), &Some(lost));
     assert_same(rt, &spreader.lost().len(), &1);
     match mirrors {
-        [mirror] => {
-            assert_same(rt, &mirror.label(), &left);
-            assert_octets(rt, mirror.held().unwrap_or(&[]), held);
-        }
+        [mirror] => assert_same(rt, &mirror.label(), &left),
         _ => assert!(rt; false),
     }
 }
@@ -51,7 +46,11 @@ fn a_mirror_that_fails_at_its_third_put_is_lost(rt: HostRuntime) -> Result<(), F
     let mut mirrors = two_mirrors(alloc)?;
     let mut spreader = Spreader::new(alloc, &mirrors)?;
     three_pieces(&rt, &mut spreader, &mut mirrors);
-    assert_left(&rt, &spreader, &mirrors, 2, 1, b"abcdef");
+    assert_left(&rt, &spreader, &mirrors, 2, 1);
+    match mirrors.as_slice() {
+        [first] => assert_octets(&rt, first.held(), b"abcdef"),
+        _ => assert!(rt; false),
+    }
     Ok(())
 }
 
@@ -73,7 +72,7 @@ fn files_take_pieces_behind_what_they_held(rt: HostRuntime) -> Result<(), Fail> 
     let mut mirrors = two_files(rt)?;
     let mut spreader = Spreader::new(rt.alloc(), &mirrors)?;
     three_pieces(&rt, &mut spreader, &mut mirrors);
-    assert_left(&rt, &spreader, &mirrors, 7, 8, b"");
+    assert_left(&rt, &spreader, &mirrors, 7, 8);
     let text = fs::read_to_string(&rt, NAME)?;
     assert_octets(&rt, text.as_bytes(), b"old abcdef");
     fs::remove_file(&rt, NAME)?;

@@ -69,7 +69,7 @@ fn sent(
 // Compares what a mirror holds, and its label 1.
 fn assert_first(rt: &impl Abort, mirror: &MemMirror, held: &[u8]) {
     assert_same(rt, &mirror.label(), &1);
-    assert_octets(rt, mirror.held().unwrap_or(&[]), held);
+    assert_octets(rt, mirror.held(), held);
 }
 
 #[test]

@@ -1,10 +1,14 @@
 -- The source in memory.
-use Rattle.std.specs.Prelude.{◌≡◌, ◌+◌, ◌-◌, ◌^◌, ℕ, List, min, drop, Contains}
+use Rattle.std.specs.Prelude.{◌≡◌, ◌+◌, ◌-◌, ◌^◌, ℕ, List, min, take, drop, Contains}
 use Rattle.mem_io.specs.declared.source.MemSource.{MemSource}
 
 -- the octets that are left
 abbrev pub left_of : MemSource → List ℕ
 left_of source = drop source.at source.octets.items
+
+-- the octets that it has given
+abbrev pub given_by : MemSource → List ℕ
+given_by source = take source.at source.octets.items
 
 -- the next read is planned to fail
 abbrev pub IsPlannedRead : MemSource → Type 0

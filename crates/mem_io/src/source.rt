@@ -1,5 +1,5 @@
 //! A source in memory, which tells what it has left.
-ghost use Rattle.std.specs.Prelude.{◌≡◌, ◌<◌, ◌≤◌, ◌+◌, ◌-◌, ◌^◌, List, ℕ, length, min, vec_len, IfOk, OnOk, OnErr};
+ghost use Rattle.std.specs.Prelude.{◌≡◌, ◌<◌, ◌≤◌, ◌+◌, ◌-◌, ◌^◌, [], List, ℕ, length, min, vec_len, IfOk, OnOk, OnErr};
 ghost use Rattle.std.specs.declared.option.Option.TheVariants.{Some};
 
 use road_io::{Failed, Source};
@@ -45,11 +45,15 @@ impl MemSource {
 }
 
 impl Source for MemSource {
-    ghost use Rattle.std.specs.Io.KnownBytes.{ReadConsumes};
+    ghost use Rattle.std.specs.Io.KnownBytes.{ReadConsumes, WriteAppends};
     ghost use Rattle.road_io.specs.Causes.{HasCause};
-    ghost use Rattle.mem_io.specs.MemSource.{left_of, IsPlannedRead, CountsRead};
+    ghost use Rattle.mem_io.specs.MemSource.{left_of, given_by, IsPlannedRead, CountsRead};
 
     ghost left = { λ s. Some (left_of s) };
+
+    ghost given = { λ s. given_by s };
+
+    ghost ended = { λ s. left_of s ≡ [] };
 
     ghost faults = { λ s. s.faults };
 
@@ -57,6 +61,9 @@ impl Source for MemSource {
         ensures most { IfOk result (λ n. n ≤ length into.new) }
         ensures left { ReadConsumes (Some (left_of self.old))
             (Some (left_of self.new)) result into.new }
+        ensures gave { WriteAppends (Some (given_by self.old))
+            (Some (given_by self.new)) result into.new }
+        ensures ended { IfOk result (λ n. n ≡ 0 → 0 < length into.new → left_of self.new ≡ []) }
         ensures kept { OnOk result (self.new.faults ≡ self.old.faults) }
         ensures cause { HasCause self.old.faults self.new.faults result }
         ensures piece { IfOk result

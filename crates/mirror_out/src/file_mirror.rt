@@ -1,18 +1,21 @@
-//! A mirror in a file: an adapter over the real thing, which tells nothing of what it holds.
+//! A mirror in a file: an adapter over the real thing, which tells what it was answered to have taken.
 ghost use Rattle.std.specs.Prelude.{◌≡◌};
-ghost use Rattle.std.specs.declared.option.Option.TheVariants.{None};
+ghost use Rattle.std.specs.declared.option.Option.TheVariants.{Some};
 
 use crate::Mirror;
-use road_io::Failed;
+use road_io::{Failed, Record};
 use std::fs::File;
 use std::io::Write;
 
-/// A file, which takes each piece where it was left. It promises nothing.
+/// A file, which takes each piece where it was left. It promises nothing. It tells the pieces that it was
+/// answered to have taken, which stand behind what the file held before. A put that fails may leave a
+/// front of its piece, of which nothing is told.
 #[derive(Drop)]
 pub struct FileMirror {
     label: u32,
     file: File,
     faults: u64,
+    history: Record,
 }
 
 impl FileMirror {
@@ -26,12 +29,15 @@ impl FileMirror {
             label,
             file,
             faults: 0,
+            history: Record::new(),
         }
     }
 }
 
 impl Mirror for FileMirror {
-    ghost octets = { λ _. None };
+    ghost use Rattle.road_io.specs.Noted.{noted};
+
+    ghost octets = { λ m. Some (noted m.history.events) };
 
     ghost named = { λ m. m.label };
 
@@ -45,13 +51,12 @@ impl Mirror for FileMirror {
         self.label
     }
 
-    fn held(&self) -> Option<&[u8]> {
-        None
-    }
-
     fn put(&mut self, piece: &[u8]) -> Result<(), Failed> {
         match self.file.write_all(piece) {
-            Ok(()) => Ok(()),
+            Ok(()) => {
+                self.history.note(&[], piece);
+                Ok(())
+            }
             Err(_) => {
                 self.faults = self.faults.saturating_add(1);
                 Err(Failed)

@@ -34,7 +34,7 @@ fn is_planned(fails: &[u64], call: u64) -> bool
 }
 
 impl MemMirror {
-    ghost use Rattle.mirror_out.specs.MemMirror.{IsNewMirror};
+    ghost use Rattle.mirror_out.specs.MemMirror.{held_in, IsNewMirror};
 
     /// A mirror that holds nothing. The puts whose numbers stand in `fails` will fail.
     pub fn new(
@@ -54,6 +54,13 @@ impl MemMirror {
             calls: 0,
             faults: 0,
         })
+    }
+
+    /// The octets that it holds.
+    pub fn held(&self) -> &[u8]
+        ensures { result.now ≡ held_in self.now }
+    {
+        &self.taken
     }
 }
 
@@ -75,10 +82,6 @@ impl Mirror for MemMirror {
 
     fn label(&self) -> u32 {
         self.label
-    }
-
-    fn held(&self) -> Option<&[u8]> {
-        Some(&self.taken)
     }
 
     fn put(&mut self, piece: &[u8]) -> Result<(), Failed>

@@ -1,7 +1,6 @@
 //! A further place that takes what is written.
 ghost use Rattle.std.specs.Prelude.{◌≡◌, ◌+◌, ◌≤◌, List, ℕ, length, OnOk, OnErr};
 ghost use Rattle.std.specs.declared.option.Option.{Option};
-ghost use Rattle.std.specs.Option.{option_map};
 ghost use Rattle.std.specs.Io.KnownBytes.{Appends};
 ghost use Rattle.road_io.specs.Causes.{HasCause};
 ghost use Rattle.mirror_out.specs.Mirrors.{PromisedLess};
@@ -28,10 +27,6 @@ pub trait Mirror: Drop {
     /// The label, which no put changes.
     fn label(&self) -> u32
         ensures { result ≡ named self.now };
-
-    /// The octets that it holds, and none where it doesn't tell them.
-    fn held(&self) -> Option<&[u8]>
-        ensures { option_map (λ r. r.now) result ≡ octets self.now };
 
     /// Takes a piece, behind what it holds. It fails only where it promised no put, or fewer octets
     /// than the piece has.

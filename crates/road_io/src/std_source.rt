@@ -1,7 +1,9 @@
-//! Standard input: an adapter over the real thing, which tells nothing of what it has left.
+//! Standard input: an adapter over the real thing, which tells what it gave, and nothing of what it has
+//! left.
 ghost use Rattle.std.specs.Prelude.{◌≤◌, length, IfOk};
 ghost use Rattle.std.specs.declared.option.Option.TheVariants.{None};
 
+use crate::record::Record;
 use crate::{Failed, Source};
 use std::io::{self, Read};
 
@@ -11,6 +13,7 @@ pub struct StdSource<R: Input> {
     reader: R::Reader,
     faults: u64,
     last_error: Option<io::Error>,
+    history: Record,
 }
 
 impl<R: Input> StdSource<R> {
@@ -20,6 +23,7 @@ impl<R: Input> StdSource<R> {
             reader: rt.reader(),
             faults: 0,
             last_error: None,
+            history: Record::new(),
         }
     }
 
@@ -30,13 +34,23 @@ impl<R: Input> StdSource<R> {
 }
 
 impl<R: Input> Source for StdSource<R> {
+    ghost use Rattle.road_io.specs.Noted.{noted};
+    ghost use Rattle.road_io.specs.Given.{IsEnd};
+
     ghost left = { λ _. None };
+
+    ghost given = { λ s. noted s.history.events };
+
+    ghost ended = { λ s. IsEnd s.history.events };
 
     ghost faults = { λ s. s.faults };
 
     fn read(&mut self, into: &mut [u8]) -> Result<usize, Failed> {
         match self.reader.read(into) {
-            Ok(count) => Ok(count),
+            Ok(count) => {
+                self.history.note(&[into.len() as u64], &into[..count]);
+                Ok(count)
+            }
             Err(e) => {
                 self.faults = self.faults.saturating_add(1);
                 self.last_error = Some(e);

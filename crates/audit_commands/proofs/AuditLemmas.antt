@@ -9,7 +9,7 @@ use Rattle.road_io.specs.Causes.{Rose}
 use Rattle.sha2.specs.Sha256.{sha256}
 use Rattle.road_io.specs.declared.disk.Disk.{Ghosts}
 use Rattle.road_io.specs.Disk.{Stays}
-use Rattle.road_io.specs.Moments.{Image, AtEachMoment}
+use Rattle.road_io.specs.Moments.{Image, AtEachMoment, still_told}
 use Rattle.road_io.specs.Contents.{Folder}
 use Rattle.lms_tree.specs.declared.links.Link.{Link}
 use Rattle.desk_areas.specs.Faults.{IsUsable}
@@ -53,23 +53,23 @@ abbrev pub Behind : {Q A X E : Type 0} → ReplyKind Q A X E → (E → List ℕ
 Behind kind line content key links octets q p =
     EndsClient kind line key links octets q (λ x a. EndsInstalling p (EndsSigned content key links (kind.header a) (kind.signature a) (EndsSameHeader p (kind.header a) (EndsComparing kind p q x a))))
 
-module _ {D : Type 0} (g : Ghosts D) (old mid new : D) (desk : Desk) (seen : (c : List ℕ) → g.content mid ≡ Some c → Image g mid c) (same : g.content mid ≡ g.content old) (blocks : HasBlocks (g.content old) desk) (fits : Fits g desk mid) where
-  -- ---- what the desk says, of what the disk reads
+module _ {D : Type 0} (g : Ghosts D) (old mid new : D) (desk : Desk) (seen : (c : List ℕ) → still_told g old new ≡ Some c → Image g new c) (blocks : HasBlocks (still_told g old new) desk) (fits : Fits g desk mid) where
+  -- ---- what the desk says, of what the disk still tells
 
-  module _ (c : List ℕ) (is : g.content old ≡ Some c) where
+  module _ (c : List ℕ) (is : still_told g old new ≡ Some c) where
     owns_in : (key : List ℕ) → (look_at g desk mid new).Owns key → (look_in c).Owns key
     owns_in key h = own_in desk c fits.sound (blocks c is).1 key h
 
     signs_in : (text : List ℕ) → (look_at g desk mid new).Signed text → (look_in c).Signed text
-    signs_in text h = (h.1.0, h.1.1 c (seen c (same ∙ is)))
+    signs_in text h = (h.1.0, h.1.1 c (seen c is))
 
     lacks_in : (text : List ℕ) → (look_at g desk mid new).Unsigned text → (look_in c).Unsigned text
-    lacks_in text h = h.1 c (seen c (same ∙ is))
+    lacks_in text h = h.1 c (seen c is)
 
-  signed_read : (links : List Link) (header : List ℕ) → AreSigned (look_at g desk mid new) links header → ForSome (g.content old) (λ c. AreSigned (look_in c) links header)
+  signed_read : (links : List Link) (header : List ℕ) → AreSigned (look_at g desk mid new) links header → ForSome (still_told g old new) (λ c. AreSigned (look_in c) links header)
   signed_read links header h c is = signed_more (look_at g desk mid new) (look_in c) (owns_in c is) (signs_in c is) (lacks_in c is) links header h
 
-  forges_read : (key : List ℕ) (links : List Link) (header signature : List ℕ) (f : Forgery) → Forges (look_at g desk mid new) key links header signature f → ForSome (g.content old) (λ c. Forges (look_in c) key links header signature f)
+  forges_read : (key : List ℕ) (links : List Link) (header signature : List ℕ) (f : Forgery) → Forges (look_at g desk mid new) key links header signature f → ForSome (still_told g old new) (λ c. Forges (look_in c) key links header signature f)
   forges_read key links header signature f h c is = forges_more (look_at g desk mid new) (look_in c) (owns_in c is) (signs_in c is) (lacks_in c is) key links header signature f h
 
   -- ---- and of every image
@@ -79,10 +79,10 @@ module _ {D : Type 0} (g : Ghosts D) (old mid new : D) (desk : Desk) (seen : (c 
     owns_all key h = later g mid new (λ i. IsOwnersKey i key) m (λ i now. own_in desk i fits.sound (fits.areas i now) key h)
 
     signs_all : (text : List ℕ) → (look_at g desk mid new).Signed text → (look_everywhere g new).Signed text
-    signs_all text h = (h.1.0, later g mid new (λ i. IsSigned i h.1.0 text) m h.1.1)
+    signs_all text h = h.1
 
     lacks_all : (text : List ℕ) → (look_at g desk mid new).Unsigned text → (look_everywhere g new).Unsigned text
-    lacks_all text h = later g mid new (λ i. (slot : SlotId) → ¬ IsSigned i slot text) m h.1
+    lacks_all text h = h.1
 
     signed_all : (links : List Link) (header : List ℕ) → AreSigned (look_at g desk mid new) links header → AreSigned (look_everywhere g new) links header
     signed_all links header h = signed_more (look_at g desk mid new) (look_everywhere g new) owns_all signs_all lacks_all links header h
@@ -98,18 +98,18 @@ module _ {D : Type 0} (g : Ghosts D) (old mid new : D) (desk : Desk) (seen : (c 
     IsFound r = Finds kind sha256 sha256 (look_at g desk mid new) (at key links octets q p) r
 
     -- behind the owner's key
-    behind : IsKeyFrom desk 0 key → (o : Result Conclusion Fault) (t : List ℕ) → Behind kind line (g.content old) key links octets q p o t
-        → EndsOwnersKey (g.content old) key (Behind kind line (g.content old) key links octets q p) o t
-    behind own_key o t h = inr (own (g.content old) desk key blocks fits.sound own_key, h)
+    behind : IsKeyFrom desk 0 key → (o : Result Conclusion Fault) (t : List ℕ) → Behind kind line (still_told g old new) key links octets q p o t
+        → EndsOwnersKey (still_told g old new) key (Behind kind line (still_told g old new) key links octets q p) o t
+    behind own_key o t h = inr (own (still_told g old new) desk key blocks fits.sound own_key, h)
 
     -- behind the installing
     behind_installed : (i : IsInstalled kind sha256 sha256 (look_at g desk mid new) (at key links octets q p)) → (o : Result Conclusion Fault) (t : List ℕ)
-        → EndsSigned (g.content old) key links (kind.header i.reply.answer) (kind.signature i.reply.answer) (EndsSameHeader p (kind.header i.reply.answer) (EndsComparing kind p q i.reply.taken i.reply.answer)) o t
-        → EndsOwnersKey (g.content old) key (Behind kind line (g.content old) key links octets q p) o t
+        → EndsSigned (still_told g old new) key links (kind.header i.reply.answer) (kind.signature i.reply.answer) (EndsSameHeader p (kind.header i.reply.answer) (EndsComparing kind p q i.reply.taken i.reply.answer)) o t
+        → EndsOwnersKey (still_told g old new) key (Behind kind line (still_told g old new) key links octets q p) o t
     behind_installed i o t h = behind i.reply.own o t (inr (i.reply.taken, i.reply.answer, i.reply.accepts, record { made = Ok p.header; makes = i.header; follows = inl (refl, h) }))
 
-    by_answer : (r : Result Finding (AuditError E)) (o : Result Conclusion Fault) (t : List ℕ) → IsFound r → Tells line r o t → EndsOwnersKey (g.content old) key (Behind kind line (g.content old) key links octets q p) o t
-    by_answer (Err audit.OtherKey) o t f tells = inl (tells.0, not_own (g.content old) desk key blocks fits.sound f, tells.1)
+    by_answer : (r : Result Finding (AuditError E)) (o : Result Conclusion Fault) (t : List ℕ) → IsFound r → Tells line r o t → EndsOwnersKey (still_told g old new) key (Behind kind line (still_told g old new) key links octets q p) o t
+    by_answer (Err audit.OtherKey) o t f tells = inl (tells.0, not_own (still_told g old new) desk key blocks fits.sound f, tells.1)
     by_answer (Err (audit.Refused e)) o t f tells = behind f.0 o t (inl (e, f.1, tells.0, tells.1))
     by_answer (Err (audit.Install (install.Build (build.Map e)))) o t f tells =
         behind f.0.own o t (inr (f.0.taken, f.0.answer, f.0.accepts, record { made = Err (build.Map e); makes = f.1.0; follows = tells }))
@@ -128,14 +128,14 @@ module _ {D : Type 0} (g : Ghosts D) (old mid new : D) (desk : Desk) (seen : (c 
     by_answer (Ok Right) o t f tells = behind_installed f.0.installed o t (inr (signed_read links _ f.0.signed, inr (f.0.same, inl (tells.0, f.1, tells.1))))
 
     -- behind the opened desk
-    pub ends_of : ForSome (g.content old) IsUsable → (r : Result Finding (AuditError E)) (o : Result Conclusion Fault) (t : List ℕ) → IsFound r → Tells line r o t → EndsAudit kind line (g.content old) key links p octets q o t
+    pub ends_of : ForSome (still_told g old new) IsUsable → (r : Result Finding (AuditError E)) (o : Result Conclusion Fault) (t : List ℕ) → IsFound r → Tells line r o t → EndsAudit kind line (still_told g old new) key links p octets q o t
     ends_of usable r o t f tells = inr (inr (usable, by_answer r o t f tells))
 
     -- why nothing was written
-    pub why_not : (DiskFailed : Type 0) → ForSome (g.content old) IsUsable → (r : Result Finding (AuditError E)) → (LookFailed r → DiskFailed) → (f : Fault) → IsFound r
-        → WhyNot (LookFailed r) (Tells line r) f → WhyNot DiskFailed (EndsAudit kind line (g.content old) key links p octets q) f
+    pub why_not : (DiskFailed : Type 0) → ForSome (still_told g old new) IsUsable → (r : Result Finding (AuditError E)) → (LookFailed r → DiskFailed) → (f : Fault) → IsFound r
+        → WhyNot (LookFailed r) (Tells line r) f → WhyNot DiskFailed (EndsAudit kind line (still_told g old new) key links p octets q) f
     why_not DiskFailed usable r failed f finds =
-        why_map (LookFailed r) DiskFailed (Tells line r) (EndsAudit kind line (g.content old) key links p octets q) failed (λ o t tells. ends_of usable r o t finds tells) f
+        why_map (LookFailed r) DiskFailed (Tells line r) (EndsAudit kind line (still_told g old new) key links p octets q) failed (λ o t tells. ends_of usable r o t finds tells) f
 
     -- a look fails only where the disk's count of faults rose
     pub look_failed : desk.is_open ≡ true → g.faults old ≤ g.faults mid → (r : Result Finding (AuditError E)) → IsFound r → LookFailed r → Rose (g.faults old) (g.faults new)

@@ -10,7 +10,7 @@ use Rattle.road_io.specs.declared.disk.Disk.{Ghosts}
 use Rattle.road_io.specs.Causes.{Rose}
 use Rattle.road_io.specs.Contents.{Folder}
 use Rattle.road_io.specs.Disk.{Stays}
-use Rattle.road_io.specs.Moments.{AtEachMoment}
+use Rattle.road_io.specs.Moments.{AtEachMoment, still_told}
 use Rattle.lms_tree.specs.declared.links.Link.{Link}
 use Rattle.desk_areas.specs.Faults.{IsUsable}
 use Rattle.desk_look.specs.Forgeries.{AreSigned, Forges}
@@ -196,12 +196,12 @@ pub record AuditsFiles {Q A X E : Type 0} (kind : ReplyKind Q A X E) (line : E �
     (chain : Option (List ℕ)) (files : Option Folder) (loads new_loads : ℕ)
     (taken new_taken : Option (List ℕ)) (writes new_writes : ℕ)
     (outcome : Result Conclusion Fault) : Type 0 where
-  pub promised : Promises (ends_audit kind line (g.content disk) key publication reply q chain)
+  pub promised : Promises (ends_audit kind line (still_told g disk new_disk) key publication reply q chain)
       TellsNone (Rose (g.faults disk) (g.faults new_disk)) files loads new_loads taken new_taken
       writes new_writes outcome
   pub finds : WritesFindings g new_disk (IsBrought kind) key reply chain files taken new_taken
       outcome
-  pub headline : AuditsAccepted kind g (g.content disk) new_disk key publication reply q chain files
+  pub headline : AuditsAccepted kind g (still_told g disk new_disk) new_disk key publication reply q chain files
       taken new_taken outcome
   pub stays : AtEachMoment g disk new_disk Stays
   pub unfaulted : outcome ≢ Err Disk → g.faults new_disk ≡ g.faults disk

@@ -4,7 +4,7 @@ ghost use Rattle.std.specs.Prelude.{◌≡◌, ◌<◌, ◌≤◌, ◌^◌, List
 ghost use Rattle.std.specs.Option.{option_map};
 ghost use Rattle.road_io.specs.Causes.{Rose};
 ghost use Rattle.road_io.specs.Disk.{Stays};
-ghost use Rattle.road_io.specs.Moments.{AtEachMoment};
+ghost use Rattle.road_io.specs.Moments.{AtEachMoment, still_told};
 ghost use Rattle.road_line.specs.VerdictLine.{refused_line};
 ghost use Rattle.command_files.specs.Endings.{Promises, TellsNone, MayEnd, WhyNot};
 ghost use Rattle.command_files.specs.Exact.{HidesNone};
@@ -101,7 +101,8 @@ fn write_findings<T: Telling, L: Library, K: Sink, D: Disk>(
     query: <T::Kind as Replies>::Query,
     chain: Option<&str>,
 ) -> Result<Conclusion, Fault>
-    ensures promised { Promises (ends_audit T.Kind.kind T.refused (D.content disk.old)
+    ensures promised { Promises
+        (ends_audit T.Kind.kind T.refused (still_told D.Disk disk.old disk.new)
         key.now publication.now reply.now query (option_map (λ name. name.now) chain.entry)) TellsNone
         (Rose (D.faults disk.old) (D.faults disk.new))
         (L.files library.old) (L.faults library.old) (L.faults library.new)
@@ -143,7 +144,8 @@ fn find<T: Telling, D: Disk>(
     requires short { length reply.now < 2 ^ 32 }
     requires few { length links.now ≤ 7 }
     ensures told { IfOk result (λ told.
-        EndsAudit T.Kind.kind T.refused (D.content disk.old) key.now links.now publication reply.now query
+        EndsAudit T.Kind.kind T.refused (still_told D.Disk disk.old disk.new)
+        key.now links.now publication reply.now query
         told.end told.text.items) }
     ensures verdict { IfOk result (λ told. MayEnd TellsNone told.end) }
     ensures rests { IfOk result (λ told.
@@ -153,7 +155,7 @@ fn find<T: Telling, D: Disk>(
         RestsOn D.Disk disk.new (IsBrought T.Kind.kind reply.now) key.now links.now (Err fault) []) }
     ensures refused { IfErr result (WhyNot (Rose (D.faults disk.old) (D.faults disk.new))
         (EndsAudit T.Kind.kind T.refused
-        (D.content disk.old) key.now links.now publication reply.now query)) }
+        (still_told D.Disk disk.old disk.new) key.now links.now publication reply.now query)) }
     ensures unfaulted { result ≢ Err Fault.Disk → D.faults disk.new ≡ D.faults disk.old }
     ensures stays { AtEachMoment D.Disk disk.old disk.new Stays }
 {

@@ -1,9 +1,12 @@
 -- The desk over what the disk reads.
 use Rattle.std.specs.Prelude.{◌≡◌, ◌⊎◌, true, ℕ, List, [], length, ◌++◌}
 use Rattle.std.specs.declared.option.Option.{Option}
+use Rattle.std.specs.declared.option.Option.TheVariants.{Some}
 use Rattle.std.specs.declared.result.Result.TheVariants.{Err}
 use Rattle.std.specs.Option.{ForSome}
 use Rattle.road_io.specs.declared.disk.Disk.{Ghosts}
+use Rattle.road_io.specs.Disk.{Narrows}
+use Rattle.road_io.specs.Moments.{EachImage}
 use Rattle.lms_tree.specs.Signatures.{KeyOf}
 use Rattle.desk_areas.specs.Faults.{IsBadBlock, IsUsable}
 use Rattle.desk_areas.specs.Layout.{IsOpen, IsCurrent, kind_at, secret_at, base_of, keys_left}
@@ -33,13 +36,15 @@ pub record IsKeyOn (image : List ℕ) (key : KeyOf) : Type 0 where
 abbrev pub HasBlocks : Option (List ℕ) → Desk → Type 0
 HasBlocks content desk = ForSome content (λ c. IsOpen c × HasAreas desk c)
 
--- a desk that was opened over the keys on the disk, each slot of whose current area is free or
--- spent
+-- A desk that was opened over the keys on the disk, each slot of whose current area is free or
+-- spent. It is over what the disk tells after the opening, and told before it, and each image is
+-- that.
 pub record IsOpened {D : Type 0} (g : Ghosts D) (old new : D) (desk : Desk) : Type 0 where
   pub fits : Fits g desk new
   pub is_open : desk.is_open ≡ true
   pub counts : (s : ℕ) → (count_at desk s ≡ counts.Free) ⊎ (count_at desk s ≡ counts.Spent)
-  pub left : ForSome (g.content old) (λ c. free_slots desk ≡ keys_left c desk.base)
-  pub areas : HasBlocks (g.content old) desk
-  pub usable : ForSome (g.content old) IsUsable
-  pub content : g.content new ≡ g.content old
+  pub left : ForSome (g.content new) (λ c. free_slots desk ≡ keys_left c desk.base)
+  pub areas : HasBlocks (g.content new) desk
+  pub usable : ForSome (g.content new) IsUsable
+  pub content : Narrows (g.content old) (g.content new)
+  pub one : EachImage g new (λ i. g.content old ≡ Some i)

@@ -3,7 +3,7 @@
 ghost use Rattle.std.specs.Prelude.{◌≤◌, IfOk, IfErr, ◌≡◌, ◌≢◌, Err};
 ghost use Rattle.road_io.specs.Causes.{Rose};
 ghost use Rattle.road_io.specs.Disk.{Stays};
-ghost use Rattle.road_io.specs.Moments.{AtEachMoment};
+ghost use Rattle.road_io.specs.Moments.{AtEachMoment, still_told};
 ghost use Rattle.key_desk.specs.Stands.{KeepsStanding};
 ghost use Rattle.command_files.specs.Endings.{WhyNot, NoEnd};
 ghost use Rattle.command_desks.specs.Opening.{EndsOpening, IsOpened};
@@ -18,7 +18,7 @@ pub fn open_desk<D: Disk>(alloc: Global, disk: &mut D) -> Result<Desk, Fault>
     ensures opened { IfOk result (IsOpened D.Disk disk.old disk.new) }
     ensures refused { IfErr result
         (WhyNot (Rose (D.faults disk.old) (D.faults disk.new))
-        (EndsOpening (D.content disk.old) NoEnd)) }
+        (EndsOpening (still_told D.Disk disk.old disk.new) NoEnd)) }
     ensures faults { D.faults disk.old ≤ D.faults disk.new }
     ensures unfaulted { result ≢ Err Fault.Disk → D.faults disk.new ≡ D.faults disk.old }
     ensures stays { AtEachMoment D.Disk disk.old disk.new Stays }

@@ -17,5 +17,4 @@ pub mod Standing
 pub mod Steps
 pub mod Successors
 pub mod Tickets
-pub mod Told
 mod Worked

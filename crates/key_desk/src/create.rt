@@ -2,8 +2,8 @@
 ghost use Rattle.std.specs.Prelude.{◌≡◌, ◌≢◌, ◌⊎◌, ◌<◌, ◌≤◌, [], List, ℕ, Err, IfOk, OnOk, IsErrOf, IsErr, true};
 ghost use Rattle.std.specs.Option.{ForSome};
 ghost use Rattle.road_io.specs.Causes.{Rose};
-ghost use Rattle.road_io.specs.Disk.{Stays, Turns};
-ghost use Rattle.road_io.specs.Moments.{EachImage, AtEachMoment};
+ghost use Rattle.road_io.specs.Disk.{Narrows, Stays, Turns};
+ghost use Rattle.road_io.specs.Moments.{EachImage, AtEachMoment, still_told};
 ghost use Rattle.desk_areas.specs.Blank.{IsBlank, IsFresh};
 ghost use Rattle.desk_areas.specs.Layout.{slots_of, IsOpen};
 ghost use Rattle.desk_areas.specs.Signed.{signed};
@@ -34,12 +34,13 @@ impl Desk {
             (λ desk. (s : ℕ) → s < slots_of kind → count_at desk s ≡ Count.Free) }
         ensures blank { IfOk result (λ desk. EachImage D.Disk disk.new (IsBlank desk.key)) }
         ensures unsigned { OnOk result (EachImage D.Disk disk.new (λ i. signed i ≡ [])) }
-        ensures was_shut { OnOk result (ForSome (D.content disk.new)
-            (λ _. ForSome (D.content disk.old) (λ c. IsOpen c → ⊥))) }
+        ensures was_shut { OnOk result
+            (ForSome (still_told D.Disk disk.old disk.new) (λ c. IsOpen c → ⊥)) }
         ensures held { IsErrOf result StartError.Held → ForSome (D.content disk.new) IsOpen }
-        ensures held_else { ForSome (D.content disk.new) (λ _. ForSome (D.content disk.old)
-            (λ c. IsOpen c → (result ≡ Err StartError.Held) ⊎
-            (result ≡ Err StartError.DiskFault))) }
+        ensures held_else { ForSome (still_told D.Disk disk.old disk.new)
+            (λ c. IsOpen c → (result ≡ Err StartError.Held) ⊎ (result ≡ Err StartError.DiskFault)) }
+        ensures refused { IsErr result → result ≢ Err StartError.DiskFault →
+            Narrows (D.content disk.old) (D.content disk.new) }
         ensures untouched { IsErr result → result ≢ Err StartError.DiskFault →
             AtEachMoment D.Disk disk.old disk.new Stays }
         ensures held_stays { ForSome (D.content disk.old) IsOpen →

@@ -2,8 +2,8 @@
 ghost use Rattle.std.specs.Prelude.{◌≡◌, ◌≢◌, ◌⊎◌, ◌+◌, ◌*◌, ◌^◌, ◌↔◌, ◌<◌, ◌≤◌, ◌-◌, List, ℕ, suc, Err, length, take, replicate, IfOk, OnOk, OnErr, IfErr, IsErrOf, IsErr, true, false};
 ghost use Rattle.std.specs.Option.{ForSome};
 ghost use Rattle.road_io.specs.Causes.{HasCause, Rose};
-ghost use Rattle.road_io.specs.Disk.{Stays};
-ghost use Rattle.road_io.specs.Moments.{Image, EachImage, AtEachMoment};
+ghost use Rattle.road_io.specs.Disk.{Narrows, Stays};
+ghost use Rattle.road_io.specs.Moments.{Image, EachImage, AtEachMoment, still_told};
 ghost use Rattle.lms_tree.specs.Signatures.{public_key};
 ghost use Rattle.lms_tree.specs.Links.{link_text};
 ghost use Rattle.desk_areas.specs.Layout.{slots_of, place_in, last_slot, IsSigned, IsCurrent, SignsAtMost};
@@ -214,8 +214,10 @@ impl Desk {
             (λ i. (a : ℕ) × IsCurrent i (suc a) ×
             IsSigned i (last_slot i a) (link_text (public_key (key_from kind secret.now))))) }
         ensures refused { IfErr result (IsCalledFor (D.content disk.new) (take 16 secret.now)) }
-        ensures refused_else { ForSome (D.content disk.new) (λ _. ForSome (D.content disk.old)
-            (λ c. AnswersRefusal c (take 16 secret.now) result)) }
+        ensures refused_else { ForSome (still_told D.Disk disk.old disk.new)
+            (λ c. AnswersRefusal c (take 16 secret.now) result) }
+        ensures narrows { IsErr result → result ≢ Err SucceedError.DiskFault →
+            Narrows (D.content disk.old) (D.content disk.new) }
         ensures moments { AtEachMoment D.Disk disk.old disk.new
             (λ d i. (i ≡ d) ⊎ SignsLink (link_text (public_key (key_from kind secret.now))) d i) }
         ensures keys { AtEachMoment D.Disk disk.old disk.new SameKeys }

@@ -8,7 +8,7 @@ use Rattle.std.specs.Io.KnownBytes.{Appends}
 use Rattle.sha2.specs.Sha256.{sha256}
 use Rattle.road_io.specs.declared.disk.Disk.{Ghosts}
 use Rattle.road_io.specs.Disk.{Stays}
-use Rattle.road_io.specs.Moments.{Image, AtEachMoment}
+use Rattle.road_io.specs.Moments.{Image, AtEachMoment, still_told}
 use Rattle.road_io.specs.Contents.{Folder, AppendsFront}
 use Rattle.road_io.proofs.MomentLaws.{continued}
 use Rattle.road_map.specs.declared.parts.Parts.{Parts}
@@ -46,30 +46,30 @@ use Rattle.owner_commands.specs.Signing.{IsSealedOnDisk, SignsAtMostHeader, Sign
 
 module _ {D : Type 0} (g : Ghosts D) (old mid new : D) where
   -- what was published over the opened desk is what was promised over the disk
-  pub sealed_on_disk : (desk : Desk) (parts : Parts) (s : Settings) (p : Publication) → ((c : List ℕ) → g.content mid ≡ Some c → Image g mid c) → g.content mid ≡ g.content old
-      → HasBlocks (g.content old) desk → ForSome (g.content old) IsUsable → IsSound desk → IsPublication sha256 desk.key parts s p → IsSealed g mid new (length desk.earlier) p → IsSealedOnDisk g old new parts s p
-  sealed_on_disk desk parts s p reads same blocks usable sound is on_disk = record {
+  pub sealed_on_disk : (desk : Desk) (parts : Parts) (s : Settings) (p : Publication) → ((c : List ℕ) → g.content mid ≡ Some c → Image g mid c) → ((c : List ℕ) → still_told g old new ≡ Some c → g.content mid ≡ Some c)
+      → HasBlocks (g.content mid) desk → ForSome (g.content mid) IsUsable → IsSound desk → IsPublication sha256 desk.key parts s p → IsSealed g mid new (length desk.earlier) p → IsSealedOnDisk g old new parts s p
+  sealed_on_disk desk parts s p reads told blocks usable sound is on_disk = record {
     header = p.header;
     of_book = is.has_header;
-    usable = usable;
+    usable = λ c at. usable c (told c at);
     is = record { of_parts = is.of_parts; of_settings = is.of_settings; of_header = refl; signed = signed; fits = is.fits };
-    on_disk = record { area = length desk.earlier; current = on_disk.current; early = on_disk.early; was_free = λ c at. on_disk.was_free c (reads c (same ∙ at)); stands = on_disk.stands };
+    on_disk = record { area = length desk.earlier; current = on_disk.current; early = on_disk.early; was_free = λ c at. on_disk.was_free c (reads c (told c at)); stands = on_disk.stands };
   }
     where
-      signed : ForSome (g.content old) (λ c. IsSignedFrom c p.header p)
+      signed : ForSome (still_told g old new) (λ c. IsSignedFrom c p.header p)
       signed c at = record {
         key = desk.key;
-        on_disk = key_on desk c sound (blocks c at).1;
+        on_disk = key_on desk c sound (blocks c (told c at)).1;
         good = is.signed.good;
         slot = is.slot;
-        unused = on_disk.was_free c (reads c (same ∙ at));
+        unused = on_disk.was_free c (reads c (told c at));
       }
 
   -- a desk without a free slot but the last stands on a disk where all others are spent
   pub all_spent : (desk : Desk) → Fits g desk mid → desk.is_open ≡ true → ((s : ℕ) → (count_at desk s ≡ counts.Free) ⊎ (count_at desk s ≡ counts.Spent)) → IsUsedUp desk
-      → ((c : List ℕ) → g.content mid ≡ Some c → Image g mid c) → g.content mid ≡ g.content old → ForSome (g.content old) AllSpent
-  all_spent desk fits opened either none reads same c is =
-      let image : Image g mid c = reads c (same ∙ is) in
+      → ((c : List ℕ) → g.content mid ≡ Some c → Image g mid c) → ((c : List ℕ) → still_told g old new ≡ Some c → g.content mid ≡ Some c) → ForSome (still_told g old new) AllSpent
+  all_spent desk fits opened either none reads told c is =
+      let image : Image g mid c = reads c (told c is) in
       let areas = fits.areas c image in
       record {
         area = length desk.earlier;
@@ -133,8 +133,8 @@ module _ (files : Option Folder) (name : List ℕ) (content : Option (List ℕ))
   pub publish_refused : (f : Fault) → WhyNot DiskFailed (EndsPublish content s parts) f → Promises (ends_publish content name s) TellsLost DiskFailed files l l' old old k k' (Err f)
   publish_refused f h = refused (ends_publish content name s) TellsLost DiskFailed files l l' k k' old (EndsPublish content s parts) calls f h
 
-  module _ {D : Type 0} (g : Ghosts D) (d e : D) (is_content : g.content d ≡ content) (p : Publication) (t : IsSealedOnDisk g d e parts s p) (new : Option (List ℕ)) where
-    ended : (c : Option (List ℕ)) → g.content d ≡ c → EndsPublish c s parts (Ok Done) (publication_text p)
+  module _ {D : Type 0} (g : Ghosts D) (d e : D) (is_content : still_told g d e ≡ content) (p : Publication) (t : IsSealedOnDisk g d e parts s p) (new : Option (List ℕ)) where
+    ended : (c : Option (List ℕ)) → still_told g d e ≡ c → EndsPublish c s parts (Ok Done) (publication_text p)
     ended c is = subst (λ c. EndsPublish c s parts (Ok Done) (publication_text p)) is (inr (inr (t.usable, record { made = Ok t.header; makes = t.of_book; follows = (p, t.is, refl) })))
 
     -- a publication that was written

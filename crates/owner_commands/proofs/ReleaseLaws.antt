@@ -5,7 +5,7 @@ use Rattle.std.specs.declared.option.Option.{Option}
 use Rattle.std.proofs.lemmas.List.Elements.{All-nil, All-cons, All-head, All-tail, All-weaker, All-append, All-map}
 use Rattle.road_io.specs.declared.disk.Disk.{Ghosts}
 use Rattle.road_io.specs.Disk.{Stays}
-use Rattle.road_io.specs.Moments.{Image, EachImage, AtEachMoment}
+use Rattle.road_io.specs.Moments.{Image, EachImage, AtEachMoment, still_told}
 use Rattle.road_io.specs.Contents.{Folder}
 use Rattle.road_io.proofs.MomentLaws.{weaker}
 use Rattle.book_model.specs.declared.settings.Settings.{Settings}
@@ -169,7 +169,7 @@ module _ {D : Type 0} (g : Ghosts D) (disk : D) (before : List Release) where
   }
 
   -- a header's signature, by a slot that was free in what the disk read
-  pub adds_header : (old : D) (c : List ℕ) → g.content old ≡ Some c → All (IsGiven c) before → (p : Publication) (on_disk : StandsOnDisk g old disk p) → Adds g disk before (header_release on_disk.area p ∷ [])
+  pub adds_header : (old : D) (c : List ℕ) → still_told g old disk ≡ Some c → All (IsGiven c) before → (p : Publication) (on_disk : StandsOnDisk g old disk p) → Adds g disk before (header_release on_disk.area p ∷ [])
   adds_header old c told given p on_disk = adds_one (header_release on_disk.area p)
       (λ i now. record { signed = on_disk.stands i now; how = inl (on_disk.early i now) })
       (apart_fresh c before (header_release on_disk.area p) given (on_disk.was_free c told))

@@ -8,11 +8,12 @@ use Rattle.std.specs.declared.option.Option.{Option}
 use Rattle.std.specs.declared.option.Option.TheVariants.{None, Some}
 use Rattle.std.specs.declared.result.Result.{Result}
 use Rattle.std.specs.declared.result.Result.TheVariants.{Ok, Err}
-use Rattle.std.specs.Option.{ForSome}
+use Rattle.std.specs.Option.{ForSome, option_and}
 use Rattle.road_io.specs.declared.disk.Disk.{Ghosts}
-use Rattle.road_io.specs.Disk.{Stays}
+use Rattle.road_io.specs.Disk.{Narrows, Stays}
 use Rattle.road_io.specs.Moments.{EachImage, AtEachMoment}
 use Rattle.road_io.specs.Contents.{Folder}
+use Rattle.road_io.proofs.StillTold.{still_so}
 use Rattle.lms_tree.specs.Signatures.{KeyOf, public_key}
 use Rattle.lms_tree.specs.Links.{link_text}
 use Rattle.lms_tree.specs.ChainFiles.{chain_file}
@@ -44,16 +45,16 @@ use Rattle.owner_commands.specs.ChainLine.{link_on, IsChainOn, TellsLinks, EndsL
 
 -- ---- a succession
 
--- why no key follows
-pub not_followed : (DiskFailed : Type 0) (content : Option (List ℕ)) (kind : ℕ) (secret : List ℕ) (e : SucceedError) → IsCalledFor content (take 16 secret) e → (e ≡ why.DiskFault → DiskFailed)
-    → WhyNot DiskFailed (EndsSuccession content kind secret) (fault_of e)
-not_followed DiskFailed content kind secret why.NoKey called failed = inr (why.NoKey, refl, called, refl)
-not_followed DiskFailed content kind secret why.BadBlock called failed = inr (why.BadBlock, refl, called, refl)
-not_followed DiskFailed content kind secret why.TooManyKeys called failed = inr (why.TooManyKeys, refl, called, refl)
-not_followed DiskFailed content kind secret why.NoSuccession called failed = inr (why.NoSuccession, refl, called, refl)
-not_followed DiskFailed content kind secret why.SameSecret called failed = inr (why.SameSecret, refl, called, refl)
-not_followed DiskFailed content kind secret why.DiskFault called failed = failed refl
-not_followed DiskFailed content kind secret why.Memory called failed = tt
+-- why no key follows, by what the disk tells after the call
+pub not_followed : (DiskFailed : Type 0) (old new : Option (List ℕ)) (kind : ℕ) (secret : List ℕ) (e : SucceedError) → (e ≢ why.DiskFault → Narrows old new) → IsCalledFor new (take 16 secret) e → (e ≡ why.DiskFault → DiskFailed)
+    → WhyNot DiskFailed (EndsSuccession (option_and new old) kind secret) (fault_of e)
+not_followed DiskFailed old new kind secret why.NoKey narrows called failed = inr (why.NoKey, refl, still_so old new (λ c. Refuses c (take 16 secret) why.NoKey) (narrows (λ is. cc)) called, refl)
+not_followed DiskFailed old new kind secret why.BadBlock narrows called failed = inr (why.BadBlock, refl, still_so old new (λ c. Refuses c (take 16 secret) why.BadBlock) (narrows (λ is. cc)) called, refl)
+not_followed DiskFailed old new kind secret why.TooManyKeys narrows called failed = inr (why.TooManyKeys, refl, still_so old new (λ c. Refuses c (take 16 secret) why.TooManyKeys) (narrows (λ is. cc)) called, refl)
+not_followed DiskFailed old new kind secret why.NoSuccession narrows called failed = inr (why.NoSuccession, refl, still_so old new (λ c. Refuses c (take 16 secret) why.NoSuccession) (narrows (λ is. cc)) called, refl)
+not_followed DiskFailed old new kind secret why.SameSecret narrows called failed = inr (why.SameSecret, refl, still_so old new (λ c. Refuses c (take 16 secret) why.SameSecret) (narrows (λ is. cc)) called, refl)
+not_followed DiskFailed old new kind secret why.DiskFault narrows called failed = failed refl
+not_followed DiskFailed old new kind secret why.Memory narrows called failed = tt
 
 -- an answer that was given
 abbrev pub given : {X : Type 0} → X → Result X SucceedError

@@ -7,7 +7,7 @@ use Rattle.std.specs.Option.{ForSome}
 use Rattle.hex.specs.Hex.{encode_lower}
 use Rattle.road_io.specs.declared.disk.Disk.{Ghosts}
 use Rattle.road_io.specs.Disk.{Stays, Turns}
-use Rattle.road_io.specs.Moments.{EachImage, AtEachMoment}
+use Rattle.road_io.specs.Moments.{EachImage, AtEachMoment, still_told}
 use Rattle.road_io.specs.Contents.{Folder}
 use Rattle.lms_tree.specs.Signatures.{public_key}
 use Rattle.desk_areas.specs.Keys.{key_from}
@@ -57,6 +57,6 @@ pub record KeepsKey {D : Type 0} (g : Ghosts D) (old new : D) (files : Option Fo
     (secret : List ℕ) (kind : ℕ) (outcome : Result Conclusion Fault) : Type 0 where
   pub made : OnOk outcome (IfSome files (λ folder. MakesKey g new kind (secret_at folder secret)))
   pub held : ForSome (g.content old) IsOpen → AtEachMoment g old new Stays
-  pub kept : ForSome (g.content old) (λ c. IsOpen c → outcome ≢ Ok Done)
+  pub kept : ForSome (still_told g old new) (λ c. IsOpen c → outcome ≢ Ok Done)
   pub moments : AtEachMoment g old new Stays ⊎ MakesByFile g old new files secret kind
   pub untouched : IfErr outcome (StaysRefused g old new)

@@ -10,7 +10,7 @@ use Rattle.road_map.specs.declared.parts.Parts.{Parts}
 use Rattle.book_model.specs.declared.settings.Settings.{Settings}
 use Rattle.road_io.specs.declared.disk.Disk.{Ghosts}
 use Rattle.road_io.specs.Disk.{Stays}
-use Rattle.road_io.specs.Moments.{EachImage, AtEachMoment}
+use Rattle.road_io.specs.Moments.{EachImage, AtEachMoment, still_told}
 use Rattle.road_io.specs.Contents.{Folder, AppendsFront}
 use Rattle.mirror_out.specs.Mirrors.{Mirrors}
 use Rattle.publication_out.specs.Sent.{pieces_in, MirrorsFront}
@@ -36,7 +36,7 @@ pub record StandsOnDisk {D : Type 0} (g : Ghosts D) (old new : D) (p : Publicati
   pub area : ℕ
   pub current : EachImage g new (λ i. IsCurrent i area)
   pub early : EachImage g new (λ i. slot_of p + 1 < slots_at i (base_of i area))
-  pub was_free : ForSome (g.content old) (λ c. gate_of c (slot_in area p) ≡ 0)
+  pub was_free : ForSome (still_told g old new) (λ c. gate_of c (slot_in area p) ≡ 0)
   pub stands : EachImage g new (λ i. IsSigned i (slot_in area p) (header_text p.header))
 
 -- the publication of parts and settings, whose header stands on the disk
@@ -44,8 +44,8 @@ pub record IsSealedOnDisk {D : Type 0} (g : Ghosts D) (old new : D) (parts : Par
     (p : Publication) : Type 0 where
   pub header : Header
   pub of_book : HasHeader sha256 sha256 parts s header
-  pub usable : ForSome (g.content old) IsUsable
-  pub is : IsPublicationOf (g.content old) parts s header p
+  pub usable : ForSome (still_told g old new) IsUsable
+  pub is : IsPublicationOf (still_told g old new) parts s header p
   pub on_disk : StandsOnDisk g old new p
 
 -- no image changes, or one slot alone, by the header of parts and settings

@@ -4,7 +4,7 @@ ghost use Rattle.std.specs.Prelude.{IfOk, IfErr, ◌≡◌, ◌≢◌, Err};
 ghost use Rattle.std.specs.Option.{ForSome};
 ghost use Rattle.road_io.specs.Causes.{Rose};
 ghost use Rattle.road_io.specs.Disk.{Stays};
-ghost use Rattle.road_io.specs.Moments.{AtEachMoment};
+ghost use Rattle.road_io.specs.Moments.{AtEachMoment, still_told};
 ghost use Rattle.command_files.specs.Endings.{PromisesWithoutFiles, WhyNot, NoEnd};
 ghost use Rattle.command_files.specs.Exact.{HidesNone};
 ghost use Rattle.desk_areas.specs.Faults.{IsUsable};
@@ -23,7 +23,7 @@ pub fn desk<K: Sink, D: Disk>(
     sink: &mut K,
     disk: &mut D,
 ) -> Result<Conclusion, Fault>
-    ensures promised { PromisesWithoutFiles (EndsDesk (D.content disk.old))
+    ensures promised { PromisesWithoutFiles (EndsDesk (still_told D.Disk disk.old disk.new))
         (Rose (D.faults disk.old) (D.faults disk.new))
         (K.taken sink.old) (K.taken sink.new) (K.faults sink.old) (K.faults sink.new) result }
     ensures sink { HidesNone result (K.faults sink.old) (K.faults sink.new) }
@@ -36,12 +36,12 @@ pub fn desk<K: Sink, D: Disk>(
 
 /// The line of the desk over the key on the disk.
 fn line_on<D: Disk>(alloc: Global, disk: &mut D) -> Result<Vec<u8>, Fault>
-    ensures usable { IfOk result (λ line. ForSome (D.content disk.old) IsUsable) }
+    ensures usable { IfOk result (λ line. ForSome (still_told D.Disk disk.old disk.new) IsUsable) }
     ensures line { IfOk result (λ line.
-        ForSome (D.content disk.old) (λ c. IsDeskLine c line.items)) }
+        ForSome (still_told D.Disk disk.old disk.new) (λ c. IsDeskLine c line.items)) }
     ensures refused { IfErr result
         (WhyNot (Rose (D.faults disk.old) (D.faults disk.new))
-        (EndsOpening (D.content disk.old) NoEnd)) }
+        (EndsOpening (still_told D.Disk disk.old disk.new) NoEnd)) }
     ensures unfaulted { result ≢ Err Fault.Disk → D.faults disk.new ≡ D.faults disk.old }
     ensures stays { AtEachMoment D.Disk disk.old disk.new Stays }
 {

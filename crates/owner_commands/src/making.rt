@@ -5,7 +5,7 @@ ghost use Rattle.std.specs.Option.{ForSome};
 ghost use Rattle.hex.specs.Hex.{encode_lower};
 ghost use Rattle.road_io.specs.Causes.{Rose};
 ghost use Rattle.road_io.specs.Disk.{Stays, Turns};
-ghost use Rattle.road_io.specs.Moments.{AtEachMoment, EachImage};
+ghost use Rattle.road_io.specs.Moments.{AtEachMoment, EachImage, still_told};
 ghost use Rattle.desk_areas.specs.Blank.{IsBlank, IsFresh};
 ghost use Rattle.desk_areas.specs.Keys.{key_from};
 ghost use Rattle.desk_areas.specs.Layout.{IsOpen};
@@ -32,7 +32,8 @@ pub fn key<L: Library, K: Sink, D: Disk>(
     secret: &str,
     kind: KeyKind,
 ) -> Result<Conclusion, Fault>
-    ensures promised { Promises (ends_key (D.content disk.old) secret.now (type_of kind)) TellsNone
+    ensures promised { Promises
+        (ends_key (still_told D.Disk disk.old disk.new) secret.now (type_of kind)) TellsNone
         (Rose (D.faults disk.old) (D.faults disk.new))
         (L.files library.old) (L.faults library.old) (L.faults library.new)
         (K.taken sink.old) (K.taken sink.new) (K.faults sink.old) (K.faults sink.new) result }
@@ -42,7 +43,8 @@ pub fn key<L: Library, K: Sink, D: Disk>(
         (λ folder. MakesKey D.Disk disk.new (type_of kind) (secret_at folder secret.now))) }
     ensures held { ForSome (D.content disk.old) IsOpen →
         AtEachMoment D.Disk disk.old disk.new Stays }
-    ensures kept { ForSome (D.content disk.old) (λ c. IsOpen c → result ≢ Ok Conclusion.Done) }
+    ensures kept { ForSome (still_told D.Disk disk.old disk.new)
+        (λ c. IsOpen c → result ≢ Ok Conclusion.Done) }
     ensures moments { AtEachMoment D.Disk disk.old disk.new Stays ⊎
         MakesByFile D.Disk disk.old disk.new (L.files library.old) secret.now (type_of kind) }
     ensures untouched { IfErr result (StaysRefused D.Disk disk.old disk.new) }
@@ -62,12 +64,13 @@ fn make_key<D: Disk>(
     kind: KeyKind,
 ) -> Result<[u8; 113], Fault>
     ensures line { IfOk result (λ line.
-        EndsKey (D.content disk.old) (type_of kind) secret.now (Ok Conclusion.Done) line) }
+        EndsKey (still_told D.Disk disk.old disk.new) (type_of kind) secret.now
+        (Ok Conclusion.Done) line) }
     ensures made { OnOk result (EachImage D.Disk disk.new
         (IsBlank (key_from (type_of kind) secret.now))) }
     ensures refused { IfErr result
         (WhyNot (Rose (D.faults disk.old) (D.faults disk.new))
-        (EndsKey (D.content disk.old) (type_of kind) secret.now)) }
+        (EndsKey (still_told D.Disk disk.old disk.new) (type_of kind) secret.now)) }
     ensures held { ForSome (D.content disk.old) IsOpen →
         AtEachMoment D.Disk disk.old disk.new Stays }
     ensures moments { Turns D.clock D.image_at disk.old disk.new

@@ -2,6 +2,7 @@
 
 ghost use Rattle.std.specs.Prelude.{IfOk, IfErr, ◌≡◌, ◌≢◌, Err};
 ghost use Rattle.road_io.specs.Causes.{Rose};
+ghost use Rattle.road_io.specs.Moments.{still_told};
 ghost use Rattle.key_desk.specs.Stands.{KeepsStanding};
 ghost use Rattle.command_files.specs.Endings.{Promises, WhyNot};
 ghost use Rattle.command_files.specs.Exact.{HidesNone};
@@ -34,7 +35,8 @@ pub fn publish<L: Library, K: Sink, D: Disk, M: Mirror>(
     roads: &str,
     settings: &Settings,
 ) -> Result<Conclusion, Fault>
-    ensures promised { Promises (ends_publish (D.content disk.old) roads.now settings.now) TellsLost
+    ensures promised { Promises
+        (ends_publish (still_told D.Disk disk.old disk.new) roads.now settings.now) TellsLost
         (Rose (D.faults disk.old) (D.faults disk.new))
         (L.files library.old) (L.faults library.old) (L.faults library.new)
         (K.taken sink.old) (K.taken sink.new) (K.faults sink.old) (K.faults sink.new) result }
@@ -72,7 +74,7 @@ fn signed<D: Disk>(
     ensures sealed { IfOk result (IsSealedOnDisk D.Disk disk.old disk.new parts settings.now) }
     ensures refused { IfErr result
         (WhyNot (Rose (D.faults disk.old) (D.faults disk.new))
-        (EndsPublish (D.content disk.old) settings.now parts)) }
+        (EndsPublish (still_told D.Disk disk.old disk.new) settings.now parts)) }
     ensures signs { SignsAtMostHeader D.Disk disk.old disk.new parts settings.now }
     ensures untouched { IfErr result (StaysRefused D.Disk disk.old disk.new) }
     ensures unfaulted { result ≢ Err Fault.Disk → D.faults disk.new ≡ D.faults disk.old }

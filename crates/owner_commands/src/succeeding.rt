@@ -2,7 +2,7 @@
 
 ghost use Rattle.std.specs.Prelude.{◌≡◌, ◌⊎◌, IfOk, IfErr, IfSome, OnOk, ◌≢◌, Err};
 ghost use Rattle.road_io.specs.Causes.{Rose};
-ghost use Rattle.road_io.specs.Moments.{AtEachMoment, EachImage};
+ghost use Rattle.road_io.specs.Moments.{AtEachMoment, EachImage, still_told};
 ghost use Rattle.lms_tree.specs.Links.{link_text};
 ghost use Rattle.lms_tree.specs.Signatures.{public_key};
 ghost use Rattle.desk_areas.specs.Keys.{key_from};
@@ -32,7 +32,8 @@ pub fn succeed<L: Library, K: Sink, D: Disk>(
     secret: &str,
     kind: KeyKind,
 ) -> Result<Conclusion, Fault>
-    ensures promised { Promises (ends_succession (D.content disk.old) secret.now (type_of kind))
+    ensures promised { Promises
+        (ends_succession (still_told D.Disk disk.old disk.new) secret.now (type_of kind))
         TellsNone (Rose (D.faults disk.old) (D.faults disk.new))
         (L.files library.old) (L.faults library.old) (L.faults library.new)
         (K.taken sink.old) (K.taken sink.new) (K.faults sink.old) (K.faults sink.new) result }
@@ -56,12 +57,13 @@ fn make_next<D: Disk>(
     kind: KeyKind,
 ) -> Result<[u8; 113], Fault>
     ensures line { IfOk result (λ line.
-        EndsSuccession (D.content disk.old) (type_of kind) secret.now (Ok Conclusion.Done) line) }
+        EndsSuccession (still_told D.Disk disk.old disk.new) (type_of kind) secret.now
+        (Ok Conclusion.Done) line) }
     ensures made { OnOk result (EachImage D.Disk disk.new
         (λ i. IsKeyOn i (key_from (type_of kind) secret.now))) }
     ensures refused { IfErr result
         (WhyNot (Rose (D.faults disk.old) (D.faults disk.new))
-        (EndsSuccession (D.content disk.old) (type_of kind) secret.now)) }
+        (EndsSuccession (still_told D.Disk disk.old disk.new) (type_of kind) secret.now)) }
     ensures links { AtEachMoment D.Disk disk.old disk.new
         (λ d i. (i ≡ d) ⊎ SignsLink
         (link_text (public_key (key_from (type_of kind) secret.now))) d i) }

@@ -7,7 +7,7 @@ use Rattle.std.specs.Option.{ForSome}
 use Rattle.road_io.specs.Contents.{Folder}
 use Rattle.road_io.specs.Disk.{Stays}
 use Rattle.road_io.specs.declared.disk.Disk.{Ghosts}
-use Rattle.road_io.specs.Moments.{Image, EachImage, AtEachMoment}
+use Rattle.road_io.specs.Moments.{Image, EachImage, AtEachMoment, still_told}
 use Rattle.road_io.proofs.MomentLaws.{at_end}
 use Rattle.lms_tree.specs.Signatures.{KeyOf, number_at, public_key, sealed, verified}
 use Rattle.lms_reduce.specs.Released.{own_value, signed_digits, IsUnreleased}
@@ -20,6 +20,7 @@ use Rattle.road_line.specs.VerdictLine.{refused_line}
 use Rattle.lms_reduce.specs.declared.reduced.Reduced.{Reduced}
 use Rattle.lms_reduce.specs.declared.reduced.Reduced.TheVariants.{Collision, Chain}
 use Rattle.lms_reduce.proofs.GoodLemmas.{good-length}
+use Rattle.desk_areas.specs.Faults.{IsUsable}
 use Rattle.desk_areas.specs.Layout.{IsSigned}
 use Rattle.key_desk.specs.declared.desk.Desk.{Desk}
 use Rattle.key_desk.specs.Desk.{key_of, Fits}
@@ -79,17 +80,21 @@ told_slot g disk area key key' spent spent' text sig o line same_key same_spent 
 
 -- ---- what is told of the disk
 
-module _ {D : Type 0} (g : Ghosts D) (old mid : D) (desk : Desk) (public text sig : List ℕ) (opened : IsOpened g old mid desk) (reads_image : (c : List ℕ) → g.content mid ≡ Some c → Image g mid c) where
-  -- the line of an area's slot is that of what the disk holds
-  pub told_ends : (area : ℕ) (o : Result Conclusion Fault) (line : List ℕ) → area ≤ length desk.earlier → public_key (key_of desk area) ≡ public → TellsSlot g mid area (key_of desk area) text sig o line → EndsReduce (g.content old) public text sig o line
-  told_ends area o line le is tells = inr (inr (opened.usable, inr (area, key_of desk area, tells.0, sym is, on_disk, tells.2)))
+module _ {D : Type 0} (g : Ghosts D) (old mid new : D) (desk : Desk) (public text sig : List ℕ) (opened : IsOpened g old mid desk) (told : (c : List ℕ) → still_told g old new ≡ Some c → g.content mid ≡ Some c) where
+  usable : ForSome (still_told g old new) IsUsable
+  usable c still = opened.usable c (told c still)
+
+  -- the line of an area's slot is that of what the disk still tells
+  pub told_ends : ((c : List ℕ) → still_told g old new ≡ Some c → Image g new c) → (area : ℕ) (o : Result Conclusion Fault) (line : List ℕ) → area ≤ length desk.earlier → public_key (key_of desk area) ≡ public → TellsSlot g new area (key_of desk area) text sig o line
+      → EndsReduce (still_told g old new) public text sig o line
+  told_ends seen area o line le is tells = inr (inr (usable, inr (area, key_of desk area, tells.0, sym is, on_disk, tells.2)))
     where
-      on_disk : ForSome (g.content old) (λ c. IsKeyIn c area (key_of desk area) × HasSpent c area sig tells.0)
-      on_disk c told = (key_in desk c area opened.fits.sound (opened.areas c told).1 le, tells.1 c (reads_image c (opened.content ∙ told)))
+      on_disk : ForSome (still_told g old new) (λ c. IsKeyIn c area (key_of desk area) × HasSpent c area sig tells.0)
+      on_disk c still = (key_in desk c area opened.fits.sound (opened.areas c (told c still)).1 le, tells.1 c (seen c still))
 
   -- no key of the disk has the public key
-  pub other_key : (DiskFailed : Type 0) → ((area : ℕ) → area ≤ length desk.earlier → public_key (key_of desk area) ≢ public) → WhyNot DiskFailed (EndsReduce (g.content old) public text sig) faults.OtherKey
-  other_key DiskFailed none = inr (inr (opened.usable, inl (refl, λ c told. none_in desk c public opened.fits.sound (opened.areas c told).1 none, refl)))
+  pub other_key : (DiskFailed : Type 0) → ((area : ℕ) → area ≤ length desk.earlier → public_key (key_of desk area) ≢ public) → WhyNot DiskFailed (EndsReduce (still_told g old new) public text sig) faults.OtherKey
+  other_key DiskFailed none = inr (inr (usable, inl (refl, λ c still. none_in desk c public opened.fits.sound (opened.areas c (told c still)).1 none, refl)))
 
 -- a desk that doesn't open
 pub not_opened : (DiskFailed : Type 0) (content : Option (List ℕ)) (public text sig : List ℕ) (f : Fault) → WhyNot DiskFailed (EndsOpening content NoEnd) f → WhyNot DiskFailed (EndsReduce content public text sig) f
@@ -116,7 +121,7 @@ module _ (shows : Shows) (key : KeyOf) (area : ℕ) (text sig : List ℕ) (spent
       }
 
 module _ (shows : Shows) {D : Type 0} (g : Ghosts D) (mid new : D) (desk : Desk) (area : ℕ) (text sig : List ℕ) (fits : Fits g desk mid) (le : area ≤ length desk.earlier) (moments : AtEachMoment g mid new Stays) where
-  by_reduced : (spent : Option (List ℕ)) (line : List ℕ) → EachImage g mid (λ i. HasSpent i area sig spent) → verified (public_key (key_of desk area)) text sig ≡ Ok tt → (r : Reduced) → Reduces (key_of desk area) spent text sig r → line ≡ reduced_line r
+  by_reduced : (spent : Option (List ℕ)) (line : List ℕ) → EachImage g new (λ i. HasSpent i area sig spent) → verified (public_key (key_of desk area)) text sig ≡ Ok tt → (r : Reduced) → Reduces (key_of desk area) spent text sig r → line ≡ reduced_line r
       → IsClashLine line ⊎ IsUnreleasedLine g new line
   by_reduced spent line each good (Collision left right) reduces is = inl (record { left = left; right = right; collide = reduces; line_is = is })
   by_reduced spent line each good (Chain slot at step value) reduces is = inr (record {
@@ -129,14 +134,14 @@ module _ (shows : Shows) {D : Type 0} (g : Ghosts D) (mid new : D) (desk : Desk)
     chain = reduces.place;
     of_key = later g mid new _ moments (λ i now. key_in desk i area fits.sound (fits.areas i now) le);
     own = reduces.own;
-    never = later g mid new _ moments (λ i now signed has.
+    never = λ i now signed has.
         let long : 4 ≤ length sig = omega (arith, good-length (public_key (key_of desk area)) text sig good) in
         let names = (each i now).named long in
-        shown_later shows (key_of desk area) area text sig spent slot at step reduces.place reduces.of_slot reduces.unreleased i signed (subst (λ (n : ℕ). HasSigned i (record { area = area; number = n }) spent) (sym reduces.of_slot) names) has);
+        shown_later shows (key_of desk area) area text sig spent slot at step reduces.place reduces.of_slot reduces.unreleased i signed (subst (λ (n : ℕ). HasSigned i (record { area = area; number = n }) spent) (sym reduces.of_slot) names) has;
   })
 
   -- what a told line rests on
-  pub told_rests : (o : Result Conclusion Fault) (line : List ℕ) → TellsSlot g mid area (key_of desk area) text sig o line → RestsOnReduced g new o line
+  pub told_rests : (o : Result Conclusion Fault) (line : List ℕ) → TellsSlot g new area (key_of desk area) text sig o line → RestsOnReduced g new o line
   told_rests o line (spent, each, inl why) = subst (λ x. RestsOnReduced g new x line) (sym why.2) tt
   told_rests o line (spent, each, inr (good, inl signed)) = subst (λ x. RestsOnReduced g new x line) (sym signed.1) tt
   told_rests o line (spent, each, inr (good, inr evidence)) = subst (λ x. RestsOnReduced g new x line) (sym evidence.3) (by_reduced spent line each good evidence.1 evidence.2 evidence.4)

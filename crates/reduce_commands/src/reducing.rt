@@ -4,7 +4,7 @@ ghost use Rattle.std.specs.Prelude.{◌≡◌, ◌≤◌, ◌⊎◌, true, lengt
 ghost use Rattle.std.specs.Option.{option_copied, option_map};
 ghost use Rattle.road_io.specs.Causes.{Rose};
 ghost use Rattle.road_io.specs.Disk.{Stays};
-ghost use Rattle.road_io.specs.Moments.{AtEachMoment};
+ghost use Rattle.road_io.specs.Moments.{AtEachMoment, still_told};
 ghost use Rattle.key_desk.specs.Desk.{Fits, key_of};
 ghost use Rattle.command_files.specs.Endings.{Promises, TellsNone, MayEnd, WhyNot};
 ghost use Rattle.command_files.specs.Exact.{HidesNone};
@@ -37,7 +37,7 @@ pub fn reduce<L: Library, K: Sink, D: Disk>(
     signature: &str,
 ) -> Result<Conclusion, Fault>
     ensures promised { Promises (ends_reduce
-        (D.content disk.old) key.now text.now signature.now) TellsNone
+        (still_told D.Disk disk.old disk.new) key.now text.now signature.now) TellsNone
         (Rose (D.faults disk.old) (D.faults disk.new))
         (L.files library.old) (L.faults library.old) (L.faults library.new)
         (K.taken sink.old) (K.taken sink.new) (K.faults sink.old) (K.faults sink.new) result }
@@ -64,13 +64,14 @@ fn find<D: Disk>(
     sig: &[u8],
 ) -> Result<Told, Fault>
     ensures told { IfOk result (λ told.
-        EndsReduce (D.content disk.old) public.now text.now sig.now told.end told.text.items) }
+        EndsReduce (still_told D.Disk disk.old disk.new) public.now text.now sig.now
+        told.end told.text.items) }
     ensures verdict { IfOk result (λ told. MayEnd TellsNone told.end) }
     ensures rests { IfOk result (λ told.
         RestsOnReduced D.Disk disk.new told.end told.text.items) }
     ensures refused { IfErr result
         (WhyNot (Rose (D.faults disk.old) (D.faults disk.new))
-        (EndsReduce (D.content disk.old) public.now text.now sig.now)) }
+        (EndsReduce (still_told D.Disk disk.old disk.new) public.now text.now sig.now)) }
     ensures unfaulted { result ≢ Err Fault.Disk → D.faults disk.new ≡ D.faults disk.old }
     ensures stays { AtEachMoment D.Disk disk.old disk.new Stays }
 {
@@ -95,7 +96,7 @@ fn find_in<D: Disk>(
     requires opened { desk.old.is_open ≡ true }
     requires area { area ≤ length desk.old.earlier }
     ensures told { IfOk result (λ told.
-        TellsSlot D.Disk disk.old area (key_of desk.old area) text.now sig.now told.end
+        TellsSlot D.Disk disk.new area (key_of desk.old area) text.now sig.now told.end
         told.text.items) }
     ensures verdict { IfOk result (λ told. MayEnd TellsNone told.end) }
     ensures refused { IfErr result (λ fault. (fault ≡ Fault.Memory) ⊎ ((fault ≡ Fault.Disk) ×

@@ -88,7 +88,7 @@ pub fn spent_of<D: Disk>(
     requires fits { Fits D.Disk desk.old disk.old }
     requires opened { desk.old.is_open ≡ true }
     requires area { area ≤ length desk.old.earlier }
-    ensures spent { IfOk result (λ found. EachImage D.Disk disk.old (λ i.
+    ensures spent { IfOk result (λ found. EachImage D.Disk disk.new (λ i.
         HasSpent i area sig.now (option_map (λ n. take n into.new) found))) }
     ensures short { IfOk result (λ found. IfSome found (λ n. n ≤ 126)) }
     ensures desk { IfOk result (λ found. desk.new ≡ desk.old) }

@@ -7,6 +7,7 @@ use Rattle.std.specs.declared.result.Result.TheVariants.{Ok, Err}
 use Rattle.std.specs.List.{Contains}
 use Rattle.road_io.specs.declared.disk.Disk.{Ghosts}
 use Rattle.road_io.specs.Causes.{Rose}
+use Rattle.road_io.specs.Moments.{still_told}
 use Rattle.road_io.specs.Contents.{Folder}
 use Rattle.road_map.proofs.Among.{Contains-here, Contains-there}
 use Rattle.book_model.specs.declared.items.Query.{Query}
@@ -114,30 +115,30 @@ module _ {D M : Type 0} (g : Ghosts D) (octets : M → Option (List ℕ)) (label
   -- a run is complete
   pub complete_run : (asked : Option Request) → RunPromises g old new asked files l l' taken_before taken_now k k' o → RunTakes asked files left rest s s' taken_before taken_now o
       → OnMirrors octets label puts room g old new asked taken_before taken_now mirrors kept o
-      → (NoneFailed l l' k k' (g.faults old) (g.faults new) → IfSome asked (λ request. IfSome files (λ folder. IsTold request (g.content old) → IsExact (Ends (g.content old) request folder) (but_for_mirrors o))))
+      → (NoneFailed l l' k k' (g.faults old) (g.faults new) → IfSome asked (λ request. IfSome files (λ folder. IsTold request (still_told g old new) → IsExact (Ends (still_told g old new) request folder) (but_for_mirrors o))))
       → (¬ Rose s s' → NoneFailed l l' k k' (g.faults old) (g.faults new) → IfServe asked (λ file. IsExactServing file files left o))
       → ¬ Rose s s' → NoneFailed l l' k k' (g.faults old) (g.faults new)
-      → IfSome asked (λ request. IfSome files (λ folder. AreTold (g.content old) left request → IsComplete (CallsFor (g.content old) left request folder) (PromisedEnough puts room taken_before taken_now mirrors) o))
+      → IfSome asked (λ request. IfSome files (λ folder. AreTold (still_told g old new) left request → IsComplete (CallsFor (still_told g old new) left request folder) (PromisedEnough puts room taken_before taken_now mirrors) o))
   complete_run asked r t m exact serving still n = by asked files left r.command t.source m (exact n) (serving still n)
     where
       Command : Option Folder → Request → Type 0
-      Command files request = Promises (Ends (g.content old) request) (TellsClient request) (Rose (g.faults old) (g.faults new)) files l l' taken_before taken_now k k' o
+      Command files request = Promises (Ends (still_told g old new) request) (TellsClient request) (Rose (g.faults old) (g.faults new)) files l l' taken_before taken_now k k' o
 
       Complete : Option (List ℕ) → Request → Folder → Type 0
-      Complete left request folder = IsComplete (CallsFor (g.content old) left request folder) (PromisedEnough puts room taken_before taken_now mirrors) o
+      Complete left request folder = IsComplete (CallsFor (still_told g old new) left request folder) (PromisedEnough puts room taken_before taken_now mirrors) o
 
       -- without a mirror
-      plain : (request : Request) (folder : Folder) → Promises (Ends (g.content old) request) (TellsClient request) (Rose (g.faults old) (g.faults new)) (Some folder) l l' taken_before taken_now k k' o
+      plain : (request : Request) (folder : Folder) → Promises (Ends (still_told g old new) request) (TellsClient request) (Rose (g.faults old) (g.faults new)) (Some folder) l l' taken_before taken_now k k' o
           → (o ≡ Err Source → Rose s s') → (PromisedEnough puts room taken_before taken_now mirrors → o ≢ Err MirrorLost)
-          → IsExact (Ends (g.content old) request folder) (but_for_mirrors o) → IsComplete (Ends (g.content old) request folder) (PromisedEnough puts room taken_before taken_now mirrors) o
+          → IsExact (Ends (still_told g old new) request folder) (but_for_mirrors o) → IsComplete (Ends (still_told g old new) request folder) (PromisedEnough puts room taken_before taken_now mirrors) o
       plain request folder p source mirror exact = λ free enough.
-          let E : Ending = Ends (g.content old) request folder in
+          let E : Ending = Ends (still_told g old new) request folder in
           answers E free o (subst (IsExact E) (same_but o (mirror enough)) exact).called_for p.words (λ e. n.library_stays (p.library e)) (λ e. still (source e)) (λ e. n.sink_stays (p.sink e)) (λ e. n.disk_stays (p.disk e)) (mirror enough)
 
       by : (asked : Option Request) (files : Option Folder) (left : Option (List ℕ)) → IfSome asked (Command files) → (o ≡ Err Source → Rose s s') → OnMirrors octets label puts room g old new asked taken_before taken_now mirrors kept o
-          → IfSome asked (λ request. IfSome files (λ folder. IsTold request (g.content old) → IsExact (Ends (g.content old) request folder) (but_for_mirrors o)))
+          → IfSome asked (λ request. IfSome files (λ folder. IsTold request (still_told g old new) → IsExact (Ends (still_told g old new) request folder) (but_for_mirrors o)))
           → IfServe asked (λ file. IsExactServing file files left o)
-          → IfSome asked (λ request. IfSome files (λ folder. AreTold (g.content old) left request → Complete left request folder))
+          → IfSome asked (λ request. IfSome files (λ folder. AreTold (still_told g old new) left request → Complete left request folder))
       by None files left p source m exact serving = tt
       by (Some request) None left p source m exact serving = tt
       by (Some (Serve file)) (Some folder) None p source m exact serving = λ told. absurd (told refl)
@@ -180,7 +181,7 @@ pub proves_run : OneMaking → AcceptedLaws → UnknownNodesAreTold → {D : Typ
     → RunPromises g old new asked files l l' taken_before taken_now k k' o → IfSome asked (λ request. ProvesKnown request files taken_before taken_now o)
 proves_run makings laws told g old new asked files l l' taken_before taken_now k k' o r = by asked files r.command
   where
-    by : (asked : Option Request) (files : Option Folder) → IfSome asked (λ request. Promises (Ends (g.content old) request) (TellsClient request) (Rose (g.faults old) (g.faults new)) files l l' taken_before taken_now k k' o)
+    by : (asked : Option Request) (files : Option Folder) → IfSome asked (λ request. Promises (Ends (still_told g old new) request) (TellsClient request) (Rose (g.faults old) (g.faults new)) files l l' taken_before taken_now k k' o)
         → IfSome asked (λ request. ProvesKnown request files taken_before taken_now o)
     by None files p = tt
     by (Some (Prove file q)) (Some folder) p = λ b read has known. proves makings laws told folder file q b read has known taken_before taken_now o p.answered (λ e. p.mirror e)

@@ -1,5 +1,5 @@
 -- No one-time key signs twice, over whole lives of an owner's disk.
-use Rattle.std.proofs.Common.{◌≡◌, ℕ, ◌≤◌, List, [], ◌∷◌, map, arith, sym, subst, IfSome, IfNone}
+use Rattle.std.proofs.Common.{◌≡◌, ◌≢◌, ℕ, ◌≤◌, List, [], ◌∷◌, map, arith, refl, sym, subst, IfSome, IfNone}
 use Rattle.std.specs.List.{All, range_with_len}
 use Rattle.std.specs.Option.{ForSome}
 use Rattle.std.specs.declared.option.Option.{Option}
@@ -8,7 +8,8 @@ use Rattle.std.specs.declared.result.Result.{Result}
 use Rattle.std.specs.declared.result.Result.TheVariants.{Ok, Err}
 use Rattle.std.proofs.lemmas.List.Elements.{All-nil, All-append}
 use Rattle.road_io.specs.declared.disk.Disk.{Ghosts}
-use Rattle.road_io.specs.Moments.{Image, EachImage, AtEachMoment}
+use Rattle.road_io.specs.Moments.{Image, EachImage, AtEachMoment, still_told}
+use Rattle.road_io.proofs.StillTold.{both_told}
 use Rattle.road_io.specs.Contents.{Folder}
 use Rattle.desk_areas.specs.Layout.{IsOpen}
 use Rattle.key_desk.specs.Stands.{SameKeys}
@@ -22,7 +23,7 @@ use Rattle.desk_areas.specs.Keys.{key_from}
 use Rattle.owner_commands.specs.Releases.{Release, header_release, link_release, AllApart}
 use Rattle.owner_commands.proofs.ReleaseLaws.{IsGiven, Adds, adds_none, adds_header, adds_chain, adds_link, apart_append, keys_stay, keys_published, pair_of, stand_as_pairs, given_stand, given_after, given_open}
 use Rattle.road_run.specs.Commands.{OnDisk, OnMirrors, LeavesAll}
-use Rattle.road_run.specs.Lives.{where_written, Run, given_by, given, Step, Ran, Cut, Broke, IsLife, StandWithin, NoneSignsTwice}
+use Rattle.road_run.specs.Lives.{where_written, Run, given_by, given, Step, Ran, Cut, Broke, EachTells, IsLife, StandWithin, NoneSignsTwice}
 
 -- what holds of nothing, and of what went out where something was written
 written : (P : Type 0) (o : Result Conclusion Fault) (it : OnWriting o P) (f : P → List Release) (Q : List Release → Type 0) → Q [] → ((p : P) → Q (f p)) → Q (where_written P o it f)
@@ -30,6 +31,16 @@ written P (Ok v) it f Q none each = each it
 written P (Err Sink) it f Q none each = each it
 written P (Err MirrorLost) it f Q none each = each it
 written P (Err fault) it f Q none each = none
+
+-- what is told, where something is
+some_told : (told : Option (List ℕ)) → told ≢ None → (c : List ℕ) × (told ≡ Some c)
+some_told None some = absurd (some refl)
+some_told (Some c) some = (c, refl)
+
+-- the first disk of a life whose disks tell tells
+first_tells : {D : Type 0} (g : Ghosts D) (disk : D) (states : List (D × List Release)) → EachTells g disk states → g.content disk ≢ None
+first_tells g disk [] told = told
+first_tells g disk (state ∷ states) told = told.0
 
 module _ {D : Type 0} (g : Ghosts D) (old new : D) (files : Option Folder) (taken_before taken_now : Option (List ℕ)) (o : Result Conclusion Fault) (opened : ForSome (g.content old) IsOpen) where
   -- over a disk with a key no command changes the keys of its open areas
@@ -55,7 +66,7 @@ module _ {M : Type 0} (octets : M → Option (List ℕ)) (label puts room : M �
       given_after d.0 i (r ∷ rest) d.2 (here d.0 d.1) (run.promised.stands.each (map pair_of (r ∷ rest)) (stand_as_pairs g old (r ∷ rest) here) k i from to h)
 
   -- what a run gives out
-  adds_by : (old new : D) (before : List Release) (c n : List ℕ) → g.content old ≡ Some c → All (IsGiven c) before → Image g new n → All (IsGiven n) before
+  adds_by : (old new : D) (before : List Release) (c n : List ℕ) → still_told g old new ≡ Some c → All (IsGiven c) before → Image g new n → All (IsGiven n) before
       → (asked : Option Request) (files : Option Folder) (taken_before taken_now : Option (List ℕ)) (mirrors_before mirrors_now : List M) (o : Result Conclusion Fault)
       → (on_disk : IfSome asked (λ request. OnDisk g old new request files taken_before taken_now o)) (mirrored : OnMirrors octets label puts room g old new asked taken_before taken_now mirrors_before mirrors_now o)
       → Adds g new before (given_by octets label puts room g old new asked files taken_before taken_now mirrors_before mirrors_now o on_disk mirrored)
@@ -70,46 +81,46 @@ module _ {M : Type 0} (octets : M → Option (List ℕ)) (label puts room : M �
       (adds_none g new before) (λ it. adds_chain g new before n image now it.chain.last it.chain.keys it.chain.stand)
   adds_by old new before c n told was image now asked files tb tn mb mn o on_disk mirrored = adds_none g new before
 
-  module _ (told : (d : D) → (c : List ℕ) × (g.content d ≡ Some c)) where
-    adds_run : (old new : D) (run : Run octets label puts room g old new) (before : List Release) → EachImage g old (λ i. All (IsGiven i) before) → Adds g new before (given octets label puts room g old new run)
-    adds_run old new run before here =
-        let c = told old in
-        let n = told new in
+  module _ (old new : D) (told_before : g.content old ≢ None) (told_now : g.content new ≢ None) where
+    adds_run : (run : Run octets label puts room g old new) (before : List Release) → EachImage g old (λ i. All (IsGiven i) before) → Adds g new before (given octets label puts room g old new run)
+    adds_run run before here =
+        let c = some_told (g.content old) told_before in
+        let n = some_told (g.content new) told_now in
         let image : Image g new n.0 = reads new n.0 n.1 in
-        adds_by old new before c.0 n.0 c.1 (here c.0 (reads old c.0 c.1)) image (kept old new run before here (g.clock new) n.0 run.promised.stands.later (omega arith) image)
+        adds_by old new before c.0 n.0 (both_told (g.content old) (g.content new) c.0 n.0 n.1 c.1) (here c.0 (reads old c.0 c.1)) image (kept old new run before here (g.clock new) n.0 run.promised.stands.later (omega arith) image)
         run.asked run.files run.taken_before run.taken_now run.mirrors_before run.mirrors_now run.outcome run.promised.on_disk run.mirrored
 
     -- one step
-    stepped : (old new : D) (before after : List Release) → Step octets label puts room g old new before after → EachImage g old (λ i. All (IsGiven i) before) → AllApart before
+    stepped : (before after : List Release) → Step octets label puts room g old new before after → EachImage g old (λ i. All (IsGiven i) before) → AllApart before
         → EachImage g new (λ i. All (IsGiven i) after) × AllApart after
-    stepped old new before after (Ran run more) here apart =
-        let adds = adds_run old new run before here in (
+    stepped before after (Ran run more) here apart =
+        let adds = adds_run run before here in (
           subst (λ (all : List Release). EachImage g new (λ i. All (IsGiven i) all)) (sym more)
               (λ i now. All-append (IsGiven i) before (given octets label puts room g old new run) (kept old new run before here (g.clock new) i run.promised.stands.later (omega arith) now) (adds.stand i now)),
           subst AllApart (sym more) (apart_append before (given octets label puts room g old new run) apart adds.apart adds.cross),
         )
-    stepped old new before after (Cut called run k from to crashed same) here apart = (
+    stepped before after (Cut called run k from to crashed same) here apart = (
       subst (λ (all : List Release). EachImage g new (λ i. All (IsGiven i) all)) (sym same) (λ i now. kept old called run before here k i from to (crashed.left i now)),
       subst AllApart (sym same) apart,
     )
-    stepped old new before after (Broke crashed same) here apart = (
+    stepped before after (Broke crashed same) here apart = (
       subst (λ (all : List Release). EachImage g new (λ i. All (IsGiven i) all)) (sym same) (λ i now. here i (crashed.left i now)),
       subst AllApart (sym same) apart,
     )
 
-    within : (old new : D) (before after : List Release) (step : Step octets label puts room g old new before after) → EachImage g old (λ i. All (IsGiven i) before) → StandWithin octets label puts room g old new before after step
-    within old new before after (Ran run more) here = λ k i from to h. given_stand i before (kept old new run before here k i from to h)
-    within old new before after (Cut called run k from to crashed same) here = λ n i past upto h. given_stand i before (kept old called run before here n i past upto h)
-    within old new before after (Broke crashed same) here = λ i now. given_stand i before (here i (crashed.left i now))
+  within : (old new : D) (before after : List Release) (step : Step octets label puts room g old new before after) → EachImage g old (λ i. All (IsGiven i) before) → StandWithin octets label puts room g old new before after step
+  within old new before after (Ran run more) here = λ k i from to h. given_stand i before (kept old new run before here k i from to h)
+  within old new before after (Cut called run k from to crashed same) here = λ n i past upto h. given_stand i before (kept old called run before here n i past upto h)
+  within old new before after (Broke crashed same) here = λ i now. given_stand i before (here i (crashed.left i now))
 
-    -- a whole life
-    pub none_twice : (disk : D) (before : List Release) (states : List (D × List Release)) (life : IsLife octets label puts room g disk before states) → EachImage g disk (λ i. All (IsGiven i) before) → AllApart before
-        → NoneSignsTwice octets label puts room g disk before states life
-    none_twice disk before [] life here apart = tt
-    none_twice disk before (state ∷ states) life here apart =
-        let next = stepped disk state.0 before state.1 life.0 here apart in (
-          within disk state.0 before state.1 life.0 here,
-          (λ i now. given_stand i state.1 (next.0 i now)),
-          next.1,
-          none_twice state.0 state.1 states life.1 next.0 next.1,
-        )
+  -- a whole life
+  pub none_twice : (disk : D) (before : List Release) (states : List (D × List Release)) (life : IsLife octets label puts room g disk before states) → EachTells g disk states → EachImage g disk (λ i. All (IsGiven i) before) → AllApart before
+      → NoneSignsTwice octets label puts room g disk before states life
+  none_twice disk before [] life told here apart = tt
+  none_twice disk before (state ∷ states) life told here apart =
+      let next = stepped disk state.0 told.0 (first_tells g state.0 states told.1) before state.1 life.0 here apart in (
+        within disk state.0 before state.1 life.0 here,
+        (λ i now. given_stand i state.1 (next.0 i now)),
+        next.1,
+        none_twice state.0 state.1 states life.1 told.1 next.0 next.1,
+      )

@@ -8,7 +8,7 @@ use Rattle.road_io.specs.declared.disk.Disk.{Ghosts}
 use Rattle.road_io.specs.Causes.{Rose}
 use Rattle.road_io.specs.Contents.{Folder}
 use Rattle.road_io.specs.Disk.{Stays}
-use Rattle.road_io.specs.Moments.{AtEachMoment}
+use Rattle.road_io.specs.Moments.{AtEachMoment, still_told}
 use Rattle.road_map.specs.Laws.{ArcLaws}
 use Rattle.road_map.specs.declared.parts.Parts.{Parts}
 use Rattle.key_desk.specs.Stands.{KeepsStanding}
@@ -52,7 +52,7 @@ use Rattle.road_run.proofs.TakenLemmas.{replies_taken}
 
 module _ {D : Type 0} (g : Ghosts D) (old new : D) (asked : Option Request) (files : Option Folder) (l l' : ℕ) (taken_before taken_now : Option (List ℕ)) (k k' : ℕ) (o : Result Conclusion Fault) where
   -- what is promised of a request is promised of the words that ask for it
-  pub run_promises : (request : Request) → Some request ≡ asked → Promises (Ends (g.content old) request) (TellsClient request) (Rose (g.faults old) (g.faults new)) files l l' taken_before taken_now k k' o
+  pub run_promises : (request : Request) → Some request ≡ asked → Promises (Ends (still_told g old new) request) (TellsClient request) (Rose (g.faults old) (g.faults new)) files l l' taken_before taken_now k k' o
       → OnDisk g old new request files taken_before taken_now o → KeepsStanding g old new → RunPromises g old new asked files l l' taken_before taken_now k k' o
   run_promises request is promised on_disk stands = subst (λ (a : Option Request). RunPromises g old new a files l l' taken_before taken_now k k' o) is (record {
     words = (λ e. absurd (promised.words e), λ e. absurd (cc));
@@ -63,17 +63,17 @@ module _ {D : Type 0} (g : Ghosts D) (old new : D) (asked : Option Request) (fil
   })
 
   -- the same where the disk stays
-  pub run_stays : (request : Request) → Some request ≡ asked → Promises (Ends (g.content old) request) (TellsClient request) (Rose (g.faults old) (g.faults new)) files l l' taken_before taken_now k k' o
+  pub run_stays : (request : Request) → Some request ≡ asked → Promises (Ends (still_told g old new) request) (TellsClient request) (Rose (g.faults old) (g.faults new)) files l l' taken_before taken_now k k' o
       → OnDisk g old new request files taken_before taken_now o → AtEachMoment g old new Stays → RunPromises g old new asked files l l' taken_before taken_now k k' o
   run_stays request is promised on_disk stays = run_promises request is promised on_disk (standing_same g old new stays)
 
 module _ {D : Type 0} (g : Ghosts D) (disk : D) (asked : Option Request) (files : Option Folder) (l l' : ℕ) (taken_before taken_now : Option (List ℕ)) (k k' : ℕ) (o : Result Conclusion Fault) where
   -- the same for a command without a disk
   pub run_without_disk : (request : Request) → Some request ≡ asked → (AtEachMoment g disk disk Stays → OnDisk g disk disk request files taken_before taken_now o)
-      → Promises (Ends (g.content disk) request) (TellsClient request) NoDisk files l l' taken_before taken_now k k' o → RunPromises g disk disk asked files l l' taken_before taken_now k k' o
+      → Promises (Ends (still_told g disk disk) request) (TellsClient request) NoDisk files l l' taken_before taken_now k k' o → RunPromises g disk disk asked files l l' taken_before taken_now k k' o
   run_without_disk request is on_disk promised =
       run_promises g disk disk asked files l l' taken_before taken_now k k' o request is
-      (beside_disk (Ends (g.content disk) request) (TellsClient request) (Rose (g.faults disk) (g.faults disk)) files l l' k k' taken_before taken_now o promised)
+      (beside_disk (Ends (still_told g disk disk) request) (TellsClient request) (Rose (g.faults disk) (g.faults disk)) files l l' k k' taken_before taken_now o promised)
       (on_disk (no_moment g disk)) (no_step g disk)
 
 -- words that ask for nothing
@@ -124,18 +124,18 @@ exact_but E one before now o a library sink disk = exact_end E one before now o 
 module _ {D : Type 0} (g : Ghosts D) (old new : D) (asked : Option Request) (files : Option Folder) (l l' : ℕ) (taken_before taken_now : Option (List ℕ)) (k k' : ℕ) (o : Result Conclusion Fault) where
   -- what a run promises is exact where no object outside failed
   pub exact_run : Faults → ((parts : Parts) (u : ℕ) → ArcLaws parts u) → OneMaking → Verdicts → RunPromises g old new asked files l l' taken_before taken_now k k' o
-      → NoneFailed l l' k k' (g.faults old) (g.faults new) → IfSome asked (λ request. IfSome files (λ folder. IsTold request (g.content old) → IsExact (Ends (g.content old) request folder) (but_for_mirrors o)))
+      → NoneFailed l l' k k' (g.faults old) (g.faults new) → IfSome asked (λ request. IfSome files (λ folder. IsTold request (still_told g old new) → IsExact (Ends (still_told g old new) request folder) (but_for_mirrors o)))
   exact_run faults arcs makings verdicts r n = by asked r.command
     where
-      of : (request : Request) (files : Option Folder) → Promises (Ends (g.content old) request) (TellsClient request) (Rose (g.faults old) (g.faults new)) files l l' taken_before taken_now k k' o
-          → IfSome files (λ folder. IsTold request (g.content old) → IsExact (Ends (g.content old) request folder) (but_for_mirrors o))
+      of : (request : Request) (files : Option Folder) → Promises (Ends (still_told g old new) request) (TellsClient request) (Rose (g.faults old) (g.faults new)) files l l' taken_before taken_now k k' o
+          → IfSome files (λ folder. IsTold request (still_told g old new) → IsExact (Ends (still_told g old new) request folder) (but_for_mirrors o))
       of request None p = tt
       of request (Some folder) p = λ told.
-          exact_but (Ends (g.content old) request folder) (one_end faults arcs makings verdicts (g.content old) request told folder) taken_before taken_now o p.answered
+          exact_but (Ends (still_told g old new) request folder) (one_end faults arcs makings verdicts (still_told g old new) request told folder) taken_before taken_now o p.answered
           (λ e. n.library_stays (p.library e)) (λ e. n.sink_stays (p.sink e)) (λ e. n.disk_stays (p.disk e))
 
-      by : (asked : Option Request) → IfSome asked (λ request. Promises (Ends (g.content old) request) (TellsClient request) (Rose (g.faults old) (g.faults new)) files l l' taken_before taken_now k k' o)
-          → IfSome asked (λ request. IfSome files (λ folder. IsTold request (g.content old) → IsExact (Ends (g.content old) request folder) (but_for_mirrors o)))
+      by : (asked : Option Request) → IfSome asked (λ request. Promises (Ends (still_told g old new) request) (TellsClient request) (Rose (g.faults old) (g.faults new)) files l l' taken_before taken_now k k' o)
+          → IfSome asked (λ request. IfSome files (λ folder. IsTold request (still_told g old new) → IsExact (Ends (still_told g old new) request folder) (but_for_mirrors o)))
       by None p = tt
       by (Some request) p = of request files p
 
@@ -144,20 +144,20 @@ module _ {D : Type 0} (g : Ghosts D) (old new : D) (asked : Option Request) (fil
       → IfSome asked (λ request. AcceptsHonest request files taken_before taken_now o)
   honest_run verdicts laws r = by asked r.command
     where
-      by : (asked : Option Request) → IfSome asked (λ request. Promises (Ends (g.content old) request) (TellsClient request) (Rose (g.faults old) (g.faults new)) files l l' taken_before taken_now k k' o)
+      by : (asked : Option Request) → IfSome asked (λ request. Promises (Ends (still_told g old new) request) (TellsClient request) (Rose (g.faults old) (g.faults new)) files l l' taken_before taken_now k k' o)
           → IfSome asked (λ request. AcceptsHonest request files taken_before taken_now o)
       by None p = tt
-      by (Some request) p = accepts_honest verdicts laws request files (g.content old) taken_before taken_now o p.answered p.mirror
+      by (Some request) p = accepts_honest verdicts laws request files (still_told g old new) taken_before taken_now o p.answered p.mirror
 
   -- and what it writes as a reply is accepted, or is no answer
   pub taken_run : AcceptedLaws → UnknownNodesAreTold → RunPromises g old new asked files l l' taken_before taken_now k k' o
       → IfSome asked (λ request. RepliesAreTaken request files taken_before taken_now o)
   taken_run laws refused r = by asked r.command
     where
-      by : (asked : Option Request) → IfSome asked (λ request. Promises (Ends (g.content old) request) (TellsClient request) (Rose (g.faults old) (g.faults new)) files l l' taken_before taken_now k k' o)
+      by : (asked : Option Request) → IfSome asked (λ request. Promises (Ends (still_told g old new) request) (TellsClient request) (Rose (g.faults old) (g.faults new)) files l l' taken_before taken_now k k' o)
           → IfSome asked (λ request. RepliesAreTaken request files taken_before taken_now o)
       by None p = tt
-      by (Some request) p = replies_taken laws refused request files (g.content old) taken_before taken_now o p.answered
+      by (Some request) p = replies_taken laws refused request files (still_told g old new) taken_before taken_now o p.answered
 
 -- ---- the source
 
@@ -187,7 +187,7 @@ pub exact_serving : {D : Type 0} (g : Ghosts D) (old new : D) → OneMaking → 
     → ¬ Rose s s' → NoneFailed l l' k k' (g.faults old) (g.faults new) → IfServe asked (λ file. IsExactServing file files left o)
 exact_serving g old new makings asked files left rest l l' s s' taken_before taken_now k k' o r t none n = by asked r.command t.serves
   where
-    by : (asked : Option Request) → IfSome asked (λ request. Promises (Ends (g.content old) request) (TellsClient request) (Rose (g.faults old) (g.faults new)) files l l' taken_before taken_now k k' o)
+    by : (asked : Option Request) → IfSome asked (λ request. Promises (Ends (still_told g old new) request) (TellsClient request) (Rose (g.faults old) (g.faults new)) files l l' taken_before taken_now k k' o)
         → IfServe asked (λ file. ServesFrames file files left rest s s' taken_before taken_now o) → IfServe asked (λ file. IsExactServing file files left o)
     by (Some (Serve file)) p a = exact_serve makings file files left rest taken_before taken_now o l l' s s' k k' (g.faults old) (g.faults new) a p.library p.sink none n
     by (Some (Route roads from to)) p a = tt

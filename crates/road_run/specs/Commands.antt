@@ -9,7 +9,7 @@ use Rattle.road_io.specs.declared.disk.Disk.{Ghosts}
 use Rattle.road_io.specs.Causes.{Rose}
 use Rattle.road_io.specs.Contents.{Folder}
 use Rattle.road_io.specs.Disk.{Stays}
-use Rattle.road_io.specs.Moments.{AtEachMoment}
+use Rattle.road_io.specs.Moments.{AtEachMoment, still_told}
 use Rattle.key_desk.specs.Stands.{KeepsStanding}
 use Rattle.road_command.specs.Requests.{Request, Route, Root, Dimacs, Key, Succeed, Links, Desk, Publish, Prove, Serve, Check, Audit, Survey, Reach, CheckReach, AuditReach, Reduce}
 use Rattle.command_files.specs.Endings.{Ending, Promises, TellsNone}
@@ -88,12 +88,12 @@ OnDisk g old new (Publish roads settings) files taken_before taken_now outcome =
 OnDisk g old new (Audit key publication reply q chain) files taken_before taken_now outcome =
     AtEachMoment g old new Stays ×
     WritesFindings g new (IsBrought routes) key reply chain files taken_before taken_now outcome
-    × AuditsAccepted routes g (g.content old) new key publication reply q chain files taken_before
+    × AuditsAccepted routes g (still_told g old new) new key publication reply q chain files taken_before
     taken_now outcome
 OnDisk g old new (AuditReach key publication reply q chain) files taken_before taken_now outcome =
     AtEachMoment g old new Stays ×
     WritesFindings g new (IsBrought radii) key reply chain files taken_before taken_now outcome
-    × AuditsAccepted radii g (g.content old) new key publication reply q chain files taken_before
+    × AuditsAccepted radii g (still_told g old new) new key publication reply q chain files taken_before
     taken_now outcome
 OnDisk g old new (Reduce key text signature) files taken_before taken_now outcome =
     AtEachMoment g old new Stays × WritesReduced g new taken_before taken_now outcome
@@ -140,7 +140,7 @@ pub record RunPromises {D : Type 0} (g : Ghosts D) (old new : D) (asked : Option
   pub words : (outcome ≡ Err Words) ↔ (asked ≡ None)
   pub nothing : IfNone asked (LeavesAll g old new taken_before taken_now)
   pub command : IfSome asked (λ request.
-      Promises (Ends (g.content old) request) (TellsClient request)
+      Promises (Ends (still_told g old new) request) (TellsClient request)
       (Rose (g.faults old) (g.faults new))
       files library_before library_now taken_before taken_now sink_before sink_now outcome)
   pub on_disk : IfSome asked (λ request.

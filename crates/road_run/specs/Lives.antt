@@ -1,9 +1,9 @@
 -- Whole lives of an owner's disk: runs of the program with any words, one after another, and
 -- crashes inside or between them.
-use Rattle.std.specs.Prelude.{◌≡◌, ℕ, ◌≤◌, List, [], ◌∷◌, ◌++◌, map, IfSome}
+use Rattle.std.specs.Prelude.{◌≡◌, ◌≢◌, ℕ, ◌≤◌, List, [], ◌∷◌, ◌++◌, map, IfSome}
 use Rattle.std.specs.List.{range_with_len}
 use Rattle.std.specs.declared.option.Option.{Option}
-use Rattle.std.specs.declared.option.Option.TheVariants.{Some}
+use Rattle.std.specs.declared.option.Option.TheVariants.{None, Some}
 use Rattle.std.specs.declared.result.Result.{Result}
 use Rattle.std.specs.declared.result.Result.TheVariants.{Ok, Err}
 use Rattle.road_io.specs.declared.disk.Disk.{Ghosts}
@@ -26,6 +26,11 @@ where_written P (Ok verdict) it given = given it
 where_written P (Err Sink) it given = given it
 where_written P (Err MirrorLost) it given = given it
 where_written P (Err fault) it given = []
+
+-- each disk of a life tells what it reads
+abbrev pub EachTells : {D : Type 0} → Ghosts D → D → List (D × List Release) → Type 0
+EachTells g disk [] = g.content disk ≢ None
+EachTells g disk (state ∷ states) = (g.content disk ≢ None) × EachTells g state.0 states
 
 -- M is a mirror, of which octets, label, puts and room tell what it holds, its label, and what it
 -- promises

@@ -1,18 +1,18 @@
 //! The law of one-time keys over whole lives of the program.
-ghost use Rattle.std.specs.Prelude.{◌≡◌, ℕ, List, [], Some};
+ghost use Rattle.std.specs.Prelude.{List, []};
 ghost use Rattle.owner_commands.specs.Releases.{Release};
-ghost use Rattle.road_run.specs.Lives.{IsLife, NoneSignsTwice};
+ghost use Rattle.road_run.specs.Lives.{EachTells, IsLife, NoneSignsTwice};
 
 use mirror_out::Mirror;
 use road_io::Disk;
 
 /// Over every list of runs, each with any words, files, sink and mirrors, and of crashes inside or between
-/// them, on a disk that tells its content: each text whose signature went out stands in its slot, in every
+/// them, where each disk of this life tells what it reads: each text whose signature went out stands in its slot, in every
 /// image at every later moment, and no one-time key makes two signatures, unless they are equal octets on
 /// one link text.
 pub fn no_key_signs_twice<D: Disk, M: Mirror>()
     ensures { (disk : D) (states : List (D × List Release)) →
-        ((d : D) → (c : List ℕ) × (D.content d ≡ Some c)) →
+        EachTells D.Disk disk states →
         (life : IsLife M.octets M.named M.puts M.room D.Disk disk [] states) →
         NoneSignsTwice M.octets M.named M.puts M.room D.Disk disk [] states life }
 {}

@@ -2,6 +2,7 @@
 
 ghost use Rattle.std.specs.Prelude.{◌≡◌, IfSome, ◌≢◌, Err};
 ghost use Rattle.road_io.specs.Causes.{Rose};
+ghost use Rattle.road_io.specs.Moments.{still_told};
 ghost use Rattle.road_command.specs.Requests.{request_of};
 ghost use Rattle.command_files.specs.Outcomes.{outcome_of, status_of};
 ghost use Rattle.command_files.specs.Exact.{HidesNone, NoneFailed, IsExact};
@@ -62,8 +63,10 @@ pub fn run<L: Library, S: Source, K: Sink, D: Disk, M: Mirror>(
         (K.faults sink.new)
         (D.faults disk.old) (D.faults disk.new) →
         IfSome (request_of words.now)
-        (λ request. IfSome (L.files library.old) (λ folder. IsTold request (D.content disk.old) →
-        IsExact (Ends (D.content disk.old) request folder) (but_for_mirrors (outcome_of result)))) }
+        (λ request. IfSome (L.files library.old)
+        (λ folder. IsTold request (still_told D.Disk disk.old disk.new) →
+        IsExact (Ends (still_told D.Disk disk.old disk.new) request folder)
+        (but_for_mirrors (outcome_of result)))) }
     ensures serve_exact { ¬ Rose (S.faults source.old) (S.faults source.new) →
         NoneFailed (L.faults library.old) (L.faults library.new) (K.faults sink.old)
         (K.faults sink.new) (D.faults disk.old) (D.faults disk.new) →
@@ -82,8 +85,9 @@ pub fn run<L: Library, S: Source, K: Sink, D: Disk, M: Mirror>(
         NoneFailed (L.faults library.old) (L.faults library.new) (K.faults sink.old)
         (K.faults sink.new) (D.faults disk.old) (D.faults disk.new) →
         IfSome (request_of words.now) (λ request. IfSome (L.files library.old) (λ folder.
-        AreTold (D.content disk.old) (S.left source.old) request →
-        IsComplete (CallsFor (D.content disk.old) (S.left source.old) request folder)
+        AreTold (still_told D.Disk disk.old disk.new) (S.left source.old) request →
+        IsComplete
+        (CallsFor (still_told D.Disk disk.old disk.new) (S.left source.old) request folder)
         (PromisedEnough M.puts M.room (K.taken sink.old) (K.taken sink.new) mirrors.old.items)
         (outcome_of result))) }
 {

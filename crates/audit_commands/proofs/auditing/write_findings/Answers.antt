@@ -1,5 +1,6 @@
 use Rattle.std.proofs.Common.{◌∙◌}
 use Rattle.std.proofs.lemmas.Result.{err_from_is_err_and}
+use Rattle.road_io.specs.Moments.{still_told}
 use Rattle.audit_commands.specs.Headline.{IsBrought}
 use Rattle.audit_commands.proofs.Steps.{moved, reply_as, chain_as, found, found_other, nothing_found, files_rest_on_none}
 use Rattle.audit_commands.proofs.AuditLemmas.{audit_refused, audit_told}
@@ -9,14 +10,14 @@ pub returns-in_err-told-clause-promised : goal.returns-in_err-told-clause-promis
 returns-in_err-told-clause-promised g c =
     let p = err_from_is_err_and c.from_residual-in_err-told.result c.from_residual-in_err-told.ensures.1 in
     rw (p.1, p.2)
-    (audit_refused g.T.Kind.Replies.kind g.T.Telling.refused (g.L.Library.files c.args.library.now) (g.D.Disk.content c.args.disk.now) c.args.key.now c.args.publication.now c.args.reply.now _ _ c.deref.result.now c.as_slice.result.now _ c.args.query
+    (audit_refused g.T.Kind.Replies.kind g.T.Telling.refused (g.L.Library.files c.args.library.now) (still_told g.D.Disk c.args.disk.now c.find.new.disk) c.args.key.now c.args.publication.now c.args.reply.now _ _ c.deref.result.now c.as_slice.result.now _ c.args.query
     c.in_ok-key.ensures.loads.read (moved _ _ _ c.in_ok-key.ensures.same c.in_ok-publication.ensures.loads.read)
     (reply_as _ _ _ _ _ _ c.in_ok-publication.ensures.same c.in_ok-key.ensures.same c.deref.ensures.value c.in_ok-reply.ensures.loads.read)
     (chain_as _ _ _ _ _ (c.in_ok-reply.ensures.same ∙ c.in_ok-publication.ensures.same ∙ c.in_ok-key.ensures.same) c.as_slice.ensures c.in_ok-links.ensures.loads.read) _ _ _ _ _ _ _ c.in_err-told.ensures.refused)
 
 pub returns-clause-promised : goal.returns-clause-promised
 returns-clause-promised g c =
-    audit_told g.T.Kind.Replies.kind g.T.Telling.refused (g.L.Library.files c.args.library.now) (g.D.Disk.content c.args.disk.now) c.args.key.now c.args.publication.now c.args.reply.now _ _ c.deref.result.now c.as_slice.result.now _ c.args.query
+    audit_told g.T.Kind.Replies.kind g.T.Telling.refused (g.L.Library.files c.args.library.now) (still_told g.D.Disk c.args.disk.now c.find.new.disk) c.args.key.now c.args.publication.now c.args.reply.now _ _ c.deref.result.now c.as_slice.result.now _ c.args.query
     c.in_ok-key.ensures.loads.read (moved _ _ _ c.in_ok-key.ensures.same c.in_ok-publication.ensures.loads.read)
     (reply_as _ _ _ _ _ _ c.in_ok-publication.ensures.same c.in_ok-key.ensures.same c.deref.ensures.value c.in_ok-reply.ensures.loads.read)
     (chain_as _ _ _ _ _ (c.in_ok-reply.ensures.same ∙ c.in_ok-publication.ensures.same ∙ c.in_ok-key.ensures.same) c.as_slice.ensures c.in_ok-links.ensures.loads.read) _ _ _ _ _ _ _ _ _ _ c.in_ok-told.ensures.verdict c.in_ok-told.ensures.told c.write_told.ensures.writes

@@ -1,5 +1,6 @@
 use Rattle.std.proofs.lemmas.Result.{err_from_is_err_and}
 use Rattle.road_io.specs.Causes.{Rose}
+use Rattle.road_io.specs.Moments.{still_told}
 use Rattle.command_desks.specs.Opening.{EndsOpening}
 use Rattle.command_files.specs.Endings.{NoEnd}
 use Rattle.owner_commands.proofs.SuccessionLemmas.{links_refused, links_written}
@@ -20,7 +21,7 @@ pub returns-in_err-chain-clause-sealed : goal.returns-in_err-chain-clause-sealed
 returns-in_err-chain-clause-sealed g c =
     let p = err_from_is_err_and c.from_residual.result c.from_residual.ensures.1 in
     rw (p.1, p.2)
-    (none_written (Rose (g.D.Disk.faults c.args.disk.now) (g.D.Disk.faults c.chain_on.new.disk)) (EndsOpening (g.D.Disk.content c.args.disk.now) NoEnd) c.in_err-chain.field-0.0 _ c.in_err-chain.ensures.refused)
+    (none_written (Rose (g.D.Disk.faults c.args.disk.now) (g.D.Disk.faults c.chain_on.new.disk)) (EndsOpening (still_told g.D.Disk c.args.disk.now c.chain_on.new.disk) NoEnd) c.in_err-chain.field-0.0 _ c.in_err-chain.ensures.refused)
 
 pub returns-clause-sealed : goal.returns-clause-sealed
 returns-clause-sealed g c =

@@ -1,6 +1,7 @@
 use Rattle.std.proofs.lemmas.Result.{err_from_is_err_and}
 use Rattle.std.proofs.Common.{refl, inl, inr}
 use Rattle.road_io.specs.Causes.{Rose}
+use Rattle.road_io.specs.Moments.{still_told}
 use Rattle.owner_commands.specs.Publishing.{EndsPublish}
 use Rattle.command_desks.proofs.Disks.{no_moment, no_step}
 use Rattle.owner_commands.proofs.PublishLemmas.{publish_refused, published, published_lost, seals_none, signs_file, stays_refused}
@@ -18,7 +19,7 @@ returns-in_err-publication-clause-promised g c =
 pub returns-in_err-publication-clause-sealed : goal.returns-in_err-publication-clause-sealed
 returns-in_err-publication-clause-sealed g c =
     let p = err_from_is_err_and c.from_residual-in_err-publication.result c.from_residual-in_err-publication.ensures.1 in
-    rw (p.1, p.2) (seals_none g.D.Disk c.args.disk.now c.signed.new.disk (Rose (g.D.Disk.faults c.args.disk.now) (g.D.Disk.faults c.signed.new.disk)) (EndsPublish (g.D.Disk.content c.args.disk.now) c.args.settings.now c.in_ok-parts.parts) _ _ c.in_err-publication.field-0.0 c.in_err-publication.ensures.refused)
+    rw (p.1, p.2) (seals_none g.D.Disk c.args.disk.now c.signed.new.disk (Rose (g.D.Disk.faults c.args.disk.now) (g.D.Disk.faults c.signed.new.disk)) (EndsPublish (still_told g.D.Disk c.args.disk.now c.signed.new.disk) c.args.settings.now c.in_ok-parts.parts) _ _ c.in_err-publication.field-0.0 c.in_err-publication.ensures.refused)
 
 pub returns-in_err-publication-clause-signs : goal.returns-in_err-publication-clause-signs
 returns-in_err-publication-clause-signs g c = signs_file g.D.Disk c.args.disk.now c.signed.new.disk _ _ _ _ c.in_ok-parts.ensures.read c.in_err-publication.ensures.signs

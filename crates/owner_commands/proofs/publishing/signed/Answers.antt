@@ -1,6 +1,8 @@
 use Rattle.std.proofs.Common.{ap, ◌∙◌}
 use Rattle.std.proofs.lemmas.Result.{err_from_is_err_and}
 use Rattle.road_io.specs.Causes.{Rose}
+use Rattle.road_io.specs.Moments.{still_told}
+use Rattle.road_io.proofs.StillTold.{told_between, told_same}
 use Rattle.std.specs.declared.result.Result.TheVariants.{Err}
 use Rattle.key_desk.specs.declared.desk.DeskError.TheVariants.{KeysUsedUp}
 use Rattle.route_owner.specs.declared.errors.PublishError.TheVariants.{Desk}
@@ -12,12 +14,13 @@ pub returns-in_err-desk-clause-refused : goal.returns-in_err-desk-clause-refused
 returns-in_err-desk-clause-refused g c =
     let p = err_from_is_err_and c.from_residual.result c.from_residual.ensures.1 in
     rw (p.1, p.2)
-    (not_opened (Rose (g.D.Disk.faults c.args.disk.now) (g.D.Disk.faults c.open_desk.new.disk)) (g.D.Disk.content c.args.disk.now) c.args.settings.now c.args.parts c.in_err-desk.field-0.0 c.in_err-desk.ensures.refused)
+    (not_opened (Rose (g.D.Disk.faults c.args.disk.now) (g.D.Disk.faults c.open_desk.new.disk)) (still_told g.D.Disk c.args.disk.now c.open_desk.new.disk) c.args.settings.now c.args.parts c.in_err-desk.field-0.0 c.in_err-desk.ensures.refused)
 
 pub returns-in-Ok-clause-sealed : goal.returns-in-Ok-clause-sealed
 returns-in-Ok-clause-sealed g c =
     let o = c.in_ok-desk.ensures.opened in
-    sealed_on_disk g.D.Disk c.args.disk.now c.open_desk.new.disk c.publish.new.disk c.in_ok-desk.desk c.args.parts c.args.settings.now _ (g.met.D.Disk.reads_image c.open_desk.new.disk) o.content o.areas
+    sealed_on_disk g.D.Disk c.args.disk.now c.open_desk.new.disk c.publish.new.disk c.in_ok-desk.desk c.args.parts c.args.settings.now _ (g.met.D.Disk.reads_image c.open_desk.new.disk)
+    (told_between g.D.Disk c.args.disk.now c.open_desk.new.disk c.publish.new.disk _ (g.met.D.Disk.reads_image c.publish.new.disk) (g.met.D.Disk.image_tells c.open_desk.new.disk) o.content c.in-Ok.ensures.moments.each) o.areas
     o.usable o.fits.sound c.in-Ok.ensures.published c.in-Ok.ensures.sealed
 
 pub returns-in-Ok-clause-signs : goal.returns-in-Ok-clause-signs
@@ -43,15 +46,19 @@ returns-in-Err-Desk-DiskFault-clause-stands g c =
 
 pub returns-in-Err-Build-clause-refused : goal.returns-in-Err-Build-clause-refused
 returns-in-Err-Build-clause-refused g c =
+    let o = c.in_ok-desk.ensures.opened in
     rw c.not_built.ensures
-    (not_built (Rose (g.D.Disk.faults c.args.disk.now) (g.D.Disk.faults c.publish.new.disk)) (g.D.Disk.content c.args.disk.now) c.args.settings.now c.args.parts c.in-Err-Build.fault c.in_ok-desk.ensures.opened.usable (c.in-Err-Build.ensures.no_book _ (ap (λ x. Err x) c.in-Err-Build.field-0-is)).0)
+    (not_built (Rose (g.D.Disk.faults c.args.disk.now) (g.D.Disk.faults c.publish.new.disk)) (still_told g.D.Disk c.args.disk.now c.publish.new.disk) c.args.settings.now c.args.parts c.in-Err-Build.fault
+    (λ x is. o.usable x (told_same g.D.Disk c.args.disk.now c.open_desk.new.disk c.publish.new.disk o.content (rw c.in-Err-Build.field-0-is at c.in-Err-Build.ensures.untouched).1 x is))
+    (c.in-Err-Build.ensures.no_book _ (ap (λ x. Err x) c.in-Err-Build.field-0-is)).0)
 
 pub returns-in-Err-Desk-KeysUsedUp-clause-refused : goal.returns-in-Err-Desk-KeysUsedUp-clause-refused
 returns-in-Err-Desk-KeysUsedUp-clause-refused g c =
     let o = c.in_ok-desk.ensures.opened in
     let u = c.in-Err-Desk-KeysUsedUp.ensures.used_up (ap (λ x. Err x) (c.in-Err-Desk-KeysUsedUp.field-0-is ∙ ap Desk c.in-Err-Desk-KeysUsedUp.field-0-0-is)) in
-    used_up _ _ _ u.header o.usable
-    (all_spent g.D.Disk c.args.disk.now c.open_desk.new.disk c.publish.new.disk c.in_ok-desk.desk o.fits o.is_open o.counts u.none_free (g.met.D.Disk.reads_image c.open_desk.new.disk) o.content) u.has
+    let told = told_between g.D.Disk c.args.disk.now c.open_desk.new.disk c.publish.new.disk _ (g.met.D.Disk.reads_image c.publish.new.disk) (g.met.D.Disk.image_tells c.open_desk.new.disk) o.content (rw c.in-Err-Desk-KeysUsedUp.field-0-is at c.in-Err-Desk-KeysUsedUp.ensures.moments).each in
+    used_up (still_told g.D.Disk c.args.disk.now c.publish.new.disk) _ _ u.header (λ x is. o.usable x (told x is))
+    (all_spent g.D.Disk c.args.disk.now c.open_desk.new.disk c.publish.new.disk c.in_ok-desk.desk o.fits o.is_open o.counts u.none_free (g.met.D.Disk.reads_image c.open_desk.new.disk) told) u.has
 
 pub returns-in_err-desk-clause-untouched : goal.returns-in_err-desk-clause-untouched
 returns-in_err-desk-clause-untouched g c =

@@ -22,7 +22,7 @@ returns-in-Err-clause-links g c = links_kind g.D.Disk c.args.disk.now c.succeed.
 pub returns-in-Err-clause-refused : goal.returns-in-Err-clause-refused
 returns-in-Err-clause-refused g c =
     rw c.not_followed.ensures
-    (not_followed _ _ _ _ c.in-Err.e c.in-Err.ensures.refused (λ is. c.in-Err.ensures.fault (ap (λ x. Err x) is)))
+    (not_followed _ _ _ _ _ c.in-Err.e (λ other. c.in-Err.ensures.narrows refl (λ is. other cc)) c.in-Err.ensures.refused (λ is. c.in-Err.ensures.fault (ap (λ x. Err x) is)))
 
 pub returns-in-Ok-clause-follows : goal.returns-in-Ok-clause-follows
 returns-in-Ok-clause-follows g c =

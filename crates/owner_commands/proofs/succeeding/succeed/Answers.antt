@@ -1,6 +1,6 @@
 use Rattle.std.proofs.Common.{refl, inl, inr}
 use Rattle.std.proofs.lemmas.Result.{err_from_is_err_and}
-use Rattle.road_io.specs.Moments.{EachImage}
+use Rattle.road_io.specs.Moments.{EachImage, still_told}
 use Rattle.desk_areas.specs.Keys.{key_from}
 use Rattle.road_command.specs.View.{type_of}
 use Rattle.command_desks.specs.Opening.{IsKeyOn}
@@ -40,9 +40,9 @@ returns-in_err-line-clause-adds g c =
     rw (p.1, p.2)
     (record {
       made = tt;
-      links = inr (links_file _ _ _ (g.D.Disk.content c.args.disk.now) _ (Unit {0}) 0 0 0 0 c.in_ok-secret.ensures.loads.read (g.D.Disk.content c.args.disk.now) g.D.Disk c.args.disk.now c.make_next.new.disk c.make_next.ensures.links);
+      links = inr (links_file _ _ _ (still_told g.D.Disk c.args.disk.now c.make_next.new.disk) _ (Unit {0}) 0 0 0 0 c.in_ok-secret.ensures.loads.read (still_told g.D.Disk c.args.disk.now c.make_next.new.disk) g.D.Disk c.args.disk.now c.make_next.new.disk c.make_next.ensures.links);
       keys = c.make_next.ensures.keys;
-      follows = none_written (Rose (g.D.Disk.faults c.args.disk.now) (g.D.Disk.faults c.make_next.new.disk)) (EndsSuccession (g.D.Disk.content c.args.disk.now) (type_of c.args.kind) c.in_ok-secret.secret) c.in_err-line.field-0.0 _ c.in_err-line.ensures.refused;
+      follows = none_written (Rose (g.D.Disk.faults c.args.disk.now) (g.D.Disk.faults c.make_next.new.disk)) (EndsSuccession (still_told g.D.Disk c.args.disk.now c.make_next.new.disk) (type_of c.args.kind) c.in_ok-secret.secret) c.in_err-line.field-0.0 _ c.in_err-line.ensures.refused;
       untouched = c.in_err-line.ensures.untouched;
     })
 
@@ -53,7 +53,7 @@ returns-clause-promised g c =
 pub returns-clause-adds : goal.returns-clause-adds
 returns-clause-adds g c = record {
   made = on_any _ _ (made_of _ _ _ (λ s. EachImage g.D.Disk c.make_next.new.disk (λ i. IsKeyOn i (key_from (type_of c.args.kind) s))) c.in_ok-secret.ensures.loads.read c.in_ok-line.ensures.made);
-  links = inr (links_file _ _ _ (g.D.Disk.content c.args.disk.now) _ (Unit {0}) 0 0 0 0 c.in_ok-secret.ensures.loads.read (g.D.Disk.content c.args.disk.now) g.D.Disk c.args.disk.now c.make_next.new.disk c.make_next.ensures.links);
+  links = inr (links_file _ _ _ (still_told g.D.Disk c.args.disk.now c.make_next.new.disk) _ (Unit {0}) 0 0 0 0 c.in_ok-secret.ensures.loads.read (still_told g.D.Disk c.args.disk.now c.make_next.new.disk) g.D.Disk c.args.disk.now c.make_next.new.disk c.make_next.ensures.links);
   keys = c.make_next.ensures.keys;
   follows = on_writing c.write_text.result _ (record { secret = c.in_ok-secret.secret; of_file = c.in_ok-secret.ensures.loads.read; follows = c.in_ok-line.ensures.follows });
   untouched = written_stays g.D.Disk c.args.disk.now c.make_next.new.disk _ _ _ _ _ _ c.write_text.ensures.writes;

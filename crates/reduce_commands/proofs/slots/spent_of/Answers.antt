@@ -7,10 +7,10 @@ returns-in-None-clause-spent g c i now = c.in-None.ensures.none i (c.requires.fi
 pub returns-in-Some-clause-spent : goal.returns-in-Some-clause-spent
 returns-in-Some-clause-spent g c =
     let is = c.in-Some.ensures.some in
-    ok_then c.text_of.result _ _ (λ found told. told_spent g.D.Disk c.args.disk.now c.args.area c.in-Some.slot c.args.sig.now c.text_of.new.into found is.long is.number told) c.text_of.ensures.text
+    ok_then c.text_of.result _ _ (λ found told. told_spent g.D.Disk c.text_of.new.disk c.args.area c.in-Some.slot c.args.sig.now c.text_of.new.into found is.long is.number told) c.text_of.ensures.text
 
 pub returns-in-Some-clause-short : goal.returns-in-Some-clause-short
-returns-in-Some-clause-short g c = ok_then c.text_of.result _ _ (λ found told. told_short g.D.Disk c.args.disk.now _ c.text_of.new.into found told) c.text_of.ensures.text
+returns-in-Some-clause-short g c = ok_then c.text_of.result _ _ (λ found told. told_short g.D.Disk c.text_of.new.disk _ c.text_of.new.into found told) c.text_of.ensures.text
 
 pub returns-in-Some-clause-failed : goal.returns-in-Some-clause-failed
 returns-in-Some-clause-failed g c =

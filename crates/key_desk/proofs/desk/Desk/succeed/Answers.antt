@@ -11,8 +11,7 @@ use Rattle.key_desk.specs.declared.succeed.SucceedError.TheVariants.{DiskFault, 
 use Rattle.key_desk.specs.declared.succeed.SucceedError.TheVariants as succeed
 use Rattle.std.specs.Prelude.{IsErr, Some}
 use Rattle.std.proofs.Common.{◌≢◌}
-use Rattle.key_desk.proofs.Told.{told_before}
-use Rattle.key_desk.proofs.Finding.{some_is}
+use Rattle.road_io.proofs.StillTold.{narrowed, told_between}
 use Rattle.desk_areas.specs.declared.errors.StartError.{StartError}
 use Rattle.desk_areas.specs.declared.errors.StartError.TheVariants as start
 use Rattle.desk_areas.specs.Faults.{IsBadBlock, IsUsable}
@@ -20,7 +19,7 @@ use Rattle.desk_areas.specs.Layout.{SlotId, slots_of, slots_at, base_of, last_sl
 use Rattle.desk_areas.specs.Keys.{key_from}
 use Rattle.key_desk.specs.Stands.{KeepsStanding, SameKeys}
 use Rattle.key_desk.specs.Desk.{slot_here, HasAreas, Fits}
-use Rattle.key_desk.specs.Succession.{last_number, next_desk, HasKeys, SignsLink, Refuses, IsCalledFor, IsDeskCalledFor}
+use Rattle.key_desk.specs.Succession.{last_number, next_desk, started, HasKeys, SignsLink, Refuses, IsCalledFor, IsDeskCalledFor}
 use Rattle.key_desk.proofs.Standing.{standing}
 use Rattle.key_desk.proofs.KeptKeys.{stays_keys, desk_keys}
 use Rattle.key_desk.proofs.Counts.{key_here}
@@ -103,10 +102,8 @@ returns-in-Ok-clause-refused g c =
     c.pass_on.ensures.refused)
 
 pub returns-in-Ok-clause-refused_else : goal.returns-in-Ok-clause-refused_else
-returns-in-Ok-clause-refused_else g c y end x was f h =
-    let b = told_before g.D.Disk c.reopen.new.disk c.pass_on.new.disk _ (g.met.D.Disk.reads_image c.pass_on.new.disk) (g.met.D.Disk.image_tells c.reopen.new.disk) c.pass_on.ensures.moments y end in
-    let is : b.0 ≡ x = some_is (g.D.Disk.content c.args.disk.now) b.0 x was (c.in-Ok.ensures.content b.0 b.1) in
-    let told : g.D.Disk.content c.reopen.new.disk ≡ Some x = b.1 ∙ ap (λ (l : List ℕ). Some l) is in
+returns-in-Ok-clause-refused_else g c x still f h =
+    let told : g.D.Disk.content c.reopen.new.disk ≡ Some x = told_between g.D.Disk c.args.disk.now c.reopen.new.disk c.pass_on.new.disk _ (g.met.D.Disk.reads_image c.pass_on.new.disk) (g.met.D.Disk.image_tells c.reopen.new.disk) c.in-Ok.ensures.content c.pass_on.ensures.moments x still in
     inl (c.pass_on.ensures.refused_else f
     (from_image g.D.Disk c.in-Ok.desk c.reopen.new.disk c.in-Ok.ensures.fits c.in-Ok.ensures.opened x (g.met.D.Disk.reads_image c.reopen.new.disk x told)
     (usable_on x c.in-Ok.desk (c.in-Ok.ensures.areas x told).0 (c.in-Ok.ensures.bad_block_else x told)) (take 16 c.args.secret.now) f h))
@@ -120,11 +117,18 @@ pub returns-in-Err-clause-fault : goal.returns-in-Err-clause-fault
 returns-in-Err-clause-fault g c is = c.in-Err.ensures.fault (ap (λ x. Err x) (start_fault c.in-Err.e (sym c.started.ensures ∙ same_error c.started.result DiskFault is)))
 
 pub returns-in-Err-clause-refused_else : goal.returns-in-Err-clause-refused_else
-returns-in-Err-clause-refused_else g c y end x was =
-    let told : (started_err c.in-Err.e ≢ started_err start.DiskFault) → g.D.Disk.content c.reopen.new.disk ≡ Some x = λ other.
-    end ∙ ap (λ (l : List ℕ). Some l) (some_is (g.D.Disk.content c.args.disk.now) y x was (c.in-Err.ensures.refused refl other y end)) in
+returns-in-Err-clause-refused_else g c x still =
+    let told : (started_err c.in-Err.e ≢ started_err start.DiskFault) → g.D.Disk.content c.reopen.new.disk ≡ Some x = λ other. narrowed _ _ (c.in-Err.ensures.refused refl other) x still in
     subst (λ (r : SucceedError). (f : SucceedError) → Refuses x (take 16 c.args.secret.now) f → (refused_by r ≡ Err f) ⊎ ((refused_by r ≡ Err DiskFault) ⊎ (refused_by r ≡ Err Memory))) (sym c.started.ensures)
     (start_called_else x (take 16 c.args.secret.now) c.in-Err.e (λ is. c.in-Err.ensures.no_key (ap (λ x. Err x) is) x (told (λ bad. cc (is, bad)))) (λ is. c.in-Err.ensures.bad_block (ap (λ x. Err x) is) x (told (λ bad. cc (is, bad)))))
+
+pub returns-in-Ok-clause-narrows : goal.returns-in-Ok-clause-narrows
+returns-in-Ok-clause-narrows g c is_err other x told =
+    c.in-Ok.ensures.content x (sym (ap (λ d. g.D.Disk.content d) (c.pass_on.ensures.untouched is_err other)) ∙ told)
+
+pub returns-in-Err-clause-narrows : goal.returns-in-Err-clause-narrows
+returns-in-Err-clause-narrows g c is_err other =
+    c.in-Err.ensures.refused refl (λ bad. other (ap (λ (e : SucceedError). refused_by e) (c.started.ensures ∙ ap started (same_error c.in-Err.e start.DiskFault bad))))
 
 -- after a succession, the area before the current one has signed its key
 module _ {D : Type 0} (g : Ghosts D) (desk : Desk) (key : KeyOf) (new : D) (text : List ℕ) where

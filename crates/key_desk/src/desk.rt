@@ -4,7 +4,7 @@ ghost use Rattle.road_io.specs.Causes.{Rose, RoseBy};
 ghost use Rattle.road_io.specs.Moments.{Image, EachImage, AtEachMoment};
 ghost use Rattle.desk_areas.specs.Layout.{SlotId, slots_of, place_in, gate_of, IsSigned, SameSigned, SignsAtMost, OutsideSlot};
 ghost use Rattle.key_desk.specs.Stands.{KeepsStanding};
-ghost use Rattle.lms_tree.specs.Signatures.{height_of, public_key, seal_len};
+ghost use Rattle.lms_tree.specs.Signatures.{height_of, public_key, seal_len, sealed};
 ghost use Rattle.lms_tree.specs.Links.{IsLink};
 
 use desk_areas::{Area, Count, open_gate, place_in, put_text};
@@ -80,7 +80,8 @@ impl Desk {
     fn sign_with(&self, slot: u32, text: &[u8], out: &mut [u8])
         requires slot { slot < slots_of self.now.key.kind }
         requires room { length out.old ≡ seal_len (height_of self.now.key.kind) }
-        ensures { IsSignature self.now.key slot text.now out.new }
+        ensures exact { out.new ≡ sealed self.now.key slot text.now }
+        ensures signature { IsSignature self.now.key slot text.now out.new }
     {
         self.key.sign_into(slot, text, out);
     }
@@ -299,6 +300,7 @@ impl Desk {
         ensures early { IfOk result (λ q. q + 1 < slots_of self.old.key.kind) }
         ensures lowest { IfOk result
             (λ q. (s : ℕ) → s < q → count_at self.old s ≢ Count.Free) }
+        ensures exact { IfOk result (λ q. out.new ≡ sealed self.new.key q text.now) }
         ensures signature { IfOk result (λ q. IsSignature self.new.key q text.now out.new) }
         ensures out { IsErr result → out.new ≡ out.old }
         ensures same { SameAreas self.old self.new }
@@ -528,6 +530,7 @@ impl Spent {
         requires knows { KnowsSpent D.Disk desk.now _disk.now (spent_slot self) (spent_text self) }
         requires out { length out.old ≡ seal_len (height_of desk.now.key.kind) }
         ensures number { result ≡ (spent_slot self).number }
+        ensures exact { out.new ≡ sealed desk.now.key (spent_slot self).number (spent_text self) }
         ensures signature { IsSignature desk.now.key (spent_slot self).number
             (spent_text self) out.new }
     {

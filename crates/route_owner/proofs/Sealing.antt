@@ -10,7 +10,7 @@ use Rattle.road_io.specs.declared.disk.Disk.{Ghosts}
 use Rattle.road_io.specs.Moments.{EachImage, AtEachMoment}
 use Rattle.road_io.proofs.MomentLaws.{weaker}
 use Rattle.book_model.specs.declared.settings.Settings.{Settings}
-use Rattle.lms_tree.specs.Signatures.{KeyOf, number_at, seal_len, height_of}
+use Rattle.lms_tree.specs.Signatures.{KeyOf, number_at, sealed, seal_len, height_of}
 use Rattle.lms_tree.specs.Links.{IsLink}
 use Rattle.key_desk.specs.Desk.{IsSignature, HasAreas, slot_here}
 use Rattle.key_desk.specs.declared.desk.Desk.{Desk}
@@ -127,15 +127,25 @@ module _ {D : Type 0} (g : Ghosts D) (old new : D) where
         (subst (λ (n : ℕ). EachImage g new (λ i. IsSigned i (record { area = area; number = n }) text)) (sym number) stands);
   }
 
+-- the signature in a publication is the one that its key makes
+exact_so : (key now : KeyOf) (q : ℕ) (header : Header) (text signature made : List ℕ) → made ≡ signature → now ≡ key → text ≡ header_text header → number_at signature 0 ≡ q → signature ≡ sealed now q text
+    → made ≡ sealed key (number_at made 0) (header_text header)
+exact_so key now q header text signature made same keys of number exact =
+    let own : signature ≡ sealed key q text = exact ∙ ap (λ (k : KeyOf). sealed k q text) keys in
+    let here : q ≡ number_at made 0 = sym (ap (λ (x : List ℕ). number_at x 0) same ∙ number) in
+    same ∙ own ∙ ap (λ (n : ℕ). sealed key n text) here ∙ ap (λ (t : List ℕ). sealed key (number_at made 0) t) of
+
 -- the publication that is made of parts, a header and its signature
 pub published_so : Ranges → (hash : List ℕ → List ℕ) (parts left : Parts) (s : Settings) (header : Header) (made signature : List ℕ) (key now : KeyOf) (q : ℕ) (text : List ℕ)
-    → IsSignable hash parts s header left → made ≡ signature → length signature ≤ 1452 → now ≡ key → q + 1 < slots_of key.kind → text ≡ header_text header → IsSignature now q text signature → IsPublication hash key parts s (publication_with header left s made)
-published_so ranges hash parts left s header made signature key now q text is same short keys early of good = record {
+    → IsSignable hash parts s header left → made ≡ signature → length signature ≤ 1452 → now ≡ key → q + 1 < slots_of key.kind → text ≡ header_text header → IsSignature now q text signature → signature ≡ sealed now q text
+    → IsPublication hash key parts s (publication_with header left s made)
+published_so ranges hash parts left s header made signature key now q text is same short keys early of good exact = record {
   of_parts = is.same;
   of_settings = refl;
   has_header = is.has;
   slot = subst (λ x. number_at x 0 + 1 < slots_of key.kind) (sym same) (slot_so key q signature early good.number_is);
   signed = subst (λ x. IsSignature key (number_at x 0) (header_text header) x) (sym same) (signed_so key now q header text signature keys of good).1;
+  exact = exact_so key now q header text signature made same keys of good.number_is exact;
   fits = fits_with ranges hash parts left s header made is (rw same short);
 }
 

@@ -9,7 +9,7 @@ use Rattle.road_map.specs.declared.parts.Parts.{Parts}
 use Rattle.road_io.specs.declared.disk.Disk.{Ghosts}
 use Rattle.road_io.specs.Moments.{EachImage, AtEachMoment}
 use Rattle.book_model.specs.declared.settings.Settings.{Settings}
-use Rattle.lms_tree.specs.Signatures.{KeyOf, number_at}
+use Rattle.lms_tree.specs.Signatures.{KeyOf, number_at, sealed}
 use Rattle.desk_areas.specs.declared.area.Count.TheVariants.{Free}
 use Rattle.key_desk.specs.Desk.{IsSignature, count_at, IsUsedUp as HasNoFree}
 use Rattle.key_desk.specs.declared.desk.DeskError.TheVariants as desk_errors
@@ -35,7 +35,8 @@ abbrev pub slot_in : ℕ → Publication → SlotId
 slot_in area p = record { area = area; number = slot_of p }
 
 -- the publication of parts and settings: with the header of their book, signed by a one-time key of
--- the key that is not its last
+-- the key that is not its last. The signature is the one that the key makes of this text by this
+-- one-time key, so no octet of it is the signer's choice.
 pub record IsPublication (hash : List ℕ → List ℕ) (key : KeyOf) (parts : Parts) (s : Settings)
     (p : Publication) : Type 0 where
   pub of_parts : p.parts ≡ parts
@@ -43,6 +44,7 @@ pub record IsPublication (hash : List ℕ → List ℕ) (key : KeyOf) (parts : P
   pub has_header : HasHeader hash sha256 parts s p.header
   pub slot : slot_of p + 1 < slots_of key.kind
   pub signed : IsSignature key (slot_of p) (header_text p.header) p.signature
+  pub exact : p.signature ≡ sealed key (slot_of p) (header_text p.header)
   pub fits : publication.Fits p
 
 -- the header stands in every image, in its slot of this area, the last open one, where no text was

@@ -16,7 +16,7 @@ pub returns-in-Ok-sign-clause-published : goal.returns-in-Ok-sign-clause-publish
 returns-in-Ok-sign-clause-published g c =
     published_so c.range_laws.ensures.publication _ _ _ _ _ _ _ _ _ _ _ c.in-Ok.ensures.signable (signature_is g c)
     (seal_short c.args.desk.now.key.kind _ 0 c.sign.new.out c.sig_len.ensures (c.sign.auto.out ∙ ap length c.deref_mut.ensures.value ∙ c.in-Ok-zeros.ensures))
-    c.in-Ok-sign.ensures.same.key c.in-Ok-sign.ensures.early c.write.ensures c.in-Ok-sign.ensures.signature
+    c.in-Ok-sign.ensures.same.key c.in-Ok-sign.ensures.early c.write.ensures c.in-Ok-sign.ensures.signature c.in-Ok-sign.ensures.exact
 
 pub returns-in-Ok-sign-clause-sealed : goal.returns-in-Ok-sign-clause-sealed
 returns-in-Ok-sign-clause-sealed g c =

@@ -1,7 +1,8 @@
 //! The frames of a source.
-ghost use Rattle.std.specs.Prelude.{◌≡◌, ◌≤◌, ◌∷◌, [], Err, OnOk};
+ghost use Rattle.std.specs.Prelude.{◌≡◌, ◌≤◌, ◌∷◌, [], Some, None, Ok, Err, OnOk, false};
 ghost use Rattle.std.specs.Int.{w32, to_be_bytes};
 ghost use Rattle.road_io.specs.Causes.{Rose};
+ghost use Rattle.road_io.specs.Given.{Gave};
 ghost use Rattle.octet_frame.specs.Taking.{TakesFrame};
 ghost use Rattle.octet_frame.specs.TakingBody.{TakesBody};
 ghost use Rattle.octet_frame.specs.TakingHead.{TakesHead};
@@ -35,6 +36,10 @@ pub fn next_frame<S: Source>(
     body: &mut Vec<u8>,
 ) -> Result<bool, FrameError>
     ensures takes { TakesFrame most (S.left source.old) (S.left source.new) body.new.items result }
+    ensures gave { Gave (S.given source.old) (S.given source.new)
+        (λ octets. TakesFrame most (Some octets) (Some []) body.new.items result) }
+    ensures ended { result ≡ Ok false → S.ended source.new }
+    ensures cut { result ≡ Err FrameError.Truncated → S.ended source.new }
     ensures later { S.faults source.old ≤ S.faults source.new }
     ensures source { result ≡ Err FrameError.Source →
         Rose (S.faults source.old) (S.faults source.new) }
@@ -70,6 +75,9 @@ enum BodyError {
 // Reads so many octets into a buffer, in place of what it held.
 fn read_body<S: Source>(source: &mut S, size: usize, body: &mut Vec<u8>) -> Result<(), BodyError>
     ensures takes { TakesBody size (S.left source.old) (S.left source.new) body.new.items result }
+    ensures gave { Gave (S.given source.old) (S.given source.new)
+        (λ octets. TakesBody size (Some octets) (Some []) body.new.items result) }
+    ensures cut { result ≡ Err BodyError.Truncated → S.ended source.new }
     ensures later { S.faults source.old ≤ S.faults source.new }
     ensures source { result ≡ Err BodyError.Source →
         Rose (S.faults source.old) (S.faults source.new) }
@@ -97,6 +105,10 @@ enum HeadError {
 // The length of the next frame, or nothing at the end.
 fn read_head<S: Source>(source: &mut S) -> Result<Option<u32>, HeadError>
     ensures takes { TakesHead (S.left source.old) (S.left source.new) result }
+    ensures gave { Gave (S.given source.old) (S.given source.new)
+        (λ octets. TakesHead (Some octets) (Some []) result) }
+    ensures ended { result ≡ Ok None → S.ended source.new }
+    ensures cut { result ≡ Err HeadError.Truncated → S.ended source.new }
     ensures later { S.faults source.old ≤ S.faults source.new }
     ensures source { result ≡ Err HeadError.Source →
         Rose (S.faults source.old) (S.faults source.new) }

@@ -1,9 +1,10 @@
 //! The loop over the frames.
-ghost use Rattle.std.specs.Prelude.{◌≡◌, ◌≤◌, Err};
+ghost use Rattle.std.specs.Prelude.{◌≡◌, ◌≤◌, [], Some, Err, OnOk};
 ghost use Rattle.sha2.specs.Sha256.{sha256};
 ghost use Rattle.road_io.specs.Causes.{Rose};
+ghost use Rattle.road_io.specs.Given.{Gave};
 ghost use Rattle.route_service.specs.Sessions.{state_of};
-ghost use Rattle.route_serving.specs.Inputs.{Input, IsInput, ServesInput};
+ghost use Rattle.route_serving.specs.Inputs.{Input, IsInput, ServesInput, split};
 ghost use Rattle.route_serving.specs.Serving.{Serves};
 
 use octet_frame::{FrameError, next_frame, write_frame};
@@ -51,6 +52,14 @@ pub fn serve<H: Hasher, S: Source, K: Sink>(
     ensures input { (input : Input) × IsInput most limit (S.left source.old) input
         × ServesInput H.hash sha256 (state_of service.old) input (K.taken sink.old)
         (K.taken sink.new) result }
+    ensures gave { Gave (S.given source.old) (S.given source.new) (λ octets. Serves H.hash sha256
+        (state_of service.old) (state_of service.new) most limit
+        (Some octets) (Some []) (K.taken sink.old) (K.taken sink.new) result) }
+    ensures answers { Gave (S.given source.old) (S.given source.new) (λ octets. ServesInput H.hash
+        sha256 (state_of service.old) (split most limit octets) (K.taken sink.old)
+        (K.taken sink.new) result) }
+    ensures ended { OnOk result (S.ended source.new) }
+    ensures cut { result ≡ Err ServeError.TruncatedFrame → S.ended source.new }
     ensures source { result ≡ Err ServeError.Source →
         Rose (S.faults source.old) (S.faults source.new) }
     ensures sink { result ≡ Err ServeError.Sink → Rose (K.faults sink.old) (K.faults sink.new) }
@@ -75,6 +84,11 @@ fn turns<H: Hasher, S: Source, K: Sink>(
 ) -> Result<(), ServeError>
     ensures serves { Serves H.hash sha256 (state_of service.old) (state_of service.new) most limit
         (S.left source.old) (S.left source.new) (K.taken sink.old) (K.taken sink.new) result }
+    ensures gave { Gave (S.given source.old) (S.given source.new) (λ octets. Serves H.hash sha256
+        (state_of service.old) (state_of service.new) most limit
+        (Some octets) (Some []) (K.taken sink.old) (K.taken sink.new) result) }
+    ensures ended { OnOk result (S.ended source.new) }
+    ensures cut { result ≡ Err ServeError.TruncatedFrame → S.ended source.new }
     ensures source { result ≡ Err ServeError.Source →
         Rose (S.faults source.old) (S.faults source.new) }
     ensures sink { result ≡ Err ServeError.Sink → Rose (K.faults sink.old) (K.faults sink.new) }

@@ -1,6 +1,7 @@
 //! The command `serve`.
 
-ghost use Rattle.std.specs.Prelude.{◌≡◌, ◌≤◌, length, IfOk, IfErr, OnOk};
+ghost use Rattle.std.specs.Prelude.{◌≡◌, ◌≤◌, [], length, Some, Err, IfOk, IfErr, OnOk};
+ghost use Rattle.road_io.specs.Given.{Gave};
 ghost use Rattle.route_service.specs.Machine.{first_state};
 ghost use Rattle.route_service.specs.Sessions.{state_of};
 ghost use Rattle.command_files.specs.Endings.{Promises, NoDisk, NoEnd, WhyNot};
@@ -41,6 +42,11 @@ pub fn serve<L: Library, S: Source, K: Sink>(
     ensures serves { ServesFrames publication.now (L.files library.old)
         (S.left source.old) (S.left source.new) (S.faults source.old) (S.faults source.new)
         (K.taken sink.old) (K.taken sink.new) result }
+    ensures gave { Gave (S.given source.old) (S.given source.new) (λ octets. ServesFrames
+        publication.now (L.files library.old) (Some octets) (Some [])
+        (S.faults source.old) (S.faults source.new) (K.taken sink.old) (K.taken sink.new) result) }
+    ensures ended { OnOk result (S.ended source.new) }
+    ensures cut { result ≡ Err Fault.TruncatedFrame → S.ended source.new }
 {
     range_laws();
     let publication = load_publication(alloc, library, publication)?;

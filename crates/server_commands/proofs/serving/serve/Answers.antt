@@ -1,4 +1,4 @@
-use Rattle.std.proofs.Common.{sym, ◌∙◌}
+use Rattle.std.proofs.Common.{sym, [], append-nil, ◌∙◌}
 use Rattle.std.proofs.lemmas.Result.{err_from_is_err_and}
 use Rattle.server_commands.proofs.ServeCommand.{unread_serves, serve_refused, refused_serves, serve_ends, serves_frames, memory_served}
 use Rattle.server_commands.proofs.serving.serve.Goals as goal
@@ -36,3 +36,19 @@ returns-clause-source g c is = c.serve-served.ensures.source_kept (memory_served
 
 pub returns-clause-sink : goal.returns-clause-sink
 returns-clause-sink g c is = c.serve-served.ensures.sink_kept (memory_served c.serve-served.result (sym c.ended_serving.ensures ∙ is))
+
+pub returns-in_err-publication-clause-gave : goal.returns-in_err-publication-clause-gave
+returns-in_err-publication-clause-gave g c =
+    let p = err_from_is_err_and c.from_residual.result c.from_residual.ensures.1 in
+    let loads = c.in_err-publication.ensures.loads in
+    record { octets = []; gave = sym (append-nil _); is = rw (p.1, p.2) (unread_serves _ _ _ _ _ _ _ loads.others loads.read) }
+
+pub returns-in_err-service-clause-gave : goal.returns-in_err-service-clause-gave
+returns-in_err-service-clause-gave g c =
+    let p = err_from_is_err_and c.from_residual-in_err-service.result c.from_residual-in_err-service.ensures.1 in
+    record {
+      octets = [];
+      gave = sym (append-nil _);
+      is = rw (p.1, p.2) (refused_serves _ _ _ (g.L.Library.faults c.args.library.now) (g.L.Library.faults c.args.library.now) (g.K.Sink.faults c.args.sink.now) (g.K.Sink.faults c.args.sink.now)
+          c.in_ok-publication.ensures.loads.read _ _ _ _ _ c.in_err-service.ensures.refused);
+    }

@@ -1,0 +1,11 @@
+use Rattle.std.proofs.Common.{refl, sym, [], take, take_all, length, length-take-le, append-nil, arith, rules, ◌∙◌, ap}
+use Rattle.octet_frame.proofs.FrameLemmas.{Consumes_alone}
+use Rattle.octet_frame.proofs.reading.read_body.Goals as goal
+
+pub returns-then-is_err-clause-gave : goal.returns-then-is_err-clause-gave
+returns-then-is_err-clause-gave g c = record { octets = []; gave = sym (append-nil _); is = refl }
+
+pub returns-in-Ok-clause-gave : goal.returns-in-Ok-clause-gave
+returns-in-Ok-clause-gave g c =
+    let octets = take c.in-Ok.n c.as_mut_slice.now in
+    record { octets = octets; gave = c.in-Ok.ensures.gave; is = (octets, search rules, Consumes_alone octets, refl) }

@@ -14,9 +14,9 @@ pub returns : goal.returns
 returns c = record {
   exact = subst (λ (v : View). c.sign_into.new.out ≡ sealed v.key c.args.slot c.args.text.now) c.self.view_is c.sign_into.ensures.signature;
   signature =
-    subst (λ (v : View). IsSignature v.key c.args.slot c.args.text.now c.sign_into.new.out) c.self.view_is
-    (record {
-      number_is = ap (λ (l : List ℕ). number_at l 0) c.sign_into.ensures.signature ∙ sealed-number c.self.inside.key c.args.slot c.args.text.now (omega arith);
-      good = c.sign_into.ensures.verified;
-    });
+      subst (λ (v : View). IsSignature v.key c.args.slot c.args.text.now c.sign_into.new.out) c.self.view_is
+      (record {
+        number_is = ap (λ (l : List ℕ). number_at l 0) c.sign_into.ensures.signature ∙ sealed-number c.self.inside.key c.args.slot c.args.text.now (omega arith);
+        good = c.sign_into.ensures.verified;
+      });
 }

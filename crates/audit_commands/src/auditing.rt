@@ -41,7 +41,7 @@ pub fn audit<L: Library, K: Sink, D: Disk>(
 ) -> Result<Conclusion, Fault>
     ensures { AuditsFiles routes refused_line D.Disk disk.old disk.new
         key.now publication.now reply.now query (option_map (λ name. name.now) chain.entry)
-        (L.files library.old) (L.faults library.old) (L.faults library.new)
+        (L.files library.new) (L.faults library.old) (L.faults library.new)
         (K.taken sink.old) (K.taken sink.new) (K.faults sink.old) (K.faults sink.new) result }
 {
     audit_files::<RouteTelling, L, K, D>(
@@ -71,7 +71,7 @@ pub fn audit_files<T: Telling, L: Library, K: Sink, D: Disk>(
 ) -> Result<Conclusion, Fault>
     ensures { AuditsFiles T.Kind.kind T.refused D.Disk disk.old disk.new
         key.now publication.now reply.now query (option_map (λ name. name.now) chain.entry)
-        (L.files library.old) (L.faults library.old) (L.faults library.new)
+        (L.files library.new) (L.faults library.old) (L.faults library.new)
         (K.taken sink.old) (K.taken sink.new) (K.faults sink.old) (K.faults sink.new) result }
 {
     <T::Kind as Replies>::laws();
@@ -105,12 +105,12 @@ fn write_findings<T: Telling, L: Library, K: Sink, D: Disk>(
         (ends_audit T.Kind.kind T.refused (still_told D.Disk disk.old disk.new)
         key.now publication.now reply.now query (option_map (λ name. name.now) chain.entry)) TellsNone
         (Rose (D.faults disk.old) (D.faults disk.new))
-        (L.files library.old) (L.faults library.old) (L.faults library.new)
+        (L.files library.new) (L.faults library.old) (L.faults library.new)
         (K.taken sink.old) (K.taken sink.new) (K.faults sink.old) (K.faults sink.new) result }
     ensures library { HidesNone result (L.faults library.old) (L.faults library.new) }
     ensures sink { HidesNone result (K.faults sink.old) (K.faults sink.new) }
     ensures finds { WritesFindings D.Disk disk.new (IsBrought T.Kind.kind) key.now reply.now
-        (option_map (λ name. name.now) chain.entry) (L.files library.old)
+        (option_map (λ name. name.now) chain.entry) (L.files library.new)
         (K.taken sink.old) (K.taken sink.new) result }
     ensures unfaulted { result ≢ Err Fault.Disk → D.faults disk.new ≡ D.faults disk.old }
     ensures stays { AtEachMoment D.Disk disk.old disk.new Stays }

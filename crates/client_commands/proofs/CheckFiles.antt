@@ -4,6 +4,7 @@ use Rattle.std.specs.declared.option.Option.{Option}
 use Rattle.std.specs.declared.result.Result.{Result}
 use Rattle.std.specs.declared.result.Result.TheVariants.{Ok}
 use Rattle.road_io.specs.Contents.{Folder}
+use Rattle.road_io.specs.Disk.{Narrows}
 use Rattle.lms_tree.specs.declared.links.Link.{Link}
 use Rattle.command_files.specs.Reading.{octets_at, chain_at}
 use Rattle.command_files.specs.HexFiles.{public_key_at}
@@ -11,7 +12,7 @@ use Rattle.command_files.specs.Endings.{Ending, EndsReading, Promises, TellsNone
 use Rattle.command_files.specs.declared.fault.Fault.{Fault}
 use Rattle.command_files.specs.declared.ended.Conclusion.{Conclusion}
 use Rattle.command_files.proofs.OneEnd.{HasOneEnd, one_reading}
-use Rattle.command_files.proofs.Written.{CallsFor, over_both, reads, read_as, moved, written}
+use Rattle.command_files.proofs.Written.{CallsFor, over_both, reads, read_as, moved, narrows_on, written}
 
 -- Ends says how the check ends over a public key, a chain from it and the octets of a reply
 module _ (Ends : List ℕ → List Link → List ℕ → Ending) where
@@ -56,13 +57,13 @@ module _ (Ends : List ℕ → List Link → List ℕ → Ending) where
         key_read (over_both files HasReply HasChain (λ folder. HasReply folder × HasChain folder) (λ folder is_reply is_chain. (is_reply, is_chain)) reply_read chain_read)
 
     -- an end that was told, and is no fault
-    pub told_over_files : (later last : Option Folder) (read_octets : List ℕ) (read_links : List Link) (l l' k k' : ℕ) (old new : Option (List ℕ)) (end o : Result Conclusion Fault) (text : List ℕ)
-        → MayEnd TellsNone end → later ≡ files → last ≡ later → IfSome files HasKey → IfSome later HasReply → IfSome last HasChain
+    pub told_over_files : (first second : Option Folder) (read_octets : List ℕ) (read_links : List Link) (l l' k k' : ℕ) (old new : Option (List ℕ)) (end o : Result Conclusion Fault) (text : List ℕ)
+        → MayEnd TellsNone end → Narrows first second → Narrows second files → IfSome first HasKey → IfSome second HasReply → IfSome files HasChain
         → read_octets ≡ octets → read_links ≡ links → Ends key read_links read_octets end text → Writes end text old new k k' o
         → Promises (over_files key_name reply_name chain_name) TellsNone NoDisk files l l' old new k k' o
-    told_over_files later last read_octets read_links l l' k k' old new end o text no_fault stays stays_on key_read reply_read chain_read same same_links h w =
+    told_over_files first second read_octets read_links l l' k k' old new end o text no_fault narrows more key_read reply_read chain_read same same_links h w =
         written (over_files key_name reply_name chain_name) TellsNone NoDisk files l l' k k' old (Ends key links octets)
-        (calls key_read (moved files later HasReply stays reply_read) (moved files last HasChain (stays_on ∙ stays) chain_read)) new end o text no_fault
+        (calls (moved first files HasKey (narrows_on first second files narrows more) key_read) (moved second files HasReply more reply_read) chain_read) new end o text no_fault
         (subst (λ xs. Ends key links xs end text) same (subst (λ ls. Ends key ls read_octets end text) same_links h)) w
 
   -- where the files hold these, what the files call for is what these call for

@@ -29,7 +29,7 @@ pub fn check_reach<L: Library, K: Sink>(
 ) -> Result<Conclusion, Fault>
     ensures promised { Promises (ends_check_reach key.now reply.now query least
         (option_map (λ word. word.now) chain.entry)) TellsNone NoDisk
-        (L.files library.old) (L.faults library.old) (L.faults library.new)
+        (L.files library.new) (L.faults library.old) (L.faults library.new)
         (K.taken sink.old) (K.taken sink.new) (K.faults sink.old) (K.faults sink.new) result }
     ensures library { HidesNone result (L.faults library.old) (L.faults library.new) }
     ensures sink { HidesNone result (K.faults sink.old) (K.faults sink.new) }

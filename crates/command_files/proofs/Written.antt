@@ -8,6 +8,7 @@ use Rattle.std.specs.declared.result.Result.TheVariants.{Ok, Err}
 use Rattle.std.specs.Io.KnownBytes.{Appends, Keeps}
 use Rattle.road_io.specs.Causes.{Rose}
 use Rattle.road_io.specs.Contents.{Folder, AppendsFront}
+use Rattle.road_io.specs.Disk.{Narrows}
 use Rattle.command_files.specs.Endings.{Ending, EndsReading, Answered, HasUntoldCause, MayEnd, Promises, WhyNot, Writes}
 use Rattle.command_files.specs.declared.fault.Fault.{Fault}
 use Rattle.command_files.specs.declared.fault.Fault.TheVariants.{Words, Missing, TooLong, TruncatedFrame, FrameTooLong, Library, Source, Sink, Disk, Memory, UnknownNode, NoRoute, TooManyFrames, MirrorLost}
@@ -37,9 +38,14 @@ pub over_any : (files : Option Folder) (P : Folder → Type 0) → ((folder : Fo
 over_any None P f = tt
 over_any (Some folder) P f = f folder
 
--- what a library tells later it tells before
-pub moved : (files later : Option Folder) (P : Folder → Type 0) → later ≡ files → IfSome later P → IfSome files P
-moved files later P same h = subst (λ (f : Option Folder). IfSome f P) same h
+-- what holds of the files that were told holds of those that are still told
+pub moved : (before files : Option Folder) (P : Folder → Type 0) → Narrows before files → IfSome before P → IfSome files P
+moved before None P narrows h = tt
+moved before (Some folder) P narrows h = subst (λ (f : Option Folder). IfSome f P) (narrows folder refl) h
+
+-- what is told narrows on
+pub narrows_on : (first second third : Option Folder) → Narrows first second → Narrows second third → Narrows first third
+narrows_on first second third once more = λ folder is. once folder (more folder is)
 
 -- a file that was read, and what follows it
 pub reads : {X : Type 0} (read : Result X Fault) (x : X) (Next : X → Ending) (o : Result Conclusion Fault) (text : List ℕ) → read ≡ Ok x → Next x o text → EndsReading read Next o text

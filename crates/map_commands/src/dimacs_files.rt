@@ -21,7 +21,7 @@ pub fn dimacs<L: Library, K: Sink>(
     places: &str,
 ) -> Result<Conclusion, Fault>
     ensures promised { Promises (ends_dimacs graph.now places.now) TellsNone NoDisk
-        (L.files library.old) (L.faults library.old) (L.faults library.new)
+        (L.files library.new) (L.faults library.old) (L.faults library.new)
         (K.taken sink.old) (K.taken sink.new) (K.faults sink.old) (K.faults sink.new) result }
     ensures library { HidesNone result (L.faults library.old) (L.faults library.new) }
     ensures sink { HidesNone result (K.faults sink.old) (K.faults sink.new) }
@@ -41,7 +41,7 @@ fn load_dimacs<L: Library>(
     places: &str,
 ) -> Result<Parts, Fault>
     ensures { Loads (λ parts. parts) (λ folder. dimacs_at folder graph.now places.now)
-        (L.files library.old) (L.faults library.old) (L.faults library.new) result }
+        (L.files library.new) (L.faults library.old) (L.faults library.new) result }
 {
     let graph = load_file(alloc, library, graph)?;
     let places = load_file(alloc, library, places)?;

@@ -21,7 +21,7 @@ pub fn route<L: Library, K: Sink>(
     to: u32,
 ) -> Result<Conclusion, Fault>
     ensures promised { Promises (ends_route roads.now from to) TellsNone NoDisk
-        (L.files library.old) (L.faults library.old) (L.faults library.new)
+        (L.files library.new) (L.faults library.old) (L.faults library.new)
         (K.taken sink.old) (K.taken sink.new) (K.faults sink.old) (K.faults sink.new) result }
     ensures library { HidesNone result (L.faults library.old) (L.faults library.new) }
     ensures sink { HidesNone result (K.faults sink.old) (K.faults sink.new) }

@@ -27,7 +27,7 @@ pub fn root<L: Library, K: Sink>(
     requires least { 2 ≤ fan }
     requires most { fan ≤ 32 }
     ensures promised { Promises (ends_root roads.now fan) TellsNone NoDisk
-        (L.files library.old) (L.faults library.old) (L.faults library.new)
+        (L.files library.new) (L.faults library.old) (L.faults library.new)
         (K.taken sink.old) (K.taken sink.new) (K.faults sink.old) (K.faults sink.new) result }
     ensures library { HidesNone result (L.faults library.old) (L.faults library.new) }
     ensures sink { HidesNone result (K.faults sink.old) (K.faults sink.new) }

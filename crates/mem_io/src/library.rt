@@ -1,12 +1,12 @@
 //! A library in memory, which tells its files.
-ghost use Rattle.std.specs.Prelude.{◌≡◌, ◌≢◌, ◌≤◌, ◌+◌, ◌-◌, ◌^◌, List, ℕ, OnOk, OnErr, IfOk, IfErr, IfSome, find, min, Contains, vec_len};
+ghost use Rattle.std.specs.Prelude.{◌≡◌, ◌≢◌, ◌≤◌, ◌+◌, ◌-◌, ◌^◌, ◌++◌, ◌∷◌, [], List, ℕ, OnOk, OnErr, IfOk, IfErr, IfSome, find, min, Contains, vec_len};
 ghost use Rattle.std.specs.declared.option.Option.TheVariants.{Some, None};
 ghost use Rattle.std.specs.Option.{option_copied};
 ghost use Rattle.std.specs.Str.{bytes_eq};
 ghost use Rattle.std.specs.String.{string_bytes};
 
 use octet_text::NoMemory;
-use road_io::{Library, LoadError};
+use road_io::{Library, LoadError, Record};
 use std::alloc::Global;
 
 /// A file of a library in memory.
@@ -24,6 +24,7 @@ pub struct MemLibrary {
     fails: Vec<u64>,
     calls: u64,
     faults: u64,
+    names: Record,
 }
 
 impl MemLibrary {
@@ -39,6 +40,7 @@ impl MemLibrary {
             fails,
             calls: 0,
             faults: 0,
+            names: Record::new(),
         }
     }
 
@@ -74,20 +76,25 @@ impl Library for MemLibrary {
     ghost use Rattle.mem_io.specs.MemLibrary.{files_of, CountsLoad, IsPlannedLoad};
     ghost use Rattle.road_io.specs.Contents.{Gives};
     ghost use Rattle.road_io.specs.Causes.{HasLoadCause};
+    ghost use Rattle.road_io.specs.Shelves.{asked_for};
 
     ghost files = { λ l. Some (files_of l) };
+
+    ghost asked = { λ l. asked_for l.names.events };
 
     ghost faults = { λ l. l.faults };
 
     fn load(&mut self, alloc: Global, name: &str, most: usize) -> Result<Vec<u8>, LoadError>
         ensures most { IfOk result (λ octets. vec_len octets ≤ most) }
-        ensures file { IfSome (Some (files_of self.old))
+        ensures file { IfSome (Some (files_of self.new))
             (λ folder. Gives (folder name.now) most result) }
         ensures same { Some (files_of self.new) ≡ Some (files_of self.old) }
+        ensures asked { asked_for self.new.names.events ≡
+            asked_for self.old.names.events ++ name.now ∷ [] }
         ensures later { self.old.faults ≤ self.new.faults }
         ensures kept { OnOk result (self.new.faults ≡ self.old.faults) }
         ensures cause { IfErr result
-            (HasLoadCause (Some (files_of self.old)) self.old.faults self.new.faults) }
+            (HasLoadCause (Some (files_of self.new)) self.old.faults self.new.faults) }
         ensures planned { IsPlannedLoad self.old → result ≡ Err LoadError.Failed }
         ensures only_planned { result ≡ Err LoadError.Failed → IsPlannedLoad self.old }
         ensures counts { CountsLoad self.old self.new }
@@ -97,6 +104,7 @@ impl Library for MemLibrary {
     {
         let call = self.calls;
         self.calls = call.saturating_add(1);
+        self.names.note(&[], name.as_bytes());
         if self.fails.contains(&call) {
             self.faults = self.faults.saturating_add(1);
             return Err(LoadError::Failed);

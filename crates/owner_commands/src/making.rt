@@ -35,18 +35,18 @@ pub fn key<L: Library, K: Sink, D: Disk>(
     ensures promised { Promises
         (ends_key (still_told D.Disk disk.old disk.new) secret.now (type_of kind)) TellsNone
         (Rose (D.faults disk.old) (D.faults disk.new))
-        (L.files library.old) (L.faults library.old) (L.faults library.new)
+        (L.files library.new) (L.faults library.old) (L.faults library.new)
         (K.taken sink.old) (K.taken sink.new) (K.faults sink.old) (K.faults sink.new) result }
     ensures library { HidesNone result (L.faults library.old) (L.faults library.new) }
     ensures sink { HidesNone result (K.faults sink.old) (K.faults sink.new) }
-    ensures made { OnOk result (IfSome (L.files library.old)
+    ensures made { OnOk result (IfSome (L.files library.new)
         (λ folder. MakesKey D.Disk disk.new (type_of kind) (secret_at folder secret.now))) }
     ensures held { ForSome (D.content disk.old) IsOpen →
         AtEachMoment D.Disk disk.old disk.new Stays }
     ensures kept { ForSome (still_told D.Disk disk.old disk.new)
         (λ c. IsOpen c → result ≢ Ok Conclusion.Done) }
     ensures moments { AtEachMoment D.Disk disk.old disk.new Stays ⊎
-        MakesByFile D.Disk disk.old disk.new (L.files library.old) secret.now (type_of kind) }
+        MakesByFile D.Disk disk.old disk.new (L.files library.new) secret.now (type_of kind) }
     ensures untouched { IfErr result (StaysRefused D.Disk disk.old disk.new) }
     ensures unfaulted { result ≢ Err Fault.Disk → D.faults disk.new ≡ D.faults disk.old }
     ensures stands { KeepsStanding D.Disk disk.old disk.new }

@@ -38,7 +38,7 @@ pub fn publish<L: Library, K: Sink, D: Disk, M: Mirror>(
     ensures promised { Promises
         (ends_publish (still_told D.Disk disk.old disk.new) roads.now settings.now) TellsLost
         (Rose (D.faults disk.old) (D.faults disk.new))
-        (L.files library.old) (L.faults library.old) (L.faults library.new)
+        (L.files library.new) (L.faults library.old) (L.faults library.new)
         (K.taken sink.old) (K.taken sink.new) (K.faults sink.old) (K.faults sink.new) result }
     ensures library { HidesNone result (L.faults library.old) (L.faults library.new) }
     ensures sink { HidesNone result (K.faults sink.old) (K.faults sink.new) }
@@ -47,7 +47,7 @@ pub fn publish<L: Library, K: Sink, D: Disk, M: Mirror>(
     ensures mirrored { SealsWhatItMirrors M.octets M.named M.puts M.room D.Disk disk.old disk.new
         (K.taken sink.old) (K.taken sink.new) mirrors.old.items mirrors.new.items result }
     ensures signs { SignsAtMostOne D.Disk disk.old disk.new
-        (L.files library.old) roads.now settings.now }
+        (L.files library.new) roads.now settings.now }
     ensures untouched { IfErr result (StaysRefused D.Disk disk.old disk.new) }
     ensures unfaulted { result ≢ Err Fault.Disk → D.faults disk.new ≡ D.faults disk.old }
     ensures stands { KeepsStanding D.Disk disk.old disk.new }

@@ -35,11 +35,11 @@ pub fn succeed<L: Library, K: Sink, D: Disk>(
     ensures promised { Promises
         (ends_succession (still_told D.Disk disk.old disk.new) secret.now (type_of kind))
         TellsNone (Rose (D.faults disk.old) (D.faults disk.new))
-        (L.files library.old) (L.faults library.old) (L.faults library.new)
+        (L.files library.new) (L.faults library.old) (L.faults library.new)
         (K.taken sink.old) (K.taken sink.new) (K.faults sink.old) (K.faults sink.new) result }
     ensures library { HidesNone result (L.faults library.old) (L.faults library.new) }
     ensures sink { HidesNone result (K.faults sink.old) (K.faults sink.new) }
-    ensures adds { AddsKey D.Disk disk.old disk.new (L.files library.old) secret.now
+    ensures adds { AddsKey D.Disk disk.old disk.new (L.files library.new) secret.now
         (type_of kind) result }
     ensures unfaulted { result ≢ Err Fault.Disk → D.faults disk.new ≡ D.faults disk.old }
     ensures stands { KeepsStanding D.Disk disk.old disk.new }

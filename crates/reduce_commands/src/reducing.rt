@@ -39,7 +39,7 @@ pub fn reduce<L: Library, K: Sink, D: Disk>(
     ensures promised { Promises (ends_reduce
         (still_told D.Disk disk.old disk.new) key.now text.now signature.now) TellsNone
         (Rose (D.faults disk.old) (D.faults disk.new))
-        (L.files library.old) (L.faults library.old) (L.faults library.new)
+        (L.files library.new) (L.faults library.old) (L.faults library.new)
         (K.taken sink.old) (K.taken sink.new) (K.faults sink.old) (K.faults sink.new) result }
     ensures library { HidesNone result (L.faults library.old) (L.faults library.new) }
     ensures sink { HidesNone result (K.faults sink.old) (K.faults sink.new) }

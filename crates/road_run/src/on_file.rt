@@ -38,7 +38,7 @@ pub fn run_on_file<R: Files<File = File> + Drop, L: Library, S: Source, K: Sink,
 ) -> Ended
     ensures status { result.status ≡ status_of (outcome_of result) }
     ensures promised { RunPromises ⟦<FileDisk<R> as Disk>⟧ disk.old disk.new (request_of words.now)
-        (L.files library.old) (L.faults library.old) (L.faults library.new)
+        (L.files library.new) (L.faults library.old) (L.faults library.new)
         (K.taken sink.old) (K.taken sink.new) (K.faults sink.old) (K.faults sink.new)
         (outcome_of result) }
     ensures mirrors { OnMirrors M.octets M.named M.puts M.room
@@ -52,7 +52,7 @@ pub fn run_on_file<R: Files<File = File> + Drop, L: Library, S: Source, K: Sink,
         (K.faults sink.new)
         (⟦<FileDisk<R> as Disk>⟧.faults disk.old) (⟦<FileDisk<R> as Disk>⟧.faults disk.new) →
         IfSome (request_of words.now)
-        (λ request. IfSome (L.files library.old)
+        (λ request. IfSome (L.files library.new)
         (λ folder. IsTold request (still_told ⟦<FileDisk<R> as Disk>⟧ disk.old disk.new) →
         IsExact (Ends (still_told ⟦<FileDisk<R> as Disk>⟧ disk.old disk.new) request folder)
         (but_for_mirrors (outcome_of result)))) }
@@ -60,7 +60,7 @@ pub fn run_on_file<R: Files<File = File> + Drop, L: Library, S: Source, K: Sink,
         NoneFailed (L.faults library.old) (L.faults library.new) (K.faults sink.old)
         (K.faults sink.new)
         (⟦<FileDisk<R> as Disk>⟧.faults disk.old) (⟦<FileDisk<R> as Disk>⟧.faults disk.new) →
-        IfSome (request_of words.now) (λ request. IfSome (L.files library.old) (λ folder.
+        IfSome (request_of words.now) (λ request. IfSome (L.files library.new) (λ folder.
         AreTold (still_told ⟦<FileDisk<R> as Disk>⟧ disk.old disk.new) (S.left source.old) request →
         IsComplete
         (CallsFor (still_told ⟦<FileDisk<R> as Disk>⟧ disk.old disk.new) (S.left source.old) request folder)

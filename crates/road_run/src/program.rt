@@ -43,10 +43,10 @@ pub fn run<L: Library, S: Source, K: Sink, D: Disk, M: Mirror>(
 ) -> Ended
     ensures status { result.status ≡ status_of (outcome_of result) }
     ensures promised { RunPromises D.Disk disk.old disk.new (request_of words.now)
-        (L.files library.old) (L.faults library.old) (L.faults library.new)
+        (L.files library.new) (L.faults library.old) (L.faults library.new)
         (K.taken sink.old) (K.taken sink.new) (K.faults sink.old) (K.faults sink.new)
         (outcome_of result) }
-    ensures takes { RunTakes (request_of words.now) (L.files library.old)
+    ensures takes { RunTakes (request_of words.now) (L.files library.new)
         (S.left source.old) (S.left source.new) (S.faults source.old) (S.faults source.new)
         (K.taken sink.old) (K.taken sink.new) (outcome_of result) }
     ensures mirrors { OnMirrors M.octets M.named M.puts M.room D.Disk disk.old disk.new
@@ -63,7 +63,7 @@ pub fn run<L: Library, S: Source, K: Sink, D: Disk, M: Mirror>(
         (K.faults sink.new)
         (D.faults disk.old) (D.faults disk.new) →
         IfSome (request_of words.now)
-        (λ request. IfSome (L.files library.old)
+        (λ request. IfSome (L.files library.new)
         (λ folder. IsTold request (still_told D.Disk disk.old disk.new) →
         IsExact (Ends (still_told D.Disk disk.old disk.new) request folder)
         (but_for_mirrors (outcome_of result)))) }
@@ -71,20 +71,20 @@ pub fn run<L: Library, S: Source, K: Sink, D: Disk, M: Mirror>(
         NoneFailed (L.faults library.old) (L.faults library.new) (K.faults sink.old)
         (K.faults sink.new) (D.faults disk.old) (D.faults disk.new) →
         IfServe (request_of words.now) (λ file.
-        IsExactServing file (L.files library.old) (S.left source.old) (outcome_of result)) }
+        IsExactServing file (L.files library.new) (S.left source.old) (outcome_of result)) }
     ensures honest { IfSome (request_of words.now) (λ request.
-        AcceptsHonest request (L.files library.old) (K.taken sink.old) (K.taken sink.new)
+        AcceptsHonest request (L.files library.new) (K.taken sink.old) (K.taken sink.new)
         (outcome_of result)) }
     ensures taken { IfSome (request_of words.now) (λ request.
-        RepliesAreTaken request (L.files library.old) (K.taken sink.old) (K.taken sink.new)
+        RepliesAreTaken request (L.files library.new) (K.taken sink.old) (K.taken sink.new)
         (outcome_of result)) }
     ensures proves { IfSome (request_of words.now) (λ request.
-        ProvesKnown request (L.files library.old) (K.taken sink.old) (K.taken sink.new)
+        ProvesKnown request (L.files library.new) (K.taken sink.old) (K.taken sink.new)
         (outcome_of result)) }
     ensures complete { ¬ Rose (S.faults source.old) (S.faults source.new) →
         NoneFailed (L.faults library.old) (L.faults library.new) (K.faults sink.old)
         (K.faults sink.new) (D.faults disk.old) (D.faults disk.new) →
-        IfSome (request_of words.now) (λ request. IfSome (L.files library.old) (λ folder.
+        IfSome (request_of words.now) (λ request. IfSome (L.files library.new) (λ folder.
         AreTold (still_told D.Disk disk.old disk.new) (S.left source.old) request →
         IsComplete
         (CallsFor (still_told D.Disk disk.old disk.new) (S.left source.old) request folder)
@@ -112,9 +112,9 @@ fn work<L: Library, S: Source, K: Sink, D: Disk, M: Mirror>(
     mirrors: &mut Vec<M>,
 ) -> Result<Conclusion, Fault>
     ensures promised { RunPromises D.Disk disk.old disk.new (request_of words.now)
-        (L.files library.old) (L.faults library.old) (L.faults library.new)
+        (L.files library.new) (L.faults library.old) (L.faults library.new)
         (K.taken sink.old) (K.taken sink.new) (K.faults sink.old) (K.faults sink.new) result }
-    ensures takes { RunTakes (request_of words.now) (L.files library.old)
+    ensures takes { RunTakes (request_of words.now) (L.files library.new)
         (S.left source.old) (S.left source.new) (S.faults source.old) (S.faults source.new)
         (K.taken sink.old) (K.taken sink.new) result }
     ensures mirrors { OnMirrors M.octets M.named M.puts M.room D.Disk disk.old disk.new

@@ -29,7 +29,7 @@ pub fn prove<L: Library, K: Sink>(
     query: Query,
 ) -> Result<Conclusion, Fault>
     ensures promised { Promises (ends_prove publication.now query) TellsEnds NoDisk
-        (L.files library.old) (L.faults library.old) (L.faults library.new)
+        (L.files library.new) (L.faults library.old) (L.faults library.new)
         (K.taken sink.old) (K.taken sink.new) (K.faults sink.old) (K.faults sink.new) result }
     ensures library { HidesNone result (L.faults library.old) (L.faults library.new) }
     ensures sink { HidesNone result (K.faults sink.old) (K.faults sink.new) }

@@ -34,16 +34,16 @@ pub fn serve<L: Library, S: Source, K: Sink>(
     publication: &str,
 ) -> Result<Conclusion, Fault>
     ensures promised { Promises (ends_serve publication.now) TellsFrames NoDisk
-        (L.files library.old) (L.faults library.old) (L.faults library.new)
+        (L.files library.new) (L.faults library.old) (L.faults library.new)
         (K.taken sink.old) (K.taken sink.new) (K.faults sink.old) (K.faults sink.new) result }
     ensures library { HidesNone result (L.faults library.old) (L.faults library.new) }
     ensures source { HidesNone result (S.faults source.old) (S.faults source.new) }
     ensures sink { HidesNone result (K.faults sink.old) (K.faults sink.new) }
-    ensures serves { ServesFrames publication.now (L.files library.old)
+    ensures serves { ServesFrames publication.now (L.files library.new)
         (S.left source.old) (S.left source.new) (S.faults source.old) (S.faults source.new)
         (K.taken sink.old) (K.taken sink.new) result }
     ensures gave { Gave (S.given source.old) (S.given source.new) (λ octets. ServesFrames
-        publication.now (L.files library.old) (Some octets) (Some [])
+        publication.now (L.files library.new) (Some octets) (Some [])
         (S.faults source.old) (S.faults source.new) (K.taken sink.old) (K.taken sink.new) result) }
     ensures ended { OnOk result (S.ended source.new) }
     ensures cut { result ≡ Err Fault.TruncatedFrame → S.ended source.new }

@@ -1,5 +1,5 @@
 -- What the files of a check call for, whatever its reply is asked about.
-use Rattle.std.proofs.Common.{◌≡◌, List, ℕ, subst, ◌∙◌, IfSome}
+use Rattle.std.proofs.Common.{◌≡◌, List, ℕ, subst, IfSome}
 use Rattle.std.specs.declared.option.Option.{Option}
 use Rattle.std.specs.declared.result.Result.{Result}
 use Rattle.std.specs.declared.result.Result.TheVariants.{Ok}

@@ -7,5 +7,5 @@ pub returns-in-Ok-clause-promised : goal.returns-in-Ok-clause-promised
 returns-in-Ok-clause-promised g c =
     told_over_files (λ k links octets. EndsCheckReach k links octets c.args.query c.args.least) _ _ _ _ _ _ _ _ _ _ _ _ _ _ _ _ _ c.in-Ok.told.end _ _
     (no_fault _ _ _ _ _ c.in-Ok.told.end _ c.in-Ok.ensures)
-    c.in_ok-key.ensures.same c.in_ok-reply.ensures.same c.in_ok-key.ensures.loads.read c.in_ok-reply.ensures.loads.read c.in_ok-chain.ensures.loads.read
+    c.in_ok-reply.ensures.narrows c.in_ok-chain.ensures.narrows c.in_ok-key.ensures.loads.read c.in_ok-reply.ensures.loads.read c.in_ok-chain.ensures.loads.read
     c.deref.ensures.value c.as_slice.ensures c.in-Ok.ensures c.write_told.ensures.writes

@@ -6,7 +6,7 @@ use Rattle.std.specs.declared.result.Result.{Result}
 use Rattle.std.specs.declared.result.Result.TheVariants.{Ok, Err}
 use Rattle.std.specs.Option.{ForSome}
 use Rattle.road_io.specs.declared.disk.Disk.{Ghosts}
-use Rattle.road_io.specs.Disk.{Stays}
+use Rattle.road_io.specs.Disk.{Narrows, Stays}
 use Rattle.road_io.specs.Moments.{EachImage, AtEachMoment}
 use Rattle.road_io.specs.Contents.{Folder}
 use Rattle.lms_tree.specs.Signatures.{public_key}
@@ -22,6 +22,7 @@ use Rattle.desk_look.specs.declared.forgery.Forgery.{Forgery}
 use Rattle.key_desk.specs.declared.desk.Desk.{Desk}
 use Rattle.command_files.specs.Reading.{octets_at, chain_at, IsOfFiles}
 use Rattle.command_files.specs.HexFiles.{public_key_at}
+use Rattle.command_files.proofs.Written.{moved}
 use Rattle.std.specs.Io.KnownBytes.{Appends}
 use Rattle.std.proofs.lemmas.List.{append-nil}
 use Rattle.command_files.specs.Endings.{Writes, MayEnd, TellsNone}
@@ -90,19 +91,14 @@ if_err (Err e) P Q f h = f e h
 
 -- ---- the files
 
--- what a library tells later it tells before
-pub moved : (files later : Option Folder) (P : Folder → Type 0) → later ≡ files → IfSome later P → IfSome files P
-moved files later P same h = subst (λ (f : Option Folder). IfSome f P) same h
-
 -- the octets of a reply, as they are read again
-pub reply_as : (files mid later : Option Folder) (name a b : List ℕ) → later ≡ mid → mid ≡ files → a ≡ b → IfSome later (λ folder. octets_at folder name ≡ Ok b) → IfSome files (λ folder. octets_at folder name ≡ Ok a)
-reply_as files mid later name a b first second same h =
-    subst (λ (f : Option Folder). IfSome f (λ folder. octets_at folder name ≡ Ok a)) (first ∙ second) (subst (λ xs. IfSome later (λ folder. octets_at folder name ≡ Ok xs)) (sym same) h)
+pub reply_as : (before files : Option Folder) (name a b : List ℕ) → Narrows before files → a ≡ b → IfSome before (λ folder. octets_at folder name ≡ Ok b) → IfSome files (λ folder. octets_at folder name ≡ Ok a)
+reply_as before files name a b narrows same h =
+    subst (λ xs. IfSome files (λ folder. octets_at folder name ≡ Ok xs)) (sym same) (moved before files (λ folder. octets_at folder name ≡ Ok b) narrows h)
 
 -- the links of a chain, as they are read again
-pub chain_as : (files later : Option Folder) (name : Option (List ℕ)) (a b : List Link) → later ≡ files → a ≡ b → IfSome later (λ folder. chain_at folder name ≡ Ok b) → IfSome files (λ folder. chain_at folder name ≡ Ok a)
-chain_as files later name a b same is h =
-    subst (λ (f : Option Folder). IfSome f (λ folder. chain_at folder name ≡ Ok a)) same (subst (λ (xs : List Link). IfSome later (λ folder. chain_at folder name ≡ Ok xs)) (sym is) h)
+pub chain_as : (files : Option Folder) (name : Option (List ℕ)) (a b : List Link) → a ≡ b → IfSome files (λ folder. chain_at folder name ≡ Ok b) → IfSome files (λ folder. chain_at folder name ≡ Ok a)
+chain_as files name a b is h = subst (λ (xs : List Link). IfSome files (λ folder. chain_at folder name ≡ Ok xs)) (sym is) h
 
 -- nothing that is appended is nothing that is written
 appends_none : (old : Option (List ℕ)) → Appends old old []

@@ -149,9 +149,8 @@ module _ (shows : Shows) {D : Type 0} (g : Ghosts D) (mid new : D) (desk : Desk)
 -- ---- the command
 
 -- the octets of a hex file, as they are read again
-pub hex_as : (files mid later : Option Folder) (name a b : List ℕ) → later ≡ mid → mid ≡ files → a ≡ b → IfSome later (λ folder. hex_text_at folder name ≡ Ok b) → IfSome files (λ folder. hex_text_at folder name ≡ Ok a)
-hex_as files mid later name a b first second same h =
-    subst (λ (f : Option Folder). IfSome f (λ folder. hex_text_at folder name ≡ Ok a)) (first ∙ second) (subst (λ xs. IfSome later (λ folder. hex_text_at folder name ≡ Ok xs)) (sym same) h)
+pub hex_as : (files : Option Folder) (name a b : List ℕ) → a ≡ b → IfSome files (λ folder. hex_text_at folder name ≡ Ok b) → IfSome files (λ folder. hex_text_at folder name ≡ Ok a)
+hex_as files name a b same h = subst (λ xs. IfSome files (λ folder. hex_text_at folder name ≡ Ok xs)) (sym same) h
 
 -- what three files make of an end
 module _ (files : Option Folder) (content : Option (List ℕ)) (key_name text_name sig_name public text sig : List ℕ)

@@ -1,6 +1,6 @@
-use Rattle.std.proofs.Common.{refl}
 use Rattle.std.proofs.lemmas.Result.{err_from_is_err_and}
 use Rattle.road_io.specs.Moments.{still_told}
+use Rattle.command_files.proofs.Written.{moved, narrows_on}
 use Rattle.reduce_commands.proofs.ReduceLemmas.{hex_as, reduce_refused, reduce_told, reduced_written}
 use Rattle.reduce_commands.proofs.reducing.reduce.Goals as goal
 
@@ -8,15 +8,17 @@ pub returns-in_err-told-clause-promised : goal.returns-in_err-told-clause-promis
 returns-in_err-told-clause-promised g c =
     let p = err_from_is_err_and c.from_residual-in_err-told.result c.from_residual-in_err-told.ensures.1 in
     rw (p.1, p.2)
-    (reduce_refused (g.L.Library.files c.args.library.now) (still_told g.D.Disk c.args.disk.now c.find.new.disk) c.args.key.now c.args.text.now c.args.signature.now _ c.deref.result.now c.deref-2.result.now
-    c.in_ok-public.ensures.loads.read (hex_as _ _ _ _ _ _ c.in_ok-public.ensures.same refl c.deref.ensures.value c.in_ok-text.ensures.loads.read)
-    (hex_as _ _ _ _ _ _ c.in_ok-text.ensures.same c.in_ok-public.ensures.same c.deref-2.ensures.value c.in_ok-sig.ensures.loads.read) _ _ _ _ _ _ _ c.in_err-told.ensures.refused)
+    (reduce_refused _ (still_told g.D.Disk c.args.disk.now c.find.new.disk) c.args.key.now c.args.text.now c.args.signature.now _ c.deref.result.now c.deref-2.result.now
+    (moved _ _ _ (narrows_on _ _ _ c.in_ok-text.ensures.narrows c.in_ok-sig.ensures.narrows) c.in_ok-public.ensures.loads.read)
+    (hex_as _ _ _ _ c.deref.ensures.value (moved _ _ _ c.in_ok-sig.ensures.narrows c.in_ok-text.ensures.loads.read))
+    (hex_as _ _ _ _ c.deref-2.ensures.value c.in_ok-sig.ensures.loads.read) _ _ _ _ _ _ _ c.in_err-told.ensures.refused)
 
 pub returns-clause-promised : goal.returns-clause-promised
 returns-clause-promised g c =
-    reduce_told (g.L.Library.files c.args.library.now) (still_told g.D.Disk c.args.disk.now c.find.new.disk) c.args.key.now c.args.text.now c.args.signature.now _ c.deref.result.now c.deref-2.result.now
-    c.in_ok-public.ensures.loads.read (hex_as _ _ _ _ _ _ c.in_ok-public.ensures.same refl c.deref.ensures.value c.in_ok-text.ensures.loads.read)
-    (hex_as _ _ _ _ _ _ c.in_ok-text.ensures.same c.in_ok-public.ensures.same c.deref-2.ensures.value c.in_ok-sig.ensures.loads.read) _ _ _ _ _ _ _ _ _ _ c.in_ok-told.ensures.verdict c.in_ok-told.ensures.told c.write_told.ensures.writes
+    reduce_told _ (still_told g.D.Disk c.args.disk.now c.find.new.disk) c.args.key.now c.args.text.now c.args.signature.now _ c.deref.result.now c.deref-2.result.now
+    (moved _ _ _ (narrows_on _ _ _ c.in_ok-text.ensures.narrows c.in_ok-sig.ensures.narrows) c.in_ok-public.ensures.loads.read)
+    (hex_as _ _ _ _ c.deref.ensures.value (moved _ _ _ c.in_ok-sig.ensures.narrows c.in_ok-text.ensures.loads.read))
+    (hex_as _ _ _ _ c.deref-2.ensures.value c.in_ok-sig.ensures.loads.read) _ _ _ _ _ _ _ _ _ _ c.in_ok-told.ensures.verdict c.in_ok-told.ensures.told c.write_told.ensures.writes
 
 pub returns-in_err-public-clause-unreleased : goal.returns-in_err-public-clause-unreleased
 returns-in_err-public-clause-unreleased g c =

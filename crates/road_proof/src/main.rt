@@ -11,7 +11,7 @@ use mirror_files::{is_lost, labelled_mirrors};
 use mirror_out::FileMirror;
 use road_command::{MOST_WORDS, Words};
 use road_io::{FileDisk, FileLibrary, StdSink, StdSource};
-use road_run::run_on_file;
+use road_run::run_on_files;
 use road_tell::{Facts, look_again, message_on};
 use std::alloc::Global;
 use std::env;
@@ -63,7 +63,7 @@ fn main(rt: HostRuntime) -> ExitCode {
     let mut source = StdSource::new(&rt);
     let mut sink = StdSink::new(rt);
     let mut disk = FileDisk::new(rt, "owner.desk");
-    let ended = run_on_file(
+    let ended = run_on_files(
         alloc,
         &words,
         &mut library,

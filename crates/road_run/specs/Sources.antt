@@ -3,14 +3,14 @@ use Rattle.std.specs.Prelude.{◌≡◌, ℕ, List, IfSome}
 use Rattle.std.specs.declared.option.Option.{Option}
 use Rattle.std.specs.declared.option.Option.TheVariants.{Some}
 use Rattle.std.specs.declared.result.Result.{Result}
-use Rattle.std.specs.declared.result.Result.TheVariants.{Err}
+use Rattle.std.specs.declared.result.Result.TheVariants.{Ok, Err}
 use Rattle.road_io.specs.Causes.{Rose}
 use Rattle.road_io.specs.Contents.{Folder}
 use Rattle.road_command.specs.Requests.{Request, Serve}
 use Rattle.route_serving.specs.Inputs.{split}
 use Rattle.command_files.specs.Exact.{IsExact}
 use Rattle.command_files.specs.declared.fault.Fault.{Fault}
-use Rattle.command_files.specs.declared.fault.Fault.TheVariants.{Source}
+use Rattle.command_files.specs.declared.fault.Fault.TheVariants.{TruncatedFrame, Source}
 use Rattle.command_files.specs.declared.ended.Conclusion.{Conclusion}
 use Rattle.server_commands.specs.Serving.{ServesFrames, ends_serving, most_octets, most_frames}
 
@@ -33,6 +33,12 @@ pub record RunTakes (asked : Option Request) (files : Option Folder)
       outcome)
   pub kept : UnlessServe asked (left_now ≡ left_before)
   pub source : outcome ≡ Err Source → Rose source_before source_now
+
+-- a run that went through all of its source, or found a frame cut short, found the source at its end
+abbrev pub HasEnded : Result Conclusion Fault → Type 0 → Type 0
+HasEnded (Ok conclusion) Ended = Ended
+HasEnded (Err TruncatedFrame) Ended = Ended
+HasEnded outcome Ended = Unit {0}
 
 -- the end of `serve` is the one that its file and what is left in its source call for, where both
 -- are told

@@ -2,14 +2,14 @@
 //! disk and mirrors.
 //!
 //! Its contract joins what the commands of all parties promise. The law `no_key_signs_twice` says
-//! what follows from it over whole lives of an owner's disk, and `run_on_file` says both of the
-//! disk that ships.
+//! what follows from it over whole lives of an owner's disk, and `run_on_files` says both of the
+//! files and streams that ship.
 #![tactic(auto)]
 
 pub use laws::no_key_signs_twice;
-pub use on_file::run_on_file;
+pub use on_files::run_on_files;
 pub use program::run;
 
 mod laws;
-mod on_file;
+mod on_files;
 mod program;

@@ -1,8 +1,8 @@
-use Rattle.std.proofs.Common.{arith, refl, [], ◌++◌}
+use Rattle.std.proofs.Common.{arith, [], ◌++◌}
 use Rattle.std.specs.declared.option.Option.TheVariants.{Some}
 use Rattle.std.specs.Int.{w32, to_be_bytes}
 use Rattle.road_io.proofs.ReadLemmas.{Consumes-++, gave_more}
-use Rattle.octet_frame.proofs.FrameLemmas.{Consumes-frame, Consumes_before, part_head, part_body, too_long}
+use Rattle.octet_frame.proofs.FrameLemmas.{Consumes-frame, Consumes_both, part_head, part_body}
 use Rattle.octet_frame.proofs.reading.next_frame.Goals as goal
 
 pub returns-in-Ok-clause-takes : goal.returns-in-Ok-clause-takes
@@ -51,7 +51,7 @@ returns-in-Ok-clause-gave g c =
     record {
       octets = head.octets ++ body.octets;
       gave = gave_more _ _ _ _ _ head.gave body.gave;
-      is = (omega (arith, body.is.0, c.if-size-most.false), Consumes-frame _ _ c.in-Ok-Some.size _ body.is.0 (Consumes-++ _ (Some body.octets) _ _ _ (Consumes_before head.octets body.octets _ head.is) body.is.1));
+      is = (omega (arith, body.is.0, c.if-size-most.false), Consumes-frame (Some (head.octets ++ body.octets)) (Some []) c.in-Ok-Some.size _ body.is.0 (Consumes_both head.octets body.octets (to_be_bytes w32 c.in-Ok-Some.size) _ head.is body.is.1));
     }
 
 pub returns-in-Err-Truncated-read_body-clause-gave : goal.returns-in-Err-Truncated-read_body-clause-gave
@@ -65,7 +65,7 @@ returns-in-Err-Truncated-read_body-clause-gave g c =
         to_be_bytes w32 c.in-Ok-Some.size ++ body.is.0,
         omega arith,
         part_body _ _ _ (omega (arith, c.ranges.most.fits, c.if-size-most.false)) c.if-size-most.false body.is.1,
-        Consumes-++ _ (Some body.octets) _ _ _ (Consumes_before head.octets body.octets _ head.is) body.is.2,
+        Consumes_both head.octets body.octets (to_be_bytes w32 c.in-Ok-Some.size) body.is.0 head.is body.is.2,
         body.is.3,
       );
     }
@@ -80,6 +80,6 @@ returns-in-Err-Source-read_body-clause-gave g c =
       is = (
         to_be_bytes w32 c.in-Ok-Some.size ++ body.is.0,
         part_body _ _ _ (omega (arith, c.ranges.most.fits, c.if-size-most.false)) c.if-size-most.false body.is.1,
-        Consumes-++ _ (Some body.octets) _ _ _ (Consumes_before head.octets body.octets _ head.is) body.is.2,
+        Consumes_both head.octets body.octets (to_be_bytes w32 c.in-Ok-Some.size) body.is.0 head.is body.is.2,
       );
     }

@@ -1,4 +1,4 @@
-use Rattle.std.proofs.Common.{refl, sym, [], take, take_all, length, length-take-le, append-nil, arith, rules, ◌∙◌, ap}
+use Rattle.std.proofs.Common.{refl, sym, [], take, length-take-le, append-nil}
 use Rattle.octet_frame.proofs.FrameLemmas.{Consumes_alone}
 use Rattle.octet_frame.proofs.reading.read_body.Goals as goal
 
@@ -7,5 +7,6 @@ returns-then-is_err-clause-gave g c = record { octets = []; gave = sym (append-n
 
 pub returns-in-Ok-clause-gave : goal.returns-in-Ok-clause-gave
 returns-in-Ok-clause-gave g c =
-    let octets = take c.in-Ok.n c.as_mut_slice.now in
-    record { octets = octets; gave = c.in-Ok.ensures.gave; is = (octets, search rules, Consumes_alone octets, refl) }
+    let octets = take c.in-Ok.n c.read_whole.new.into in
+    let size = length-take-le c.in-Ok.n c.read_whole.new.into c.in-Ok.ensures.most in
+    record { octets = octets; gave = c.in-Ok.ensures.gave; is = (octets, rw size c.if-n-size.true, Consumes_alone octets, refl) }

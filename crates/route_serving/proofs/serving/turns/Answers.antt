@@ -1,8 +1,9 @@
-use Rattle.std.proofs.Common.{refl, sym, append-nil, [], arith, ◌∙◌}
+use Rattle.std.proofs.Common.{refl, sym, ap, append-nil, [], take, length-take-le, arith, ◌∙◌}
 use Rattle.route_service.specs.Sessions.{state_of}
 use Rattle.route_service.proofs.Isolated.{isolated}
 use Rattle.road_io.proofs.ReadLemmas.{Consumes-none}
-use Rattle.route_serving.proofs.ServeLemmas.{served-more, given_more, given_cut, Appends-none}
+use Rattle.octet_frame.specs.declared.reading.FrameError.TheVariants.{TooLong, Truncated, Source, Memory}
+use Rattle.route_serving.proofs.ServeLemmas.{served-more, given_more, given_many, given_refused, given_unanswered, given_cut, Appends-none}
 use Rattle.route_serving.proofs.serving.turns.Goals as goal
 
 pub loop-served-init : goal.loop-served-init
@@ -52,3 +53,37 @@ returns-in-Err-clause-serves g c =
         front = wrote;
       },
     )
+
+pub returns-in-Err-TooLong-clause-gave : goal.returns-in-Err-TooLong-clause-gave
+returns-in-Err-TooLong-clause-gave g c =
+    given_refused _ _ _ _ _ _ _ _ _ _ _ _ c.next_frame.new.body.items TooLong c.loop-served-test.true c.loop-served.invariant.gave (rw c.in-Err-TooLong.field-0-is at c.in-Err-TooLong.ensures.gave)
+
+pub returns-in-Err-Truncated-clause-gave : goal.returns-in-Err-Truncated-clause-gave
+returns-in-Err-Truncated-clause-gave g c =
+    given_refused _ _ _ _ _ _ _ _ _ _ _ _ c.next_frame.new.body.items Truncated c.loop-served-test.true c.loop-served.invariant.gave (rw c.in-Err-Truncated.field-0-is at c.in-Err-Truncated.ensures.gave)
+
+pub returns-in-Err-Source-clause-gave : goal.returns-in-Err-Source-clause-gave
+returns-in-Err-Source-clause-gave g c =
+    given_refused _ _ _ _ _ _ _ _ _ _ _ _ c.next_frame.new.body.items Source c.loop-served-test.true c.loop-served.invariant.gave (rw c.in-Err-Source.field-0-is at c.in-Err-Source.ensures.gave)
+
+pub returns-in-Err-Memory-clause-gave : goal.returns-in-Err-Memory-clause-gave
+returns-in-Err-Memory-clause-gave g c =
+    given_refused _ _ _ _ _ _ _ _ _ _ _ _ c.next_frame.new.body.items Memory c.loop-served-test.true c.loop-served.invariant.gave (rw c.in-Err-Memory.field-0-is at c.in-Err-Memory.ensures.gave)
+
+pub returns-in_default-clause-gave : goal.returns-in_default-clause-gave
+returns-in_default-clause-gave g c =
+    given_unanswered _ _ _ _ _ _ _ _ _ _ _ _ _ c.next_frame.new.body.items (ap state_of c.in_default.ensures.err) c.loop-served-test.true c.loop-served.invariant.gave (rw c.in-Ok-true.field-0-test at c.in-Ok-true.ensures.gave)
+
+pub returns-in-Err-clause-gave : goal.returns-in-Err-clause-gave
+returns-in-Err-clause-gave g c =
+    let gave = rw c.in-Ok-true.field-0-test at c.in-Ok-true.ensures.gave in
+    let step = rw c.as_slice.ensures.value at c.in-Ok.ensures.step in
+    let front = rw c.as_slice-in-loop-served.ensures.value at c.in-Err.ensures.err in
+    given_cut _ _ _ _ _ _ _ _ _ _ _ _ _ _ c.next_frame.new.body.items c.in-Ok.reply.items c.loop-served-test.true c.loop-served.invariant.gave gave step front
+
+pub returns-in-Ok-read-clause-gave : goal.returns-in-Ok-read-clause-gave
+returns-in-Ok-read-clause-gave g c =
+    let some = c.in-Ok-read.field-0-test.1 in
+    let size = length-take-le c.in-Ok-read.field-0 c.read.new.into c.in-Ok-read.ensures.most in
+    given_many _ _ _ _ _ _ _ _ _ _ _ _ (take c.in-Ok-read.field-0 c.read.new.into) (omega (arith, c.loop-served.invariant.within, c.loop-served-test.false)) c.loop-served.invariant.gave c.in-Ok-read.ensures.gave
+    (rw size (omega (arith, some, c.in-Ok-read.ensures.most, c.read.auto.into)))

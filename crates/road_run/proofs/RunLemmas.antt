@@ -1,5 +1,5 @@
 -- What each command promises, joined to what a run promises.
-use Rattle.std.proofs.Common.{◌≡◌, ℕ, List, refl, subst, IfSome}
+use Rattle.std.proofs.Common.{◌≡◌, ℕ, List, [], refl, subst, IfSome, OnOk}
 use Rattle.std.specs.declared.option.Option.{Option}
 use Rattle.std.specs.declared.option.Option.TheVariants.{None, Some}
 use Rattle.std.specs.declared.result.Result.{Result}
@@ -8,6 +8,7 @@ use Rattle.road_io.specs.declared.disk.Disk.{Ghosts}
 use Rattle.road_io.specs.Causes.{Rose}
 use Rattle.road_io.specs.Contents.{Folder}
 use Rattle.road_io.specs.Disk.{Stays}
+use Rattle.road_io.specs.Given.{Gave}
 use Rattle.road_io.specs.Moments.{AtEachMoment, still_told}
 use Rattle.road_map.specs.Laws.{ArcLaws}
 use Rattle.road_map.specs.declared.parts.Parts.{Parts}
@@ -17,7 +18,7 @@ use Rattle.road_command.specs.Requests.{Request, Route, Root, Dimacs, Key, Succe
 use Rattle.command_files.specs.Endings.{Answered, Ending, NoDisk, Promises}
 use Rattle.command_files.specs.Exact.{NoneFailed, IsExact}
 use Rattle.command_files.specs.declared.fault.Fault.{Fault}
-use Rattle.command_files.specs.declared.fault.Fault.TheVariants.{Words, Source, Library, Sink, Disk, MirrorLost}
+use Rattle.command_files.specs.declared.fault.Fault.TheVariants.{Words, TruncatedFrame, Source, Library, Sink, Disk, MirrorLost}
 use Rattle.command_files.specs.declared.ended.Conclusion.{Conclusion}
 use Rattle.command_files.specs.declared.ended.Conclusion.TheVariants.{Done}
 use Rattle.command_files.proofs.OneEnd.{HasOneEnd, exact_end}
@@ -45,7 +46,7 @@ use Rattle.route_audit.specs.Routes.{routes}
 use Rattle.route_audit.proofs.RouteLemmas as route
 use Rattle.road_run.specs.Accepting.{AcceptsHonest, RepliesAreTaken}
 use Rattle.road_run.specs.Commands.{Ends, IsTold, LeavesUnused, TellsClient, OnDisk, RunPromises, but_for_mirrors}
-use Rattle.road_run.specs.Sources.{IfServe, UnlessServe, RunTakes, IsExactServing}
+use Rattle.road_run.specs.Sources.{HasEnded, IfServe, UnlessServe, RunGave, RunTakes, IsExactServing}
 use Rattle.road_run.proofs.HonestLemmas.{Verdicts, AcceptedLaws, accepts_honest}
 use Rattle.route_laws.specs.Honest.{UnknownNodesAreTold}
 use Rattle.road_run.proofs.TakenLemmas.{replies_taken}
@@ -168,6 +169,24 @@ pub run_takes : (asked : Option Request) (files : Option Folder) (left rest : Op
 run_takes asked files left rest s s' taken_before taken_now o request is serves kept source =
     subst (λ (a : Option Request). RunTakes a files left rest s s' taken_before taken_now o) is (record { serves = serves; kept = kept; source = source })
 
+-- what the source of a request gave is what that of the words gave that ask for it
+pub run_gave : (asked : Option Request) (files : Option Folder) (given given' : List ℕ) (Ended : Type 0) (s s' : ℕ) (taken_before taken_now : Option (List ℕ)) (o : Result Conclusion Fault) (request : Request) → Some request ≡ asked
+    → IfServe (Some request) (λ file. Gave given given' (λ octets. ServesFrames file files (Some octets) (Some []) s s' taken_before taken_now o)) → IfServe (Some request) (λ file. HasEnded o Ended) → UnlessServe (Some request) (given' ≡ given)
+    → RunGave asked files given given' Ended s s' taken_before taken_now o
+run_gave asked files given given' Ended s s' taken_before taken_now o request is serves ended nothing =
+    subst (λ (a : Option Request). RunGave a files given given' Ended s s' taken_before taken_now o) is (record { serves = serves; ended = ended; nothing = nothing })
+
+-- words that ask for nothing had nothing given
+pub run_gave_nothing : (asked : Option Request) (files : Option Folder) (given : List ℕ) (Ended : Type 0) (s : ℕ) (taken_before taken_now : Option (List ℕ)) → None ≡ asked → RunGave asked files given given Ended s s taken_before taken_now (Err Words)
+run_gave_nothing asked files given Ended s taken_before taken_now is =
+    subst (λ (a : Option Request). RunGave a files given given Ended s s taken_before taken_now (Err Words)) is (record { serves = tt; ended = tt; nothing = refl })
+
+-- a regular end and a cut come where the source gave nothing more
+pub has_ended : (o : Result Conclusion Fault) (Ended : Type 0) → OnOk o Ended → (o ≡ Err TruncatedFrame → Ended) → HasEnded o Ended
+has_ended (Ok conclusion) Ended whole cut = whole
+has_ended (Err TruncatedFrame) Ended whole cut = cut refl
+has_ended (Err fault) Ended whole cut = tt
+
 -- what a request has no use for, words have none for that ask for it
 pub unused : (asked : Option Request) (library source sink disk : Type 0) (request : Request) → Some request ≡ asked → LeavesUnused (Some request) library source sink disk → LeavesUnused asked library source sink disk
 unused asked library source sink disk request is h = subst (λ (a : Option Request). LeavesUnused a library source sink disk) is h
@@ -181,29 +200,48 @@ pub run_takes_nothing : (asked : Option Request) (files : Option Folder) (left :
 run_takes_nothing asked files left s taken_before taken_now is =
     subst (λ (a : Option Request). RunTakes a files left left s s taken_before taken_now (Err Words)) is (record { serves = tt; kept = refl; source = λ e. absurd (cc) })
 
--- what was served is exact where no object outside failed
-pub exact_serving : {D : Type 0} (g : Ghosts D) (old new : D) → OneMaking → (asked : Option Request) (files : Option Folder) (left rest : Option (List ℕ)) (l l' s s' : ℕ) (taken_before taken_now : Option (List ℕ)) (k k' : ℕ) (o : Result Conclusion Fault)
-    → RunPromises g old new asked files l l' taken_before taken_now k k' o → RunTakes asked files left rest s s' taken_before taken_now o
-    → ¬ Rose s s' → NoneFailed l l' k k' (g.faults old) (g.faults new) → IfServe asked (λ file. IsExactServing file files left o)
-exact_serving g old new makings asked files left rest l l' s s' taken_before taken_now k k' o r t none n = by asked r.command t.serves
-  where
-    by : (asked : Option Request) → IfSome asked (λ request. Promises (Ends (still_told g old new) request) (TellsClient request) (Rose (g.faults old) (g.faults new)) files l l' taken_before taken_now k k' o)
-        → IfServe asked (λ file. ServesFrames file files left rest s s' taken_before taken_now o) → IfServe asked (λ file. IsExactServing file files left o)
-    by (Some (Serve file)) p a = exact_serve makings file files left rest taken_before taken_now o l l' s s' k k' (g.faults old) (g.faults new) a p.library p.sink none n
-    by (Some (Route roads from to)) p a = tt
-    by (Some (Root roads fan)) p a = tt
-    by (Some (Dimacs graph places)) p a = tt
-    by (Some (Key secret kind)) p a = tt
-    by (Some (Succeed secret kind)) p a = tt
-    by (Some Links) p a = tt
-    by (Some Desk) p a = tt
-    by (Some (Publish roads settings)) p a = tt
-    by (Some (Prove publication q)) p a = tt
-    by (Some (Check key reply q least chain)) p a = tt
-    by (Some (Audit key publication reply q chain)) p a = tt
-    by (Some (Survey width seed method queries)) p a = tt
-    by (Some (Reach publication q)) p a = tt
-    by (Some (CheckReach key reply q least chain)) p a = tt
-    by (Some (AuditReach key publication reply q chain)) p a = tt
-    by (Some (Reduce key text signature)) p a = tt
-    by None p a = tt
+-- what follows where words ask for serving
+serve_then : (asked : Option Request) (P Q : List ℕ → Type 0) → ((file : List ℕ) → asked ≡ Some (Serve file) → P file → Q file) → IfServe asked P → IfServe asked Q
+serve_then (Some (Serve file)) P Q step h = step file refl h
+serve_then (Some (Route roads from to)) P Q step h = tt
+serve_then (Some (Root roads fan)) P Q step h = tt
+serve_then (Some (Dimacs graph places)) P Q step h = tt
+serve_then (Some (Key secret kind)) P Q step h = tt
+serve_then (Some (Succeed secret kind)) P Q step h = tt
+serve_then (Some Links) P Q step h = tt
+serve_then (Some Desk) P Q step h = tt
+serve_then (Some (Publish roads settings)) P Q step h = tt
+serve_then (Some (Prove publication q)) P Q step h = tt
+serve_then (Some (Check key reply q least chain)) P Q step h = tt
+serve_then (Some (Audit key publication reply q chain)) P Q step h = tt
+serve_then (Some (Survey width seed method queries)) P Q step h = tt
+serve_then (Some (Reach publication q)) P Q step h = tt
+serve_then (Some (CheckReach key reply q least chain)) P Q step h = tt
+serve_then (Some (AuditReach key publication reply q chain)) P Q step h = tt
+serve_then (Some (Reduce key text signature)) P Q step h = tt
+serve_then None P Q step h = tt
+
+module _ {D : Type 0} (g : Ghosts D) (old new : D) (makings : OneMaking) (asked : Option Request) (files : Option Folder) (l l' s s' : ℕ) (taken_before taken_now : Option (List ℕ)) (k k' : ℕ) (o : Result Conclusion Fault) where
+  abbrev Served : Option (List ℕ) → Option (List ℕ) → List ℕ → Type 0
+  Served left rest file = ServesFrames file files left rest s s' taken_before taken_now o
+
+  abbrev Command : Request → Type 0
+  Command request = Promises (Ends (still_told g old new) request) (TellsClient request) (Rose (g.faults old) (g.faults new)) files l l' taken_before taken_now k k' o
+
+  exact_at : (left rest : Option (List ℕ)) → IfSome asked Command → ¬ Rose s s' → NoneFailed l l' k k' (g.faults old) (g.faults new) → (file : List ℕ) → asked ≡ Some (Serve file) → Served left rest file → IsExactServing file files left o
+  exact_at left rest commands none n file is served =
+      let p : Command (Serve file) = subst (λ (a : Option Request). IfSome a Command) is commands in
+      exact_serve makings file files left rest taken_before taken_now o l l' s s' k k' (g.faults old) (g.faults new) served p.library p.sink none n
+
+  -- what was served is exact where no object outside failed
+  pub exact_serving : (left rest : Option (List ℕ)) → RunPromises g old new asked files l l' taken_before taken_now k k' o → RunTakes asked files left rest s s' taken_before taken_now o
+      → ¬ Rose s s' → NoneFailed l l' k k' (g.faults old) (g.faults new) → IfServe asked (λ file. IsExactServing file files left o)
+  exact_serving left rest r t none n =
+      serve_then asked (Served left rest) (λ file. IsExactServing file files left o) (exact_at left rest r.command none n) t.serves
+
+  -- and so it is of the octets that the source gave
+  pub exact_given : (given given' : List ℕ) (Ended : Type 0) → RunPromises g old new asked files l l' taken_before taken_now k k' o → RunGave asked files given given' Ended s s' taken_before taken_now o
+      → ¬ Rose s s' → NoneFailed l l' k k' (g.faults old) (g.faults new) → IfServe asked (λ file. Gave given given' (λ octets. IsExactServing file files (Some octets) o))
+  exact_given given given' Ended r t none n =
+      serve_then asked (λ file. Gave given given' (λ octets. Served (Some octets) (Some []) file)) (λ file. Gave given given' (λ octets. IsExactServing file files (Some octets) o))
+      (λ file is gave. record { octets = gave.octets; gave = gave.gave; is = exact_at (Some gave.octets) (Some []) r.command none n file is gave.is }) t.serves

@@ -1,11 +1,12 @@
 -- What a run does with its source.
-use Rattle.std.specs.Prelude.{◌≡◌, ℕ, List, IfSome}
+use Rattle.std.specs.Prelude.{◌≡◌, ℕ, List, [], IfSome}
 use Rattle.std.specs.declared.option.Option.{Option}
 use Rattle.std.specs.declared.option.Option.TheVariants.{Some}
 use Rattle.std.specs.declared.result.Result.{Result}
 use Rattle.std.specs.declared.result.Result.TheVariants.{Ok, Err}
 use Rattle.road_io.specs.Causes.{Rose}
 use Rattle.road_io.specs.Contents.{Folder}
+use Rattle.road_io.specs.Given.{Gave}
 use Rattle.road_command.specs.Requests.{Request, Serve}
 use Rattle.route_serving.specs.Inputs.{split}
 use Rattle.command_files.specs.Exact.{IsExact}
@@ -39,6 +40,17 @@ abbrev pub HasEnded : Result Conclusion Fault → Type 0 → Type 0
 HasEnded (Ok conclusion) Ended = Ended
 HasEnded (Err TruncatedFrame) Ended = Ended
 HasEnded outcome Ended = Unit {0}
+
+-- What the source of a run gave, by what its words ask for: `serve` alone took anything, and answered the
+-- frames of exactly these octets.
+pub record RunGave (asked : Option Request) (files : Option Folder) (given_before given_now : List ℕ)
+    (Ended : Type 0) (source_before source_now : ℕ) (taken_before taken_now : Option (List ℕ))
+    (outcome : Result Conclusion Fault) : Type 0 where
+  pub serves : IfServe asked (λ file. Gave given_before given_now (λ octets.
+      ServesFrames file files (Some octets) (Some []) source_before source_now taken_before
+      taken_now outcome))
+  pub ended : IfServe asked (λ file. HasEnded outcome Ended)
+  pub nothing : UnlessServe asked (given_now ≡ given_before)
 
 -- the end of `serve` is the one that its file and what is left in its source call for, where both
 -- are told

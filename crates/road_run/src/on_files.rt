@@ -7,10 +7,9 @@ ghost use Rattle.road_io.specs.Moments.{still_told};
 ghost use Rattle.road_command.specs.Requests.{request_of};
 ghost use Rattle.command_files.specs.Outcomes.{outcome_of, status_of};
 ghost use Rattle.command_files.specs.Exact.{HidesNone, NoneFailed, IsExact};
-ghost use Rattle.server_commands.specs.Serving.{ServesFrames};
 ghost use Rattle.road_run.specs.Commands.{Ends, IsTold, LeavesUnused, OnMirrors, RunPromises, but_for_mirrors};
 ghost use Rattle.road_run.specs.Complete.{CallsFor, AreTold, IsComplete, PromisedEnough, ProvesKnown};
-ghost use Rattle.road_run.specs.Sources.{HasEnded, IfServe, IsExactServing, RunTakes};
+ghost use Rattle.road_run.specs.Sources.{IfServe, IsExactServing, RunGave, RunTakes};
 ghost use Rattle.road_run.specs.Accepting.{AcceptsHonest, RepliesAreTaken};
 ghost use Rattle.owner_commands.specs.Releases.{Release};
 ghost use Rattle.road_run.specs.Lives.{EachTells, IsLife, NoneSignsTwice};
@@ -50,13 +49,10 @@ pub fn run_on_files<R: Files<File = File> + Print + Input + Drop>(
     ensures takes { RunTakes (request_of words.now) (⟦<FileLibrary<R> as Library>⟧.files library.new)
         (⟦<StdSource<R> as Source>⟧.left source.old) (⟦<StdSource<R> as Source>⟧.left source.new) (⟦<StdSource<R> as Source>⟧.faults source.old) (⟦<StdSource<R> as Source>⟧.faults source.new)
         (⟦<StdSink<R> as Sink>⟧.taken sink.old) (⟦<StdSink<R> as Sink>⟧.taken sink.new) (outcome_of result) }
-    ensures gave { IfServe (request_of words.now) (λ file.
-        Gave (⟦<StdSource<R> as Source>⟧.given source.old) (⟦<StdSource<R> as Source>⟧.given source.new) (λ octets.
-        ServesFrames file (⟦<FileLibrary<R> as Library>⟧.files library.new) (Some octets) (Some [])
-        (⟦<StdSource<R> as Source>⟧.faults source.old) (⟦<StdSource<R> as Source>⟧.faults source.new) (⟦<StdSink<R> as Sink>⟧.taken sink.old) (⟦<StdSink<R> as Sink>⟧.taken sink.new)
-        (outcome_of result))) }
-    ensures ended { IfServe (request_of words.now) (λ file.
-        HasEnded (outcome_of result) (⟦<StdSource<R> as Source>⟧.ended source.new)) }
+    ensures gave { RunGave (request_of words.now) (⟦<FileLibrary<R> as Library>⟧.files library.new)
+        (⟦<StdSource<R> as Source>⟧.given source.old) (⟦<StdSource<R> as Source>⟧.given source.new) (⟦<StdSource<R> as Source>⟧.ended source.new)
+        (⟦<StdSource<R> as Source>⟧.faults source.old) (⟦<StdSource<R> as Source>⟧.faults source.new)
+        (⟦<StdSink<R> as Sink>⟧.taken sink.old) (⟦<StdSink<R> as Sink>⟧.taken sink.new) (outcome_of result) }
     ensures mirrors { OnMirrors ⟦<FileMirror as Mirror>⟧.octets ⟦<FileMirror as Mirror>⟧.named ⟦<FileMirror as Mirror>⟧.puts ⟦<FileMirror as Mirror>⟧.room ⟦<FileDisk<R> as Disk>⟧ disk.old disk.new
         (request_of words.now)
         (⟦<StdSink<R> as Sink>⟧.taken sink.old) (⟦<StdSink<R> as Sink>⟧.taken sink.new) mirrors.old.items mirrors.new.items
@@ -80,6 +76,12 @@ pub fn run_on_files<R: Files<File = File> + Print + Input + Drop>(
         (⟦<StdSink<R> as Sink>⟧.faults sink.new) (⟦<FileDisk<R> as Disk>⟧.faults disk.old) (⟦<FileDisk<R> as Disk>⟧.faults disk.new) →
         IfServe (request_of words.now) (λ file.
         IsExactServing file (⟦<FileLibrary<R> as Library>⟧.files library.new) (⟦<StdSource<R> as Source>⟧.left source.old) (outcome_of result)) }
+    ensures given_exact { ¬ Rose (⟦<StdSource<R> as Source>⟧.faults source.old) (⟦<StdSource<R> as Source>⟧.faults source.new) →
+        NoneFailed (⟦<FileLibrary<R> as Library>⟧.faults library.old) (⟦<FileLibrary<R> as Library>⟧.faults library.new) (⟦<StdSink<R> as Sink>⟧.faults sink.old)
+        (⟦<StdSink<R> as Sink>⟧.faults sink.new) (⟦<FileDisk<R> as Disk>⟧.faults disk.old) (⟦<FileDisk<R> as Disk>⟧.faults disk.new) →
+        IfServe (request_of words.now) (λ file. Gave (⟦<StdSource<R> as Source>⟧.given source.old) (⟦<StdSource<R> as Source>⟧.given source.new)
+        (λ octets. IsExactServing file (⟦<FileLibrary<R> as Library>⟧.files library.new) (Some octets)
+        (outcome_of result))) }
     ensures honest { IfSome (request_of words.now) (λ request.
         AcceptsHonest request (⟦<FileLibrary<R> as Library>⟧.files library.new) (⟦<StdSink<R> as Sink>⟧.taken sink.old) (⟦<StdSink<R> as Sink>⟧.taken sink.new)
         (outcome_of result)) }

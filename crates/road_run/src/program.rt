@@ -1,16 +1,15 @@
 //! The whole program.
 
-ghost use Rattle.std.specs.Prelude.{◌≡◌, [], IfSome, ◌≢◌, Err, Some};
+ghost use Rattle.std.specs.Prelude.{◌≡◌, IfSome, ◌≢◌, Err, Some};
 ghost use Rattle.road_io.specs.Causes.{Rose};
 ghost use Rattle.road_io.specs.Given.{Gave};
 ghost use Rattle.road_io.specs.Moments.{still_told};
 ghost use Rattle.road_command.specs.Requests.{request_of};
 ghost use Rattle.command_files.specs.Outcomes.{outcome_of, status_of};
 ghost use Rattle.command_files.specs.Exact.{HidesNone, NoneFailed, IsExact};
-ghost use Rattle.server_commands.specs.Serving.{ServesFrames};
 ghost use Rattle.road_run.specs.Commands.{Ends, IsTold, LeavesUnused, OnMirrors, RunPromises, but_for_mirrors};
 ghost use Rattle.road_run.specs.Complete.{CallsFor, AreTold, IsComplete, PromisedEnough, ProvesKnown};
-ghost use Rattle.road_run.specs.Sources.{HasEnded, IfServe, IsExactServing, RunTakes};
+ghost use Rattle.road_run.specs.Sources.{IfServe, IsExactServing, RunGave, RunTakes};
 ghost use Rattle.road_run.specs.Accepting.{AcceptsHonest, RepliesAreTaken};
 
 use crate::laws::no_key_signs_twice;
@@ -51,13 +50,10 @@ pub fn run<L: Library, S: Source, K: Sink, D: Disk, M: Mirror>(
     ensures takes { RunTakes (request_of words.now) (L.files library.new)
         (S.left source.old) (S.left source.new) (S.faults source.old) (S.faults source.new)
         (K.taken sink.old) (K.taken sink.new) (outcome_of result) }
-    ensures gave { IfServe (request_of words.now) (λ file.
-        Gave (S.given source.old) (S.given source.new) (λ octets.
-        ServesFrames file (L.files library.new) (Some octets) (Some [])
-        (S.faults source.old) (S.faults source.new) (K.taken sink.old) (K.taken sink.new)
-        (outcome_of result))) }
-    ensures ended { IfServe (request_of words.now) (λ file.
-        HasEnded (outcome_of result) (S.ended source.new)) }
+    ensures gave { RunGave (request_of words.now) (L.files library.new)
+        (S.given source.old) (S.given source.new) (S.ended source.new)
+        (S.faults source.old) (S.faults source.new)
+        (K.taken sink.old) (K.taken sink.new) (outcome_of result) }
     ensures mirrors { OnMirrors M.octets M.named M.puts M.room D.Disk disk.old disk.new
         (request_of words.now)
         (K.taken sink.old) (K.taken sink.new) mirrors.old.items mirrors.new.items
@@ -81,6 +77,12 @@ pub fn run<L: Library, S: Source, K: Sink, D: Disk, M: Mirror>(
         (K.faults sink.new) (D.faults disk.old) (D.faults disk.new) →
         IfServe (request_of words.now) (λ file.
         IsExactServing file (L.files library.new) (S.left source.old) (outcome_of result)) }
+    ensures given_exact { ¬ Rose (S.faults source.old) (S.faults source.new) →
+        NoneFailed (L.faults library.old) (L.faults library.new) (K.faults sink.old)
+        (K.faults sink.new) (D.faults disk.old) (D.faults disk.new) →
+        IfServe (request_of words.now) (λ file. Gave (S.given source.old) (S.given source.new)
+        (λ octets. IsExactServing file (L.files library.new) (Some octets)
+        (outcome_of result))) }
     ensures honest { IfSome (request_of words.now) (λ request.
         AcceptsHonest request (L.files library.new) (K.taken sink.old) (K.taken sink.new)
         (outcome_of result)) }
@@ -126,13 +128,10 @@ fn work<L: Library, S: Source, K: Sink, D: Disk, M: Mirror>(
     ensures takes { RunTakes (request_of words.now) (L.files library.new)
         (S.left source.old) (S.left source.new) (S.faults source.old) (S.faults source.new)
         (K.taken sink.old) (K.taken sink.new) result }
-    ensures gave { IfServe (request_of words.now) (λ file.
-        Gave (S.given source.old) (S.given source.new) (λ octets.
-        ServesFrames file (L.files library.new) (Some octets) (Some [])
-        (S.faults source.old) (S.faults source.new) (K.taken sink.old) (K.taken sink.new)
-        result)) }
-    ensures ended { IfServe (request_of words.now) (λ file.
-        HasEnded result (S.ended source.new)) }
+    ensures gave { RunGave (request_of words.now) (L.files library.new)
+        (S.given source.old) (S.given source.new) (S.ended source.new)
+        (S.faults source.old) (S.faults source.new)
+        (K.taken sink.old) (K.taken sink.new) result }
     ensures mirrors { OnMirrors M.octets M.named M.puts M.room D.Disk disk.old disk.new
         (request_of words.now)
         (K.taken sink.old) (K.taken sink.new) mirrors.old.items mirrors.new.items result }

@@ -1,5 +1,5 @@
 use Rattle.road_run.proofs.CompleteLemmas.{complete_run, proves_run}
-use Rattle.road_run.proofs.RunLemmas.{exact_run, honest_run, taken_run, exact_serving}
+use Rattle.road_run.proofs.RunLemmas.{exact_run, honest_run, taken_run, exact_serving, exact_given}
 use Rattle.road_run.proofs.HonestLemmas.{Verdicts, AcceptedLaws}
 use Rattle.road_run.proofs.program.run.Given.{Over}
 use Rattle.road_run.proofs.program.run.Goals as goal
@@ -73,3 +73,11 @@ returns-clause-sink g c = rw c.of.ensures.outcome c.work.ensures.sink
 
 pub returns-clause-unused : goal.returns-clause-unused
 returns-clause-unused g c = c.work.ensures.unused
+
+pub returns-clause-gave : goal.returns-clause-gave
+returns-clause-gave g c = rw c.of.ensures.outcome c.work.ensures.gave
+
+pub returns-clause-given_exact : goal.returns-clause-given_exact
+returns-clause-given_exact g c =
+    rw c.of.ensures.outcome
+    (exact_given g.D.Disk c.args.disk.now c.work.new.disk c.server_laws.ensures _ _ _ _ _ _ _ _ _ _ _ _ _ _ c.work.ensures.promised c.work.ensures.gave)

@@ -1,5 +1,8 @@
-use Rattle.std.proofs.Common.{sym, [], append-nil, ◌∙◌}
+use Rattle.std.proofs.Common.{sym, [], append-nil, ◌∙◌, arith}
+use Rattle.std.specs.declared.option.Option.TheVariants.{Some}
 use Rattle.std.proofs.lemmas.Result.{err_from_is_err_and}
+use Rattle.route_serving.proofs.Splits.{serves_input}
+use Rattle.server_commands.specs.Serving.{most_octets, most_frames}
 use Rattle.server_commands.proofs.ServeCommand.{unread_serves, serve_refused, refused_serves, serve_ends, serves_frames, memory_served}
 use Rattle.server_commands.proofs.serving.serve.Goals as goal
 
@@ -51,4 +54,16 @@ returns-in_err-service-clause-gave g c =
       gave = sym (append-nil _);
       is = rw (p.1, p.2) (refused_serves _ _ _ (g.L.Library.faults c.args.library.now) (g.L.Library.faults c.args.library.now) (g.K.Sink.faults c.args.sink.now) (g.K.Sink.faults c.args.sink.now)
           c.in_ok-publication.ensures.loads.read _ _ _ _ _ c.in_err-service.ensures.refused);
+    }
+
+pub returns-clause-gave : goal.returns-clause-gave
+returns-clause-gave g c =
+    let t = c.serve-served.ensures.gave in
+    let input = serves_input _ _ _ _ most_octets most_frames (Some t.octets) (Some []) _ _ _ (omega arith) t.is in
+    record {
+      octets = t.octets;
+      gave = t.gave;
+      is = rw c.ended_serving.ensures (serves_frames _ _ _ (g.L.Library.faults c.args.library.now) (g.L.Library.faults c.args.library.now) (g.K.Sink.faults c.args.sink.now) (g.K.Sink.faults c.args.sink.now)
+          c.in_ok-publication.ensures.loads.read c.in_ok-service.ensures.installable (Some t.octets) (Some []) _ _ _ _ c.serve-served.result _ _
+          c.in_ok-service.ensures.starts input t.is c.serve-served.ensures.source);
     }

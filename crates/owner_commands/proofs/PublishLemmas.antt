@@ -14,9 +14,9 @@ use Rattle.road_io.proofs.MomentLaws.{continued}
 use Rattle.road_map.specs.declared.parts.Parts.{Parts}
 use Rattle.book_model.specs.declared.settings.Settings.{Settings}
 use Rattle.lms_tree.specs.Signatures.{KeyOf}
-use Rattle.desk_areas.specs.Layout.{slots_of, IsSigned}
+use Rattle.desk_areas.specs.Layout.{slots_of, gate_of, IsSigned}
 use Rattle.desk_areas.specs.declared.area.Count.TheVariants as counts
-use Rattle.key_desk.specs.Desk.{count_at, slot_here, IsSound, Fits, IsUsedUp}
+use Rattle.key_desk.specs.Desk.{count_at, slot_here, Fits, IsUsedUp}
 use Rattle.key_desk.proofs.Counts.{count_here, own_here}
 use Rattle.key_desk.proofs.Successors.{slots_on}
 use Rattle.key_desk.specs.Stands.{KeepsStanding}
@@ -26,7 +26,7 @@ use Rattle.proof_octets.specs.declared.header.Header.{Header}
 use Rattle.proof_octets.specs.Headers.{header_text}
 use Rattle.proof_octets.specs.declared.publication.Publication.{Publication}
 use Rattle.proof_octets.specs.Publications.{publication_text}
-use Rattle.route_owner.specs.Published.{IsPublication, IsSealed, SignsInSlot, SignsHeader}
+use Rattle.route_owner.specs.Published.{slot_of, IsPublication, IsSealed, SignsInSlot, SignsHeader}
 use Rattle.route_server.specs.Headers.{HasHeader, Makes}
 use Rattle.route_server.specs.declared.errors.BuildError.{BuildError}
 use Rattle.command_files.specs.Reading.{parts_at}
@@ -37,7 +37,7 @@ use Rattle.command_files.specs.declared.ended.Conclusion.{Conclusion}
 use Rattle.command_files.specs.declared.ended.Conclusion.TheVariants.{Done}
 use Rattle.command_files.proofs.Written.{CallsFor, over, reads, refused, written_done, lost, why_map}
 use Rattle.desk_areas.specs.Faults.{IsUsable}
-use Rattle.command_desks.specs.Opening.{HasBlocks, EndsOpening}
+use Rattle.command_desks.specs.Opening.{EndsOpening, IsOpened}
 use Rattle.command_desks.proofs.Openings.{shut, key_on}
 use Rattle.command_books.specs.Installing.{EndsBuilding, fault_of_build}
 use Rattle.command_books.proofs.Installings.{no_book}
@@ -45,13 +45,25 @@ use Rattle.owner_commands.specs.Publishing.{IsSignedFrom, AllSpent, EndsSigning,
 use Rattle.owner_commands.specs.Signing.{IsSealedOnDisk, SignsAtMostHeader, SignsAtMostOne, StaysRefused, WroteSealed, SealsWhatItWrites}
 
 module _ {D : Type 0} (g : Ghosts D) (old mid new : D) where
+  -- a slot that the desk counts as spent, and is not the last, is spent on the disk
+  spent_here : (desk : Desk) → Fits g desk mid → desk.is_open ≡ true → (c : List ℕ) → Image g mid c → (number : ℕ) → number + 1 < slots_of desk.key.kind → count_at desk number ≡ counts.Spent
+      → 0 < gate_of c (slot_here desk number)
+  spent_here desk fits opened c image number early spent =
+      let there = fits.spent opened c c image image (slot_here desk number) (own_here desk number (omega (arith, early))) (count_here desk (slot_here desk number) refl ∙ spent) in
+      there.open_gate
+
+  -- a slot is free or spent, and so one that is not free is spent
+  not_free : (desk : Desk) → ((s : ℕ) → (count_at desk s ≡ counts.Free) ⊎ (count_at desk s ≡ counts.Spent)) → (number : ℕ) → count_at desk number ≢ counts.Free → count_at desk number ≡ counts.Spent
+  not_free desk either number taken = elim (either number) [ inl free ↦ absurd (taken free) | inr spent ↦ spent ]
+
   -- what was published over the opened desk is what was promised over the disk
   pub sealed_on_disk : (desk : Desk) (parts : Parts) (s : Settings) (p : Publication) → ((c : List ℕ) → g.content mid ≡ Some c → Image g mid c) → ((c : List ℕ) → still_told g old new ≡ Some c → g.content mid ≡ Some c)
-      → HasBlocks (g.content mid) desk → ForSome (g.content mid) IsUsable → IsSound desk → IsPublication sha256 desk.key parts s p → IsSealed g mid new (length desk.earlier) p → IsSealedOnDisk g old new parts s p
-  sealed_on_disk desk parts s p reads told blocks usable sound is on_disk = record {
+      → IsOpened g old mid desk → ((number : ℕ) → number < slot_of p → count_at desk number ≢ counts.Free)
+      → IsPublication sha256 desk.key parts s p → IsSealed g mid new (length desk.earlier) p → IsSealedOnDisk g old new parts s p
+  sealed_on_disk desk parts s p reads told o lowest is on_disk = record {
     header = p.header;
     of_book = is.has_header;
-    usable = λ c at. usable c (told c at);
+    usable = λ c at. o.usable c (told c at);
     is = record { of_parts = is.of_parts; of_settings = is.of_settings; of_header = refl; signed = signed; fits = is.fits };
     on_disk = record { area = length desk.earlier; current = on_disk.current; early = on_disk.early; was_free = λ c at. on_disk.was_free c (reads c (told c at)); stands = on_disk.stands };
   }
@@ -59,10 +71,12 @@ module _ {D : Type 0} (g : Ghosts D) (old mid new : D) where
       signed : ForSome (still_told g old new) (λ c. IsSignedFrom c p.header p)
       signed c at = record {
         key = desk.key;
-        on_disk = key_on desk c sound (blocks c (told c at)).1;
+        on_disk = key_on desk c o.fits.sound (o.areas c (told c at)).1;
         good = is.signed.good;
+        exact = is.exact;
         slot = is.slot;
         unused = on_disk.was_free c (reads c (told c at));
+        lowest = λ number below. spent_here desk o.fits o.is_open c (reads c (told c at)) number (omega (arith, below, is.slot)) (not_free desk o.counts number (lowest number below));
       }
 
   -- a desk without a free slot but the last stands on a disk where all others are spent
@@ -76,9 +90,7 @@ module _ {D : Type 0} (g : Ghosts D) (old mid new : D) where
         current = areas.current;
         spent = λ number lt.
             let early : number + 1 < slots_of desk.key.kind = omega (arith, lt, slots_on desk c areas) in
-            let spent : count_at desk number ≡ counts.Spent = elim (either number) [ inl free ↦ absurd (none number early free) | inr spent ↦ spent ] in
-            let there = fits.spent opened c c image image (slot_here desk number) (own_here desk number (omega (arith, early))) (count_here desk (slot_here desk number) refl ∙ spent) in
-            there.open_gate;
+            spent_here desk fits opened c image number early (not_free desk either number (none number early));
       }
 
   -- opening changes no image, and signing one slot at most

@@ -5,7 +5,7 @@ use Rattle.std.specs.declared.result.Result.TheVariants.{Ok, Err}
 use Rattle.std.specs.Option.{ForSome}
 use Rattle.road_map.specs.declared.parts.Parts.{Parts}
 use Rattle.book_model.specs.declared.settings.Settings.{Settings}
-use Rattle.lms_tree.specs.Signatures.{KeyOf, public_key, verified}
+use Rattle.lms_tree.specs.Signatures.{KeyOf, public_key, sealed, verified}
 use Rattle.desk_areas.specs.Layout.{IsCurrent, slots_of, slots_at, base_of, gate_of}
 use Rattle.proof_octets.specs.declared.header.Header.{Header}
 use Rattle.proof_octets.specs.declared.publication.Publication.{Publication}
@@ -28,13 +28,18 @@ pub record AllSpent (image : List ℕ) : Type 0 where
   pub spent : (number : ℕ) → number + 1 < slots_at image (base_of image area) →
       0 < gate_of image (record { area = area; number = number })
 
--- the signature is the key's, by a one-time key that was not used and is not the last
+-- The signature is the key's, by the first one-time key that was not used, which is not the last. It is
+-- the one that this key makes of the header, so no octet of it is anybody's choice: an image, a map and
+-- settings have one publication.
 pub record IsSignedFrom (image : List ℕ) (h : Header) (p : Publication) : Type 0 where
   pub key : KeyOf
   pub on_disk : IsKeyOn image key
   pub good : verified (public_key key) (header_text h) p.signature ≡ Ok tt
+  pub exact : p.signature ≡ sealed key (slot_of p) (header_text h)
   pub slot : slot_of p + 1 < slots_of key.kind
   pub unused : gate_of image (slot_in on_disk.area p) ≡ 0
+  pub lowest : (number : ℕ) → number < slot_of p →
+      0 < gate_of image (record { area = on_disk.area; number = number })
 
 -- the publication of parts and settings with this header
 pub record IsPublicationOf (content : Option (List ℕ)) (parts : Parts) (s : Settings) (h : Header)

@@ -20,8 +20,8 @@ pub returns-in-Ok-clause-sealed : goal.returns-in-Ok-clause-sealed
 returns-in-Ok-clause-sealed g c =
     let o = c.in_ok-desk.ensures.opened in
     sealed_on_disk g.D.Disk c.args.disk.now c.open_desk.new.disk c.publish.new.disk c.in_ok-desk.desk c.args.parts c.args.settings.now _ (g.met.D.Disk.reads_image c.open_desk.new.disk)
-    (told_between g.D.Disk c.args.disk.now c.open_desk.new.disk c.publish.new.disk _ (g.met.D.Disk.reads_image c.publish.new.disk) (g.met.D.Disk.image_tells c.open_desk.new.disk) o.content c.in-Ok.ensures.moments.each) o.areas
-    o.usable o.fits.sound c.in-Ok.ensures.published c.in-Ok.ensures.sealed
+    (told_between g.D.Disk c.args.disk.now c.open_desk.new.disk c.publish.new.disk _ (g.met.D.Disk.reads_image c.publish.new.disk) (g.met.D.Disk.image_tells c.open_desk.new.disk) o.content c.in-Ok.ensures.moments.each) o
+    c.in-Ok.ensures.lowest c.in-Ok.ensures.published c.in-Ok.ensures.sealed
 
 pub returns-in-Ok-clause-signs : goal.returns-in-Ok-clause-signs
 returns-in-Ok-clause-signs g c = signs_after g.D.Disk c.args.disk.now c.open_desk.new.disk c.publish.new.disk c.args.parts c.args.settings.now c.in_ok-desk.ensures.stays c.in-Ok.ensures.moments

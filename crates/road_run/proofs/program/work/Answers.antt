@@ -219,68 +219,68 @@ returns-in-None-clause-gave g c = run_gave_nothing _ _ _ _ _ _ _ c.in-None.ensur
 
 pub returns-in-Some-Serve-clause-gave : goal.returns-in-Some-Serve-clause-gave
 returns-in-Some-Serve-clause-gave g c =
-    run_gave _ _ _ _ _ _ _ _ _ _ (rw c.in-Some-Serve.field-0-is at c.in-Some-Serve.ensures.is) c.serve.ensures.gave (has_ended _ _ c.serve.ensures.ended c.serve.ensures.cut) tt
+    run_gave _ _ _ _ _ _ _ _ _ _ _ (rw c.in-Some-Serve.field-0-is at c.in-Some-Serve.ensures.is) c.serve.ensures.gave (has_ended _ _ c.serve.ensures.ended c.serve.ensures.cut) tt
 
 pub returns-in-Some-Route-clause-gave : goal.returns-in-Some-Route-clause-gave
 returns-in-Some-Route-clause-gave g c =
-    run_gave _ _ _ _ _ _ _ _ _ _ (rw c.in-Some-Route.field-0-is at c.in-Some-Route.ensures.is) tt tt refl
+    run_gave _ _ _ _ _ _ _ _ _ _ _ (rw c.in-Some-Route.field-0-is at c.in-Some-Route.ensures.is) tt tt refl
 
 pub returns-in-Some-Root-clause-gave : goal.returns-in-Some-Root-clause-gave
 returns-in-Some-Root-clause-gave g c =
-    run_gave _ _ _ _ _ _ _ _ _ _ (rw c.in-Some-Root.field-0-is at c.in-Some-Root.ensures.is) tt tt refl
+    run_gave _ _ _ _ _ _ _ _ _ _ _ (rw c.in-Some-Root.field-0-is at c.in-Some-Root.ensures.is) tt tt refl
 
 pub returns-in-Some-Dimacs-clause-gave : goal.returns-in-Some-Dimacs-clause-gave
 returns-in-Some-Dimacs-clause-gave g c =
-    run_gave _ _ _ _ _ _ _ _ _ _ (rw c.in-Some-Dimacs.field-0-is at c.in-Some-Dimacs.ensures.is) tt tt refl
+    run_gave _ _ _ _ _ _ _ _ _ _ _ (rw c.in-Some-Dimacs.field-0-is at c.in-Some-Dimacs.ensures.is) tt tt refl
 
 pub returns-in-Some-Prove-clause-gave : goal.returns-in-Some-Prove-clause-gave
 returns-in-Some-Prove-clause-gave g c =
-    run_gave _ _ _ _ _ _ _ _ _ _ (rw c.in-Some-Prove.field-0-is at c.in-Some-Prove.ensures.is) tt tt refl
+    run_gave _ _ _ _ _ _ _ _ _ _ _ (rw c.in-Some-Prove.field-0-is at c.in-Some-Prove.ensures.is) tt tt refl
 
 pub returns-in-Some-Check-clause-gave : goal.returns-in-Some-Check-clause-gave
 returns-in-Some-Check-clause-gave g c =
-    run_gave _ _ _ _ _ _ _ _ _ _ (rw c.in-Some-Check.field-0-is at c.in-Some-Check.ensures.is) tt tt refl
+    run_gave _ _ _ _ _ _ _ _ _ _ _ (rw c.in-Some-Check.field-0-is at c.in-Some-Check.ensures.is) tt tt refl
 
 pub returns-in-Some-Survey-clause-gave : goal.returns-in-Some-Survey-clause-gave
 returns-in-Some-Survey-clause-gave g c =
-    run_gave _ _ _ _ _ _ _ _ _ _ (rw c.in-Some-Survey.field-0-is at c.in-Some-Survey.ensures.is) tt tt refl
+    run_gave _ _ _ _ _ _ _ _ _ _ _ (rw c.in-Some-Survey.field-0-is at c.in-Some-Survey.ensures.is) tt tt refl
 
 pub returns-in-Some-Key-clause-gave : goal.returns-in-Some-Key-clause-gave
 returns-in-Some-Key-clause-gave g c =
-    run_gave _ _ _ _ _ _ _ _ _ _ (rw c.in-Some-Key.field-0-is at c.in-Some-Key.ensures.is) tt tt refl
+    run_gave _ _ _ _ _ _ _ _ _ _ _ (rw c.in-Some-Key.field-0-is at c.in-Some-Key.ensures.is) tt tt refl
 
 pub returns-in-Some-Desk-clause-gave : goal.returns-in-Some-Desk-clause-gave
 returns-in-Some-Desk-clause-gave g c =
-    run_gave _ _ _ _ _ _ _ _ _ _ (rw c.in-Some-Desk.field-0-is at c.in-Some-Desk.ensures.is) tt tt refl
+    run_gave _ _ _ _ _ _ _ _ _ _ _ (rw c.in-Some-Desk.field-0-is at c.in-Some-Desk.ensures.is) tt tt refl
 
 pub returns-in-Some-Succeed-clause-gave : goal.returns-in-Some-Succeed-clause-gave
 returns-in-Some-Succeed-clause-gave g c =
-    run_gave _ _ _ _ _ _ _ _ _ _ (rw c.in-Some-Succeed.field-0-is at c.in-Some-Succeed.ensures.is) tt tt refl
+    run_gave _ _ _ _ _ _ _ _ _ _ _ (rw c.in-Some-Succeed.field-0-is at c.in-Some-Succeed.ensures.is) tt tt refl
 
 pub returns-in-Some-Links-clause-gave : goal.returns-in-Some-Links-clause-gave
 returns-in-Some-Links-clause-gave g c =
-    run_gave _ _ _ _ _ _ _ _ _ _ (rw c.in-Some-Links.field-0-is at c.in-Some-Links.ensures.is) tt tt refl
+    run_gave _ _ _ _ _ _ _ _ _ _ _ (rw c.in-Some-Links.field-0-is at c.in-Some-Links.ensures.is) tt tt refl
 
 pub returns-in-Some-Publish-clause-gave : goal.returns-in-Some-Publish-clause-gave
 returns-in-Some-Publish-clause-gave g c =
-    run_gave _ _ _ _ _ _ _ _ _ _ (rw c.in-Some-Publish.field-0-is at c.in-Some-Publish.ensures.is) tt tt refl
+    run_gave _ _ _ _ _ _ _ _ _ _ _ (rw c.in-Some-Publish.field-0-is at c.in-Some-Publish.ensures.is) tt tt refl
 
 pub returns-in-Some-Audit-clause-gave : goal.returns-in-Some-Audit-clause-gave
 returns-in-Some-Audit-clause-gave g c =
-    run_gave _ _ _ _ _ _ _ _ _ _ (rw c.in-Some-Audit.field-0-is at c.in-Some-Audit.ensures.is) tt tt refl
+    run_gave _ _ _ _ _ _ _ _ _ _ _ (rw c.in-Some-Audit.field-0-is at c.in-Some-Audit.ensures.is) tt tt refl
 
 pub returns-in-Some-Reach-clause-gave : goal.returns-in-Some-Reach-clause-gave
 returns-in-Some-Reach-clause-gave g c =
-    run_gave _ _ _ _ _ _ _ _ _ _ (rw c.in-Some-Reach.field-0-is at c.in-Some-Reach.ensures.is) tt tt refl
+    run_gave _ _ _ _ _ _ _ _ _ _ _ (rw c.in-Some-Reach.field-0-is at c.in-Some-Reach.ensures.is) tt tt refl
 
 pub returns-in-Some-CheckReach-clause-gave : goal.returns-in-Some-CheckReach-clause-gave
 returns-in-Some-CheckReach-clause-gave g c =
-    run_gave _ _ _ _ _ _ _ _ _ _ (rw c.in-Some-CheckReach.field-0-is at c.in-Some-CheckReach.ensures.is) tt tt refl
+    run_gave _ _ _ _ _ _ _ _ _ _ _ (rw c.in-Some-CheckReach.field-0-is at c.in-Some-CheckReach.ensures.is) tt tt refl
 
 pub returns-in-Some-AuditReach-clause-gave : goal.returns-in-Some-AuditReach-clause-gave
 returns-in-Some-AuditReach-clause-gave g c =
-    run_gave _ _ _ _ _ _ _ _ _ _ (rw c.in-Some-AuditReach.field-0-is at c.in-Some-AuditReach.ensures.is) tt tt refl
+    run_gave _ _ _ _ _ _ _ _ _ _ _ (rw c.in-Some-AuditReach.field-0-is at c.in-Some-AuditReach.ensures.is) tt tt refl
 
 pub returns-in-Some-Reduce-clause-gave : goal.returns-in-Some-Reduce-clause-gave
 returns-in-Some-Reduce-clause-gave g c =
-    run_gave _ _ _ _ _ _ _ _ _ _ (rw c.in-Some-Reduce.field-0-is at c.in-Some-Reduce.ensures.is) tt tt refl
+    run_gave _ _ _ _ _ _ _ _ _ _ _ (rw c.in-Some-Reduce.field-0-is at c.in-Some-Reduce.ensures.is) tt tt refl

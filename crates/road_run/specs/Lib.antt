@@ -3,3 +3,4 @@ pub mod Sources
 pub mod Accepting
 pub mod Lives
 pub mod Complete
+pub mod Runs

@@ -8,8 +8,8 @@ use proof_judge::Refusal;
 use road_command::{MOST_WORDS, Words, command_of};
 use road_map::MapError;
 use road_tell::{
-    Look, Unusable, WrongHex, faulty_file, keys_left, look_of, place_of, plan_rule, setting_name,
-    wrong_words,
+    Look, Unusable, WrongHex, asked_of, faulty_file, keys_left, look_of, place_of, plan_rule,
+    setting_name, wrong_words,
 };
 use route_client::CheckError;
 use std::alloc::{AllocError, Global};
@@ -71,10 +71,13 @@ static WRONG: [(&str, &str); 11] = [
         "road_proof: x: P3 must be a whole number from 0 to 18446744073709551615.",
     ),
     (
-        "help",
-        "road_proof: help: Each command stands with what it does.",
+        "help rout",
+        "road_proof: rout: There is no such command. `road_proof help` lists them.",
     ),
-    ("--version", "road_proof: version: This is version 0.1.0."),
+    (
+        "--version 1",
+        "road_proof: --version: There is no such command. `road_proof help` lists them.",
+    ),
 ];
 
 fn assert_wrong(rt: &impl Abort, alloc: Global, line: &str, message: &str) -> Result<(), Fail> {
@@ -106,9 +109,34 @@ fn a_commands_line_is_printed(rt: HostRuntime) -> Result<(), Fail> {
 #[test]
 fn the_table_of_commands_is_printed(rt: HostRuntime) -> Result<(), Fail> {
     let text = told_of(rt.alloc(), &Words::new(rt.alloc()))?;
-    let start =
-        "road_proof: help: Each command stands with what it does.\ncommands:\n  route ROADS S T\n";
+    let start = "road_proof: words: There are none.\ncommands:\n  route ROADS S T\n";
     assert_row(&rt, text.as_str(), text.starts_with(start), true);
+    Ok(())
+}
+
+static ASKED: [(&str, Option<&str>); 10] = [
+    ("help", Some("road_proof 0.1.0, for ")),
+    ("--help", Some("road_proof 0.1.0, for ")),
+    ("-h", Some("road_proof 0.1.0, for ")),
+    ("--version", Some("road_proof 0.1.0, for ")),
+    ("help serve", Some("  serve PUB\n")),
+    ("serve --help", Some("  serve PUB\n")),
+    ("serve -h", Some("  serve PUB\n")),
+    ("help rout", None),
+    ("rout --help", None),
+    ("serve help", None),
+];
+
+#[test]
+fn the_program_tells_of_itself(rt: HostRuntime) -> Result<(), Fail> {
+    for (line, front) in &ASKED {
+        let words = words_of(&rt, rt.alloc(), *line)?;
+        assert_row(&rt, *line, asked_of(&words).is_some(), front.is_some());
+        if let (Some(asked), Some(front)) = (asked_of(&words), *front) {
+            let text = format!(in rt.alloc(); "{asked}")?;
+            assert_row(&rt, *line, text.starts_with(front), true);
+        }
+    }
     Ok(())
 }
 

@@ -14,7 +14,7 @@ use mirror_out::FileMirror;
 use road_command::{MOST_WORDS, Words};
 use road_io::{FileDisk, FileLibrary, StdSink, StdSource};
 use road_run::run;
-use road_tell::{Facts, look_again, message_on};
+use road_tell::{Asked, Facts, asked_of, look_again, message_on};
 use serve_hint::tell_of_serve;
 use std::alloc::Global;
 use std::env;
@@ -47,6 +47,17 @@ fn not_begun(rt: HostRuntime, status: u8) -> ExitCode {
     ExitCode::from(status)
 }
 
+/// Tells on standard output what was asked of the program itself, and answers the status.
+fn tell(rt: HostRuntime, asked: Asked) -> ExitCode {
+    match println!(rt; "{asked}") {
+        Ok(()) => ExitCode::from(0),
+        Err(e) => {
+            let _ = eprintln!(rt; "road_proof: standard output: It was not written whole: {e}.");
+            ExitCode::from(6)
+        }
+    }
+}
+
 /// Names the mirrors that were lost.
 fn tell_lost(rt: HostRuntime, labels: &[u32], mirrors: &Vec<FileMirror>) {
     for label in labels.iter().filter(|label| is_lost(mirrors, **label)) {
@@ -68,6 +79,9 @@ fn main(rt: HostRuntime) -> ExitCode {
         Ok(words) => words,
         Err(status) => return not_begun(rt, status),
     };
+    if let Some(asked) = asked_of(&words) {
+        return tell(rt, asked);
+    }
     let Ok((mut mirrors, labels)) = labelled_mirrors(rt, alloc) else {
         return not_begun(rt, 9);
     };

@@ -3,8 +3,8 @@
 
 Words beside code blocks of README.md and docs/*.md, sentences of more than 40 words, and links to files or headings
 that are not there, in these and in the documents at the top; and looks that the version of the file VERSION is the one
-that the program, the changelog, the C header and the Python module say, and that Git tracks nothing under an out
-folder. Ends with status 1 where one is above its budget or differs.
+that the program, the changelog, the C header and the Python module say, that the program names the toolchain of SUMS,
+and that Git tracks nothing under an out folder. Ends with status 1 where one is above its budget or differs.
 """
 import glob
 import os
@@ -16,6 +16,7 @@ TOP = os.path.dirname(os.path.dirname(os.path.dirname(os.path.abspath(__file__))
 README_WORDS, ALL_WORDS, SENTENCE_WORDS = 1_100, 20_000, 40
 VERSIONS = {"crates/road_tell/src/usage.rt": r'VERSION: &str = "([^"]*)"', "CHANGELOG.md": r"^## (\S+)",
             "bindings/route_check.h": r'ROUTE_CHECK_VERSION "([^"]*)"', "bindings/route_check.py": r'__version__ = "([^"]*)"'}
+KIT = r'KIT: &str = "([^"]*)"'
 APART = ["SECURITY.md", "CONTRIBUTING.md", "CHANGELOG.md", "checks/README.md"]
 
 
@@ -73,6 +74,9 @@ def versions_that_differ():
         found = re.search(pattern, read(name), re.M)
         if not found or found[1] != version:
             yield f"{name}: it says version {found[1] if found else 'nothing'}, and VERSION says {version}"
+    found = re.search(KIT, read("crates/road_tell/src/usage.rt"))
+    if not found or f"# {found[1]}" != read("SUMS").split("\n", 1)[0]:
+        yield "crates/road_tell/src/usage.rt: it names another toolchain than SUMS"
 
 
 def tracked_in_out():

@@ -1,6 +1,6 @@
 //! A table worked out by hand.
 
-use crate::same::assert_same;
+use crate::same::{assert_row, assert_same};
 use book_model::PairLeaves;
 use pair_dist::{PairError, pair_leaves};
 use road_leaf::PairLeaf;
@@ -83,6 +83,100 @@ fn a_way_past_no_third_may_be_longer_than_any_arc(rt: HostRuntime) -> Result<(),
     let map = map_of(rt.alloc(), &NODES, &LONG_ROADS)?;
     let leaves = table_of(rt.alloc(), &map, &[1, 3, 4])?;
     assert_same(&rt, leaves.as_slice(), LONG_TABLE.as_slice());
+    Ok(())
+}
+
+/// A grid of three by three nodes, two nodes apart from it, and one alone.
+static TWELVE: [(u32, i32, i32); 12] = [
+    (1, 0, 0),
+    (2, 1, 0),
+    (3, 2, 0),
+    (4, 0, 1),
+    (5, 1, 1),
+    (6, 2, 1),
+    (7, 0, 2),
+    (8, 1, 2),
+    (9, 2, 2),
+    (10, 8, 8),
+    (11, 9, 8),
+    (12, 9, 9),
+];
+
+/// Roads of length 0 among them, and parallel ones, of which the last is not always the shortest.
+static SEVENTEEN: [(u32, u32, u32); 17] = [
+    (1, 2, 4),
+    (2, 3, 9),
+    (4, 5, 6),
+    (5, 6, 1),
+    (7, 8, 2),
+    (8, 9, 3),
+    (1, 4, 7),
+    (4, 7, 0),
+    (2, 5, 2),
+    (5, 8, 5),
+    (3, 6, 8),
+    (6, 9, 0),
+    (1, 2, 11),
+    (5, 8, 4),
+    (2, 3, 10),
+    (10, 11, 5),
+    (10, 11, 5),
+];
+
+/// No walk leads there.
+const FAR: u64 = u64::MAX;
+
+/// Chosen nodes of that map, and the distances of their pairs, which the method of Floyd and Warshall, in ten
+/// lines of Python, has found.
+static CASES: [(&[u32], &[u64]); 7] = [
+    // None, as the borders of one cell, and one.
+    (&[], &[]),
+    (&[5], &[]),
+    // Without these the grid still hangs together.
+    (&[1, 9], &[7]),
+    (&[2, 6, 11], &[3, FAR, FAR]),
+    (
+        &[1, 5, 9, 10, 11, 12],
+        &[
+            6, 7, FAR, FAR, FAR, 1, FAR, FAR, FAR, FAR, FAR, FAR, 5, FAR, FAR,
+        ],
+    ),
+    // All but one, and all.
+    (
+        &[1, 2, 3, 4, 5, 6, 7, 8, 10, 11, 12],
+        &[
+            4, 13, 7, 6, 7, 7, 9, FAR, FAR, FAR, 9, 8, 2, 3, 8, 6, FAR, FAR, FAR, 13, 9, 8, 13, 11,
+            FAR, FAR, FAR, 6, 5, 0, 2, FAR, FAR, FAR, 1, 6, 4, FAR, FAR, FAR, 5, 3, FAR, FAR, FAR,
+            2, FAR, FAR, FAR, FAR, FAR, FAR, 5, FAR, FAR,
+        ],
+    ),
+    (
+        &[1, 2, 3, 4, 5, 6, 7, 8, 9, 10, 11, 12],
+        &[
+            4, 13, 7, 6, 7, 7, 9, 7, FAR, FAR, FAR, 9, 8, 2, 3, 8, 6, 3, FAR, FAR, FAR, 13, 9, 8,
+            13, 11, 8, FAR, FAR, FAR, 6, 5, 0, 2, 5, FAR, FAR, FAR, 1, 6, 4, 1, FAR, FAR, FAR, 5,
+            3, 0, FAR, FAR, FAR, 2, 5, FAR, FAR, FAR, 3, FAR, FAR, FAR, FAR, FAR, FAR, 5, FAR, FAR,
+        ],
+    ),
+];
+
+/// The distances of a table, pair by pair.
+fn distances_of(alloc: Global, table: &PairLeaves) -> Result<Vec<u64>, AllocError> {
+    let mut distances = Vec::new(alloc);
+    for leaf in table.as_slice() {
+        distances.push(leaf.distance)?;
+    }
+    Ok(distances)
+}
+
+#[test]
+fn distances_are_found_whatever_nodes_are_chosen(rt: HostRuntime) -> Result<(), Fail> {
+    let map = map_of(rt.alloc(), &TWELVE, &SEVENTEEN)?;
+    for (chosen, distances) in &CASES {
+        let table = table_of(rt.alloc(), &map, chosen)?;
+        let found = distances_of(rt.alloc(), &table)?;
+        assert_row(&rt, *chosen, found.as_slice(), *distances);
+    }
     Ok(())
 }
 

@@ -8,8 +8,8 @@ use proof_judge::Refusal;
 use road_command::{MOST_WORDS, Words, command_of};
 use road_map::MapError;
 use road_tell::{
-    Look, Unusable, WrongHex, faulty_file, keys_left, look_of, place_of, plan_rule, setting_name,
-    wrong_words,
+    Look, Unusable, WrongHex, asked_of, bad_number, faulty_file, keys_left, look_of, place_of,
+    plan_rule, setting_name, wrong_words,
 };
 use route_client::CheckError;
 use std::alloc::{AllocError, Global};
@@ -71,10 +71,13 @@ static WRONG: [(&str, &str); 11] = [
         "road_proof: x: P3 must be a whole number from 0 to 18446744073709551615.",
     ),
     (
-        "help",
-        "road_proof: help: Each command stands with what it does.",
+        "help rout",
+        "road_proof: rout: There is no such command. `road_proof help` lists them.",
     ),
-    ("--version", "road_proof: version: This is version 0.1.0."),
+    (
+        "--version 1",
+        "road_proof: --version: There is no such command. `road_proof help` lists them.",
+    ),
 ];
 
 fn assert_wrong(rt: &impl Abort, alloc: Global, line: &str, message: &str) -> Result<(), Fail> {
@@ -106,9 +109,34 @@ fn a_commands_line_is_printed(rt: HostRuntime) -> Result<(), Fail> {
 #[test]
 fn the_table_of_commands_is_printed(rt: HostRuntime) -> Result<(), Fail> {
     let text = told_of(rt.alloc(), &Words::new(rt.alloc()))?;
-    let start =
-        "road_proof: help: Each command stands with what it does.\ncommands:\n  route ROADS S T\n";
+    let start = "road_proof: words: There are none.\ncommands:\n  route ROADS S T\n";
     assert_row(&rt, text.as_str(), text.starts_with(start), true);
+    Ok(())
+}
+
+static ASKED: [(&str, Option<&str>); 10] = [
+    ("help", Some("road_proof 0.1.0, for ")),
+    ("--help", Some("road_proof 0.1.0, for ")),
+    ("-h", Some("road_proof 0.1.0, for ")),
+    ("--version", Some("road_proof 0.1.0, for ")),
+    ("help serve", Some("  serve PUB\n")),
+    ("serve --help", Some("  serve PUB\n")),
+    ("serve -h", Some("  serve PUB\n")),
+    ("help rout", None),
+    ("rout --help", None),
+    ("serve help", None),
+];
+
+#[test]
+fn the_program_tells_of_itself(rt: HostRuntime) -> Result<(), Fail> {
+    for (line, front) in &ASKED {
+        let words = words_of(&rt, rt.alloc(), *line)?;
+        assert_row(&rt, *line, asked_of(&words).is_some(), front.is_some());
+        if let (Some(asked), Some(front)) = (asked_of(&words), *front) {
+            let text = format!(in rt.alloc(); "{asked}")?;
+            assert_row(&rt, *line, text.starts_with(front), true);
+        }
+    }
     Ok(())
 }
 
@@ -124,6 +152,61 @@ fn a_fault_of_two_files_is_said_of_one(rt: HostRuntime) {
     for (fault, file) in &FILES {
         assert_row(&rt, *fault, faulty_file("graph", "places", *fault), *file);
     }
+}
+
+static NUMBERS: [(&str, u32, &str); 8] = [
+    (
+        "# a map\nroads 1\n\nnode 1 47.37 8.54\r\n",
+        4,
+        "Line 4: 47.37 is no whole number from -2147483648 to 2147483647.",
+    ),
+    (
+        "roads 1\nnode -1 0 0",
+        2,
+        "Line 2: -1 is no whole number from 0 to 4294967295.",
+    ),
+    (
+        "roads 1\nroad 1 2\t4294967296\r\n",
+        2,
+        "Line 2: 4294967296 is no whole number from 0 to 4294967295.",
+    ),
+    (
+        "p sp 3 4\na 1 2 0x4\n",
+        2,
+        "Line 2: 0x4 is no whole number from 0 to 4294967295.",
+    ),
+    (
+        "p sp 3 four\n",
+        1,
+        "Line 1: four is no whole number from 0 to 4294967295.",
+    ),
+    (
+        "p aux sp co 3\nv 1 2147483648 0\n",
+        2,
+        "Line 2: 2147483648 is no whole number from -2147483648 to 2147483647.",
+    ),
+    (
+        "roads 1\nroad 1 2 123456789012345678901\n",
+        2,
+        "Line 2: 12345678901234567890.. is no whole number from 0 to 4294967295.",
+    ),
+    (
+        "roads 1\nroad 1 2 \x1b[2J\n",
+        2,
+        "Line 2: what stands there is no whole number from 0 to 4294967295.",
+    ),
+];
+
+#[test]
+fn a_bad_number_is_told_by_its_word(rt: HostRuntime) -> Result<(), Fail> {
+    for (text, line, message) in &NUMBERS {
+        match bad_number(text.as_bytes(), *line) {
+            None => return Err(Fail::from("no word is wrong")),
+            Some(bad) => assert_printed(&rt, rt.alloc(), bad, *message)?,
+        }
+    }
+    assert_same(&rt, bad_number(b"roads 1\nnode 1 -2 3\n", 2), None);
+    Ok(())
 }
 
 /// A road file with skipped lines, and a fault of each kind when its last lines are added.

@@ -6,17 +6,21 @@
 #![tactic(auto)]
 
 mod mirror_files;
+mod serve_hint;
 
+use command_files::Ended;
 use mirror_files::{is_lost, labelled_mirrors};
 use mirror_out::FileMirror;
 use road_command::{MOST_WORDS, Words};
 use road_io::{FileDisk, FileLibrary, StdSink, StdSource};
 use road_run::run_on_files;
-use road_tell::{Facts, look_again, message_on};
+use road_tell::{Asked, Facts, asked_of, look_again, message_on};
+use serve_hint::tell_of_serve;
 use std::alloc::Global;
 use std::env;
 use std::io::ErrorKind;
 use std::process::ExitCode;
+use std::time::Instant;
 
 /// The words after the program's name, or the status of a run that can't have them.
 fn words_of(rt: HostRuntime, alloc: Global) -> Result<Words, u8> {
@@ -43,6 +47,17 @@ fn not_begun(rt: HostRuntime, status: u8) -> ExitCode {
     ExitCode::from(status)
 }
 
+/// Tells on standard output what was asked of the program itself, and answers the status.
+fn tell(rt: HostRuntime, asked: Asked) -> ExitCode {
+    match println!(rt; "{asked}") {
+        Ok(()) => ExitCode::from(0),
+        Err(e) => {
+            let _ = eprintln!(rt; "road_proof: standard output: It was not written whole: {e}.");
+            ExitCode::from(6)
+        }
+    }
+}
+
 /// Names the mirrors that were lost.
 fn tell_lost(rt: HostRuntime, labels: &[u32], mirrors: &Vec<FileMirror>) {
     for label in labels.iter().filter(|label| is_lost(mirrors, **label)) {
@@ -50,12 +65,23 @@ fn tell_lost(rt: HostRuntime, labels: &[u32], mirrors: &Vec<FileMirror>) {
     }
 }
 
+/// Says why a run ended as it did, where there is anything to say.
+fn tell_end(rt: HostRuntime, words: &Words, ended: Ended, facts: Facts<'_>) {
+    if let Some(message) = message_on(words, ended, facts) {
+        let _ = eprintln!(rt; "{message}");
+    }
+}
+
 fn main(rt: HostRuntime) -> ExitCode {
     let alloc = rt.alloc();
+    let begun = Instant::now(&rt).ok();
     let words = match words_of(rt, alloc) {
         Ok(words) => words,
         Err(status) => return not_begun(rt, status),
     };
+    if let Some(asked) = asked_of(&words) {
+        return tell(rt, asked);
+    }
     let Ok((mut mirrors, labels)) = labelled_mirrors(rt, alloc) else {
         return not_begun(rt, 9);
     };
@@ -86,8 +112,7 @@ fn main(rt: HostRuntime) -> ExitCode {
         apart: again.apart,
         left: again.left,
     };
-    if let Some(message) = message_on(&words, ended, facts) {
-        let _ = eprintln!(rt; "{message}");
-    }
+    tell_end(rt, &words, ended, facts);
+    tell_of_serve(rt, &words, ended.status, begun);
     ExitCode::from(ended.status)
 }

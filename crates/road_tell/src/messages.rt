@@ -3,6 +3,7 @@
 use crate::challenge::faulty_file;
 use crate::hex_text::WrongHex;
 use crate::looks::{Look, look_of};
+use crate::numbers::bad_number;
 use crate::plans::{plan_rule, setting_name};
 use crate::refusals::Unusable;
 use crate::roads::place_of;
@@ -228,20 +229,22 @@ impl<'a> Message<'a> {
             Fault::TooLong => f.write_str(
                 "It has more than 268435456 octets, the most that are read.",
             ),
-            Fault::Road(fault) => {
-                write!(f, "{fault}")?;
-                match fault {
-                    RoadError::NoTitle => self.look(f, Look::RoadFile),
-                    _ => Ok(()),
+            Fault::Road(fault) => match fault {
+                RoadError::BadNumber(line) => self.number(f, line),
+                RoadError::NoTitle => {
+                    write!(f, "{fault}")?;
+                    self.look(f, Look::RoadFile)
                 }
-            }
-            Fault::Dimacs(fault) => {
-                write!(f, "{fault}")?;
-                match fault {
-                    DimacsError::NoProblem(_) => self.look(f, Look::RoadFile),
-                    _ => Ok(()),
+                _ => write!(f, "{fault}"),
+            },
+            Fault::Dimacs(fault) => match fault {
+                DimacsError::BadNumber(_, line) => self.number(f, line),
+                DimacsError::NoProblem(_) => {
+                    write!(f, "{fault}")?;
+                    self.look(f, Look::RoadFile)
                 }
-            }
+                _ => write!(f, "{fault}"),
+            },
             Fault::Malformed(place) => {
                 let (kind, wanted) = self.malformed();
                 write!(
@@ -258,8 +261,20 @@ impl<'a> Message<'a> {
             }
             _ => {
                 f.write_str("It can't be read")?;
-                reason(f, self.facts.file_error)
+                reason(f, self.facts.file_error)?;
+                match self.facts.name {
+                    "-" => f.write_str(" Standard input is taken under the name /dev/stdin."),
+                    _ => Ok(()),
+                }
             }
+        }
+    }
+
+    /// Which word of a line is no number of its range, and what it must be.
+    fn number<W: fmt::Write>(&self, f: &mut Formatter<W>, line: u32) -> fmt::Result {
+        match bad_number(self.facts.text, line) {
+            Some(bad) => write!(f, "{bad}"),
+            None => write!(f, "Line {line} has a word that is no number of its range."),
         }
     }
 

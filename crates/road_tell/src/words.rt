@@ -1,6 +1,6 @@
 //! Words that fit no command.
 
-use crate::usage::{Commands, Usage, VERSION, usage_of};
+use crate::usage::{Commands, Usage, usage_of};
 use road_command::{Words, reading};
 use road_reader::{natural, wide_natural};
 use std::fmt::{self, Display, Formatter};
@@ -8,10 +8,8 @@ use std::fmt::{self, Display, Formatter};
 /// Why words fit no command.
 #[derive(Clone, Copy)]
 pub enum WrongWords<'a> {
-    /// There are no words, or they ask for help.
-    Help,
-    /// They ask for the version.
-    Version,
+    /// There are no words.
+    None,
     /// The first word is no command.
     NoCommand(&'a str),
     /// There are more or fewer words behind the command than it takes.
@@ -31,15 +29,15 @@ pub enum WrongWords<'a> {
 /// Why words fit no command, if that can be told.
 pub fn wrong_words(words: &Words) -> Option<WrongWords<'_>> {
     if words.count() == 0 {
-        return Some(WrongWords::Help);
+        return Some(WrongWords::None);
     }
-    match words.word(0) {
-        "help" | "--help" | "-h" => Some(WrongWords::Help),
-        "--version" => Some(WrongWords::Version),
-        name => match usage_of(name) {
-            None => Some(WrongWords::NoCommand(name)),
-            Some(usage) => wrong_place(usage, words),
-        },
+    let name = match words.word(0) {
+        "help" if words.count() > 1 => words.word(1),
+        name => name,
+    };
+    match usage_of(name) {
+        None => Some(WrongWords::NoCommand(name)),
+        Some(usage) => wrong_place(usage, words),
     }
 }
 
@@ -106,14 +104,7 @@ fn rule(place: &str) -> &'static str {
 impl Display for WrongWords<'_> {
     fn fmt<W: fmt::Write>(&self, f: &mut Formatter<W>) -> fmt::Result {
         match self {
-            WrongWords::Help => write!(
-                f,
-                "road_proof: help: Each command stands with what it does.\n{Commands}"
-            ),
-            WrongWords::Version => write!(
-                f,
-                "road_proof: version: This is version {VERSION}.\n{Commands}"
-            ),
+            WrongWords::None => write!(f, "road_proof: words: There are none.\n{Commands}"),
             WrongWords::NoCommand(name) => write!(
                 f,
                 "road_proof: {name}: There is no such command. `road_proof help` lists them."

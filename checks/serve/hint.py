@@ -1,0 +1,79 @@
+#!/usr/bin/env python3
+"""Plays the hint of a slow `prove` that `serve` keeps its book: checks/serve/hint.py PROGRAM
+
+Publishes a grid of 128 by 128 nodes in four by four cells under HYP, whose book takes more than a
+second to make, and the five nodes under DIJ. At a terminal, which is a pseudo-terminal here, `prove` over the grid names
+`serve` on standard error; through a pipe it says nothing, and over the five nodes neither. Nobody
+trusts this script.
+"""
+import os
+import pty
+import subprocess
+import sys
+import tempfile
+import time
+
+FIVE = "roads 1\nnode 1 0 0\nnode 2 10 0\nnode 3 20 0\nnode 4 10 10\nnode 5 50 50\nroad 1 2 4\nroad 2 3 5\nroad 1 4 3\nroad 4 3 7\n"
+GRID = os.path.join(os.path.dirname(os.path.abspath(__file__)), "..", "speed", "grid.py")
+
+
+def drained(end):
+    """All that was written to a pseudo-terminal whose other end is closed."""
+    said = b""
+    while True:
+        try:
+            piece = os.read(end, 4096)
+        except OSError:
+            return said
+        if not piece:
+            return said
+        said += piece
+
+
+def at_terminal(words):
+    """Runs a program with a pseudo-terminal as its standard error. Returns what it said, and the seconds it took."""
+    ours, theirs = pty.openpty()
+    begun = time.monotonic()
+    child = subprocess.Popen(words, stdout=subprocess.DEVNULL, stderr=theirs)
+    os.close(theirs)
+    said = drained(ours)
+    if child.wait():
+        sys.exit(f"{' '.join(words)}: status {child.returncode}")
+    os.close(ours)
+    return said.decode(), time.monotonic() - begun
+
+
+def publish(program, roads, settings, name):
+    with open(name, "wb") as file:
+        subprocess.run([program, "publish", roads, *settings.split()], stdout=file, check=True)
+
+
+def main():
+    program = os.path.abspath(sys.argv[1])
+    with tempfile.TemporaryDirectory() as folder:
+        os.chdir(folder)
+        with open("secret.hex", "w", encoding="ascii") as file:
+            file.write("0" * 96)
+        with open("grid.roads", "wb") as file:
+            subprocess.run([sys.executable, GRID, "128"], stdout=file, check=True)
+        with open("five.roads", "w", encoding="ascii") as file:
+            file.write(FIVE)
+        subprocess.run([program, "key", "secret.hex", "h5"], stdout=subprocess.DEVNULL, check=True)
+        publish(program, "grid.roads", "hyp 1 id 0 2 4 4 0", "grid.pub")
+        publish(program, "five.roads", "dij 1 id 0 2 0 0 0", "five.pub")
+        slow = [program, "prove", "grid.pub", "1", "16384"]
+        piped = subprocess.Popen(slow, stdout=subprocess.DEVNULL, stderr=subprocess.PIPE)
+        said, seconds = at_terminal(slow)
+        silent = piped.communicate()[1]
+        quick, _ = at_terminal([program, "prove", "five.pub", "1", "3"])
+    if seconds > 1.5 and "road_proof serve" not in said:
+        sys.exit(f"A prove of {seconds:.1f} s at a terminal said {said!r}.")
+    if seconds < 1 and said:
+        sys.exit(f"A prove of {seconds:.1f} s at a terminal said {said!r}.")
+    if silent or quick:
+        sys.exit(f"Through a pipe prove said {silent!r}, and of five nodes {quick!r}.")
+    print(f"prove took {seconds:.1f} s and said {said.strip()!r}; through a pipe, and when it was quick, it said nothing")
+
+
+if __name__ == "__main__":
+    main()

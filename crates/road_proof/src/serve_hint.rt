@@ -1,0 +1,28 @@
+//! The hint that `serve` keeps its book.
+
+use road_command::{Command, Words, command_of};
+use std::io::IsTerminal;
+use std::time::{Duration, Instant};
+
+/// Whether more than a second is over since then; not, where the clock can't be read.
+fn is_slow(rt: HostRuntime, begun: Option<Instant>) -> bool {
+    let Some(begun) = begun else {
+        return false;
+    };
+    match begun.elapsed(&rt) {
+        Ok(taken) => taken > Duration::from_secs(1),
+        Err(_) => false,
+    }
+}
+
+/// Says after a slow `prove` that was done, where standard error is a terminal, that `serve` keeps its book.
+pub fn tell_of_serve(rt: HostRuntime, words: &Words, status: u8, begun: Option<Instant>) {
+    let Some(Command::Prove { publication, .. }) = command_of(words) else {
+        return;
+    };
+    if status == 0 && is_slow(rt, begun) && rt.stderr().is_terminal() {
+        let _ = eprintln!(rt;
+            "road_proof: {publication}: `prove` makes its book anew for each question. `road_proof serve` makes it once, and answers many."
+        );
+    }
+}

@@ -1,0 +1,29 @@
+//! Words of a file, quoted.
+
+use std::fmt::{self, Display, Formatter};
+
+/// The most octets of a word that are quoted.
+const MOST: usize = 20;
+
+/// A word of a file, cut where it is long. A word that is not of visible ASCII characters is not shown, so that
+/// no file moves a terminal.
+#[derive(Clone, Copy)]
+pub struct Quoted<'a>(pub &'a [u8]);
+
+impl Display for Quoted<'_> {
+    fn fmt<W: fmt::Write>(&self, f: &mut Formatter<W>) -> fmt::Result {
+        let (front, rest) = self.0.split_at(self.0.len().min(MOST));
+        if !front.iter().all(|octet| octet.is_ascii_graphic()) {
+            return f.write_str("what stands there");
+        }
+        match str::from_utf8(front) {
+            Ok(word) => f.write_str(word)?,
+            Err(_) => return f.write_str("what stands there"),
+        }
+        if rest.is_empty() {
+            Ok(())
+        } else {
+            f.write_str("..")
+        }
+    }
+}

@@ -44,8 +44,8 @@ pub fn publish<L: Library, K: Sink, D: Disk, M: Mirror>(
     ensures sink { HidesNone result (K.faults sink.old) (K.faults sink.new) }
     ensures sealed { SealsWhatItWrites D.Disk disk.old disk.new (K.taken sink.old)
         (K.taken sink.new) result }
-    ensures mirrored { SealsWhatItMirrors M.octets M.named M.puts M.room D.Disk disk.old disk.new
-        (K.taken sink.old) (K.taken sink.new) mirrors.old.items mirrors.new.items result }
+    ensures mirrored { SealsWhatItMirrors M.octets M.named M.handed M.puts M.room D.Disk disk.old
+        disk.new (K.taken sink.old) (K.taken sink.new) mirrors.old.items mirrors.new.items result }
     ensures signs { SignsAtMostOne D.Disk disk.old disk.new
         (L.files library.new) roads.now settings.now }
     ensures untouched { IfErr result (StaysRefused D.Disk disk.old disk.new) }

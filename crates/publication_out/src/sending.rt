@@ -34,11 +34,11 @@ pub fn send<K: Sink, M: Mirror>(
         (publication_text publication.now)) }
     ensures cause { HasCause (K.faults sink.old) (K.faults sink.new) result }
     ensures mirrored { OnOk result
-        (Mirrors M.octets M.named M.puts M.room
+        (Mirrors M.octets M.named M.handed M.puts M.room
         (pieces_in (publication_text publication.now))
         (publication_text publication.now) mirrors.old.items mirrors.new.items) }
     ensures mirrored_front { OnErr result
-        (MirrorsFront M.octets M.named M.puts M.room
+        (MirrorsFront M.octets M.named M.handed M.puts M.room
         (publication_text publication.now) mirrors.old.items mirrors.new.items) }
     ensures count { length (lost_of spreader.new) + vec_len mirrors.new ≡ length
         (lost_of spreader.old) + vec_len mirrors.old }

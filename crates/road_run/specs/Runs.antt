@@ -36,7 +36,7 @@ module _ {L S K D M : Type 0} (library : LibraryView L) (source : SourceView S) 
         (source.faults s') (sink.taken k) (sink.taken k') o
     pub gave : RunGave asked (library.files l') (source.given s) (source.given s') (source.ended s')
         (source.faults s) (source.faults s') (sink.taken k) (sink.taken k') o
-    pub mirrors : OnMirrors mirror.octets mirror.named mirror.puts mirror.room disk d d' asked
+    pub mirrors : OnMirrors mirror.octets mirror.named mirror.handed mirror.puts mirror.room disk d d' asked
         (sink.taken k) (sink.taken k') ms ms' o
     pub unfaulted : o ≢ Err Disk → disk.faults d' ≡ disk.faults d
     pub library_hides_none : HidesNone o (library.faults l) (library.faults l')

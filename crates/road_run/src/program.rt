@@ -54,7 +54,7 @@ pub fn run<L: Library, S: Source, K: Sink, D: Disk, M: Mirror>(
         (S.given source.old) (S.given source.new) (S.ended source.new)
         (S.faults source.old) (S.faults source.new)
         (K.taken sink.old) (K.taken sink.new) (outcome_of result) }
-    ensures mirrors { OnMirrors M.octets M.named M.puts M.room D.Disk disk.old disk.new
+    ensures mirrors { OnMirrors M.octets M.named M.handed M.puts M.room D.Disk disk.old disk.new
         (request_of words.now)
         (K.taken sink.old) (K.taken sink.new) mirrors.old.items mirrors.new.items
         (outcome_of result) }
@@ -132,7 +132,7 @@ fn work<L: Library, S: Source, K: Sink, D: Disk, M: Mirror>(
         (S.given source.old) (S.given source.new) (S.ended source.new)
         (S.faults source.old) (S.faults source.new)
         (K.taken sink.old) (K.taken sink.new) result }
-    ensures mirrors { OnMirrors M.octets M.named M.puts M.room D.Disk disk.old disk.new
+    ensures mirrors { OnMirrors M.octets M.named M.handed M.puts M.room D.Disk disk.old disk.new
         (request_of words.now)
         (K.taken sink.old) (K.taken sink.new) mirrors.old.items mirrors.new.items result }
     ensures unfaulted { result ≢ Err Fault.Disk → D.faults disk.new ≡ D.faults disk.old }

@@ -33,6 +33,7 @@ pub fn send<K: Sink, M: Mirror>(
     ensures front { OnErr result (AppendsFront (K.taken sink.old) (K.taken sink.new)
         (publication_text publication.now)) }
     ensures cause { HasCause (K.faults sink.old) (K.faults sink.new) result }
+    ensures kept { OnOk result (K.faults sink.new ≡ K.faults sink.old) }
     ensures mirrored { OnOk result
         (Mirrors M.octets M.named M.handed M.puts M.room
         (pieces_in (publication_text publication.now))

@@ -96,7 +96,8 @@ OnDisk g old new (AuditReach key publication reply q chain) files taken_before t
     × AuditsAccepted radii g (still_told g old new) new key publication reply q chain files taken_before
     taken_now outcome
 OnDisk g old new (Reduce key text signature) files taken_before taken_now outcome =
-    AtEachMoment g old new Stays × WritesReduced g new taken_before taken_now outcome
+    AtEachMoment g old new Stays ×
+    WritesReduced g new files text signature taken_before taken_now outcome
 OnDisk g old new request files taken_before taken_now outcome = AtEachMoment g old new Stays
 
 -- M is a mirror, of which octets, label, handed, puts and room tell what it holds, its label, how

@@ -6,6 +6,7 @@ pub loop-count-init : goal.loop-count-init
 loop-count-init g c = record {
   counted = refl;
   same_most = refl;
+  kept = refl;
   later = omega arith;
   way = begins _ _ _ _ _ _ _ _ _ _ _ _ _ c.pieces_of-pieces.ensures (search rules) c.next-count.ensures.count c.next-count.ensures.given c.next-count.ensures.left;
 }
@@ -14,6 +15,7 @@ pub loop-count-preserved : goal.loop-count-preserved
 loop-count-preserved g c = record {
   counted = c.put.ensures.count ∙ c.loop-count.invariant.counted;
   same_most = c.put.ensures.most ∙ c.loop-count.invariant.same_most;
+  kept = c.in_ok-write_all.ensures.kept ∙ c.loop-count.invariant.kept;
   later = omega (arith, c.in_ok-write_all.ensures.cause.later, c.loop-count.invariant.later);
   way = goes_on _ _ _ _ _ _ _ _ _ _ _ _ _ _ _ _ _ _ c.put.ensures.spread.0 _ (omega (arith, c.loop-count-test.true)) c.loop-count-test.array_long refl c.in_ok-write_all.ensures.ok c.put.ensures.spread.2
       c.next-count-in-loop-count.ensures.count c.next-count-in-loop-count.ensures.given c.next-count-in-loop-count.ensures.left c.loop-count.invariant.way;

@@ -1,5 +1,5 @@
 -- The headline: what an accepted reply is worth.
-use Rattle.std.specs.Prelude.{◌≡◌, ◌≢◌, ◌⊎◌, ℕ, List}
+use Rattle.std.specs.Prelude.{◌≡◌, ◌≢◌, ◌⊎◌, ℕ, List, ◌∷◌}
 use Rattle.std.specs.declared.option.Option.{Option}
 use Rattle.std.specs.declared.option.Option.TheVariants.{None, Some}
 use Rattle.std.specs.declared.result.Result.{Result}
@@ -22,7 +22,8 @@ use Rattle.route_server.specs.Headers.{HasHeader}
 use Rattle.route_audit.specs.Kinds.{ReplyKind}
 use Rattle.road_line.specs.EvidenceLine.{right_line, collision_line, forged_line}
 use Rattle.command_files.specs.Endings.{Promises, TellsNone}
-use Rattle.command_files.specs.Exact.{HidesNone}
+use Rattle.command_files.specs.Asking.{AsksFront, if_named}
+use Rattle.command_files.specs.Spared.{SparesLibrary, SparesBut}
 use Rattle.command_files.specs.Reading.{octets_at, publication_at, chain_at}
 use Rattle.command_files.specs.HexFiles.{public_key_at}
 use Rattle.command_files.specs.declared.fault.Fault.{Fault}
@@ -190,11 +191,12 @@ AuditsAccepted kind g content disk key publication reply q chain None old new ou
 
 -- what the command promises over its files, its sink and the owner's disk: its end is one that they
 -- call for, what its line rests on, the headline, that no image of the disk changes, that a fault
--- of the disk is always answered, and that want of memory hides none of library and sink
+-- of the disk is always answered, that a front of its names is asked for, and that a failure of the
+-- library or the sink is swallowed by no other end
 pub record AuditsFiles {Q A X E : Type 0} (kind : ReplyKind Q A X E) (line : E → List ℕ) {D : Type 0}
     (g : Ghosts D) (disk new_disk : D) (key publication reply : List ℕ) (q : Q)
-    (chain : Option (List ℕ)) (files : Option Folder) (loads new_loads : ℕ)
-    (taken new_taken : Option (List ℕ)) (writes new_writes : ℕ)
+    (chain : Option (List ℕ)) (files : Option Folder) (asked new_asked : List (List ℕ))
+    (loads new_loads : ℕ) (taken new_taken : Option (List ℕ)) (writes new_writes : ℕ)
     (outcome : Result Conclusion Fault) : Type 0 where
   pub promised : Promises (ends_audit kind line (still_told g disk new_disk) key publication reply q chain)
       TellsNone (Rose (g.faults disk) (g.faults new_disk)) files loads new_loads taken new_taken
@@ -205,5 +207,6 @@ pub record AuditsFiles {Q A X E : Type 0} (kind : ReplyKind Q A X E) (line : E �
       taken new_taken outcome
   pub stays : AtEachMoment g disk new_disk Stays
   pub unfaulted : outcome ≢ Err Disk → g.faults new_disk ≡ g.faults disk
-  pub library : HidesNone outcome loads new_loads
-  pub sink : HidesNone outcome writes new_writes
+  pub library : SparesLibrary outcome loads new_loads
+  pub asks : AsksFront (key ∷ publication ∷ reply ∷ if_named chain) asked new_asked
+  pub sink : SparesBut Sink outcome writes new_writes

@@ -1,13 +1,14 @@
 //! The command `audit`, and what it does for every kind of replies.
 
-ghost use Rattle.std.specs.Prelude.{◌≡◌, ◌<◌, ◌≤◌, ◌^◌, List, [], length, Err, IfOk, IfErr, ◌≢◌};
+ghost use Rattle.std.specs.Prelude.{◌≡◌, ◌<◌, ◌≤◌, ◌^◌, List, [], length, Err, IfOk, IfErr, ◌≢◌, ◌∷◌, ◌++◌};
 ghost use Rattle.std.specs.Option.{option_map};
 ghost use Rattle.road_io.specs.Causes.{Rose};
 ghost use Rattle.road_io.specs.Disk.{Stays};
 ghost use Rattle.road_io.specs.Moments.{AtEachMoment, still_told};
 ghost use Rattle.road_line.specs.VerdictLine.{refused_line};
 ghost use Rattle.command_files.specs.Endings.{Promises, TellsNone, MayEnd, WhyNot};
-ghost use Rattle.command_files.specs.Exact.{HidesNone};
+ghost use Rattle.command_files.specs.Asking.{AsksFront, if_named};
+ghost use Rattle.command_files.specs.Spared.{SparesLibrary, SparesBut};
 ghost use Rattle.route_audit.specs.Routes.{routes};
 ghost use Rattle.audit_commands.specs.Auditing.{EndsAudit, ends_audit};
 ghost use Rattle.audit_commands.specs.Headline.{AuditsFiles, IsBrought, RestsOn, WritesFindings};
@@ -41,7 +42,8 @@ pub fn audit<L: Library, K: Sink, D: Disk>(
 ) -> Result<Conclusion, Fault>
     ensures { AuditsFiles routes refused_line D.Disk disk.old disk.new
         key.now publication.now reply.now query (option_map (λ name. name.now) chain.entry)
-        (L.files library.new) (L.faults library.old) (L.faults library.new)
+        (L.files library.new) (L.asked library.old) (L.asked library.new)
+        (L.faults library.old) (L.faults library.new)
         (K.taken sink.old) (K.taken sink.new) (K.faults sink.old) (K.faults sink.new) result }
 {
     audit_files::<RouteTelling, L, K, D>(
@@ -71,7 +73,8 @@ pub fn audit_files<T: Telling, L: Library, K: Sink, D: Disk>(
 ) -> Result<Conclusion, Fault>
     ensures { AuditsFiles T.Kind.kind T.refused D.Disk disk.old disk.new
         key.now publication.now reply.now query (option_map (λ name. name.now) chain.entry)
-        (L.files library.new) (L.faults library.old) (L.faults library.new)
+        (L.files library.new) (L.asked library.old) (L.asked library.new)
+        (L.faults library.old) (L.faults library.new)
         (K.taken sink.old) (K.taken sink.new) (K.faults sink.old) (K.faults sink.new) result }
 {
     <T::Kind as Replies>::laws();
@@ -107,8 +110,11 @@ fn write_findings<T: Telling, L: Library, K: Sink, D: Disk>(
         (Rose (D.faults disk.old) (D.faults disk.new))
         (L.files library.new) (L.faults library.old) (L.faults library.new)
         (K.taken sink.old) (K.taken sink.new) (K.faults sink.old) (K.faults sink.new) result }
-    ensures library { HidesNone result (L.faults library.old) (L.faults library.new) }
-    ensures sink { HidesNone result (K.faults sink.old) (K.faults sink.new) }
+    ensures library { SparesLibrary result (L.faults library.old) (L.faults library.new) }
+    ensures asked { AsksFront (key.now ∷ publication.now ∷ reply.now ∷
+        if_named (option_map (λ name. name.now) chain.entry))
+        (L.asked library.old) (L.asked library.new) }
+    ensures sink { SparesBut Fault.Sink result (K.faults sink.old) (K.faults sink.new) }
     ensures finds { WritesFindings D.Disk disk.new (IsBrought T.Kind.kind) key.now reply.now
         (option_map (λ name. name.now) chain.entry) (L.files library.new)
         (K.taken sink.old) (K.taken sink.new) result }

@@ -47,7 +47,8 @@ pub fn audit_reach<L: Library, K: Sink, D: Disk>(
 ) -> Result<Conclusion, Fault>
     ensures { AuditsFiles radii refused_near_line D.Disk disk.old disk.new
         key.now publication.now reply.now query (option_map (λ name. name.now) chain.entry)
-        (L.files library.new) (L.faults library.old) (L.faults library.new)
+        (L.files library.new) (L.asked library.old) (L.asked library.new)
+        (L.faults library.old) (L.faults library.new)
         (K.taken sink.old) (K.taken sink.new) (K.faults sink.old) (K.faults sink.new) result }
 {
     audit_files::<RadiusTelling, L, K, D>(

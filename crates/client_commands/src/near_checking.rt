@@ -1,9 +1,10 @@
 //! The command `check-reach`.
 
-ghost use Rattle.std.specs.Prelude.{IfOk, length, ◌<◌, ◌≤◌, ◌^◌};
+ghost use Rattle.std.specs.Prelude.{IfOk, length, ◌<◌, ◌≤◌, ◌^◌, ◌∷◌, [], ◌++◌};
 ghost use Rattle.std.specs.Option.{option_map};
 ghost use Rattle.command_files.specs.Endings.{Promises, TellsNone, NoDisk};
-ghost use Rattle.command_files.specs.Exact.{HidesNone};
+ghost use Rattle.command_files.specs.Asking.{AsksFront, if_named};
+ghost use Rattle.command_files.specs.Spared.{SparesLibrary, SparesBut};
 ghost use Rattle.client_commands.specs.NearChecking.{EndsCheckReach, ends_check_reach};
 
 use command_files::{Conclusion, Fault, Told, load_chain, load_file, load_hex, write_told};
@@ -31,8 +32,11 @@ pub fn check_reach<L: Library, K: Sink>(
         (option_map (λ word. word.now) chain.entry)) TellsNone NoDisk
         (L.files library.new) (L.faults library.old) (L.faults library.new)
         (K.taken sink.old) (K.taken sink.new) (K.faults sink.old) (K.faults sink.new) result }
-    ensures library { HidesNone result (L.faults library.old) (L.faults library.new) }
-    ensures sink { HidesNone result (K.faults sink.old) (K.faults sink.new) }
+    ensures library { SparesLibrary result (L.faults library.old) (L.faults library.new) }
+    ensures asked { AsksFront (key.now ∷ reply.now ∷
+        if_named (option_map (λ word. word.now) chain.entry))
+        (L.asked library.old) (L.asked library.new) }
+    ensures sink { SparesBut Fault.Sink result (K.faults sink.old) (K.faults sink.new) }
 {
     let key: [u8; 56] = load_hex(alloc, library, key)?;
     let reply = load_file(alloc, library, reply)?;

@@ -1,3 +1,4 @@
+pub mod Asked
 pub mod Written
 pub mod OneEnd
 pub mod OneMap

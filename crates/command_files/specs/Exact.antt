@@ -15,10 +15,6 @@ pub record NoneFailed (library_before library_now sink_before sink_now disk_befo
   pub sink_stays : ¬ Rose sink_before sink_now
   pub disk_stays : ¬ Rose disk_before disk_now
 
--- want of memory is told only where the object of this count of faults has not failed
-abbrev pub HidesNone : Result Conclusion Fault → ℕ → ℕ → Type 0
-HidesNone outcome before now = outcome ≡ Err Memory → now ≡ before
-
 -- but for want of memory, the outcome is one that the files call for, and they call for no other
 pub record IsExact (Ends : Ending) (outcome : Result Conclusion Fault) : Type 0 where
   pub called_for : outcome ≢ Err Memory → (text : List ℕ) × Ends outcome text

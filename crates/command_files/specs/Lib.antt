@@ -4,3 +4,5 @@ pub mod HexFiles
 pub mod TwoEnds
 pub mod Endings
 pub mod Exact
+pub mod Asking
+pub mod Spared

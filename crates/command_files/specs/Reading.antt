@@ -17,6 +17,7 @@ use Rattle.road_map.specs.declared.error.MapError.{MapError}
 use Rattle.road_map.specs.declared.error.MapError.TheVariants as map_errors
 use Rattle.road_reader.specs.RoadText.{roads_of}
 use Rattle.road_reader.specs.declared.error.RoadError.{RoadError}
+use Rattle.command_files.specs.Spared.{SparesLibrary}
 use Rattle.command_files.specs.declared.fault.Fault.{Fault}
 use Rattle.command_files.specs.declared.fault.Fault.TheVariants.{Missing, TooLong, Road, Dimacs, Map, Malformed, BadHex, Library, Memory}
 
@@ -115,7 +116,7 @@ pub record Loads {X Y : Type 0} (view : X → Y) (meaning : Folder → Result Y 
   pub too_long : IfNone files (result ≡ Err TooLong → Rose before now)
   pub library : result ≡ Err Library → Rose before now
   pub kept : OnOk result (now ≡ before)
-  pub short : result ≡ Err Memory → now ≡ before
+  pub spared : SparesLibrary result before now
   pub others : IfErr result IsOfFiles
   pub later : before ≤ now
 
@@ -127,5 +128,5 @@ pub record LoadsMap (meaning : Folder → Result Parts Fault) (files : Option Fo
   pub too_long : IfNone files (result ≡ Err TooLong → Rose before now)
   pub library : result ≡ Err Library → Rose before now
   pub kept : OnOk result (now ≡ before)
-  pub short : result ≡ Err Memory → now ≡ before
+  pub spared : SparesLibrary result before now
   pub others : IfErr result IsOfMaps

@@ -1,7 +1,7 @@
 //! What a command writes.
 
 ghost use Rattle.command_files.specs.Endings.{Writes};
-ghost use Rattle.command_files.specs.Exact.{HidesNone};
+ghost use Rattle.command_files.specs.Spared.{SparesBut};
 
 use crate::ended::Conclusion;
 use crate::fault::Fault;
@@ -20,7 +20,7 @@ pub struct Told {
 pub fn write_text<K: Sink>(sink: &mut K, text: &[u8]) -> Result<Conclusion, Fault>
     ensures writes { Writes (Ok Conclusion.Done) text.now (K.taken sink.old) (K.taken sink.new)
         (K.faults sink.old) (K.faults sink.new) result }
-    ensures hides { HidesNone result (K.faults sink.old) (K.faults sink.new) }
+    ensures spared { SparesBut Fault.Sink result (K.faults sink.old) (K.faults sink.new) }
 {
     match write_all(sink, text) {
         Ok(()) => Ok(Conclusion::Done),
@@ -32,7 +32,7 @@ pub fn write_text<K: Sink>(sink: &mut K, text: &[u8]) -> Result<Conclusion, Faul
 pub fn write_told<K: Sink>(sink: &mut K, told: &Told) -> Result<Conclusion, Fault>
     ensures writes { Writes told.now.end told.now.text.items (K.taken sink.old) (K.taken sink.new)
         (K.faults sink.old) (K.faults sink.new) result }
-    ensures hides { HidesNone result (K.faults sink.old) (K.faults sink.new) }
+    ensures spared { SparesBut Fault.Sink result (K.faults sink.old) (K.faults sink.new) }
 {
     match write_all(sink, &told.text) {
         Ok(()) => told.end,

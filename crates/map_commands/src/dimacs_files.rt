@@ -1,8 +1,10 @@
 //! The command `dimacs`.
 
+ghost use Rattle.std.specs.Prelude.{◌∷◌, []};
 ghost use Rattle.command_files.specs.Reading.{Loads};
 ghost use Rattle.command_files.specs.Endings.{Promises, TellsNone, NoDisk};
-ghost use Rattle.command_files.specs.Exact.{HidesNone};
+ghost use Rattle.command_files.specs.Asking.{AsksFront};
+ghost use Rattle.command_files.specs.Spared.{SparesLibrary, SparesBut};
 ghost use Rattle.map_commands.specs.DimacsFiles.{dimacs_at, ends_dimacs};
 
 use command_files::{Conclusion, Fault, load_file, write_text};
@@ -23,8 +25,10 @@ pub fn dimacs<L: Library, K: Sink>(
     ensures promised { Promises (ends_dimacs graph.now places.now) TellsNone NoDisk
         (L.files library.new) (L.faults library.old) (L.faults library.new)
         (K.taken sink.old) (K.taken sink.new) (K.faults sink.old) (K.faults sink.new) result }
-    ensures library { HidesNone result (L.faults library.old) (L.faults library.new) }
-    ensures sink { HidesNone result (K.faults sink.old) (K.faults sink.new) }
+    ensures library { SparesLibrary result (L.faults library.old) (L.faults library.new) }
+    ensures asked { AsksFront (graph.now ∷ places.now ∷ [])
+        (L.asked library.old) (L.asked library.new) }
+    ensures sink { SparesBut Fault.Sink result (K.faults sink.old) (K.faults sink.new) }
 {
     let parts = load_dimacs(alloc, library, graph, places)?;
     let Ok(text) = print_roads(alloc, &parts) else {
@@ -40,8 +44,10 @@ fn load_dimacs<L: Library>(
     graph: &str,
     places: &str,
 ) -> Result<Parts, Fault>
-    ensures { Loads (λ parts. parts) (λ folder. dimacs_at folder graph.now places.now)
+    ensures loads { Loads (λ parts. parts) (λ folder. dimacs_at folder graph.now places.now)
         (L.files library.new) (L.faults library.old) (L.faults library.new) result }
+    ensures asked { AsksFront (graph.now ∷ places.now ∷ [])
+        (L.asked library.old) (L.asked library.new) }
 {
     let graph = load_file(alloc, library, graph)?;
     let places = load_file(alloc, library, places)?;

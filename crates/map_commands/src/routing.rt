@@ -1,7 +1,8 @@
 //! The command `route`.
 
+ghost use Rattle.std.specs.Prelude.{◌∷◌, [], ◌≡◌, ◌++◌};
 ghost use Rattle.command_files.specs.Endings.{Promises, TellsNone, NoDisk};
-ghost use Rattle.command_files.specs.Exact.{HidesNone};
+ghost use Rattle.command_files.specs.Spared.{SparesLibrary, SparesBut};
 ghost use Rattle.map_commands.specs.RouteLine.{GivesLine, ends_route};
 
 use command_files::{Conclusion, Fault, load_map, write_text};
@@ -23,8 +24,9 @@ pub fn route<L: Library, K: Sink>(
     ensures promised { Promises (ends_route roads.now from to) TellsNone NoDisk
         (L.files library.new) (L.faults library.old) (L.faults library.new)
         (K.taken sink.old) (K.taken sink.new) (K.faults sink.old) (K.faults sink.new) result }
-    ensures library { HidesNone result (L.faults library.old) (L.faults library.new) }
-    ensures sink { HidesNone result (K.faults sink.old) (K.faults sink.new) }
+    ensures library { SparesLibrary result (L.faults library.old) (L.faults library.new) }
+    ensures asked { L.asked library.new ≡ L.asked library.old ++ roads.now ∷ [] }
+    ensures sink { SparesBut Fault.Sink result (K.faults sink.old) (K.faults sink.new) }
 {
     let map = load_map(alloc, library, roads)?;
     let line = shortest_line(alloc, &map, from, to)?;

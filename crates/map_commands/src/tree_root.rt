@@ -1,10 +1,10 @@
 //! The command `root`.
 
-ghost use Rattle.std.specs.Prelude.{◌≡◌, ◌≤◌, ◌<◌, length, string_bytes, IfOk};
+ghost use Rattle.std.specs.Prelude.{◌≡◌, ◌≤◌, ◌<◌, length, string_bytes, IfOk, ◌∷◌, [], ◌++◌};
 ghost use Rattle.sha2.specs.Sha256.{sha256};
 ghost use Rattle.merkle_cover.specs.Trees.{root};
 ghost use Rattle.command_files.specs.Endings.{Promises, TellsNone, NoDisk};
-ghost use Rattle.command_files.specs.Exact.{HidesNone};
+ghost use Rattle.command_files.specs.Spared.{SparesLibrary, SparesBut};
 ghost use Rattle.map_commands.specs.RootLine.{IsPlainTextAt, plain_texts, root_line, IsRootLine, ends_root};
 
 use command_files::{Conclusion, Fault, load_map, write_text};
@@ -29,8 +29,9 @@ pub fn root<L: Library, K: Sink>(
     ensures promised { Promises (ends_root roads.now fan) TellsNone NoDisk
         (L.files library.new) (L.faults library.old) (L.faults library.new)
         (K.taken sink.old) (K.taken sink.new) (K.faults sink.old) (K.faults sink.new) result }
-    ensures library { HidesNone result (L.faults library.old) (L.faults library.new) }
-    ensures sink { HidesNone result (K.faults sink.old) (K.faults sink.new) }
+    ensures library { SparesLibrary result (L.faults library.old) (L.faults library.new) }
+    ensures asked { L.asked library.new ≡ L.asked library.old ++ roads.now ∷ [] }
+    ensures sink { SparesBut Fault.Sink result (K.faults sink.old) (K.faults sink.new) }
 {
     let map = load_map(alloc, library, roads)?;
     let Ok(line) = root_line(alloc, &map, fan) else {

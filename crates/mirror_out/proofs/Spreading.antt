@@ -14,23 +14,23 @@ pub Appends-none : (o : Option (List ℕ)) → Appends o o []
 Appends-none None = tt
 Appends-none (Some xs) = sym (append-nil xs)
 
-module _ {M : Type 0} (octets : M → Option (List ℕ)) (label puts room : M → ℕ) where
+module _ {M : Type 0} (octets : M → Option (List ℕ)) (label handed puts room : M → ℕ) where
   -- What is done, in a form that the rest completes: done mirrors are kept, gone labels are gone, and whatever the
   -- rest of the mirrors is spread to completes the whole.
   abbrev pub Begun : ℕ → List ℕ → List M → List M → List ℕ → List M → Type 0
-  Begun count piece old done gone rest = (kept : List M) (more : List ℕ) → Spreads octets label puts room count piece rest kept more → Spreads octets label puts room count piece old (done ++ kept) (gone ++ more)
+  Begun count piece old done gone rest = (kept : List M) (more : List ℕ) → Spreads octets label handed puts room count piece rest kept more → Spreads octets label handed puts room count piece old (done ++ kept) (gone ++ more)
 
-  pub Begun-kept : (count : ℕ) (piece : List ℕ) (old done : List M) (gone : List ℕ) (m n : M) (rest : List M) → Begun count piece old done gone (m ∷ rest) → Took octets label puts room count piece m n → Begun count piece old (done ++ n ∷ []) gone rest
+  pub Begun-kept : (count : ℕ) (piece : List ℕ) (old done : List M) (gone : List ℕ) (m n : M) (rest : List M) → Begun count piece old done gone (m ∷ rest) → Took octets label handed puts room count piece m n → Begun count piece old (done ++ n ∷ []) gone rest
   Begun-kept count piece old done gone m n rest h t kept more s =
-      subst (λ k. Spreads octets label puts room count piece old k (gone ++ more)) (sym (append_assoc done (n ∷ []) kept)) (h (n ∷ kept) more (inl (n, kept, refl, t, s)))
+      subst (λ k. Spreads octets label handed puts room count piece old k (gone ++ more)) (sym (append_assoc done (n ∷ []) kept)) (h (n ∷ kept) more (inl (n, kept, refl, t, s)))
 
   pub Begun-gone : (count : ℕ) (piece : List ℕ) (old done : List M) (gone : List ℕ) (m : M) (rest : List M) → Begun count piece old done gone (m ∷ rest) → PromisedLess count piece (puts m) (room m) → Begun count piece old done (gone ++ label m ∷ []) rest
   Begun-gone count piece old done gone m rest h p kept more s =
-      subst (λ k. Spreads octets label puts room count piece old (done ++ kept) k) (sym (append_assoc gone (label m ∷ []) more)) (h kept (label m ∷ more) (inr (more, refl, p, s)))
+      subst (λ k. Spreads octets label handed puts room count piece old (done ++ kept) k) (sym (append_assoc gone (label m ∷ []) more)) (h kept (label m ∷ more) (inr (more, refl, p, s)))
 
   -- the mirror at a place took the piece
   pub Begun-kept_at : (count : ℕ) (piece : List ℕ) (old items : List M) (gone : List ℕ) (at : ℕ) (m n : M) → at < length items → m ≡ get_or items at m
-      → Begun count piece old (take at items) gone (drop at items) → Took octets label puts room count piece m n
+      → Begun count piece old (take at items) gone (drop at items) → Took octets label handed puts room count piece m n
       → Begun count piece old (take (at + 1) (set items at n)) gone (drop (at + 1) (set items at n))
   Begun-kept_at count piece old items gone at m n within is h t =
       let rest_is : drop at items ≡ m ∷ drop (at + 1) items = rw add-one (drop-cons items at m within ∙ ap (λ x. x ∷ drop (suc at) items) (sym is)) in
@@ -62,17 +62,17 @@ module _ {M : Type 0} (octets : M → Option (List ℕ)) (label puts room : M �
 
   -- nothing is left
   pub Spreads-all : (count : ℕ) (piece : List ℕ) (old items : List M) (gone : List ℕ) (at : ℕ) → length items ≤ at
-      → Begun count piece old (take at items) gone (drop at items) → Spreads octets label puts room count piece old items gone
+      → Begun count piece old (take at items) gone (drop at items) → Spreads octets label handed puts room count piece old items gone
   Spreads-all count piece old items gone at past h =
       let none : drop at items ≡ [] = drop_of_length-le items past in
       let all : take at items ≡ items = take_all at items past in
-      subst (λ k. Spreads octets label puts room count piece old k gone) (append-nil items)
-      (subst (λ g. Spreads octets label puts room count piece old (items ++ []) g) (append-nil gone)
-      (subst (λ d. Spreads octets label puts room count piece old (d ++ []) (gone ++ [])) all
-      (h [] [] (subst (λ r. Spreads octets label puts room count piece r [] []) (sym none) (refl, refl)))))
+      subst (λ k. Spreads octets label handed puts room count piece old k gone) (append-nil items)
+      (subst (λ g. Spreads octets label handed puts room count piece old (items ++ []) g) (append-nil gone)
+      (subst (λ d. Spreads octets label handed puts room count piece old (d ++ []) (gone ++ [])) all
+      (h [] [] (subst (λ r. Spreads octets label handed puts room count piece r [] []) (sym none) (refl, refl)))))
 
   -- the mirrors and the labels are as many as the mirrors before
-  pub Spreads-count : (count : ℕ) (piece : List ℕ) (old kept : List M) (gone : List ℕ) → Spreads octets label puts room count piece old kept gone → length gone + length kept ≡ length old
+  pub Spreads-count : (count : ℕ) (piece : List ℕ) (old kept : List M) (gone : List ℕ) → Spreads octets label handed puts room count piece old kept gone → length gone + length kept ≡ length old
   Spreads-count count piece [] kept gone s = omega (arith, ap length s.0, ap length s.1)
   Spreads-count count piece (m ∷ old) kept gone s =
       elim s [
@@ -81,7 +81,7 @@ module _ {M : Type 0} (octets : M → Option (List ℕ)) (label puts room : M �
       ]
 
   -- without the labels
-  pub Mirrors-spread : (count : ℕ) (piece : List ℕ) (old kept : List M) (gone : List ℕ) → Spreads octets label puts room count piece old kept gone → Mirrors octets label puts room count piece old kept
+  pub Mirrors-spread : (count : ℕ) (piece : List ℕ) (old kept : List M) (gone : List ℕ) → Spreads octets label handed puts room count piece old kept gone → Mirrors octets label handed puts room count piece old kept
   Mirrors-spread count piece [] kept gone s = s.0
   Mirrors-spread count piece (m ∷ old) kept gone s =
       elim s [
@@ -90,22 +90,22 @@ module _ {M : Type 0} (octets : M → Option (List ℕ)) (label puts room : M �
       ]
 
   -- nothing, in no put
-  pub Mirrors-none : (old : List M) → Mirrors octets label puts room 0 [] old old
+  pub Mirrors-none : (old : List M) → Mirrors octets label handed puts room 0 [] old old
   Mirrors-none [] = refl
-  Mirrors-none (m ∷ old) = inl (m, old, refl, record { holds = Appends-none (octets m); same = refl; puts_left = omega arith; room_left = omega arith }, Mirrors-none old)
+  Mirrors-none (m ∷ old) = inl (m, old, refl, record { holds = Appends-none (octets m); same = refl; called = omega arith; puts_left = omega arith; room_left = omega arith }, Mirrors-none old)
 
   less-more : (i j : ℕ) (a b : List ℕ) (p r : ℕ) → i ≤ j → length a ≤ length b → PromisedLess i a p r → PromisedLess j b p r
   less-more i j a b p r l m less = elim less [ inl x ↦ inl (omega (arith, x, l)) | inr x ↦ inr (omega (arith, x, m)) ]
 
   -- a text and then another
-  pub Mirrors-append : (i j : ℕ) (a b : List ℕ) (old mid kept : List M) → Mirrors octets label puts room i a old mid → Mirrors octets label puts room j b mid kept → Mirrors octets label puts room (i + j) (a ++ b) old kept
+  pub Mirrors-append : (i j : ℕ) (a b : List ℕ) (old mid kept : List M) → Mirrors octets label handed puts room i a old mid → Mirrors octets label handed puts room j b mid kept → Mirrors octets label handed puts room (i + j) (a ++ b) old kept
   Mirrors-append i j a b [] mid kept first second =
-      subst (λ (x : List M). Mirrors octets label puts room j b x kept) first second
+      subst (λ (x : List M). Mirrors octets label handed puts room j b x kept) first second
   Mirrors-append i j a b (m ∷ old) mid kept first second =
       let long : length (a ++ b) ≡ length a + length b = length-append a b in
       elim first [
         | inl k ↦
-            let second' : Mirrors octets label puts room j b (k.0 ∷ k.1) kept = subst (λ (x : List M). Mirrors octets label puts room j b x kept) k.2 second in
+            let second' : Mirrors octets label handed puts room j b (k.0 ∷ k.1) kept = subst (λ (x : List M). Mirrors octets label handed puts room j b x kept) k.2 second in
             elim second' [
               | inl l ↦ inl (
                 l.0,
@@ -114,6 +114,7 @@ module _ {M : Type 0} (octets : M → Option (List ℕ)) (label puts room : M �
                 record {
                   holds = Appends-++ (octets m) (octets k.0) (octets l.0) a b k.3.holds l.3.holds;
                   same = l.3.same ∙ k.3.same;
+                  called = omega (arith, k.3.called, l.3.called);
                   puts_left = omega (arith, k.3.puts_left, l.3.puts_left);
                   room_left = omega (arith, k.3.room_left, l.3.room_left, long);
                 },

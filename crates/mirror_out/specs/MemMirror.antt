@@ -21,11 +21,12 @@ pub record CountsPut (old new : MemMirror) : Type 0 where
   pub plan : new.fails.items ≡ old.fails.items
   pub room_is : new.room ≡ old.room
 
--- it holds nothing, has not been called and has not failed
+-- it holds nothing, has not been called or handed anything and has not failed
 pub record IsNewMirror (label room : ℕ) (fails : List ℕ) (mirror : MemMirror) : Type 0 where
   pub empty : held_in mirror ≡ []
   pub labelled : mirror.label ≡ label
   pub roomy : mirror.room ≡ room
   pub plan : mirror.fails.items ≡ fails
   pub uncalled : mirror.calls ≡ 0
+  pub unhanded : mirror.handed.events ≡ []
   pub faultless : mirror.faults ≡ 0

@@ -1,5 +1,5 @@
--- What a list of mirrors takes. M is a mirror, of which octets, label, puts and room tell what it
--- holds, its label, and how many puts and octets it promises.
+-- What a list of mirrors takes. M is a mirror, of which octets, label, handed, puts and room tell
+-- what it holds, its label, how many pieces it was handed, and how many puts and octets it promises.
 use Rattle.std.specs.Prelude.{◌≡◌, ◌⊎◌, ℕ, ◌+◌, ◌<◌, ◌≤◌, List, [], ◌∷◌, length}
 use Rattle.std.specs.declared.option.Option.{Option}
 use Rattle.std.specs.Io.KnownBytes.{Appends}
@@ -8,11 +8,12 @@ use Rattle.std.specs.Io.KnownBytes.{Appends}
 abbrev pub PromisedLess : ℕ → List ℕ → ℕ → ℕ → Type 0
 PromisedLess count text puts room = (puts < count) ⊎ (room < length text)
 
-module _ {M : Type 0} (octets : M → Option (List ℕ)) (label puts room : M → ℕ) where
+module _ {M : Type 0} (octets : M → Option (List ℕ)) (label handed puts room : M → ℕ) where
   -- the mirror took the text in so many puts, and keeps its label
   pub record Took (count : ℕ) (text : List ℕ) (old new : M) : Type 0 where
     pub holds : Appends (octets old) (octets new) text
     pub same : label new ≡ label old
+    pub called : handed new ≡ handed old + count
     pub puts_left : puts old ≤ puts new + count
     pub room_left : room old ≤ room new + length text
 

@@ -1,5 +1,5 @@
 //! A mirror in a file: an adapter over the real thing, which tells what it was answered to have taken.
-ghost use Rattle.std.specs.Prelude.{◌≡◌};
+ghost use Rattle.std.specs.Prelude.{◌≡◌, length};
 ghost use Rattle.std.specs.declared.option.Option.TheVariants.{Some};
 
 use crate::Mirror;
@@ -16,6 +16,7 @@ pub struct FileMirror {
     file: File,
     faults: u64,
     history: Record,
+    handed: Record,
 }
 
 impl FileMirror {
@@ -30,6 +31,7 @@ impl FileMirror {
             file,
             faults: 0,
             history: Record::new(),
+            handed: Record::new(),
         }
     }
 }
@@ -43,6 +45,8 @@ impl Mirror for FileMirror {
 
     ghost faults = { λ m. m.faults };
 
+    ghost handed = { λ m. length m.handed.events };
+
     ghost puts = { λ _. 0 };
 
     ghost room = { λ _. 0 };
@@ -52,6 +56,7 @@ impl Mirror for FileMirror {
     }
 
     fn put(&mut self, piece: &[u8]) -> Result<(), Failed> {
+        self.handed.note(&[], piece);
         match self.file.write_all(piece) {
             Ok(()) => {
                 self.history.note(&[], piece);

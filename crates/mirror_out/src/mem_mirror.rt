@@ -6,7 +6,7 @@ ghost use Rattle.mirror_out.specs.Promises.{puts_before};
 
 use crate::Mirror;
 use octet_text::NoMemory;
-use road_io::Failed;
+use road_io::{Failed, Record};
 use std::alloc::Global;
 
 /// A mirror in memory, with room for so many octets. Its puts are numbered from 0. It promises those
@@ -20,6 +20,7 @@ pub struct MemMirror {
     fails: Vec<u64>,
     calls: u64,
     faults: u64,
+    handed: Record,
     ghost reserved: { room ≤ vec_capacity taken },
     ghost within: { vec_len taken ≤ room },
 }
@@ -53,6 +54,7 @@ impl MemMirror {
             fails,
             calls: 0,
             faults: 0,
+            handed: Record::new(),
         })
     }
 
@@ -76,6 +78,8 @@ impl Mirror for MemMirror {
 
     ghost faults = { λ m. m.faults };
 
+    ghost handed = { λ m. length m.handed.events };
+
     ghost puts = { λ m. promised_puts m };
 
     ghost room = { λ m. free_room m };
@@ -94,12 +98,14 @@ impl Mirror for MemMirror {
         ensures room { OnOk result (free_room self.old ≤ free_room self.new + length piece.now) }
         ensures kept { OnOk result (self.new.faults ≡ self.old.faults) }
         ensures cause { HasCause self.old.faults self.new.faults result }
+        ensures counted { length self.new.handed.events ≡ length self.old.handed.events + 1 }
         ensures counts { CountsPut self.old self.new }
         ensures faulted { OnErr result (self.new.faults ≡ min (self.old.faults + 1) (2 ^ 64 - 1)) }
         ensures promised { OnOk result
             ((0 < promised_puts self.old) × (length piece.now ≤ free_room self.old)) }
         ensures refused { OnErr result (held_in self.new ≡ held_in self.old) }
     {
+        self.handed.note(&[], piece);
         let call = self.calls;
         self.calls = call.saturating_add(1);
         if is_planned(&self.fails, call) || piece.len() > self.room - self.taken.len() {

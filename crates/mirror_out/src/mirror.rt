@@ -18,6 +18,9 @@ pub trait Mirror: Drop {
     /// How often it has failed. The count stops at 2^64 - 1. A put that succeeds leaves it.
     ghost faults: { Self → ℕ };
 
+    /// How many pieces it was handed, those that it refused too.
+    ghost handed: { Self → ℕ };
+
     /// How many puts it promises to take.
     ghost puts: { Self → ℕ };
 
@@ -37,5 +40,6 @@ pub trait Mirror: Drop {
         ensures puts { OnOk result (puts self.old ≤ puts self.new + 1) }
         ensures room { OnOk result (room self.old ≤ room self.new + length piece.now) }
         ensures kept { OnOk result (faults self.new ≡ faults self.old) }
-        ensures cause { HasCause (faults self.old) (faults self.new) result };
+        ensures cause { HasCause (faults self.old) (faults self.new) result }
+        ensures counted { handed self.new ≡ handed self.old + 1 };
 }

@@ -16,8 +16,8 @@ pub struct Spreader {
 
 // Hands a piece to a mirror, and answers its label where it fails.
 fn failed<M: Mirror>(mirror: &mut M, piece: &[u8]) -> Option<u32>
-    ensures kept { IfNone result (Took M.octets M.named M.puts M.room 1 piece.now mirror.old
-        mirror.new) }
+    ensures kept { IfNone result (Took M.octets M.named M.handed M.puts M.room 1 piece.now
+        mirror.old mirror.new) }
     ensures label { IfSome result (λ label. label ≡ M.named mirror.old) }
     ensures promised { IfSome result
         (λ _. PromisedLess 1 piece.now (M.puts mirror.old) (M.room mirror.old)) }
@@ -61,8 +61,8 @@ impl Spreader {
     pub fn put<M: Mirror>(&mut self, mirrors: &mut Vec<M>, piece: &[u8])
         requires { length (lost_of self.old) + vec_len mirrors.old ≤ most_of self.old }
         ensures spread { (gone : List ℕ) × (lost_of self.new ≡ lost_of self.old ++ gone)
-            × Spreads M.octets M.named M.puts M.room 1 piece.now mirrors.old.items mirrors.new.items
-            gone }
+            × Spreads M.octets M.named M.handed M.puts M.room 1 piece.now mirrors.old.items
+            mirrors.new.items gone }
         ensures count { length (lost_of self.new) + vec_len mirrors.new ≡ length
             (lost_of self.old) + vec_len mirrors.old }
         ensures most { most_of self.new ≡ most_of self.old }

@@ -1,5 +1,5 @@
 //! The frames of a source.
-ghost use Rattle.std.specs.Prelude.{◌≡◌, ◌≤◌, ◌∷◌, [], Some, None, Ok, Err, OnOk, false};
+ghost use Rattle.std.specs.Prelude.{◌≡◌, ◌≢◌, ◌≤◌, ◌∷◌, [], Some, None, Ok, Err, false};
 ghost use Rattle.std.specs.Int.{w32, to_be_bytes};
 ghost use Rattle.road_io.specs.Causes.{Rose};
 ghost use Rattle.road_io.specs.Given.{Gave};
@@ -43,9 +43,7 @@ pub fn next_frame<S: Source>(
     ensures later { S.faults source.old ≤ S.faults source.new }
     ensures source { result ≡ Err FrameError.Source →
         Rose (S.faults source.old) (S.faults source.new) }
-    ensures kept { OnOk result (S.faults source.new ≡ S.faults source.old) }
-    ensures memory { result ≡ Err FrameError.Memory →
-        S.faults source.new ≡ S.faults source.old }
+    ensures kept { result ≢ Err FrameError.Source → S.faults source.new ≡ S.faults source.old }
 {
     let size = match read_head(source) {
         Ok(Some(size)) => size,
@@ -81,9 +79,7 @@ fn read_body<S: Source>(source: &mut S, size: usize, body: &mut Vec<u8>) -> Resu
     ensures later { S.faults source.old ≤ S.faults source.new }
     ensures source { result ≡ Err BodyError.Source →
         Rose (S.faults source.old) (S.faults source.new) }
-    ensures kept { OnOk result (S.faults source.new ≡ S.faults source.old) }
-    ensures memory { result ≡ Err BodyError.Memory →
-        S.faults source.new ≡ S.faults source.old }
+    ensures kept { result ≢ Err BodyError.Source → S.faults source.new ≡ S.faults source.old }
 {
     if body.resize(size, 0).is_err() {
         return Err(BodyError::Memory);
@@ -112,7 +108,7 @@ fn read_head<S: Source>(source: &mut S) -> Result<Option<u32>, HeadError>
     ensures later { S.faults source.old ≤ S.faults source.new }
     ensures source { result ≡ Err HeadError.Source →
         Rose (S.faults source.old) (S.faults source.new) }
-    ensures kept { OnOk result (S.faults source.new ≡ S.faults source.old) }
+    ensures kept { result ≢ Err HeadError.Source → S.faults source.new ≡ S.faults source.old }
 {
     let mut head = [0u8; 4];
     match read_whole(source, &mut head) {

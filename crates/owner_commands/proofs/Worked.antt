@@ -122,18 +122,18 @@ module _ {D : Type 0} (g : Ghosts D) (old new : D) (taken_before taken_now : Opt
   silent_at_used_up : IsSilent TellsLost taken_before taken_now (Err KeysUsedUp) → Keeps taken_before taken_now
   silent_at_used_up = silent_at KeysUsedUp (λ is. cc) (λ told. told)
 
-module _ {M : Type 0} (octets : M → Option (List ℕ)) (label puts room : M → ℕ) {D : Type 0} (g : Ghosts D) (old new : D) (taken_before taken_now : Option (List ℕ)) (before now : List M) where
+module _ {M : Type 0} (octets : M → Option (List ℕ)) (label handed puts room : M → ℕ) {D : Type 0} (g : Ghosts D) (old new : D) (taken_before taken_now : Option (List ℕ)) (before now : List M) where
   -- the mirrors took all and stay where the work was done, and fewer stay where one is said to be lost
-  mirrors_whole : (w : SpreadSealed octets label puts room g old new taken_before taken_now before now (Ok Done))
-      → Mirrors octets label puts room (pieces_in (publication_text w.publication)) (publication_text w.publication) before now × (length now ≡ length before)
+  mirrors_whole : (w : SpreadSealed octets label handed puts room g old new taken_before taken_now before now (Ok Done))
+      → Mirrors octets label handed puts room (pieces_in (publication_text w.publication)) (publication_text w.publication) before now × (length now ≡ length before)
   mirrors_whole w = w.mirrored
 
-  mirrors_lost : (w : SpreadSealed octets label puts room g old new taken_before taken_now before now (Err MirrorLost))
-      → Mirrors octets label puts room (pieces_in (publication_text w.publication)) (publication_text w.publication) before now × (length now < length before)
+  mirrors_lost : (w : SpreadSealed octets label handed puts room g old new taken_before taken_now before now (Err MirrorLost))
+      → Mirrors octets label handed puts room (pieces_in (publication_text w.publication)) (publication_text w.publication) before now × (length now < length before)
   mirrors_lost w = w.mirrored
 
   -- and they are as they were where nothing was written
-  mirrors_still : SealsWhatItMirrors octets label puts room g old new taken_before taken_now before now (Err Disk) → now ≡ before
+  mirrors_still : SealsWhatItMirrors octets label handed puts room g old new taken_before taken_now before now (Err Disk) → now ≡ before
   mirrors_still h = h.still
 
 -- ---- what went out

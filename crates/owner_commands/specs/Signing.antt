@@ -90,18 +90,18 @@ OnNoWriting (Err Sink) P = Unit {0}
 OnNoWriting (Err MirrorLost) P = Unit {0}
 OnNoWriting (Err fault) P = P
 
--- M is a mirror, of which octets, label, puts and room tell what it holds, its label, and what it
--- promises
-module _ {M : Type 0} (octets : M → Option (List ℕ)) (label puts room : M → ℕ) where
+-- M is a mirror, of which octets, label, handed, puts and room tell what it holds, its label, how
+-- many pieces it was handed, and what it promises
+module _ {M : Type 0} (octets : M → Option (List ℕ)) (label handed puts room : M → ℕ) where
   -- The mirrors that stay took all of a text, each of the others had promised less: all stay where
   -- the work was done, and not all where one is said to be lost. Where the sink failed, those that
   -- stay took a front of it.
   abbrev pub Mirrored : Result Conclusion Fault → List ℕ → List M → List M → Type 0
-  Mirrored (Ok verdict) text old kept = Mirrors octets label puts room
+  Mirrored (Ok verdict) text old kept = Mirrors octets label handed puts room
       (pieces_in text) text old kept × (length kept ≡ length old)
-  Mirrored (Err MirrorLost) text old kept = Mirrors octets label puts room
+  Mirrored (Err MirrorLost) text old kept = Mirrors octets label handed puts room
       (pieces_in text) text old kept × (length kept < length old)
-  Mirrored outcome text old kept = MirrorsFront octets label puts room text old kept
+  Mirrored outcome text old kept = MirrorsFront octets label handed puts room text old kept
 
   -- what the sink and the mirrors took is of one publication, whose header stands on the disk
   pub record SpreadSealed {D : Type 0} (g : Ghosts D) (before now : D)

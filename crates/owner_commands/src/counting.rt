@@ -6,7 +6,7 @@ ghost use Rattle.road_io.specs.Causes.{Rose};
 ghost use Rattle.road_io.specs.Disk.{Stays};
 ghost use Rattle.road_io.specs.Moments.{AtEachMoment, still_told};
 ghost use Rattle.command_files.specs.Endings.{PromisesWithoutFiles, WhyNot, NoEnd};
-ghost use Rattle.command_files.specs.Exact.{HidesNone};
+ghost use Rattle.command_files.specs.Spared.{SparesBut};
 ghost use Rattle.desk_areas.specs.Faults.{IsUsable};
 ghost use Rattle.command_desks.specs.Opening.{EndsOpening};
 ghost use Rattle.owner_commands.specs.OwnerDesk.{IsDeskLine, EndsDesk};
@@ -26,7 +26,7 @@ pub fn desk<K: Sink, D: Disk>(
     ensures promised { PromisesWithoutFiles (EndsDesk (still_told D.Disk disk.old disk.new))
         (Rose (D.faults disk.old) (D.faults disk.new))
         (K.taken sink.old) (K.taken sink.new) (K.faults sink.old) (K.faults sink.new) result }
-    ensures sink { HidesNone result (K.faults sink.old) (K.faults sink.new) }
+    ensures sink { SparesBut Fault.Sink result (K.faults sink.old) (K.faults sink.new) }
     ensures unfaulted { result ≢ Err Fault.Disk → D.faults disk.new ≡ D.faults disk.old }
     ensures stays { AtEachMoment D.Disk disk.old disk.new Stays }
 {

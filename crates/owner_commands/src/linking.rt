@@ -7,7 +7,7 @@ ghost use Rattle.road_io.specs.Disk.{Stays};
 ghost use Rattle.road_io.specs.Moments.{AtEachMoment, still_told};
 ghost use Rattle.desk_areas.specs.Faults.{IsUsable};
 ghost use Rattle.command_files.specs.Endings.{PromisesWithoutFiles, WhyNot, NoEnd};
-ghost use Rattle.command_files.specs.Exact.{HidesNone};
+ghost use Rattle.command_files.specs.Spared.{SparesBut};
 ghost use Rattle.command_desks.specs.Opening.{EndsOpening};
 ghost use Rattle.owner_commands.specs.ChainLine.{IsChainOn, EndsLinks};
 ghost use Rattle.owner_commands.specs.StandingKeys.{IsStandingChain, ChainsWhatItWrites};
@@ -28,7 +28,7 @@ pub fn links<K: Sink, D: Disk>(
     ensures promised { PromisesWithoutFiles (EndsLinks (still_told D.Disk disk.old disk.new))
         (Rose (D.faults disk.old) (D.faults disk.new))
         (K.taken sink.old) (K.taken sink.new) (K.faults sink.old) (K.faults sink.new) result }
-    ensures sink { HidesNone result (K.faults sink.old) (K.faults sink.new) }
+    ensures sink { SparesBut Fault.Sink result (K.faults sink.old) (K.faults sink.new) }
     ensures unfaulted { result ≢ Err Fault.Disk → D.faults disk.new ≡ D.faults disk.old }
     ensures stays { AtEachMoment D.Disk disk.old disk.new Stays }
     ensures sealed { ChainsWhatItWrites D.Disk disk.new (K.taken sink.old) (K.taken sink.new)

@@ -1,6 +1,6 @@
 //! The command `key`.
 
-ghost use Rattle.std.specs.Prelude.{◌≡◌, ◌≢◌, ◌⊎◌, ◌++◌, codes, IfOk, IfErr, IfSome, OnOk, Err};
+ghost use Rattle.std.specs.Prelude.{◌≡◌, ◌≢◌, ◌⊎◌, ◌++◌, codes, IfOk, IfErr, IfSome, OnOk, Err, ◌∷◌, []};
 ghost use Rattle.std.specs.Option.{ForSome};
 ghost use Rattle.hex.specs.Hex.{encode_lower};
 ghost use Rattle.road_io.specs.Causes.{Rose};
@@ -13,7 +13,7 @@ ghost use Rattle.key_desk.specs.Stands.{KeepsStanding};
 ghost use Rattle.road_command.specs.View.{type_of};
 ghost use Rattle.command_files.specs.HexFiles.{secret_at};
 ghost use Rattle.command_files.specs.Endings.{Promises, TellsNone, WhyNot};
-ghost use Rattle.command_files.specs.Exact.{HidesNone};
+ghost use Rattle.command_files.specs.Spared.{SparesLibrary, SparesBut};
 ghost use Rattle.owner_commands.specs.OwnerKey.{EndsKey, MakesByFile, MakesKey, ends_key};
 ghost use Rattle.owner_commands.specs.Signing.{StaysRefused};
 
@@ -37,8 +37,9 @@ pub fn key<L: Library, K: Sink, D: Disk>(
         (Rose (D.faults disk.old) (D.faults disk.new))
         (L.files library.new) (L.faults library.old) (L.faults library.new)
         (K.taken sink.old) (K.taken sink.new) (K.faults sink.old) (K.faults sink.new) result }
-    ensures library { HidesNone result (L.faults library.old) (L.faults library.new) }
-    ensures sink { HidesNone result (K.faults sink.old) (K.faults sink.new) }
+    ensures library { SparesLibrary result (L.faults library.old) (L.faults library.new) }
+    ensures asked { L.asked library.new ≡ L.asked library.old ++ secret.now ∷ [] }
+    ensures sink { SparesBut Fault.Sink result (K.faults sink.old) (K.faults sink.new) }
     ensures made { OnOk result (IfSome (L.files library.new)
         (λ folder. MakesKey D.Disk disk.new (type_of kind) (secret_at folder secret.now))) }
     ensures held { ForSome (D.content disk.old) IsOpen →

@@ -1,11 +1,11 @@
 //! The command `publish`.
 
-ghost use Rattle.std.specs.Prelude.{IfOk, IfErr, ◌≡◌, ◌≢◌, Err};
+ghost use Rattle.std.specs.Prelude.{IfOk, IfErr, ◌≡◌, ◌≢◌, Err, ◌∷◌, [], ◌++◌};
 ghost use Rattle.road_io.specs.Causes.{Rose};
 ghost use Rattle.road_io.specs.Moments.{still_told};
 ghost use Rattle.key_desk.specs.Stands.{KeepsStanding};
 ghost use Rattle.command_files.specs.Endings.{Promises, WhyNot};
-ghost use Rattle.command_files.specs.Exact.{HidesNone};
+ghost use Rattle.command_files.specs.Spared.{SparesLibrary, SparesBut};
 ghost use Rattle.owner_commands.specs.Publishing.{EndsPublish, TellsLost, ends_publish};
 ghost use Rattle.owner_commands.specs.Signing.{SignsAtMostOne, SignsAtMostHeader, StaysRefused, IsSealedOnDisk, SealsWhatItMirrors, SealsWhatItWrites};
 
@@ -40,12 +40,13 @@ pub fn publish<L: Library, K: Sink, D: Disk, M: Mirror>(
         (Rose (D.faults disk.old) (D.faults disk.new))
         (L.files library.new) (L.faults library.old) (L.faults library.new)
         (K.taken sink.old) (K.taken sink.new) (K.faults sink.old) (K.faults sink.new) result }
-    ensures library { HidesNone result (L.faults library.old) (L.faults library.new) }
-    ensures sink { HidesNone result (K.faults sink.old) (K.faults sink.new) }
+    ensures library { SparesLibrary result (L.faults library.old) (L.faults library.new) }
+    ensures asked { L.asked library.new ≡ L.asked library.old ++ roads.now ∷ [] }
+    ensures sink { SparesBut Fault.Sink result (K.faults sink.old) (K.faults sink.new) }
     ensures sealed { SealsWhatItWrites D.Disk disk.old disk.new (K.taken sink.old)
         (K.taken sink.new) result }
-    ensures mirrored { SealsWhatItMirrors M.octets M.named M.puts M.room D.Disk disk.old disk.new
-        (K.taken sink.old) (K.taken sink.new) mirrors.old.items mirrors.new.items result }
+    ensures mirrored { SealsWhatItMirrors M.octets M.named M.handed M.puts M.room D.Disk disk.old
+        disk.new (K.taken sink.old) (K.taken sink.new) mirrors.old.items mirrors.new.items result }
     ensures signs { SignsAtMostOne D.Disk disk.old disk.new
         (L.files library.new) roads.now settings.now }
     ensures untouched { IfErr result (StaysRefused D.Disk disk.old disk.new) }

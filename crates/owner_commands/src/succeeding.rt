@@ -1,6 +1,6 @@
 //! The command `succeed`.
 
-ghost use Rattle.std.specs.Prelude.{◌≡◌, ◌⊎◌, IfOk, IfErr, IfSome, OnOk, ◌≢◌, Err};
+ghost use Rattle.std.specs.Prelude.{◌≡◌, ◌⊎◌, IfOk, IfErr, IfSome, OnOk, ◌≢◌, Err, ◌∷◌, [], ◌++◌};
 ghost use Rattle.road_io.specs.Causes.{Rose};
 ghost use Rattle.road_io.specs.Moments.{AtEachMoment, EachImage, still_told};
 ghost use Rattle.lms_tree.specs.Links.{link_text};
@@ -10,7 +10,7 @@ ghost use Rattle.key_desk.specs.Stands.{KeepsStanding, SameKeys};
 ghost use Rattle.key_desk.specs.Succession.{SignsLink};
 ghost use Rattle.road_command.specs.View.{type_of};
 ghost use Rattle.command_files.specs.Endings.{Promises, TellsNone, WhyNot};
-ghost use Rattle.command_files.specs.Exact.{HidesNone};
+ghost use Rattle.command_files.specs.Spared.{SparesLibrary, SparesBut};
 ghost use Rattle.command_desks.specs.Opening.{IsKeyOn};
 ghost use Rattle.owner_commands.specs.NextKey.{AddsKey, EndsSuccession, ends_succession, fault_of};
 ghost use Rattle.owner_commands.specs.Signing.{StaysRefused};
@@ -37,8 +37,9 @@ pub fn succeed<L: Library, K: Sink, D: Disk>(
         TellsNone (Rose (D.faults disk.old) (D.faults disk.new))
         (L.files library.new) (L.faults library.old) (L.faults library.new)
         (K.taken sink.old) (K.taken sink.new) (K.faults sink.old) (K.faults sink.new) result }
-    ensures library { HidesNone result (L.faults library.old) (L.faults library.new) }
-    ensures sink { HidesNone result (K.faults sink.old) (K.faults sink.new) }
+    ensures library { SparesLibrary result (L.faults library.old) (L.faults library.new) }
+    ensures asked { L.asked library.new ≡ L.asked library.old ++ secret.now ∷ [] }
+    ensures sink { SparesBut Fault.Sink result (K.faults sink.old) (K.faults sink.new) }
     ensures adds { AddsKey D.Disk disk.old disk.new (L.files library.new) secret.now
         (type_of kind) result }
     ensures unfaulted { result ≢ Err Fault.Disk → D.faults disk.new ≡ D.faults disk.old }

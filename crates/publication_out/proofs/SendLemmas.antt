@@ -31,14 +31,14 @@ rising n m l =
     let b = div_ceil_times m 4096 (omega arith) in
     omega (arith, a.1, b.0, l)
 
-module _ {M : Type 0} (octets : M → Option (List ℕ)) (label puts room : M → ℕ) where
+module _ {M : Type 0} (octets : M → Option (List ℕ)) (label handed puts room : M → ℕ) where
   -- The first octets of a text are with the sink and with the mirrors that stay; those of the next piece
   -- are at the front of a buffer, and the others are left.
   pub record IsUnderWay (text buffer left : List ℕ) (count : ℕ) (before now : Option (List ℕ)) (old kept : List M) : Type 0 where
     pub n : ℕ
     pub within : n ≤ length text
     pub written : Appends before now (take n text)
-    pub took : Mirrors octets label puts room (div_ceil n 4096) (take n text) old kept
+    pub took : Mirrors octets label handed puts room (div_ceil n 4096) (take n text) old kept
     pub full : (count ≡ 0) ⊎ (n ≡ 4096 * div_ceil n 4096)
     pub count_is : count ≡ min 4096 (length (drop n text))
     pub piece_is : take count buffer ≡ take count (drop n text)
@@ -50,7 +50,7 @@ module _ {M : Type 0} (octets : M → Option (List ℕ)) (label puts room : M �
     n = 0;
     within = omega arith;
     written = Appends-none taken;
-    took = Mirrors-none octets label puts room mirrors;
+    took = Mirrors-none octets label handed puts room mirrors;
     full = inr refl;
     count_is = omega (arith, count_is, size, ap length is);
     piece_is = ap (take count) buffer_is ∙ take_at (take count first) (drop count old_buffer) count (length-take-le count first (omega (arith, count_is))) ∙ ap (take count) is;
@@ -58,7 +58,7 @@ module _ {M : Type 0} (octets : M → Option (List ℕ)) (label puts room : M �
   }
 
   pub goes_on : (text buffer buffer' left left' : List ℕ) (count count' : ℕ) (before now now' : Option (List ℕ)) (old mid kept : List M) (gone : List ℕ) (piece : List ℕ)
-      → 0 < count → length buffer ≡ 4096 → piece ≡ take count buffer → Appends now now' piece → Spreads octets label puts room 1 piece mid kept gone
+      → 0 < count → length buffer ≡ 4096 → piece ≡ take count buffer → Appends now now' piece → Spreads octets label handed puts room 1 piece mid kept gone
       → count' ≡ min (length buffer) (length left) → buffer' ≡ take count' left ++ drop count' buffer → left' ≡ drop count' left
       → IsUnderWay text buffer left count before now old mid → IsUnderWay text buffer' left' count' before now' old kept
   goes_on text buffer buffer' left left' count count' before now now' old mid kept gone piece some size piece_is writes spreads count_is' buffer_is' left_is' at =
@@ -74,9 +74,9 @@ module _ {M : Type 0} (octets : M → Option (List ℕ)) (label puts room : M �
         n = n + count;
         within = omega (arith, few, rest, at.within);
         written = subst (λ x. Appends before now' x) (sym more) (Appends-++ before now now' (take n text) piece at.written writes);
-        took = subst (λ x. Mirrors octets label puts room (div_ceil (n + count) 4096) x old kept) (sym more)
-            (subst (λ k. Mirrors octets label puts room k (take n text ++ piece) old kept) (sym puts_is)
-            (Mirrors-append octets label puts room (div_ceil n 4096) 1 (take n text) piece old mid kept at.took (Mirrors-spread octets label puts room 1 piece mid kept gone spreads)));
+        took = subst (λ x. Mirrors octets label handed puts room (div_ceil (n + count) 4096) x old kept) (sym more)
+            (subst (λ k. Mirrors octets label handed puts room k (take n text ++ piece) old kept) (sym puts_is)
+            (Mirrors-append octets label handed puts room (div_ceil n 4096) 1 (take n text) piece old mid kept at.took (Mirrors-spread octets label handed puts room 1 piece mid kept gone spreads)));
         full = next n count count' (length text) full some (omega (arith, at.count_is, rest)) (omega (arith, count_is', size, long)) puts_is;
         count_is = omega (arith, count_is', size, ap length left_at);
         piece_is = ap (take count') buffer_is' ∙ take_at (take count' left) (drop count' buffer) count' (length-take-le count' left (omega (arith, count_is'))) ∙ ap (take count') left_at;
@@ -94,17 +94,17 @@ module _ {M : Type 0} (octets : M → Option (List ℕ)) (label puts room : M �
 
   -- nothing is left
   pub all_sent : (text buffer left : List ℕ) (count : ℕ) (before now : Option (List ℕ)) (old kept : List M) → count ≡ 0 → IsUnderWay text buffer left count before now old kept
-      → Appends before now text × Mirrors octets label puts room (pieces_in text) text old kept
+      → Appends before now text × Mirrors octets label handed puts room (pieces_in text) text old kept
   all_sent text buffer left count before now old kept none at =
       let end : at.n ≡ length text = omega (arith, at.within, at.count_is, none, length-drop at.n text) in
       let all : take at.n text ≡ text = take_all at.n text (omega (arith, end)) in (
         subst (λ x. Appends before now x) all at.written,
-        subst (λ x. Mirrors octets label puts room (pieces_in text) x old kept) all (subst (λ k. Mirrors octets label puts room (div_ceil k 4096) (take at.n text) old kept) end at.took),
+        subst (λ x. Mirrors octets label handed puts room (pieces_in text) x old kept) all (subst (λ k. Mirrors octets label handed puts room (div_ceil k 4096) (take at.n text) old kept) end at.took),
       )
 
   -- the sink failed
   pub front_sent : (text buffer left : List ℕ) (count : ℕ) (before now now' : Option (List ℕ)) (old kept : List M) (piece : List ℕ) → piece ≡ take count buffer → AppendsFront now now' piece → IsUnderWay text buffer left count before now old kept
-      → AppendsFront before now' text × MirrorsFront octets label puts room text old kept
+      → AppendsFront before now' text × MirrorsFront octets label handed puts room text old kept
   front_sent text buffer left count before now now' old kept piece piece_is front at =
       let m = front.0 in
       let same : piece ≡ take count (drop at.n text) = piece_is ∙ at.piece_is in

@@ -8,7 +8,7 @@ use Rattle.mirror_out.specs.Mirrors.{Mirrors}
 abbrev pub pieces_in : List ℕ → ℕ
 pieces_in text = div_ceil (length text) 4096
 
-module _ {M : Type 0} (octets : M → Option (List ℕ)) (label puts room : M → ℕ) where
+module _ {M : Type 0} (octets : M → Option (List ℕ)) (label handed puts room : M → ℕ) where
   -- those that stay took a front of the text, in no more puts than it has pieces, each of the
   -- others had promised less
   pub record MirrorsFront (text : List ℕ) (old kept : List M) : Type 0 where
@@ -16,4 +16,4 @@ module _ {M : Type 0} (octets : M → Option (List ℕ)) (label puts room : M �
     pub count : ℕ
     pub within : n ≤ length text
     pub few : count ≤ pieces_in text
-    pub took : Mirrors octets label puts room count (take n text) old kept
+    pub took : Mirrors octets label handed puts room count (take n text) old kept

@@ -33,12 +33,13 @@ pub fn send<K: Sink, M: Mirror>(
     ensures front { OnErr result (AppendsFront (K.taken sink.old) (K.taken sink.new)
         (publication_text publication.now)) }
     ensures cause { HasCause (K.faults sink.old) (K.faults sink.new) result }
+    ensures kept { OnOk result (K.faults sink.new ≡ K.faults sink.old) }
     ensures mirrored { OnOk result
-        (Mirrors M.octets M.named M.puts M.room
+        (Mirrors M.octets M.named M.handed M.puts M.room
         (pieces_in (publication_text publication.now))
         (publication_text publication.now) mirrors.old.items mirrors.new.items) }
     ensures mirrored_front { OnErr result
-        (MirrorsFront M.octets M.named M.puts M.room
+        (MirrorsFront M.octets M.named M.handed M.puts M.room
         (publication_text publication.now) mirrors.old.items mirrors.new.items) }
     ensures count { length (lost_of spreader.new) + vec_len mirrors.new ≡ length
         (lost_of spreader.old) + vec_len mirrors.old }

@@ -35,7 +35,7 @@ use Rattle.command_desks.specs.Opening.{EndsOpening, IsOpened}
 use Rattle.command_desks.proofs.Openings.{shut}
 use Rattle.reduce_commands.specs.ReduceLine.{reduced_line, signed_line}
 use Rattle.reduce_commands.specs.Reducing.{HasSigned, HasSpent, IsKeyIn, TellsReduced, TellsSlot, EndsReducing, EndsReduce, ends_reduce}
-use Rattle.reduce_commands.specs.Unreleased.{ShowsLater, IsUnreleasedLine, IsClashLine, RestsOnReduced, WritesReduced}
+use Rattle.reduce_commands.specs.Unreleased.{ShowsLater, IsUnreleasedLine, IsClashLine, RestsOnReduced, AreSpelled, WritesReduced}
 use Rattle.reduce_commands.proofs.SlotLemmas.{key_in, none_in}
 
 -- what holds of each image holds of each image afterwards, since none changes
@@ -122,7 +122,7 @@ module _ (shows : Shows) (key : KeyOf) (area : ℕ) (text sig : List ℕ) (spent
 
 module _ (shows : Shows) {D : Type 0} (g : Ghosts D) (mid new : D) (desk : Desk) (area : ℕ) (text sig : List ℕ) (fits : Fits g desk mid) (le : area ≤ length desk.earlier) (moments : AtEachMoment g mid new Stays) where
   by_reduced : (spent : Option (List ℕ)) (line : List ℕ) → EachImage g new (λ i. HasSpent i area sig spent) → verified (public_key (key_of desk area)) text sig ≡ Ok tt → (r : Reduced) → Reduces (key_of desk area) spent text sig r → line ≡ reduced_line r
-      → IsClashLine line ⊎ IsUnreleasedLine g new line
+      → IsClashLine line ⊎ IsUnreleasedLine g new text sig line
   by_reduced spent line each good (Collision left right) reduces is = inl (record { left = left; right = right; collide = reduces; line_is = is })
   by_reduced spent line each good (Chain slot at step value) reduces is = inr (record {
     key = key_of desk area;
@@ -132,6 +132,9 @@ module _ (shows : Shows) {D : Type 0} (g : Ghosts D) (mid new : D) (desk : Desk)
     value = value;
     line_is = is;
     chain = reduces.place;
+    of_slot = reduces.of_slot;
+    of_digit = reduces.of_digit;
+    shown = reduces.shown;
     of_key = later g mid new _ moments (λ i now. key_in desk i area fits.sound (fits.areas i now) le);
     own = reduces.own;
     never = λ i now signed has.
@@ -141,10 +144,10 @@ module _ (shows : Shows) {D : Type 0} (g : Ghosts D) (mid new : D) (desk : Desk)
   })
 
   -- what a told line rests on
-  pub told_rests : (o : Result Conclusion Fault) (line : List ℕ) → TellsSlot g new area (key_of desk area) text sig o line → RestsOnReduced g new o line
-  told_rests o line (spent, each, inl why) = subst (λ x. RestsOnReduced g new x line) (sym why.2) tt
-  told_rests o line (spent, each, inr (good, inl signed)) = subst (λ x. RestsOnReduced g new x line) (sym signed.1) tt
-  told_rests o line (spent, each, inr (good, inr evidence)) = subst (λ x. RestsOnReduced g new x line) (sym evidence.3) (by_reduced spent line each good evidence.1 evidence.2 evidence.4)
+  pub told_rests : (o : Result Conclusion Fault) (line : List ℕ) → TellsSlot g new area (key_of desk area) text sig o line → RestsOnReduced g new text sig o line
+  told_rests o line (spent, each, inl why) = subst (λ x. RestsOnReduced g new text sig x line) (sym why.2) tt
+  told_rests o line (spent, each, inr (good, inl signed)) = subst (λ x. RestsOnReduced g new text sig x line) (sym signed.1) tt
+  told_rests o line (spent, each, inr (good, inr evidence)) = subst (λ x. RestsOnReduced g new text sig x line) (sym evidence.3) (by_reduced spent line each good evidence.1 evidence.2 evidence.4)
 
 -- ---- the command
 
@@ -181,12 +184,17 @@ module _ (files : Option Folder) (content : Option (List ℕ)) (key_name text_na
     reduce_told new end o line may h w = written (ends_reduce content key_name text_name sig_name) TellsNone DiskFailed files l l' k k' old (EndsReduce content public text sig) calls new end o line may h w
 
 -- what is written of evidence
-pub reduced_written : {D : Type 0} (g : Ghosts D) (disk : D) (old new : Option (List ℕ)) (k k' : ℕ) (end o : Result Conclusion Fault) (line : List ℕ) → RestsOnReduced g disk end line → Writes end line old new k k' o → WritesReduced g disk old new o
-reduced_written g disk old new k k' end o line rests (inl w) = subst (λ (x : Result Conclusion Fault). WritesReduced g disk old new x) (sym w.0) (by end rests)
+pub reduced_written : {D : Type 0} (g : Ghosts D) (disk : D) (files : Option Folder) (text_name sig_name text sig : List ℕ) → IfSome files (λ folder. hex_text_at folder text_name ≡ Ok text) → IfSome files (λ folder. hex_text_at folder sig_name ≡ Ok sig)
+    → (old new : Option (List ℕ)) (k k' : ℕ) (end o : Result Conclusion Fault) (line : List ℕ) → RestsOnReduced g disk text sig end line → Writes end line old new k k' o → WritesReduced g disk files text_name sig_name old new o
+reduced_written g disk files text_name sig_name text sig text_read sig_read old new k k' end o line rests (inl w) = subst (λ (x : Result Conclusion Fault). WritesReduced g disk files text_name sig_name old new x) (sym w.0) (by end rests)
   where
-    by : (end : Result Conclusion Fault) → RestsOnReduced g disk end line → WritesReduced g disk old new end
-    by (Ok Evidence) rests = (line, w.1, rests)
+    spelled : (files : Option Folder) → IfSome files (λ folder. hex_text_at folder text_name ≡ Ok text) → IfSome files (λ folder. hex_text_at folder sig_name ≡ Ok sig) → IfSome files (λ folder. AreSpelled folder text_name sig_name text sig)
+    spelled None a b = tt
+    spelled (Some folder) a b = record { text_is = a; signature_is = b }
+
+    by : (end : Result Conclusion Fault) → RestsOnReduced g disk text sig end line → WritesReduced g disk files text_name sig_name old new end
+    by (Ok Evidence) rests = (text, sig, spelled files text_read sig_read, line, w.1, rests)
     by (Ok Done) rests = tt
     by (Ok Refused) rests = tt
     by (Err f) rests = tt
-reduced_written g disk old new k k' end o line rests (inr w) = subst (λ (x : Result Conclusion Fault). WritesReduced g disk old new x) (sym w.0) tt
+reduced_written g disk files text_name sig_name text sig text_read sig_read old new k k' end o line rests (inr w) = subst (λ (x : Result Conclusion Fault). WritesReduced g disk files text_name sig_name old new x) (sym w.0) tt

@@ -22,7 +22,7 @@ one_digest line c = c.collide.one_digest
 clash_line : (line : List ℕ) (c : IsClashLine line) → line ≡ collision_line c.left c.right
 clash_line line c = c.line_is
 
-module _ {D : Type 0} (g : Ghosts D) (disk : D) (line : List ℕ) (u : IsUnreleasedLine g disk line) where
+module _ {D : Type 0} (g : Ghosts D) (disk : D) (text sig line : List ℕ) (u : IsUnreleasedLine g disk text sig line) where
   -- the value is the key's own, of the chain and the step that the line names
   own : u.value ≡ own_value u.key u.slot.number u.at u.step
   own = u.own
@@ -38,5 +38,5 @@ module _ {D : Type 0} (g : Ghosts D) (disk : D) (line : List ℕ) (u : IsUnrelea
   more_steps i text now signed = let shows = signed_is_later i text now signed in (shows.more, shows.later, shows.shows)
 
 -- the end that is evidence rests on such a line
-evidence_is_told : {D : Type 0} (g : Ghosts D) (disk : D) (line : List ℕ) → RestsOnReduced g disk (Ok Evidence) line → IsClashLine line ⊎ IsUnreleasedLine g disk line
-evidence_is_told g disk line h = h
+evidence_is_told : {D : Type 0} (g : Ghosts D) (disk : D) (text sig line : List ℕ) → RestsOnReduced g disk text sig (Ok Evidence) line → IsClashLine line ⊎ IsUnreleasedLine g disk text sig line
+evidence_is_told g disk text sig line h = h

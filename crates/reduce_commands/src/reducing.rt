@@ -1,13 +1,14 @@
 //! The command `reduce`.
 
-ghost use Rattle.std.specs.Prelude.{◌≡◌, ◌≤◌, ◌⊎◌, true, length, take, IfOk, IfErr, IfSome, ◌≢◌, Err};
+ghost use Rattle.std.specs.Prelude.{◌≡◌, ◌≤◌, ◌⊎◌, true, length, take, IfOk, IfErr, IfSome, ◌≢◌, Err, ◌∷◌, []};
 ghost use Rattle.std.specs.Option.{option_copied, option_map};
 ghost use Rattle.road_io.specs.Causes.{Rose};
 ghost use Rattle.road_io.specs.Disk.{Stays};
 ghost use Rattle.road_io.specs.Moments.{AtEachMoment, still_told};
 ghost use Rattle.key_desk.specs.Desk.{Fits, key_of};
 ghost use Rattle.command_files.specs.Endings.{Promises, TellsNone, MayEnd, WhyNot};
-ghost use Rattle.command_files.specs.Exact.{HidesNone};
+ghost use Rattle.command_files.specs.Asking.{AsksFront};
+ghost use Rattle.command_files.specs.Spared.{SparesLibrary, SparesBut};
 ghost use Rattle.reduce_commands.specs.Reducing.{EndsReduce, TellsReduced, TellsSlot, ends_reduce};
 ghost use Rattle.reduce_commands.specs.Unreleased.{RestsOnReduced, WritesReduced};
 
@@ -41,10 +42,12 @@ pub fn reduce<L: Library, K: Sink, D: Disk>(
         (Rose (D.faults disk.old) (D.faults disk.new))
         (L.files library.new) (L.faults library.old) (L.faults library.new)
         (K.taken sink.old) (K.taken sink.new) (K.faults sink.old) (K.faults sink.new) result }
-    ensures library { HidesNone result (L.faults library.old) (L.faults library.new) }
-    ensures sink { HidesNone result (K.faults sink.old) (K.faults sink.new) }
-    ensures unreleased { WritesReduced D.Disk disk.new (K.taken sink.old)
-        (K.taken sink.new) result }
+    ensures library { SparesLibrary result (L.faults library.old) (L.faults library.new) }
+    ensures asked { AsksFront (key.now ∷ text.now ∷ signature.now ∷ [])
+        (L.asked library.old) (L.asked library.new) }
+    ensures sink { SparesBut Fault.Sink result (K.faults sink.old) (K.faults sink.new) }
+    ensures unreleased { WritesReduced D.Disk disk.new (L.files library.new) text.now
+        signature.now (K.taken sink.old) (K.taken sink.new) result }
     ensures unfaulted { result ≢ Err Fault.Disk → D.faults disk.new ≡ D.faults disk.old }
     ensures stays { AtEachMoment D.Disk disk.old disk.new Stays }
 {
@@ -68,7 +71,7 @@ fn find<D: Disk>(
         told.end told.text.items) }
     ensures verdict { IfOk result (λ told. MayEnd TellsNone told.end) }
     ensures rests { IfOk result (λ told.
-        RestsOnReduced D.Disk disk.new told.end told.text.items) }
+        RestsOnReduced D.Disk disk.new text.now sig.now told.end told.text.items) }
     ensures refused { IfErr result
         (WhyNot (Rose (D.faults disk.old) (D.faults disk.new))
         (EndsReduce (still_told D.Disk disk.old disk.new) public.now text.now sig.now)) }

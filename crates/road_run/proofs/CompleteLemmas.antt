@@ -92,15 +92,15 @@ same_but o n = refl
 
 -- ---- no mirror is lost
 
-module _ {M : Type 0} (octets : M → Option (List ℕ)) (label puts room : M → ℕ) where
+module _ {M : Type 0} (octets : M → Option (List ℕ)) (label handed puts room : M → ℕ) where
   -- mirrors that promised enough all stay
-  all_stay : (count : ℕ) (text : List ℕ) (old kept : List M) → ((m : M) → Contains old m → ¬ PromisedLess count text (puts m) (room m)) → Mirrors octets label puts room count text old kept → length kept ≡ length old
+  all_stay : (count : ℕ) (text : List ℕ) (old kept : List M) → ((m : M) → Contains old m → ¬ PromisedLess count text (puts m) (room m)) → Mirrors octets label handed puts room count text old kept → length kept ≡ length old
   all_stay count text [] kept enough h = ap length h
   all_stay count text (m ∷ old) kept enough (inl h) =
       ap length h.2 ∙ ap suc (all_stay count text old h.1 (λ x c. enough x (Contains-there m x old c)) h.4)
   all_stay count text (m ∷ old) kept enough (inr h) = absurd (enough m (Contains-here m old) h.0)
 
-  none_lost : {D : Type 0} (g : Ghosts D) (before now : D) (taken_before taken_now : Option (List ℕ)) (old kept : List M) → SealsWhatItMirrors octets label puts room g before now taken_before taken_now old kept (Err MirrorLost)
+  none_lost : {D : Type 0} (g : Ghosts D) (before now : D) (taken_before taken_now : Option (List ℕ)) (old kept : List M) → SealsWhatItMirrors octets label handed puts room g before now taken_before taken_now old kept (Err MirrorLost)
       → ¬ PromisedEnough puts room taken_before taken_now old
   none_lost g before now taken_before taken_now old kept h enough =
       let s = h.sealed in
@@ -111,10 +111,10 @@ module _ {M : Type 0} (octets : M → Option (List ℕ)) (label puts room : M �
 
 -- ---- a run
 
-module _ {D M : Type 0} (g : Ghosts D) (octets : M → Option (List ℕ)) (label puts room : M → ℕ) (old new : D) (files : Option Folder) (left rest : Option (List ℕ)) (l l' s s' : ℕ) (taken_before taken_now : Option (List ℕ)) (k k' : ℕ) (mirrors kept : List M) (o : Result Conclusion Fault) where
+module _ {D M : Type 0} (g : Ghosts D) (octets : M → Option (List ℕ)) (label handed puts room : M → ℕ) (old new : D) (files : Option Folder) (left rest : Option (List ℕ)) (l l' s s' : ℕ) (taken_before taken_now : Option (List ℕ)) (k k' : ℕ) (mirrors kept : List M) (o : Result Conclusion Fault) where
   -- a run is complete
   pub complete_run : (asked : Option Request) → RunPromises g old new asked files l l' taken_before taken_now k k' o → RunTakes asked files left rest s s' taken_before taken_now o
-      → OnMirrors octets label puts room g old new asked taken_before taken_now mirrors kept o
+      → OnMirrors octets label handed puts room g old new asked taken_before taken_now mirrors kept o
       → (NoneFailed l l' k k' (g.faults old) (g.faults new) → IfSome asked (λ request. IfSome files (λ folder. IsTold request (still_told g old new) → IsExact (Ends (still_told g old new) request folder) (but_for_mirrors o))))
       → (¬ Rose s s' → NoneFailed l l' k k' (g.faults old) (g.faults new) → IfServe asked (λ file. IsExactServing file files left o))
       → ¬ Rose s s' → NoneFailed l l' k k' (g.faults old) (g.faults new)
@@ -135,7 +135,7 @@ module _ {D M : Type 0} (g : Ghosts D) (octets : M → Option (List ℕ)) (label
           let E : Ending = Ends (still_told g old new) request folder in
           answers E free o (subst (IsExact E) (same_but o (mirror enough)) exact).called_for p.words (λ e. n.library_stays (p.library e)) (λ e. still (source e)) (λ e. n.sink_stays (p.sink e)) (λ e. n.disk_stays (p.disk e)) (mirror enough)
 
-      by : (asked : Option Request) (files : Option Folder) (left : Option (List ℕ)) → IfSome asked (Command files) → (o ≡ Err Source → Rose s s') → OnMirrors octets label puts room g old new asked taken_before taken_now mirrors kept o
+      by : (asked : Option Request) (files : Option Folder) (left : Option (List ℕ)) → IfSome asked (Command files) → (o ≡ Err Source → Rose s s') → OnMirrors octets label handed puts room g old new asked taken_before taken_now mirrors kept o
           → IfSome asked (λ request. IfSome files (λ folder. IsTold request (still_told g old new) → IsExact (Ends (still_told g old new) request folder) (but_for_mirrors o)))
           → IfServe asked (λ file. IsExactServing file files left o)
           → IfSome asked (λ request. IfSome files (λ folder. AreTold (still_told g old new) left request → Complete left request folder))
@@ -153,7 +153,7 @@ module _ {D M : Type 0} (g : Ghosts D) (octets : M → Option (List ℕ)) (label
       by (Some Desk) (Some folder) left p source m exact serving = λ told. plain Desk folder p source (λ enough e. p.mirror e) (exact told)
       by (Some (Publish roads settings)) (Some folder) left p source m exact serving = λ told.
           plain (Publish roads settings) folder p source
-          (λ enough e. none_lost octets label puts room g old new taken_before taken_now mirrors kept (subst (SealsWhatItMirrors octets label puts room g old new taken_before taken_now mirrors kept) e m) enough) (exact told)
+          (λ enough e. none_lost octets label handed puts room g old new taken_before taken_now mirrors kept (subst (SealsWhatItMirrors octets label handed puts room g old new taken_before taken_now mirrors kept) e m) enough) (exact told)
       by (Some (Prove publication q)) (Some folder) left p source m exact serving = λ told. plain (Prove publication q) folder p source (λ enough e. p.mirror e) (exact told)
       by (Some (Check key reply q least chain)) (Some folder) left p source m exact serving = λ told. plain (Check key reply q least chain) folder p source (λ enough e. p.mirror e) (exact told)
       by (Some (Audit key publication reply q chain)) (Some folder) left p source m exact serving = λ told. plain (Audit key publication reply q chain) folder p source (λ enough e. p.mirror e) (exact told)

@@ -55,9 +55,9 @@ module _ {D : Type 0} (g : Ghosts D) (old new : D) (files : Option Folder) (take
   keys_of (Some (Reduce key text signature)) nothing on_disk = keys_stay g old new on_disk.0
   keys_of (Some request) nothing on_disk = keys_stay g old new on_disk
 
-module _ {M : Type 0} (octets : M → Option (List ℕ)) (label puts room : M → ℕ) {D : Type 0} (g : Ghosts D) (reads : (d : D) (c : List ℕ) → g.content d ≡ Some c → Image g d c) where
+module _ {M : Type 0} (octets : M → Option (List ℕ)) (label handed puts room : M → ℕ) {D : Type 0} (g : Ghosts D) (reads : (d : D) (c : List ℕ) → g.content d ≡ Some c → Image g d c) where
   -- at each moment of a run what was given out stays given
-  kept : (old new : D) → Run octets label puts room g old new → (before : List Release) → EachImage g old (λ i. All (IsGiven i) before) → (k : ℕ) (i : List ℕ) → g.clock old ≤ k → k ≤ g.clock new → g.image_at new k i → All (IsGiven i) before
+  kept : (old new : D) → Run octets label handed puts room g old new → (before : List Release) → EachImage g old (λ i. All (IsGiven i) before) → (k : ℕ) (i : List ℕ) → g.clock old ≤ k → k ≤ g.clock new → g.image_at new k i → All (IsGiven i) before
   kept old new run [] here k i from to h = All-nil (IsGiven i)
   kept old new run (r ∷ rest) here k i from to h =
       let opened : ForSome (g.content old) IsOpen = λ c is. given_open c r rest (here c (reads old c is)) in
@@ -68,10 +68,10 @@ module _ {M : Type 0} (octets : M → Option (List ℕ)) (label puts room : M �
   -- what a run gives out
   adds_by : (old new : D) (before : List Release) (c n : List ℕ) → still_told g old new ≡ Some c → All (IsGiven c) before → Image g new n → All (IsGiven n) before
       → (asked : Option Request) (files : Option Folder) (taken_before taken_now : Option (List ℕ)) (mirrors_before mirrors_now : List M) (o : Result Conclusion Fault)
-      → (on_disk : IfSome asked (λ request. OnDisk g old new request files taken_before taken_now o)) (mirrored : OnMirrors octets label puts room g old new asked taken_before taken_now mirrors_before mirrors_now o)
-      → Adds g new before (given_by octets label puts room g old new asked files taken_before taken_now mirrors_before mirrors_now o on_disk mirrored)
+      → (on_disk : IfSome asked (λ request. OnDisk g old new request files taken_before taken_now o)) (mirrored : OnMirrors octets label handed puts room g old new asked taken_before taken_now mirrors_before mirrors_now o)
+      → Adds g new before (given_by octets label handed puts room g old new asked files taken_before taken_now mirrors_before mirrors_now o on_disk mirrored)
   adds_by old new before c n told was image now (Some (Publish roads settings)) files tb tn mb mn o on_disk mirrored =
-      written (SpreadSealed octets label puts room g old new tb tn mb mn o) o mirrored.sealed (λ it. header_release it.on_disk.area it.publication ∷ []) (Adds g new before)
+      written (SpreadSealed octets label handed puts room g old new tb tn mb mn o) o mirrored.sealed (λ it. header_release it.on_disk.area it.publication ∷ []) (Adds g new before)
       (adds_none g new before) (λ it. adds_header g new before old c told was it.publication it.on_disk)
   adds_by old new before c n told was image now (Some (Succeed secret kind)) files tb tn mb mn o on_disk mirrored =
       written (FollowsByFile g new files secret kind) o on_disk.follows (λ it. link_release it.follows.keys it.follows.before ∷ []) (Adds g new before)
@@ -82,7 +82,7 @@ module _ {M : Type 0} (octets : M → Option (List ℕ)) (label puts room : M �
   adds_by old new before c n told was image now asked files tb tn mb mn o on_disk mirrored = adds_none g new before
 
   module _ (old new : D) (told_before : g.content old ≢ None) (told_now : g.content new ≢ None) where
-    adds_run : (run : Run octets label puts room g old new) (before : List Release) → EachImage g old (λ i. All (IsGiven i) before) → Adds g new before (given octets label puts room g old new run)
+    adds_run : (run : Run octets label handed puts room g old new) (before : List Release) → EachImage g old (λ i. All (IsGiven i) before) → Adds g new before (given octets label handed puts room g old new run)
     adds_run run before here =
         let c = some_told (g.content old) told_before in
         let n = some_told (g.content new) told_now in
@@ -91,13 +91,13 @@ module _ {M : Type 0} (octets : M → Option (List ℕ)) (label puts room : M �
         run.asked run.files run.taken_before run.taken_now run.mirrors_before run.mirrors_now run.outcome run.promised.on_disk run.mirrored
 
     -- one step
-    stepped : (before after : List Release) → Step octets label puts room g old new before after → EachImage g old (λ i. All (IsGiven i) before) → AllApart before
+    stepped : (before after : List Release) → Step octets label handed puts room g old new before after → EachImage g old (λ i. All (IsGiven i) before) → AllApart before
         → EachImage g new (λ i. All (IsGiven i) after) × AllApart after
     stepped before after (Ran run more) here apart =
         let adds = adds_run run before here in (
           subst (λ (all : List Release). EachImage g new (λ i. All (IsGiven i) all)) (sym more)
-              (λ i now. All-append (IsGiven i) before (given octets label puts room g old new run) (kept old new run before here (g.clock new) i run.promised.stands.later (omega arith) now) (adds.stand i now)),
-          subst AllApart (sym more) (apart_append before (given octets label puts room g old new run) apart adds.apart adds.cross),
+              (λ i now. All-append (IsGiven i) before (given octets label handed puts room g old new run) (kept old new run before here (g.clock new) i run.promised.stands.later (omega arith) now) (adds.stand i now)),
+          subst AllApart (sym more) (apart_append before (given octets label handed puts room g old new run) apart adds.apart adds.cross),
         )
     stepped before after (Cut called run k from to crashed same) here apart = (
       subst (λ (all : List Release). EachImage g new (λ i. All (IsGiven i) all)) (sym same) (λ i now. kept old called run before here k i from to (crashed.left i now)),
@@ -108,14 +108,14 @@ module _ {M : Type 0} (octets : M → Option (List ℕ)) (label puts room : M �
       subst AllApart (sym same) apart,
     )
 
-  within : (old new : D) (before after : List Release) (step : Step octets label puts room g old new before after) → EachImage g old (λ i. All (IsGiven i) before) → StandWithin octets label puts room g old new before after step
+  within : (old new : D) (before after : List Release) (step : Step octets label handed puts room g old new before after) → EachImage g old (λ i. All (IsGiven i) before) → StandWithin octets label handed puts room g old new before after step
   within old new before after (Ran run more) here = λ k i from to h. given_stand i before (kept old new run before here k i from to h)
   within old new before after (Cut called run k from to crashed same) here = λ n i past upto h. given_stand i before (kept old called run before here n i past upto h)
   within old new before after (Broke crashed same) here = λ i now. given_stand i before (here i (crashed.left i now))
 
   -- a whole life
-  pub none_twice : (disk : D) (before : List Release) (states : List (D × List Release)) (life : IsLife octets label puts room g disk before states) → EachTells g disk states → EachImage g disk (λ i. All (IsGiven i) before) → AllApart before
-      → NoneSignsTwice octets label puts room g disk before states life
+  pub none_twice : (disk : D) (before : List Release) (states : List (D × List Release)) (life : IsLife octets label handed puts room g disk before states) → EachTells g disk states → EachImage g disk (λ i. All (IsGiven i) before) → AllApart before
+      → NoneSignsTwice octets label handed puts room g disk before states life
   none_twice disk before [] life told here apart = tt
   none_twice disk before (state ∷ states) life told here apart =
       let next = stepped disk state.0 told.0 (first_tells g state.0 states told.1) before state.1 life.0 here apart in (

@@ -14,26 +14,26 @@ use Rattle.owner_commands.specs.Releases.{header_release, link_release}
 use Rattle.road_run.specs.Commands.{OnDisk, OnMirrors}
 use Rattle.road_run.specs.Lives.{given_by}
 
-module _ {M : Type 0} (octets : M → Option (List ℕ)) (label puts room : M → ℕ) {D : Type 0} (g : Ghosts D) (old new : D) (files : Option Folder) (tb tn : Option (List ℕ)) (before now : List M) where
+module _ {M : Type 0} (octets : M → Option (List ℕ)) (label handed puts room : M → ℕ) {D : Type 0} (g : Ghosts D) (old new : D) (files : Option Folder) (tb tn : Option (List ℕ)) (before now : List M) where
   -- a publication that was written, or of which a mirror or the sink failed to take all
-  publish_gives : (roads : List ℕ) (s : Settings) (d : OnDisk g old new (Publish roads s) files tb tn (Ok Done)) (m : OnMirrors octets label puts room g old new (Some (Publish roads s)) tb tn before now (Ok Done))
-      → given_by octets label puts room g old new (Some (Publish roads s)) files tb tn before now (Ok Done) d m ≡ header_release m.sealed.on_disk.area m.sealed.publication ∷ []
+  publish_gives : (roads : List ℕ) (s : Settings) (d : OnDisk g old new (Publish roads s) files tb tn (Ok Done)) (m : OnMirrors octets label handed puts room g old new (Some (Publish roads s)) tb tn before now (Ok Done))
+      → given_by octets label handed puts room g old new (Some (Publish roads s)) files tb tn before now (Ok Done) d m ≡ header_release m.sealed.on_disk.area m.sealed.publication ∷ []
   publish_gives roads s d m = refl
 
-  cut_gives : (roads : List ℕ) (s : Settings) (d : OnDisk g old new (Publish roads s) files tb tn (Err Sink)) (m : OnMirrors octets label puts room g old new (Some (Publish roads s)) tb tn before now (Err Sink))
-      → given_by octets label puts room g old new (Some (Publish roads s)) files tb tn before now (Err Sink) d m ≡ header_release m.sealed.on_disk.area m.sealed.publication ∷ []
+  cut_gives : (roads : List ℕ) (s : Settings) (d : OnDisk g old new (Publish roads s) files tb tn (Err Sink)) (m : OnMirrors octets label handed puts room g old new (Some (Publish roads s)) tb tn before now (Err Sink))
+      → given_by octets label handed puts room g old new (Some (Publish roads s)) files tb tn before now (Err Sink) d m ≡ header_release m.sealed.on_disk.area m.sealed.publication ∷ []
   cut_gives roads s d m = refl
 
-  lost_gives : (roads : List ℕ) (s : Settings) (d : OnDisk g old new (Publish roads s) files tb tn (Err MirrorLost)) (m : OnMirrors octets label puts room g old new (Some (Publish roads s)) tb tn before now (Err MirrorLost))
-      → given_by octets label puts room g old new (Some (Publish roads s)) files tb tn before now (Err MirrorLost) d m ≡ header_release m.sealed.on_disk.area m.sealed.publication ∷ []
+  lost_gives : (roads : List ℕ) (s : Settings) (d : OnDisk g old new (Publish roads s) files tb tn (Err MirrorLost)) (m : OnMirrors octets label handed puts room g old new (Some (Publish roads s)) tb tn before now (Err MirrorLost))
+      → given_by octets label handed puts room g old new (Some (Publish roads s)) files tb tn before now (Err MirrorLost) d m ≡ header_release m.sealed.on_disk.area m.sealed.publication ∷ []
   lost_gives roads s d m = refl
 
   -- the link to a new key
-  succeed_gives : (secret : List ℕ) (kind : ℕ) (d : OnDisk g old new (Succeed secret kind) files tb tn (Ok Done)) (m : OnMirrors octets label puts room g old new (Some (Succeed secret kind)) tb tn before now (Ok Done))
-      → given_by octets label puts room g old new (Some (Succeed secret kind)) files tb tn before now (Ok Done) d m ≡ link_release d.follows.follows.keys d.follows.follows.before ∷ []
+  succeed_gives : (secret : List ℕ) (kind : ℕ) (d : OnDisk g old new (Succeed secret kind) files tb tn (Ok Done)) (m : OnMirrors octets label handed puts room g old new (Some (Succeed secret kind)) tb tn before now (Ok Done))
+      → given_by octets label handed puts room g old new (Some (Succeed secret kind)) files tb tn before now (Ok Done) d m ≡ link_release d.follows.follows.keys d.follows.follows.before ∷ []
   succeed_gives secret kind d m = refl
 
   -- the links of a chain, also where the sink took a front of it
-  links_give : (d : OnDisk g old new Links files tb tn (Err Sink)) (m : OnMirrors octets label puts room g old new (Some Links) tb tn before now (Err Sink))
-      → given_by octets label puts room g old new (Some Links) files tb tn before now (Err Sink) d m ≡ map (link_release d.1.chain.keys) (range_with_len 0 d.1.chain.last)
+  links_give : (d : OnDisk g old new Links files tb tn (Err Sink)) (m : OnMirrors octets label handed puts room g old new (Some Links) tb tn before now (Err Sink))
+      → given_by octets label handed puts room g old new (Some Links) files tb tn before now (Err Sink) d m ≡ map (link_release d.1.chain.keys) (range_with_len 0 d.1.chain.last)
   links_give d m = refl

@@ -1,5 +1,5 @@
 -- What each command promises, joined to what a run promises.
-use Rattle.std.proofs.Common.{◌≡◌, ℕ, List, [], refl, subst, IfSome, OnOk}
+use Rattle.std.proofs.Common.{◌≡◌, ℕ, ◌≤◌, List, [], ◌++◌, refl, sym, subst, append-nil, arith, IfSome, OnOk}
 use Rattle.std.specs.declared.option.Option.{Option}
 use Rattle.std.specs.declared.option.Option.TheVariants.{None, Some}
 use Rattle.std.specs.declared.result.Result.{Result}
@@ -16,6 +16,7 @@ use Rattle.key_desk.specs.Stands.{KeepsStanding}
 use Rattle.key_desk.proofs.Standing.{standing_same}
 use Rattle.road_command.specs.Requests.{Request, Route, Root, Dimacs, Key, Succeed, Links, Desk, Publish, Prove, Serve, Check, Audit, Survey, Reach, CheckReach, AuditReach, Reduce}
 use Rattle.command_files.specs.Endings.{Answered, Ending, NoDisk, Promises}
+use Rattle.command_files.specs.Asking.{AsksFront}
 use Rattle.command_files.specs.Exact.{NoneFailed, IsExact}
 use Rattle.command_files.specs.declared.fault.Fault.{Fault}
 use Rattle.command_files.specs.declared.fault.Fault.TheVariants.{Words, TruncatedFrame, Source, Library, Sink, Disk, MirrorLost}
@@ -46,6 +47,7 @@ use Rattle.route_audit.specs.Routes.{routes}
 use Rattle.route_audit.proofs.RouteLemmas as route
 use Rattle.road_run.specs.Accepting.{AcceptsHonest, RepliesAreTaken}
 use Rattle.road_run.specs.Commands.{Ends, IsTold, LeavesUnused, TellsClient, OnDisk, RunPromises, but_for_mirrors}
+use Rattle.road_run.specs.Names.{files_named}
 use Rattle.road_run.specs.Sources.{HasEnded, IfServe, UnlessServe, RunGave, RunTakes, IsExactServing}
 use Rattle.road_run.proofs.HonestLemmas.{Verdicts, AcceptedLaws, accepts_honest}
 use Rattle.route_laws.specs.Honest.{UnknownNodesAreTold}
@@ -245,3 +247,11 @@ module _ {D : Type 0} (g : Ghosts D) (old new : D) (makings : OneMaking) (asked 
   exact_given given given' Ended r t none n =
       serve_then asked (λ file. Gave given given' (λ octets. Served (Some octets) (Some []) file)) (λ file. Gave given given' (λ octets. IsExactServing file files (Some octets) o))
       (λ file is gave. record { octets = gave.octets; gave = gave.gave; is = exact_at (Some gave.octets) (Some []) r.command none n file is gave.is }) t.serves
+
+-- words that ask for this ask for a front of its names
+pub asks : (asked : Option Request) (request : Request) (before now : List (List ℕ)) → Some request ≡ asked → AsksFront (files_named (Some request)) before now → AsksFront (files_named asked) before now
+asks asked request before now is h = subst (λ (a : Option Request). AsksFront (files_named a) before now) is h
+
+-- no name was asked for
+pub asks_none : (names before : List (List ℕ)) → AsksFront names before before
+asks_none names before = record { n = 0; within = omega arith; asked = sym (append-nil before) }

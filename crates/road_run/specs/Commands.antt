@@ -96,17 +96,19 @@ OnDisk g old new (AuditReach key publication reply q chain) files taken_before t
     × AuditsAccepted radii g (still_told g old new) new key publication reply q chain files taken_before
     taken_now outcome
 OnDisk g old new (Reduce key text signature) files taken_before taken_now outcome =
-    AtEachMoment g old new Stays × WritesReduced g new taken_before taken_now outcome
+    AtEachMoment g old new Stays ×
+    WritesReduced g new files text signature taken_before taken_now outcome
 OnDisk g old new request files taken_before taken_now outcome = AtEachMoment g old new Stays
 
--- M is a mirror, of which octets, label, puts and room tell what it holds, its label, and what it
--- promises
-module _ {M : Type 0} (octets : M → Option (List ℕ)) (label puts room : M → ℕ) where
+-- M is a mirror, of which octets, label, handed, puts and room tell what it holds, its label, how
+-- many pieces it was handed, and what it promises
+module _ {M : Type 0} (octets : M → Option (List ℕ)) (label handed puts room : M → ℕ) where
   -- what a command does to the mirrors, which all but `publish` leave as they are
   abbrev pub OnMirrors : {D : Type 0} → Ghosts D → D → D → Option Request → Option (List ℕ) →
       Option (List ℕ) → List M → List M → Result Conclusion Fault → Type 0
   OnMirrors g before now (Some (Publish roads settings)) taken_before taken_now old kept outcome =
-      SealsWhatItMirrors octets label puts room g before now taken_before taken_now old kept outcome
+      SealsWhatItMirrors octets label handed puts room g before now taken_before taken_now old kept
+      outcome
   OnMirrors g before now asked taken_before taken_now old kept outcome = kept ≡ old
 
 -- What a command has no use for is as it was, and words that ask for nothing use nothing. Each of

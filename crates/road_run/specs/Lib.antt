@@ -4,3 +4,4 @@ pub mod Accepting
 pub mod Lives
 pub mod Complete
 pub mod Runs
+pub mod Names

@@ -32,9 +32,9 @@ abbrev pub EachTells : {D : Type 0} → Ghosts D → D → List (D × List Relea
 EachTells g disk [] = g.content disk ≢ None
 EachTells g disk (state ∷ states) = (g.content disk ≢ None) × EachTells g state.0 states
 
--- M is a mirror, of which octets, label, puts and room tell what it holds, its label, and what it
--- promises
-module _ {M : Type 0} (octets : M → Option (List ℕ)) (label puts room : M → ℕ) {D : Type 0}
+-- M is a mirror, of which octets, label, handed, puts and room tell what it holds, its label, how
+-- many pieces it was handed, and what it promises
+module _ {M : Type 0} (octets : M → Option (List ℕ)) (label handed puts room : M → ℕ) {D : Type 0}
     (g : Ghosts D) where
   -- A run of the program from one disk to another: what its words ask for, its files, sink and
   -- mirrors, how it ended, and what `run` promises of that.
@@ -52,7 +52,7 @@ module _ {M : Type 0} (octets : M → Option (List ℕ)) (label puts room : M �
     pub outcome : Result Conclusion Fault
     pub promised : RunPromises g old new asked files library_before library_now taken_before
         taken_now sink_before sink_now outcome
-    pub mirrored : OnMirrors octets label puts room g old new asked taken_before taken_now
+    pub mirrored : OnMirrors octets label handed puts room g old new asked taken_before taken_now
         mirrors_before mirrors_now outcome
 
   -- The signatures that went out by what a run promises: of `publish`, that of the publication of
@@ -63,12 +63,13 @@ module _ {M : Type 0} (octets : M → Option (List ℕ)) (label puts room : M �
       (taken_before taken_now : Option (List ℕ)) (before now : List M)
       (outcome : Result Conclusion Fault) →
       IfSome asked (λ request. OnDisk g old new request files taken_before taken_now outcome) →
-      OnMirrors octets label puts room g old new asked taken_before taken_now before now outcome →
+      OnMirrors octets label handed puts room g old new asked taken_before taken_now before now
+      outcome →
       List Release
   given_by old new (Some (Publish roads settings)) files taken_before taken_now before now outcome
       on_disk mirrored =
       where_written
-      (SpreadSealed octets label puts room g old new taken_before taken_now before now outcome)
+      (SpreadSealed octets label handed puts room g old new taken_before taken_now before now outcome)
       outcome mirrored.sealed (λ it. header_release it.on_disk.area it.publication ∷ [])
   given_by old new (Some (Succeed secret kind)) files taken_before taken_now before now outcome
       on_disk mirrored =

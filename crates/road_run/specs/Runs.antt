@@ -15,12 +15,15 @@ use Rattle.road_io.specs.Given.{Gave}
 use Rattle.road_io.specs.Moments.{still_told}
 use Rattle.road_command.specs.Requests.{Request}
 use Rattle.command_files.specs.Outcomes.{status_of}
-use Rattle.command_files.specs.Exact.{HidesNone, NoneFailed, IsExact}
+use Rattle.command_files.specs.Exact.{NoneFailed, IsExact}
+use Rattle.command_files.specs.Asking.{AsksFront}
+use Rattle.command_files.specs.Spared.{SparesLibrary, SparesBut}
 use Rattle.command_files.specs.declared.fault.Fault.{Fault}
-use Rattle.command_files.specs.declared.fault.Fault.TheVariants.{Disk}
+use Rattle.command_files.specs.declared.fault.Fault.TheVariants.{Source, Sink, Disk}
 use Rattle.command_files.specs.declared.ended.Conclusion.{Conclusion}
 use Rattle.road_run.specs.Commands.{Ends, IsTold, LeavesUnused, OnMirrors, RunPromises, but_for_mirrors}
 use Rattle.road_run.specs.Complete.{CallsFor, AreTold, IsComplete, PromisedEnough, ProvesKnown}
+use Rattle.road_run.specs.Names.{files_named}
 use Rattle.road_run.specs.Sources.{IfServe, IsExactServing, RunGave, RunTakes}
 use Rattle.road_run.specs.Accepting.{AcceptsHonest, RepliesAreTaken}
 
@@ -36,12 +39,13 @@ module _ {L S K D M : Type 0} (library : LibraryView L) (source : SourceView S) 
         (source.faults s') (sink.taken k) (sink.taken k') o
     pub gave : RunGave asked (library.files l') (source.given s) (source.given s') (source.ended s')
         (source.faults s) (source.faults s') (sink.taken k) (sink.taken k') o
-    pub mirrors : OnMirrors mirror.octets mirror.named mirror.puts mirror.room disk d d' asked
-        (sink.taken k) (sink.taken k') ms ms' o
+    pub mirrors : OnMirrors mirror.octets mirror.named mirror.handed mirror.puts mirror.room disk d
+        d' asked (sink.taken k) (sink.taken k') ms ms' o
     pub unfaulted : o ≢ Err Disk → disk.faults d' ≡ disk.faults d
-    pub library_hides_none : HidesNone o (library.faults l) (library.faults l')
-    pub source_hides_none : HidesNone o (source.faults s) (source.faults s')
-    pub sink_hides_none : HidesNone o (sink.faults k) (sink.faults k')
+    pub library_spared : SparesLibrary o (library.faults l) (library.faults l')
+    pub source_spared : SparesBut Source o (source.faults s) (source.faults s')
+    pub sink_spared : SparesBut Sink o (sink.faults k) (sink.faults k')
+    pub asks : AsksFront (files_named asked) (library.asked l) (library.asked l')
     pub unused : LeavesUnused asked (l' ≡ l) (s' ≡ s) (k' ≡ k) (d' ≡ d)
     pub exact : NoneFailed (library.faults l) (library.faults l') (sink.faults k) (sink.faults k')
         (disk.faults d) (disk.faults d') →

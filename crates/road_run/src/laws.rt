@@ -13,6 +13,6 @@ use road_io::Disk;
 pub fn no_key_signs_twice<D: Disk, M: Mirror>()
     ensures { (disk : D) (states : List (D × List Release)) →
         EachTells D.Disk disk states →
-        (life : IsLife M.octets M.named M.puts M.room D.Disk disk [] states) →
-        NoneSignsTwice M.octets M.named M.puts M.room D.Disk disk [] states life }
+        (life : IsLife M.octets M.named M.handed M.puts M.room D.Disk disk [] states) →
+        NoneSignsTwice M.octets M.named M.handed M.puts M.room D.Disk disk [] states life }
 {}

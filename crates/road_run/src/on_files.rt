@@ -41,10 +41,12 @@ pub fn run_on_files<R: Files<File = File> + Print + Input + Drop>(
     ensures lives { (states : List (_ × List Release)) →
         EachTells ⟦<FileDisk<R> as Disk>⟧ disk.old states →
         (life : IsLife ⟦<FileMirror as Mirror>⟧.octets ⟦<FileMirror as Mirror>⟧.named
-        ⟦<FileMirror as Mirror>⟧.puts ⟦<FileMirror as Mirror>⟧.room
+        ⟦<FileMirror as Mirror>⟧.handed ⟦<FileMirror as Mirror>⟧.puts
+        ⟦<FileMirror as Mirror>⟧.room
         ⟦<FileDisk<R> as Disk>⟧ disk.old [] states) →
         NoneSignsTwice ⟦<FileMirror as Mirror>⟧.octets ⟦<FileMirror as Mirror>⟧.named
-        ⟦<FileMirror as Mirror>⟧.puts ⟦<FileMirror as Mirror>⟧.room
+        ⟦<FileMirror as Mirror>⟧.handed ⟦<FileMirror as Mirror>⟧.puts
+        ⟦<FileMirror as Mirror>⟧.room
         ⟦<FileDisk<R> as Disk>⟧ disk.old [] states life }
 {
     no_key_signs_twice::<FileDisk<R>, FileMirror>();

@@ -6,9 +6,12 @@ ghost use Rattle.road_io.specs.Given.{Gave};
 ghost use Rattle.road_io.specs.Moments.{still_told};
 ghost use Rattle.road_command.specs.Requests.{request_of};
 ghost use Rattle.command_files.specs.Outcomes.{outcome_of, status_of};
-ghost use Rattle.command_files.specs.Exact.{HidesNone, NoneFailed, IsExact};
+ghost use Rattle.command_files.specs.Asking.{AsksFront};
+ghost use Rattle.command_files.specs.Exact.{NoneFailed, IsExact};
+ghost use Rattle.command_files.specs.Spared.{SparesLibrary, SparesBut};
 ghost use Rattle.road_run.specs.Commands.{Ends, IsTold, LeavesUnused, OnMirrors, RunPromises, but_for_mirrors};
 ghost use Rattle.road_run.specs.Complete.{CallsFor, AreTold, IsComplete, PromisedEnough, ProvesKnown};
+ghost use Rattle.road_run.specs.Names.{files_named};
 ghost use Rattle.road_run.specs.Sources.{IfServe, IsExactServing, RunGave, RunTakes};
 ghost use Rattle.road_run.specs.Accepting.{AcceptsHonest, RepliesAreTaken};
 
@@ -54,14 +57,19 @@ pub fn run<L: Library, S: Source, K: Sink, D: Disk, M: Mirror>(
         (S.given source.old) (S.given source.new) (S.ended source.new)
         (S.faults source.old) (S.faults source.new)
         (K.taken sink.old) (K.taken sink.new) (outcome_of result) }
-    ensures mirrors { OnMirrors M.octets M.named M.puts M.room D.Disk disk.old disk.new
+    ensures mirrors { OnMirrors M.octets M.named M.handed M.puts M.room D.Disk disk.old disk.new
         (request_of words.now)
         (K.taken sink.old) (K.taken sink.new) mirrors.old.items mirrors.new.items
         (outcome_of result) }
     ensures unfaulted { outcome_of result ≢ Err Fault.Disk → D.faults disk.new ≡ D.faults disk.old }
-    ensures library { HidesNone (outcome_of result) (L.faults library.old) (L.faults library.new) }
-    ensures source { HidesNone (outcome_of result) (S.faults source.old) (S.faults source.new) }
-    ensures sink { HidesNone (outcome_of result) (K.faults sink.old) (K.faults sink.new) }
+    ensures library { SparesLibrary (outcome_of result) (L.faults library.old)
+        (L.faults library.new) }
+    ensures source { SparesBut Fault.Source (outcome_of result) (S.faults source.old)
+        (S.faults source.new) }
+    ensures sink { SparesBut Fault.Sink (outcome_of result) (K.faults sink.old)
+        (K.faults sink.new) }
+    ensures asked { AsksFront (files_named (request_of words.now)) (L.asked library.old)
+        (L.asked library.new) }
     ensures unused { LeavesUnused (request_of words.now) (library.new ≡ library.old)
         (source.new ≡ source.old) (sink.new ≡ sink.old) (disk.new ≡ disk.old) }
     ensures exact { NoneFailed (L.faults library.old) (L.faults library.new) (K.faults sink.old)
@@ -132,13 +140,15 @@ fn work<L: Library, S: Source, K: Sink, D: Disk, M: Mirror>(
         (S.given source.old) (S.given source.new) (S.ended source.new)
         (S.faults source.old) (S.faults source.new)
         (K.taken sink.old) (K.taken sink.new) result }
-    ensures mirrors { OnMirrors M.octets M.named M.puts M.room D.Disk disk.old disk.new
+    ensures mirrors { OnMirrors M.octets M.named M.handed M.puts M.room D.Disk disk.old disk.new
         (request_of words.now)
         (K.taken sink.old) (K.taken sink.new) mirrors.old.items mirrors.new.items result }
     ensures unfaulted { result ≢ Err Fault.Disk → D.faults disk.new ≡ D.faults disk.old }
-    ensures library { HidesNone result (L.faults library.old) (L.faults library.new) }
-    ensures source { HidesNone result (S.faults source.old) (S.faults source.new) }
-    ensures sink { HidesNone result (K.faults sink.old) (K.faults sink.new) }
+    ensures library { SparesLibrary result (L.faults library.old) (L.faults library.new) }
+    ensures source { SparesBut Fault.Source result (S.faults source.old) (S.faults source.new) }
+    ensures sink { SparesBut Fault.Sink result (K.faults sink.old) (K.faults sink.new) }
+    ensures asked { AsksFront (files_named (request_of words.now)) (L.asked library.old)
+        (L.asked library.new) }
     ensures unused { LeavesUnused (request_of words.now) (library.new ≡ library.old)
         (source.new ≡ source.old) (sink.new ≡ sink.old) (disk.new ≡ disk.old) }
 {

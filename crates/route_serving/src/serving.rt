@@ -1,5 +1,5 @@
 //! The loop over the frames.
-ghost use Rattle.std.specs.Prelude.{◌≡◌, ◌≤◌, [], Some, Err, OnOk};
+ghost use Rattle.std.specs.Prelude.{◌≡◌, ◌≢◌, ◌≤◌, [], Some, Err, OnOk};
 ghost use Rattle.sha2.specs.Sha256.{sha256};
 ghost use Rattle.road_io.specs.Causes.{Rose};
 ghost use Rattle.road_io.specs.Given.{Gave};
@@ -63,9 +63,9 @@ pub fn serve<H: Hasher, S: Source, K: Sink>(
     ensures source { result ≡ Err ServeError.Source →
         Rose (S.faults source.old) (S.faults source.new) }
     ensures sink { result ≡ Err ServeError.Sink → Rose (K.faults sink.old) (K.faults sink.new) }
-    ensures source_kept { result ≡ Err ServeError.Memory →
+    ensures source_kept { result ≢ Err ServeError.Source →
         S.faults source.new ≡ S.faults source.old }
-    ensures sink_kept { result ≡ Err ServeError.Memory → K.faults sink.new ≡ K.faults sink.old }
+    ensures sink_kept { result ≢ Err ServeError.Sink → K.faults sink.new ≡ K.faults sink.old }
     ensures source_later { S.faults source.old ≤ S.faults source.new }
     ensures sink_later { K.faults sink.old ≤ K.faults sink.new }
 {
@@ -92,9 +92,9 @@ fn turns<H: Hasher, S: Source, K: Sink>(
     ensures source { result ≡ Err ServeError.Source →
         Rose (S.faults source.old) (S.faults source.new) }
     ensures sink { result ≡ Err ServeError.Sink → Rose (K.faults sink.old) (K.faults sink.new) }
-    ensures source_kept { result ≡ Err ServeError.Memory →
+    ensures source_kept { result ≢ Err ServeError.Source →
         S.faults source.new ≡ S.faults source.old }
-    ensures sink_kept { result ≡ Err ServeError.Memory → K.faults sink.new ≡ K.faults sink.old }
+    ensures sink_kept { result ≢ Err ServeError.Sink → K.faults sink.new ≡ K.faults sink.old }
     ensures source_later { S.faults source.old ≤ S.faults source.new }
     ensures sink_later { K.faults sink.old ≤ K.faults sink.new }
 {

@@ -314,13 +314,3 @@ module _ (files : Option Folder) (name : List ℕ) (p : Publication) (l l' k k' 
       left = leaves state last left rest old new r serves;
       drained = λ e. at_end state last left rest old new r serves e;
     }
-
--- want of memory is that of serving
-pub memory_served : (r : Result (Unit {0}) ServeError) → ended_serving r ≡ Err Memory → r ≡ Err errors.Memory
-memory_served (Ok done) is = absurd (cc)
-memory_served (Err errors.FrameTooLong) is = absurd (cc)
-memory_served (Err errors.TruncatedFrame) is = absurd (cc)
-memory_served (Err errors.TooManyFrames) is = absurd (cc)
-memory_served (Err errors.Source) is = absurd (cc)
-memory_served (Err errors.Sink) is = absurd (cc)
-memory_served (Err errors.Memory) is = refl

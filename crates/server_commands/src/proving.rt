@@ -1,12 +1,12 @@
 //! The command `prove`.
 
-ghost use Rattle.std.specs.Prelude.{◌≡◌, ◌≤◌, length, IfOk, IfErr, OnOk};
+ghost use Rattle.std.specs.Prelude.{◌≡◌, ◌≤◌, length, IfOk, IfErr, OnOk, ◌∷◌, [], ◌++◌};
 ghost use Rattle.road_map.specs.Walks.{Knows};
 ghost use Rattle.sha2.specs.Sha256.{sha256};
 ghost use Rattle.route_server.specs.Honesty.{IsHonest};
 ghost use Rattle.route_server.specs.Keeping.{publication_in};
 ghost use Rattle.command_files.specs.Endings.{Promises, NoDisk, NoEnd, WhyNot};
-ghost use Rattle.command_files.specs.Exact.{HidesNone};
+ghost use Rattle.command_files.specs.Spared.{SparesLibrary, SparesBut};
 ghost use Rattle.command_books.specs.Installing.{EndsInstalling, IsInstallable};
 ghost use Rattle.server_commands.specs.Proving.{EndsReply, TellsEnds, ends_prove};
 
@@ -31,8 +31,9 @@ pub fn prove<L: Library, K: Sink>(
     ensures promised { Promises (ends_prove publication.now query) TellsEnds NoDisk
         (L.files library.new) (L.faults library.old) (L.faults library.new)
         (K.taken sink.old) (K.taken sink.new) (K.faults sink.old) (K.faults sink.new) result }
-    ensures library { HidesNone result (L.faults library.old) (L.faults library.new) }
-    ensures sink { HidesNone result (K.faults sink.old) (K.faults sink.new) }
+    ensures library { SparesLibrary result (L.faults library.old) (L.faults library.new) }
+    ensures asked { L.asked library.new ≡ L.asked library.old ++ publication.now ∷ [] }
+    ensures sink { SparesBut Fault.Sink result (K.faults sink.old) (K.faults sink.new) }
 {
     range_laws();
     let publication = load_publication(alloc, library, publication)?;

@@ -1,9 +1,9 @@
 //! The command `reach`.
 
-ghost use Rattle.std.specs.Prelude.{◌≡◌, ◌≤◌, length, IfOk, IfErr, Ok};
+ghost use Rattle.std.specs.Prelude.{◌≡◌, ◌≤◌, length, IfOk, IfErr, Ok, ◌∷◌, [], ◌++◌};
 ghost use Rattle.command_files.specs.Endings.{Promises, TellsNone, NoDisk, WhyNot};
-ghost use Rattle.command_files.specs.Exact.{HidesNone};
 ghost use Rattle.command_files.specs.declared.ended.Conclusion.TheVariants.{Done};
+ghost use Rattle.command_files.specs.Spared.{SparesLibrary, SparesBut};
 ghost use Rattle.sha2.specs.Sha256.{sha256};
 ghost use Rattle.route_server.specs.Keeping.{publication_in};
 ghost use Rattle.server_commands.specs.NearReaching.{EndsNear, EndsReach, ends_reach};
@@ -29,8 +29,9 @@ pub fn reach<L: Library, K: Sink>(
     ensures promised { Promises (ends_reach publication.now query) TellsNone NoDisk
         (L.files library.new) (L.faults library.old) (L.faults library.new)
         (K.taken sink.old) (K.taken sink.new) (K.faults sink.old) (K.faults sink.new) result }
-    ensures library { HidesNone result (L.faults library.old) (L.faults library.new) }
-    ensures sink { HidesNone result (K.faults sink.old) (K.faults sink.new) }
+    ensures library { SparesLibrary result (L.faults library.old) (L.faults library.new) }
+    ensures asked { L.asked library.new ≡ L.asked library.old ++ publication.now ∷ [] }
+    ensures sink { SparesBut Fault.Sink result (K.faults sink.old) (K.faults sink.new) }
 {
     range_laws();
     let publication = load_publication(alloc, library, publication)?;

@@ -1,11 +1,11 @@
 //! The command `serve`.
 
-ghost use Rattle.std.specs.Prelude.{◌≡◌, ◌≤◌, [], length, Some, Err, IfOk, IfErr, OnOk};
+ghost use Rattle.std.specs.Prelude.{◌≡◌, ◌≤◌, [], length, Some, Err, IfOk, IfErr, OnOk, ◌∷◌, ◌++◌};
 ghost use Rattle.road_io.specs.Given.{Gave};
 ghost use Rattle.route_service.specs.Machine.{first_state};
 ghost use Rattle.route_service.specs.Sessions.{state_of};
 ghost use Rattle.command_files.specs.Endings.{Promises, NoDisk, NoEnd, WhyNot};
-ghost use Rattle.command_files.specs.Exact.{HidesNone};
+ghost use Rattle.command_files.specs.Spared.{SparesLibrary, SparesBut};
 ghost use Rattle.command_books.specs.Installing.{EndsInstalling, IsInstallable};
 ghost use Rattle.server_commands.specs.Serving.{ServesFrames, TellsFrames, ends_serve};
 ghost use Rattle.server_commands.specs.ServingEnds.{ended_serving};
@@ -36,9 +36,10 @@ pub fn serve<L: Library, S: Source, K: Sink>(
     ensures promised { Promises (ends_serve publication.now) TellsFrames NoDisk
         (L.files library.new) (L.faults library.old) (L.faults library.new)
         (K.taken sink.old) (K.taken sink.new) (K.faults sink.old) (K.faults sink.new) result }
-    ensures library { HidesNone result (L.faults library.old) (L.faults library.new) }
-    ensures source { HidesNone result (S.faults source.old) (S.faults source.new) }
-    ensures sink { HidesNone result (K.faults sink.old) (K.faults sink.new) }
+    ensures library { SparesLibrary result (L.faults library.old) (L.faults library.new) }
+    ensures asked { L.asked library.new ≡ L.asked library.old ++ publication.now ∷ [] }
+    ensures source { SparesBut Fault.Source result (S.faults source.old) (S.faults source.new) }
+    ensures sink { SparesBut Fault.Sink result (K.faults sink.old) (K.faults sink.new) }
     ensures serves { ServesFrames publication.now (L.files library.new)
         (S.left source.old) (S.left source.new) (S.faults source.old) (S.faults source.new)
         (K.taken sink.old) (K.taken sink.new) result }

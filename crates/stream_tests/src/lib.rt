@@ -5,7 +5,7 @@
 //! reads nothing, or writes nothing, is seen to be refused there too.
 #![tactic(auto)]
 
-ghost use Rattle.std.specs.Prelude.{◌≡◌, [], Some, Ok, Err, false, OnOk, OnErr};
+ghost use Rattle.std.specs.Prelude.{◌≡◌, ◌+◌, [], Some, Ok, Err, false, OnOk, OnErr};
 ghost use Rattle.std.specs.Io.KnownBytes.{Appends};
 ghost use Rattle.road_io.specs.Contents.{AppendsFront};
 ghost use Rattle.road_io.specs.Given.{Gave};
@@ -42,8 +42,10 @@ pub fn frame<R: Input>(
 
 /// Puts a piece into the file of a mirror.
 pub fn mirror(mirror: &mut FileMirror, piece: &[u8]) -> Result<(), Failed>
-    ensures { OnOk result (Appends (⟦<FileMirror as Mirror>⟧.octets mirror.old)
+    ensures ok { OnOk result (Appends (⟦<FileMirror as Mirror>⟧.octets mirror.old)
         (⟦<FileMirror as Mirror>⟧.octets mirror.new) piece.now) }
+    ensures handed { ⟦<FileMirror as Mirror>⟧.handed mirror.new ≡
+        ⟦<FileMirror as Mirror>⟧.handed mirror.old + 1 }
 {
     mirror.put(piece)
 }

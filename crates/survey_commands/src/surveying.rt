@@ -1,7 +1,7 @@
 //! The command `survey`.
 
 ghost use Rattle.command_files.specs.Endings.{PromisesWithoutFiles, NoDisk};
-ghost use Rattle.command_files.specs.Exact.{HidesNone};
+ghost use Rattle.command_files.specs.Spared.{SparesBut};
 ghost use Rattle.survey_commands.specs.Surveying.{EndsSurvey};
 
 use command_files::{Conclusion, Fault, write_text};
@@ -15,7 +15,7 @@ pub fn survey<K: Sink>(alloc: Global, sink: &mut K, asked: Survey) -> Result<Con
     ensures promised { PromisesWithoutFiles
         (EndsSurvey asked.width asked.seed asked.method asked.queries) NoDisk
         (K.taken sink.old) (K.taken sink.new) (K.faults sink.old) (K.faults sink.new) result }
-    ensures sink { HidesNone result (K.faults sink.old) (K.faults sink.new) }
+    ensures sink { SparesBut Fault.Sink result (K.faults sink.old) (K.faults sink.new) }
 {
     match line_of_survey(alloc, asked.width, asked.seed, asked.method, asked.queries) {
         Ok(line) => write_text(sink, &line),

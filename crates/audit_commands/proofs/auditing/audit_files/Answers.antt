@@ -10,5 +10,6 @@ returns g c = record {
   stays = c.write_findings.ensures.stays;
   unfaulted = c.write_findings.ensures.unfaulted;
   library = c.write_findings.ensures.library;
+  asks = c.write_findings.ensures.asked;
   sink = c.write_findings.ensures.sink;
 }

@@ -1,9 +1,11 @@
+use Rattle.std.proofs.Common.{◌∷◌, []}
 use Rattle.std.proofs.lemmas.Result.{err_from_is_err_and}
 use Rattle.road_io.specs.Moments.{still_told}
 use Rattle.audit_commands.specs.Headline.{IsBrought}
 use Rattle.command_files.proofs.Written.{moved, narrows_on}
 use Rattle.audit_commands.proofs.Steps.{reply_as, chain_as, found, found_other, nothing_found, files_rest_on_none}
 use Rattle.audit_commands.proofs.AuditLemmas.{audit_refused, audit_told}
+use Rattle.command_files.proofs.Asked.{then_asked, asks_front, asks_all}
 use Rattle.audit_commands.proofs.auditing.write_findings.Goals as goal
 
 pub returns-in_err-told-clause-promised : goal.returns-in_err-told-clause-promised
@@ -57,3 +59,21 @@ returns-clause-finds g c =
     found _ c.args.key.now c.args.reply.now _ _ c.deref.result.now c.as_slice.result.now (moved _ _ _ (narrows_on _ _ _ (narrows_on _ _ _ c.in_ok-publication.ensures.narrows c.in_ok-reply.ensures.narrows) c.in_ok-links.ensures.narrows) c.in_ok-key.ensures.loads.read)
     (reply_as _ _ _ _ _ c.in_ok-links.ensures.narrows c.deref.ensures.value c.in_ok-reply.ensures.loads.read)
     (chain_as _ _ _ _ c.as_slice.ensures c.in_ok-links.ensures.loads.read) g.D.Disk c.find.new.disk (IsBrought g.T.Kind.Replies.kind) _ _ _ _ _ _ _ c.in_ok-told.ensures.rests c.in_ok-told.ensures.verdict c.write_told.ensures.writes
+
+pub returns-in_err-key-clause-asked : goal.returns-in_err-key-clause-asked
+returns-in_err-key-clause-asked g c = asks_front (_ ∷ []) _ _ _ c.in_err-key.ensures.asked
+
+pub returns-in_err-publication-clause-asked : goal.returns-in_err-publication-clause-asked
+returns-in_err-publication-clause-asked g c = asks_front (_ ∷ _ ∷ []) _ _ _ (then_asked _ _ _ _ _ c.in_ok-key.ensures.asked c.in_err-publication.ensures.asked)
+
+pub returns-in_err-reply-clause-asked : goal.returns-in_err-reply-clause-asked
+returns-in_err-reply-clause-asked g c = asks_front (_ ∷ _ ∷ _ ∷ []) _ _ _ (then_asked _ _ _ _ _ c.in_ok-key.ensures.asked (then_asked _ _ _ _ _ c.in_ok-publication.ensures.asked c.in_err-reply.ensures.asked))
+
+pub returns-in_err-links-clause-asked : goal.returns-in_err-links-clause-asked
+returns-in_err-links-clause-asked g c = asks_all _ _ _ (then_asked _ _ _ _ _ c.in_ok-key.ensures.asked (then_asked _ _ _ _ _ c.in_ok-publication.ensures.asked (then_asked _ _ _ _ _ c.in_ok-reply.ensures.asked c.in_err-links.ensures.asked)))
+
+pub returns-in_err-told-clause-asked : goal.returns-in_err-told-clause-asked
+returns-in_err-told-clause-asked g c = asks_all _ _ _ (then_asked _ _ _ _ _ c.in_ok-key.ensures.asked (then_asked _ _ _ _ _ c.in_ok-publication.ensures.asked (then_asked _ _ _ _ _ c.in_ok-reply.ensures.asked c.in_ok-links.ensures.asked)))
+
+pub returns-clause-asked : goal.returns-clause-asked
+returns-clause-asked g c = asks_all _ _ _ (then_asked _ _ _ _ _ c.in_ok-key.ensures.asked (then_asked _ _ _ _ _ c.in_ok-publication.ensures.asked (then_asked _ _ _ _ _ c.in_ok-reply.ensures.asked c.in_ok-links.ensures.asked)))

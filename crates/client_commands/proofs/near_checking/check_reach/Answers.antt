@@ -1,6 +1,8 @@
+use Rattle.std.proofs.Common.{◌∷◌, []}
 use Rattle.client_commands.specs.NearChecking.{EndsCheckReach}
 use Rattle.client_commands.proofs.CheckFiles.{told_over_files}
 use Rattle.client_commands.proofs.OneNearCheck.{no_fault}
+use Rattle.command_files.proofs.Asked.{then_asked, asks_front, asks_all}
 use Rattle.client_commands.proofs.near_checking.check_reach.Goals as goal
 
 pub returns-in-Ok-clause-promised : goal.returns-in-Ok-clause-promised
@@ -9,3 +11,18 @@ returns-in-Ok-clause-promised g c =
     (no_fault _ _ _ _ _ c.in-Ok.told.end _ c.in-Ok.ensures)
     c.in_ok-reply.ensures.narrows c.in_ok-chain.ensures.narrows c.in_ok-key.ensures.loads.read c.in_ok-reply.ensures.loads.read c.in_ok-chain.ensures.loads.read
     c.deref.ensures.value c.as_slice.ensures c.in-Ok.ensures c.write_told.ensures.writes
+
+pub returns-in_err-key-clause-asked : goal.returns-in_err-key-clause-asked
+returns-in_err-key-clause-asked g c = asks_front (_ ∷ []) _ _ _ c.in_err-key.ensures.asked
+
+pub returns-in_err-reply-clause-asked : goal.returns-in_err-reply-clause-asked
+returns-in_err-reply-clause-asked g c = asks_front (_ ∷ _ ∷ []) _ _ _ (then_asked _ _ _ _ _ c.in_ok-key.ensures.asked c.in_err-reply.ensures.asked)
+
+pub returns-in_err-chain-clause-asked : goal.returns-in_err-chain-clause-asked
+returns-in_err-chain-clause-asked g c = asks_all _ _ _ (then_asked _ _ _ _ _ c.in_ok-key.ensures.asked (then_asked _ _ _ _ _ c.in_ok-reply.ensures.asked c.in_err-chain.ensures.asked))
+
+pub returns-in-Ok-clause-asked : goal.returns-in-Ok-clause-asked
+returns-in-Ok-clause-asked g c = asks_all _ _ _ (then_asked _ _ _ _ _ c.in_ok-key.ensures.asked (then_asked _ _ _ _ _ c.in_ok-reply.ensures.asked c.in_ok-chain.ensures.asked))
+
+pub returns-clause-asked : goal.returns-clause-asked
+returns-clause-asked g c = asks_all _ _ _ (then_asked _ _ _ _ _ c.in_ok-key.ensures.asked (then_asked _ _ _ _ _ c.in_ok-reply.ensures.asked c.in_ok-chain.ensures.asked))

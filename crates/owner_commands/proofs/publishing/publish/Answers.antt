@@ -14,7 +14,7 @@ pub returns-in_err-publication-clause-promised : goal.returns-in_err-publication
 returns-in_err-publication-clause-promised g c =
     let p = err_from_is_err_and c.from_residual-in_err-publication.result c.from_residual-in_err-publication.ensures.1 in
     rw (p.1, p.2)
-    (publish_refused _ _ _ _ _ _ _ _ _ _ c.in_ok-parts.ensures.read _ _ c.in_err-publication.ensures.refused)
+    (publish_refused _ _ _ _ _ _ _ _ _ _ c.in_ok-parts.ensures.loads.read _ _ c.in_err-publication.ensures.refused)
 
 pub returns-in_err-publication-clause-sealed : goal.returns-in_err-publication-clause-sealed
 returns-in_err-publication-clause-sealed g c =
@@ -22,7 +22,7 @@ returns-in_err-publication-clause-sealed g c =
     rw (p.1, p.2) (seals_none g.D.Disk c.args.disk.now c.signed.new.disk (Rose (g.D.Disk.faults c.args.disk.now) (g.D.Disk.faults c.signed.new.disk)) (EndsPublish (still_told g.D.Disk c.args.disk.now c.signed.new.disk) c.args.settings.now c.in_ok-parts.parts) _ _ c.in_err-publication.field-0.0 c.in_err-publication.ensures.refused)
 
 pub returns-in_err-publication-clause-signs : goal.returns-in_err-publication-clause-signs
-returns-in_err-publication-clause-signs g c = signs_file g.D.Disk c.args.disk.now c.signed.new.disk _ _ _ _ c.in_ok-parts.ensures.read c.in_err-publication.ensures.signs
+returns-in_err-publication-clause-signs g c = signs_file g.D.Disk c.args.disk.now c.signed.new.disk _ _ _ _ c.in_ok-parts.ensures.loads.read c.in_err-publication.ensures.signs
 
 pub returns-in_err-parts-clause-untouched : goal.returns-in_err-parts-clause-untouched
 returns-in_err-parts-clause-untouched g c =
@@ -36,21 +36,21 @@ returns-in_err-publication-clause-untouched g c =
 
 pub returns-in-Err-clause-promised : goal.returns-in-Err-clause-promised
 returns-in-Err-clause-promised g c =
-    published _ _ _ _ _ _ _ _ _ _ c.in_ok-parts.ensures.read _ g.D.Disk c.args.disk.now c.signed.new.disk refl _ c.in_ok-publication.ensures.sealed _ _ (inr (refl, c.in-Err.ensures.front, c.in-Err.ensures.cause.failed))
+    published _ _ _ _ _ _ _ _ _ _ c.in_ok-parts.ensures.loads.read _ g.D.Disk c.args.disk.now c.signed.new.disk refl _ c.in_ok-publication.ensures.sealed _ _ (inr (refl, c.in-Err.ensures.front, c.in-Err.ensures.cause.failed))
 
 pub returns-in-Ok-send-clause-promised : goal.returns-in-Ok-send-clause-promised
 returns-in-Ok-send-clause-promised g c =
-    published _ _ _ _ _ _ _ _ _ _ c.in_ok-parts.ensures.read _ g.D.Disk c.args.disk.now c.signed.new.disk refl _ c.in_ok-publication.ensures.sealed _ _ (inl (refl, c.in-Ok-send.ensures.whole))
+    published _ _ _ _ _ _ _ _ _ _ c.in_ok-parts.ensures.loads.read _ g.D.Disk c.args.disk.now c.signed.new.disk refl _ c.in_ok-publication.ensures.sealed _ _ (inl (refl, c.in-Ok-send.ensures.whole))
 
 pub returns-clause-promised : goal.returns-clause-promised
 returns-clause-promised g c =
-    published_lost _ _ _ _ _ _ _ _ _ _ c.in_ok-parts.ensures.read _ g.D.Disk c.args.disk.now c.signed.new.disk refl _ c.in_ok-publication.ensures.sealed _ c.in-Ok-2.ensures.whole
+    published_lost _ _ _ _ _ _ _ _ _ _ c.in_ok-parts.ensures.loads.read _ g.D.Disk c.args.disk.now c.signed.new.disk refl _ c.in_ok-publication.ensures.sealed _ c.in-Ok-2.ensures.whole
 
 pub returns-in-Err-clause-signs : goal.returns-in-Err-clause-signs
-returns-in-Err-clause-signs g c = signs_file g.D.Disk c.args.disk.now c.signed.new.disk _ _ _ _ c.in_ok-parts.ensures.read c.in_ok-publication.ensures.signs
+returns-in-Err-clause-signs g c = signs_file g.D.Disk c.args.disk.now c.signed.new.disk _ _ _ _ c.in_ok-parts.ensures.loads.read c.in_ok-publication.ensures.signs
 
 pub returns-in-Ok-send-clause-signs : goal.returns-in-Ok-send-clause-signs
-returns-in-Ok-send-clause-signs g c = signs_file g.D.Disk c.args.disk.now c.signed.new.disk _ _ _ _ c.in_ok-parts.ensures.read c.in_ok-publication.ensures.signs
+returns-in-Ok-send-clause-signs g c = signs_file g.D.Disk c.args.disk.now c.signed.new.disk _ _ _ _ c.in_ok-parts.ensures.loads.read c.in_ok-publication.ensures.signs
 
 pub returns-clause-signs : goal.returns-clause-signs
-returns-clause-signs g c = signs_file g.D.Disk c.args.disk.now c.signed.new.disk _ _ _ _ c.in_ok-parts.ensures.read c.in_ok-publication.ensures.signs
+returns-clause-signs g c = signs_file g.D.Disk c.args.disk.now c.signed.new.disk _ _ _ _ c.in_ok-parts.ensures.loads.read c.in_ok-publication.ensures.signs

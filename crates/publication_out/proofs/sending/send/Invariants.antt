@@ -8,8 +8,9 @@ abbrev pub invariant-loop-count : goal.invariant-loop-count
 invariant-loop-count g l = record {
   counted : length (lost_of l.spreader) + vec_len l.mirrors ≡ length (lost_of l.fn.spreader) + vec_len l.fn.mirrors;
   same_most : most_of l.spreader ≡ most_of l.fn.spreader;
+  kept : g.K.Sink.faults l.sink ≡ g.K.Sink.faults l.fn.sink;
   later : g.K.Sink.faults l.fn.sink ≤ g.K.Sink.faults l.sink;
-  way : IsUnderWay g.M.Mirror.octets g.M.Mirror.named g.M.Mirror.puts g.M.Mirror.room
+  way : IsUnderWay g.M.Mirror.octets g.M.Mirror.named g.M.Mirror.handed g.M.Mirror.puts g.M.Mirror.room
       (publication_text l.publication) l.buffer l.pieces l.count (g.K.Sink.taken l.fn.sink) (g.K.Sink.taken l.sink) l.fn.mirrors.items l.mirrors.items;
 }
 

@@ -1,7 +1,9 @@
+use Rattle.std.proofs.Common.{◌∷◌, []}
 use Rattle.std.proofs.lemmas.Result.{err_from_is_err_and}
 use Rattle.road_io.specs.Moments.{still_told}
 use Rattle.command_files.proofs.Written.{moved, narrows_on}
 use Rattle.reduce_commands.proofs.ReduceLemmas.{hex_as, reduce_refused, reduce_told, reduced_written}
+use Rattle.command_files.proofs.Asked.{then_asked, asks_front, asks_all}
 use Rattle.reduce_commands.proofs.reducing.reduce.Goals as goal
 
 pub returns-in_err-told-clause-promised : goal.returns-in_err-told-clause-promised
@@ -41,4 +43,22 @@ returns-in_err-told-clause-unreleased g c =
     rw p.1 tt
 
 pub returns-clause-unreleased : goal.returns-clause-unreleased
-returns-clause-unreleased g c = reduced_written g.D.Disk c.find.new.disk _ _ _ _ _ _ _ c.in_ok-told.ensures.rests c.write_told.ensures.writes
+returns-clause-unreleased g c =
+    reduced_written g.D.Disk c.find.new.disk _ c.args.text.now c.args.signature.now c.deref.result.now c.deref-2.result.now
+    (hex_as _ _ _ _ c.deref.ensures.value (moved _ _ _ c.in_ok-sig.ensures.narrows c.in_ok-text.ensures.loads.read))
+    (hex_as _ _ _ _ c.deref-2.ensures.value c.in_ok-sig.ensures.loads.read) _ _ _ _ _ _ _ c.in_ok-told.ensures.rests c.write_told.ensures.writes
+
+pub returns-in_err-public-clause-asked : goal.returns-in_err-public-clause-asked
+returns-in_err-public-clause-asked g c = asks_front (_ ∷ []) _ _ _ c.in_err-public.ensures.asked
+
+pub returns-in_err-text-clause-asked : goal.returns-in_err-text-clause-asked
+returns-in_err-text-clause-asked g c = asks_front (_ ∷ _ ∷ []) _ _ _ (then_asked _ _ _ _ _ c.in_ok-public.ensures.asked c.in_err-text.ensures.asked)
+
+pub returns-in_err-sig-clause-asked : goal.returns-in_err-sig-clause-asked
+returns-in_err-sig-clause-asked g c = asks_all _ _ _ (then_asked _ _ _ _ _ c.in_ok-public.ensures.asked (then_asked _ _ _ _ _ c.in_ok-text.ensures.asked c.in_err-sig.ensures.asked))
+
+pub returns-in_err-told-clause-asked : goal.returns-in_err-told-clause-asked
+returns-in_err-told-clause-asked g c = asks_all _ _ _ (then_asked _ _ _ _ _ c.in_ok-public.ensures.asked (then_asked _ _ _ _ _ c.in_ok-text.ensures.asked c.in_ok-sig.ensures.asked))
+
+pub returns-clause-asked : goal.returns-clause-asked
+returns-clause-asked g c = asks_all _ _ _ (then_asked _ _ _ _ _ c.in_ok-public.ensures.asked (then_asked _ _ _ _ _ c.in_ok-text.ensures.asked c.in_ok-sig.ensures.asked))

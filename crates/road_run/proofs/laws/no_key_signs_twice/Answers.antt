@@ -6,4 +6,4 @@ use Rattle.road_run.proofs.laws.no_key_signs_twice.Goals as goal
 
 pub returns : goal.returns
 returns g c disk states told life =
-    none_twice g.M.Mirror.octets g.M.Mirror.named g.M.Mirror.puts g.M.Mirror.room g.D.Disk g.met.D.Disk.reads_image disk [] states life told (λ i now. All-nil (IsGiven i)) tt
+    none_twice g.M.Mirror.octets g.M.Mirror.named g.M.Mirror.handed g.M.Mirror.puts g.M.Mirror.room g.D.Disk g.met.D.Disk.reads_image disk [] states life told (λ i now. All-nil (IsGiven i)) tt

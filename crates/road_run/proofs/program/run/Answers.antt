@@ -54,7 +54,7 @@ returns-clause-proves g c =
 pub returns-clause-complete : goal.returns-clause-complete
 returns-clause-complete g c =
     rw c.of.ensures.outcome
-    (complete_run g.D.Disk g.M.Mirror.octets g.M.Mirror.named g.M.Mirror.puts g.M.Mirror.room c.args.disk.now c.work.new.disk _ _ _ _ _ _ _ _ _ _ _ _ _ _ _ c.work.ensures.promised c.work.ensures.takes c.work.ensures.mirrors
+    (complete_run g.D.Disk g.M.Mirror.octets g.M.Mirror.named g.M.Mirror.handed g.M.Mirror.puts g.M.Mirror.room c.args.disk.now c.work.new.disk _ _ _ _ _ _ _ _ _ _ _ _ _ _ _ c.work.ensures.promised c.work.ensures.takes c.work.ensures.mirrors
     (exact_run g.D.Disk c.args.disk.now c.work.new.disk _ _ _ _ _ _ _ _ _ c.map_laws.ensures.faults c.map_laws.ensures.arcs c.server_laws.ensures
     (verdicts g (goal.at.returns-clause-complete g c).After-near_laws) c.work.ensures.promised)
     (exact_serving g.D.Disk c.args.disk.now c.work.new.disk c.server_laws.ensures _ _ _ _ _ _ _ _ _ _ _ _ _ c.work.ensures.promised c.work.ensures.takes))

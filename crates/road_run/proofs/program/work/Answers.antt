@@ -1,4 +1,5 @@
-use Rattle.road_run.proofs.RunLemmas.{run_promises, run_stays, run_without_disk, run_nothing, run_takes, run_takes_nothing, run_gave, run_gave_nothing, has_ended, unused, nothing_used}
+use Rattle.road_run.proofs.RunLemmas.{run_promises, run_stays, run_without_disk, run_nothing, run_takes, run_takes_nothing, run_gave, run_gave_nothing, has_ended, unused, nothing_used, asks, asks_none}
+use Rattle.command_files.proofs.Asked.{asks_all}
 use Rattle.std.proofs.Common.{refl}
 use Rattle.std.specs.declared.option.Option.TheVariants.{None}
 use Rattle.road_run.proofs.program.work.Goals as goal
@@ -284,3 +285,57 @@ returns-in-Some-AuditReach-clause-gave g c =
 pub returns-in-Some-Reduce-clause-gave : goal.returns-in-Some-Reduce-clause-gave
 returns-in-Some-Reduce-clause-gave g c =
     run_gave _ _ _ _ _ _ _ _ _ _ _ (rw c.in-Some-Reduce.field-0-is at c.in-Some-Reduce.ensures.is) tt tt refl
+
+pub returns-in-None-clause-asked : goal.returns-in-None-clause-asked
+returns-in-None-clause-asked g c = asks_none _ _
+
+pub returns-in-Some-Survey-clause-asked : goal.returns-in-Some-Survey-clause-asked
+returns-in-Some-Survey-clause-asked g c = asks_none _ _
+
+pub returns-in-Some-Desk-clause-asked : goal.returns-in-Some-Desk-clause-asked
+returns-in-Some-Desk-clause-asked g c = asks_none _ _
+
+pub returns-in-Some-Links-clause-asked : goal.returns-in-Some-Links-clause-asked
+returns-in-Some-Links-clause-asked g c = asks_none _ _
+
+pub returns-in-Some-Route-clause-asked : goal.returns-in-Some-Route-clause-asked
+returns-in-Some-Route-clause-asked g c = asks _ _ _ _ (rw c.in-Some-Route.field-0-is at c.in-Some-Route.ensures.is) (asks_all _ _ _ c.route.ensures.asked)
+
+pub returns-in-Some-Root-clause-asked : goal.returns-in-Some-Root-clause-asked
+returns-in-Some-Root-clause-asked g c = asks _ _ _ _ (rw c.in-Some-Root.field-0-is at c.in-Some-Root.ensures.is) (asks_all _ _ _ c.root.ensures.asked)
+
+pub returns-in-Some-Key-clause-asked : goal.returns-in-Some-Key-clause-asked
+returns-in-Some-Key-clause-asked g c = asks _ _ _ _ (rw c.in-Some-Key.field-0-is at c.in-Some-Key.ensures.is) (asks_all _ _ _ c.key.ensures.asked)
+
+pub returns-in-Some-Succeed-clause-asked : goal.returns-in-Some-Succeed-clause-asked
+returns-in-Some-Succeed-clause-asked g c = asks _ _ _ _ (rw c.in-Some-Succeed.field-0-is at c.in-Some-Succeed.ensures.is) (asks_all _ _ _ c.succeed.ensures.asked)
+
+pub returns-in-Some-Publish-clause-asked : goal.returns-in-Some-Publish-clause-asked
+returns-in-Some-Publish-clause-asked g c = asks _ _ _ _ (rw c.in-Some-Publish.field-0-is at c.in-Some-Publish.ensures.is) (asks_all _ _ _ c.publish.ensures.asked)
+
+pub returns-in-Some-Prove-clause-asked : goal.returns-in-Some-Prove-clause-asked
+returns-in-Some-Prove-clause-asked g c = asks _ _ _ _ (rw c.in-Some-Prove.field-0-is at c.in-Some-Prove.ensures.is) (asks_all _ _ _ c.prove.ensures.asked)
+
+pub returns-in-Some-Serve-clause-asked : goal.returns-in-Some-Serve-clause-asked
+returns-in-Some-Serve-clause-asked g c = asks _ _ _ _ (rw c.in-Some-Serve.field-0-is at c.in-Some-Serve.ensures.is) (asks_all _ _ _ c.serve.ensures.asked)
+
+pub returns-in-Some-Reach-clause-asked : goal.returns-in-Some-Reach-clause-asked
+returns-in-Some-Reach-clause-asked g c = asks _ _ _ _ (rw c.in-Some-Reach.field-0-is at c.in-Some-Reach.ensures.is) (asks_all _ _ _ c.reach.ensures.asked)
+
+pub returns-in-Some-Dimacs-clause-asked : goal.returns-in-Some-Dimacs-clause-asked
+returns-in-Some-Dimacs-clause-asked g c = asks _ _ _ _ (rw c.in-Some-Dimacs.field-0-is at c.in-Some-Dimacs.ensures.is) c.dimacs.ensures.asked
+
+pub returns-in-Some-Check-clause-asked : goal.returns-in-Some-Check-clause-asked
+returns-in-Some-Check-clause-asked g c = asks _ _ _ _ (rw c.in-Some-Check.field-0-is at c.in-Some-Check.ensures.is) c.check.ensures.asked
+
+pub returns-in-Some-CheckReach-clause-asked : goal.returns-in-Some-CheckReach-clause-asked
+returns-in-Some-CheckReach-clause-asked g c = asks _ _ _ _ (rw c.in-Some-CheckReach.field-0-is at c.in-Some-CheckReach.ensures.is) c.check_reach.ensures.asked
+
+pub returns-in-Some-Reduce-clause-asked : goal.returns-in-Some-Reduce-clause-asked
+returns-in-Some-Reduce-clause-asked g c = asks _ _ _ _ (rw c.in-Some-Reduce.field-0-is at c.in-Some-Reduce.ensures.is) c.reduce.ensures.asked
+
+pub returns-in-Some-Audit-clause-asked : goal.returns-in-Some-Audit-clause-asked
+returns-in-Some-Audit-clause-asked g c = asks _ _ _ _ (rw c.in-Some-Audit.field-0-is at c.in-Some-Audit.ensures.is) c.audit.ensures.asks
+
+pub returns-in-Some-AuditReach-clause-asked : goal.returns-in-Some-AuditReach-clause-asked
+returns-in-Some-AuditReach-clause-asked g c = asks _ _ _ _ (rw c.in-Some-AuditReach.field-0-is at c.in-Some-AuditReach.ensures.is) c.audit_reach.ensures.asks

@@ -29,7 +29,7 @@ loop-served-preserved g c =
       within = omega (arith, c.loop-served-test.true);
       served = served-more _ _ _ _ _ _ _ _ _ _ _ _ _ c.next_frame.new.body.items c.in-Ok.reply.items c.loop-served.invariant.served takes.1 takes.0 step wrote;
       gave = given_more _ _ _ _ _ _ _ _ _ _ _ _ _ c.next_frame.new.body.items c.in-Ok.reply.items c.loop-served.invariant.gave gave step wrote;
-      source_kept = c.in-Ok-true.ensures.kept ∙ c.loop-served.invariant.source_kept;
+      source_kept = (c.in-Ok-true.ensures.kept (λ e. absurd (cc))) ∙ c.loop-served.invariant.source_kept;
       sink_kept = c.in-Ok-write_frame.ensures.kept ∙ c.loop-served.invariant.sink_kept;
     }
 

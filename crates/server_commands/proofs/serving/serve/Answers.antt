@@ -1,9 +1,10 @@
-use Rattle.std.proofs.Common.{sym, [], append-nil, ◌∙◌, arith}
+use Rattle.std.proofs.Common.{sym, ap, [], append-nil, ◌∙◌, arith}
 use Rattle.std.specs.declared.option.Option.TheVariants.{Some}
 use Rattle.std.proofs.lemmas.Result.{err_from_is_err_and}
 use Rattle.route_serving.proofs.Splits.{serves_input}
 use Rattle.server_commands.specs.Serving.{most_octets, most_frames}
-use Rattle.server_commands.proofs.ServeCommand.{unread_serves, serve_refused, refused_serves, serve_ends, serves_frames, memory_served}
+use Rattle.server_commands.specs.ServingEnds.{ended_serving}
+use Rattle.server_commands.proofs.ServeCommand.{unread_serves, serve_refused, refused_serves, serve_ends, serves_frames}
 use Rattle.server_commands.proofs.serving.serve.Goals as goal
 
 pub returns-in_err-publication-clause-serves : goal.returns-in_err-publication-clause-serves
@@ -35,10 +36,10 @@ returns-clause-serves g c =
     c.in_ok-service.ensures.starts c.serve-served.ensures.input c.serve-served.ensures.serves c.serve-served.ensures.source)
 
 pub returns-clause-source : goal.returns-clause-source
-returns-clause-source g c is = c.serve-served.ensures.source_kept (memory_served c.serve-served.result (sym c.ended_serving.ensures ∙ is))
+returns-clause-source g c other = c.serve-served.ensures.source_kept (λ is. other (c.ended_serving.ensures ∙ ap ended_serving is))
 
 pub returns-clause-sink : goal.returns-clause-sink
-returns-clause-sink g c is = c.serve-served.ensures.sink_kept (memory_served c.serve-served.result (sym c.ended_serving.ensures ∙ is))
+returns-clause-sink g c other = c.serve-served.ensures.sink_kept (λ is. other (c.ended_serving.ensures ∙ ap ended_serving is))
 
 pub returns-in_err-publication-clause-gave : goal.returns-in_err-publication-clause-gave
 returns-in_err-publication-clause-gave g c =

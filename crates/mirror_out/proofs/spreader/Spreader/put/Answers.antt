@@ -12,7 +12,7 @@ loop-at-preserved-in-None g c = record {
       let there : c.loop-at.at < length c.loop-at.mirrors.items = search rules in (
         c.loop-at.invariant.spread.0,
         c.loop-at.invariant.spread.1,
-        Begun-kept_at _ _ _ _ 1 c.args.piece.now c.args.mirrors.now.items c.loop-at.mirrors.items c.loop-at.invariant.spread.0 c.loop-at.at _ _
+        Begun-kept_at _ _ _ _ _ 1 c.args.piece.now c.args.mirrors.now.items c.loop-at.mirrors.items c.loop-at.invariant.spread.0 c.loop-at.at _ _
             there c.index_mut.ensures.value c.loop-at.invariant.spread.2 c.in-None.ensures.kept,
       );
 }
@@ -26,7 +26,7 @@ loop-at-preserved g c = record {
       let there : c.loop-at.at < length c.loop-at.mirrors.items = search rules in (
         c.loop-at.invariant.spread.0 ++ c.in-Some.label ∷ [],
         rw (c.push.ensures.items, c.unwrap.ensures, c.loop-at.invariant.spread.1) (append_assoc c.args.self.now.lost.items c.loop-at.invariant.spread.0 (c.in-Some.label ∷ [])),
-        Begun-gone_at _ _ _ _ 1 c.args.piece.now c.args.mirrors.now.items c.loop-at.mirrors.items c.loop-at.invariant.spread.0 c.loop-at.at _ _ c.in-Some.label _
+        Begun-gone_at _ _ _ _ _ 1 c.args.piece.now c.args.mirrors.now.items c.loop-at.mirrors.items c.loop-at.invariant.spread.0 c.loop-at.at _ _ c.in-Some.label _
             there c.index_mut.ensures.value c.remove.ensures.items c.in-Some.ensures.label c.loop-at.invariant.spread.2 c.in-Some.ensures.promised,
       );
 }
@@ -36,5 +36,5 @@ returns-clause-spread g c =
     let past : length c.loop-at.mirrors.items ≤ c.loop-at.at = search rules in (
       c.loop-at.invariant.spread.0,
       c.loop-at.invariant.spread.1,
-      Spreads-all _ _ _ _ 1 c.args.piece.now c.args.mirrors.now.items c.loop-at.mirrors.items c.loop-at.invariant.spread.0 c.loop-at.at past c.loop-at.invariant.spread.2,
+      Spreads-all _ _ _ _ _ 1 c.args.piece.now c.args.mirrors.now.items c.loop-at.mirrors.items c.loop-at.invariant.spread.0 c.loop-at.at past c.loop-at.invariant.spread.2,
     )

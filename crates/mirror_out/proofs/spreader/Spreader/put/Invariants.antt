@@ -9,7 +9,7 @@ invariant-loop-at g l =
       count : length l.self.lost.items + vec_len l.mirrors ≡ length l.fn.self.lost.items + vec_len l.fn.mirrors;
       same_most : l.self.most ≡ l.fn.self.most;
       spread : (gone : List ℕ) × (l.self.lost.items ≡ l.fn.self.lost.items ++ gone)
-          × Begun g.M.Mirror.octets g.M.Mirror.named g.M.Mirror.puts g.M.Mirror.room
+          × Begun g.M.Mirror.octets g.M.Mirror.named g.M.Mirror.handed g.M.Mirror.puts g.M.Mirror.room
           1 l.piece l.fn.mirrors.items (take l.at l.mirrors.items) gone (drop l.at l.mirrors.items);
     }
 

@@ -1,0 +1,15 @@
+-- Which files of a library are asked for.
+use Rattle.std.specs.Prelude.{◌≡◌, ℕ, ◌≤◌, List, [], ◌∷◌, ◌++◌, length, take}
+use Rattle.std.specs.declared.option.Option.{Option}
+use Rattle.std.specs.declared.option.Option.TheVariants.{None, Some}
+
+-- the name of a file that may be named, if it is
+abbrev pub if_named : Option (List ℕ) → List (List ℕ)
+if_named None = []
+if_named (Some name) = name ∷ []
+
+-- a front of these names was asked for, in their order, and no other name
+pub record AsksFront (names before now : List (List ℕ)) : Type 0 where
+  pub n : ℕ
+  pub within : n ≤ length names
+  pub asked : now ≡ before ++ take n names

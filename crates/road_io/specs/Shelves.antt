@@ -1,13 +1,11 @@
--- What a library of which only a history of loads is known holds, in a world: files by name, the first of
+-- What a library of which only the answers of the system are known holds, in a world: files by name, the first of
 -- a name. No clause says which world a library is in. As soon as an answer doesn't agree with the world,
 -- nothing is told.
-use Rattle.std.specs.Prelude.{ℕ, zero, suc, ◌<◌, List, [], ◌∷◌, ◌++◌, Bool, true, false, nat_lt, length, find, slice_index, if◌then◌else◌}
+use Rattle.std.specs.Prelude.{ℕ, zero, suc, List, [], ◌∷◌, ◌++◌, Bool, true, false, ◌&&◌, length, take, find, slice_index, if◌then◌else◌}
 use Rattle.std.specs.Str.{bytes_eq}
 use Rattle.std.specs.Option.{option_map}
 use Rattle.std.specs.declared.option.Option.{Option}
 use Rattle.std.specs.declared.option.Option.TheVariants.{None, Some}
-use Rattle.road_io.specs.declared.library.LoadError.{LoadError}
-use Rattle.road_io.specs.declared.library.LoadError.TheVariants.{Missing, TooLong, Failed, Memory}
 use Rattle.road_io.specs.Contents.{Folder}
 
 -- numbers and octets, as they are noted
@@ -18,31 +16,60 @@ Note = List ℕ × List ℕ
 abbrev pub shelf : List Note → Folder
 shelf world name = option_map (λ file. file.1) (find (λ file. bytes_eq file.0 name) world)
 
--- Whether an answer agrees with what stands under the name: octets that were given, a file that was
--- missing, one that has more octets than were asked for. Any other answer agrees with all.
-abbrev pub agrees : ℕ → ℕ → List ℕ → Option (List ℕ) → Bool
-agrees zero most octets None = false
-agrees zero most octets (Some file) = bytes_eq octets file
-agrees (suc zero) most octets None = true
-agrees (suc zero) most octets (Some file) = false
-agrees (suc (suc zero)) most octets None = false
-agrees (suc (suc zero)) most octets (Some file) = nat_lt most (length file)
-agrees _ most octets file = true
+-- ---- the answers of the system, the latest first: a file that was opened (0) or is missing (1), by its
+-- name, octets that were read of it (2), or its end (3)
 
--- why nothing was given, as it is noted
-abbrev pub noted_refusal : LoadError → Note
-noted_refusal Missing = (1 ∷ [], [])
-noted_refusal TooLong = (2 ∷ [], [])
-noted_refusal Failed = (3 ∷ [], [])
-noted_refusal Memory = (3 ∷ [], [])
+-- the name that was opened last
+abbrev pub opened_by : ℕ → List ℕ → List ℕ → List ℕ
+opened_by zero name last = name
+opened_by (suc zero) name last = name
+opened_by _ octets last = last
 
--- the files of a world, as long as each answer, its code and octets, agrees with them under the name that
--- was asked for, with at most so many octets; the latest first
-abbrev pub told : List Note → List Note → List Note → Option Folder
-told world (asked ∷ names) (answer ∷ answers) =
-    if agrees (slice_index answer.0 0) (slice_index asked.0 0) answer.1 (shelf world asked.1)
-    then told world names answers else None
-told world names answers = Some (shelf world)
+abbrev pub opened : List Note → List ℕ
+opened [] = []
+opened (answer ∷ before) = opened_by (slice_index answer.0 0) answer.1 (opened before)
+
+-- the octets that were read since
+abbrev pub read_by : ℕ → List ℕ → List ℕ → List ℕ
+read_by zero name octets = []
+read_by (suc zero) name octets = []
+read_by _ piece octets = octets ++ piece
+
+abbrev pub read_of : List Note → List ℕ
+read_of [] = []
+read_of (answer ∷ before) = read_by (slice_index answer.0 0) answer.1 (read_of before)
+
+-- a file begins with these octets
+abbrev pub begins : Option (List ℕ) → List ℕ → Bool
+begins None octets = false
+begins (Some file) octets = bytes_eq (take (length octets) file) octets
+
+-- a file has these octets
+abbrev pub has : Option (List ℕ) → List ℕ → Bool
+has None octets = false
+has (Some file) octets = bytes_eq file octets
+
+abbrev pub is_missing : Option (List ℕ) → Bool
+is_missing None = true
+is_missing (Some file) = false
+
+-- an answer agrees with the file that was opened last, of which these octets were read by then
+abbrev pub answer_agrees : ℕ → Option (List ℕ) → List ℕ → Bool
+answer_agrees zero file octets = true
+answer_agrees (suc zero) file octets = is_missing file
+answer_agrees (suc (suc zero)) file octets = begins file octets
+answer_agrees _ file octets = has file octets
+
+-- all answers agree with the files
+abbrev pub agrees : Folder → List Note → Bool
+agrees folder [] = true
+agrees folder (answer ∷ before) =
+    answer_agrees (slice_index answer.0 0) (folder (opened (answer ∷ before)))
+    (read_of (answer ∷ before)) && agrees folder before
+
+-- the files of a world, as long as each answer agrees with them
+abbrev pub told : List Note → List Note → Option Folder
+told world history = if agrees (shelf world) history then Some (shelf world) else None
 
 -- the names that were asked for, the first in front
 abbrev pub asked_for : List Note → List (List ℕ)

@@ -1,0 +1,54 @@
+-- The words on what a library holds, at small cases.
+use Rattle.std.proofs.Common.{◌≡◌, [], ◌∷◌, List, true, false, refl}
+use Rattle.std.specs.declared.option.Option.TheVariants.{None, Some}
+use Rattle.road_io.specs.Shelves.{Note, shelf, opened, read_of, agrees, told}
+
+-- the file "a" of three octets, and "b" without any; "a" stands a second time, which counts for nothing
+abbrev world : List Note
+world = (97 ∷ [], 1 ∷ 2 ∷ 3 ∷ []) ∷ (98 ∷ [], []) ∷ (97 ∷ [], 9 ∷ []) ∷ []
+
+first_entry : shelf world (97 ∷ []) ≡ Some (1 ∷ 2 ∷ 3 ∷ [])
+first_entry = refl
+
+empty_file : shelf world (98 ∷ []) ≡ Some []
+empty_file = refl
+
+no_file : shelf world (99 ∷ []) ≡ None
+no_file = refl
+
+-- "a" was opened, and read in two pieces to its end
+abbrev whole : List Note
+whole = (3 ∷ [], []) ∷ (2 ∷ [], 3 ∷ []) ∷ (2 ∷ [], 1 ∷ 2 ∷ []) ∷ (0 ∷ [], 97 ∷ []) ∷ []
+
+was_opened : opened whole ≡ 97 ∷ []
+was_opened = refl
+
+was_read : read_of whole ≡ 1 ∷ 2 ∷ 3 ∷ []
+was_read = refl
+
+whole_agrees : agrees (shelf world) whole ≡ true
+whole_agrees = refl
+
+-- its end came too early, or late, or another octet was read, or it is said to be missing
+early : agrees (shelf world) ((3 ∷ [], []) ∷ (2 ∷ [], 1 ∷ 2 ∷ []) ∷ (0 ∷ [], 97 ∷ []) ∷ []) ≡ false
+early = refl
+
+late : agrees (shelf world) ((2 ∷ [], 4 ∷ []) ∷ (2 ∷ [], 1 ∷ 2 ∷ 3 ∷ []) ∷ (0 ∷ [], 97 ∷ []) ∷ []) ≡ false
+late = refl
+
+other_octet : agrees (shelf world) ((2 ∷ [], 7 ∷ []) ∷ (0 ∷ [], 97 ∷ []) ∷ []) ≡ false
+other_octet = refl
+
+said_missing : agrees (shelf world) ((1 ∷ [], 97 ∷ []) ∷ whole) ≡ false
+said_missing = refl
+
+-- "c" is missing
+is_missing_there : agrees (shelf world) ((1 ∷ [], 99 ∷ []) ∷ whole) ≡ true
+is_missing_there = refl
+
+-- from the first answer that doesn't agree nothing is told
+untold : told world ((0 ∷ [], 98 ∷ []) ∷ (1 ∷ [], 97 ∷ []) ∷ whole) ≡ None
+untold = refl
+
+told_whole : told world whole ≡ Some (shelf world)
+told_whole = refl

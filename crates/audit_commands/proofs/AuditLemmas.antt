@@ -45,7 +45,7 @@ use Rattle.command_desks.proofs.Openings.{shut}
 use Rattle.command_books.specs.Installing.{EndsInstalling}
 use Rattle.audit_commands.specs.Auditing.{EndsOwnersKey, EndsClient, EndsSigned, EndsSameHeader, EndsComparing, EndsAudit, Tells, LookFailed, ends_audit}
 use Rattle.audit_commands.specs.Owners.{IsOwnersKey, look_in, look_everywhere}
-use Rattle.audit_commands.specs.Headline.{AreAllSigned, IsBrought, RestsOn}
+use Rattle.audit_commands.specs.Headline.{AreAllSigned, ClashIn, IsBrought, RestsOn}
 use Rattle.audit_commands.proofs.Steps.{own, own_in, not_own, signed_more, forges_more, later}
 
 -- the steps behind the owner's key
@@ -157,7 +157,7 @@ module _ {D : Type 0} (g : Ghosts D) (old mid new : D) (desk : Desk) (seen : (c 
     }
 
     -- what a line rests on
-    pub rests_on : AtEachMoment g mid new Stays → (r : Result Finding (AuditError E)) (o : Result Conclusion Fault) (t : List ℕ) → IsFound r → Tells line r o t → RestsOn g new (IsBrought kind octets) key links o t
+    pub rests_on : AtEachMoment g mid new Stays → (r : Result Finding (AuditError E)) (o : Result Conclusion Fault) (t : List ℕ) → IsFound r → Tells line r o t → RestsOn g new (IsBrought kind octets) (ClashIn kind p octets) key links o t
     rests_on m r (Ok Refused) t f tells = tt
     rests_on m (Err audit.OtherPublication) (Err OtherPublication) t f tells = all_signed m f.installed f.signed
     rests_on m (Ok Right) (Err OtherPublication) t f tells = absurd (cc)
@@ -178,8 +178,7 @@ module _ {D : Type 0} (g : Ghosts D) (old mid new : D) (desk : Desk) (seen : (c 
     rests_on m (Ok (Forged own_key text signature)) (Ok Done) t f tells = absurd (cc)
     rests_on m (Ok Right) (Ok Evidence) t f tells = absurd (cc)
     rests_on m (Ok (Collision left right)) (Ok Evidence) t f tells =
-        let collision = laws.collision sha256 sha256 p f.0.installed.reply.answer (record { left = left; right = right }) f.1 in
-        inl (record { left = left; right = right; differ = collision.0; one_digest = collision.1; line = tells.1 })
+        inl (record { left = left; right = right; collide = laws.collision sha256 sha256 p f.0.installed.reply.answer (record { left = left; right = right }) f.1; hashed = record { answer = f.0.installed.reply.answer; spelled = laws.spelled sha256 key links octets q 0 f.0.installed.reply.taken f.0.installed.reply.answer f.0.installed.reply.accepts; collides = f.1 }; line = tells.1 })
     rests_on m (Ok (Forged own_key text signature)) (Ok Evidence) t f tells =
         let i = f.installed in
         inr (record {
@@ -212,16 +211,16 @@ module _ {D : Type 0} (g : Ghosts D) (old mid new : D) (desk : Desk) (seen : (c 
     rests_on m (Err (audit.Install install.Memory)) (Ok Evidence) t f tells = absurd tells
 
     -- and a fault
-    pub rests_otherwise : AtEachMoment g mid new Stays → (r : Result Finding (AuditError E)) (f : Fault) → IsFound r → WhyNot (LookFailed r) (Tells line r) f → RestsOn g new (IsBrought kind octets) key links (Err f) []
+    pub rests_otherwise : AtEachMoment g mid new Stays → (r : Result Finding (AuditError E)) (f : Fault) → IsFound r → WhyNot (LookFailed r) (Tells line r) f → RestsOn g new (IsBrought kind octets) (ClashIn kind p octets) key links (Err f) []
     rests_otherwise m r OtherPublication finds why = rests_on m r (Err OtherPublication) [] finds why
     rests_otherwise m r f finds why = tt
 
 -- nothing rests on a desk that doesn't open
-pub not_opened_rests : {D : Type 0} (g : Ghosts D) (disk : D) (Brings : List ℕ → List ℕ → Type 0) (DiskFailed : Type 0) (content : Option (List ℕ)) (key : List ℕ) (links : List Link) (f : Fault) → WhyNot DiskFailed (EndsOpening content NoEnd) f → RestsOn g disk Brings key links (Err f) []
-not_opened_rests g disk Brings DiskFailed content key links OtherPublication (inl h) = absurd (cc)
-not_opened_rests g disk Brings DiskFailed content key links OtherPublication (inr (inl h)) = absurd (cc)
-not_opened_rests g disk Brings DiskFailed content key links OtherPublication (inr (inr h)) = absurd h.1
-not_opened_rests g disk Brings DiskFailed content key links f h = tt
+pub not_opened_rests : {D : Type 0} (g : Ghosts D) (disk : D) (Brings Hashed : List ℕ → List ℕ → Type 0) (DiskFailed : Type 0) (content : Option (List ℕ)) (key : List ℕ) (links : List Link) (f : Fault) → WhyNot DiskFailed (EndsOpening content NoEnd) f → RestsOn g disk Brings Hashed key links (Err f) []
+not_opened_rests g disk Brings Hashed DiskFailed content key links OtherPublication (inl h) = absurd (cc)
+not_opened_rests g disk Brings Hashed DiskFailed content key links OtherPublication (inr (inl h)) = absurd (cc)
+not_opened_rests g disk Brings Hashed DiskFailed content key links OtherPublication (inr (inr h)) = absurd h.1
+not_opened_rests g disk Brings Hashed DiskFailed content key links f h = tt
 
 module _ {Q A X E : Type 0} (kind : ReplyKind Q A X E) (line : E → List ℕ) where
   -- a desk that doesn't open

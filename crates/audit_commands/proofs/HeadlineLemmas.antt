@@ -23,7 +23,7 @@ use Rattle.command_books.specs.Installing.{AfterBuild, IfInstalled, EndsInstalli
 use Rattle.command_files.specs.Endings.{Ending, Answered, EndsReading}
 use Rattle.audit_commands.specs.Auditing.{EndsOwnersKey, EndsSigned, EndsSameHeader, EndsComparing, EndsAudit, ends_audit}
 use Rattle.audit_commands.specs.Owners.{look_everywhere}
-use Rattle.audit_commands.specs.Headline.{IsBrought, IsAcceptedHeader, IsEvidence, WritesFindings, IsTrue, IsOthers, FindsTruth, IsAcceptedFile, AuditsAccepted}
+use Rattle.audit_commands.specs.Headline.{ClashIn, IsBrought, IsAcceptedHeader, IsEvidence, WritesFindings, IsTrue, IsOthers, FindsTruth, IsAcceptedFile, AuditsAccepted}
 use Rattle.audit_commands.proofs.Steps.{RestsOnNone}
 use Rattle.audit_commands.proofs.AuditLemmas.{Behind}
 use Rattle.command_files.specs.declared.fault.Fault.{Fault}
@@ -49,10 +49,10 @@ installed makings p Next o t has h = by (subst (λ (m : Result Header BuildError
     by (inr k) = absurd (k.0 refl)
 
 -- evidence by what one relation brings is evidence by what another brings
-pub evidence_by : {D : Type 0} (g : Ghosts D) (disk : D) (One Other : List ℕ → List ℕ → Type 0) (k key : List ℕ) (ls links : List Link) (text : List ℕ) → ((header signature : List ℕ) → One header signature → Other header signature) → k ≡ key → ls ≡ links
-    → IsEvidence g disk One k ls text → IsEvidence g disk Other key links text
-evidence_by g disk One Other k key ls links text by same same_links (inl e) = inl e
-evidence_by g disk One Other k key ls links text by same same_links (inr e) = inr (record {
+pub evidence_by : {D : Type 0} (g : Ghosts D) (disk : D) (One Other Here There : List ℕ → List ℕ → Type 0) (k key : List ℕ) (ls links : List Link) (text : List ℕ) → ((header signature : List ℕ) → One header signature → Other header signature) → ((left right : List ℕ) → Here left right → There left right) → k ≡ key → ls ≡ links
+    → IsEvidence g disk One Here k ls text → IsEvidence g disk Other There key links text
+evidence_by g disk One Other Here There k key ls links text by moves same same_links (inl e) = inl (record { left = e.left; right = e.right; collide = e.collide; hashed = moves e.left e.right e.hashed; line = e.line })
+evidence_by g disk One Other Here There k key ls links text by moves same same_links (inr e) = inr (record {
   header = e.header;
   signature = e.signature;
   brought = by e.header e.signature e.brought;
@@ -142,10 +142,10 @@ module _ {Q A X E : Type 0} (kind : ReplyKind Q A X E) (line : E → List ℕ) (
       (moved.header_is ∙ ap (λ (a : A). header_text (kind.header a)) answer ∙ ap (λ (h : Header). header_text h) (sym header_is), moved)
 
   finds : {D : Type 0} (g : Ghosts D) (disk : D) (old new : Option (List ℕ)) (o : Result Conclusion Fault) → (o ≡ Err MirrorLost → ⊥) → Answered (ends_audit kind line content key_name publication_name reply_name q chain_name folder) old new o
-      → WritesFindings g disk (IsBrought kind) key_name reply_name chain_name (Some folder) old new o → FindsTruth g disk (IsBrought kind f.octets) key links p (kind.taken_header x) (IsTrue kind g disk p q x) old new o
+      → WritesFindings g disk (IsBrought kind) (ClashIn kind) key_name publication_name reply_name chain_name (Some folder) old new o → FindsTruth g disk (IsBrought kind f.octets) (ClashIn kind p f.octets) key links p (kind.taken_header x) (IsTrue kind g disk p q x) old new o
   finds g disk old new (Ok Done) lost a w = right (over_files (Ok Done) a.0 a.1)
     where
-      right : IsEnd p (kind.taken_header x) Truth (Ok Done) a.0 → FindsTruth g disk (IsBrought kind f.octets) key links p (kind.taken_header x) (IsTrue kind g disk p q x) old new (Ok Done)
+      right : IsEnd p (kind.taken_header x) Truth (Ok Done) a.0 → FindsTruth g disk (IsBrought kind f.octets) (ClashIn kind p f.octets) key links p (kind.taken_header x) (IsTrue kind g disk p q x) old new (Ok Done)
       right (inr (inl e)) = let other : ended Done ≡ ended Evidence = e in absurd (cc)
       right (inr (inr r)) = let other : ended Done ≡ failed OtherPublication = r.outcome in absurd (cc)
       right (inl r) =
@@ -163,7 +163,14 @@ module _ {Q A X E : Type 0} (kind : ReplyKind Q A X E) (line : E → List ℕ) (
       let same : w.key ≡ key = same_read w.key key (public_key_at folder key_name) w.key_read f.key_read in
       let octets : w.octets ≡ f.octets = same_read w.octets f.octets (octets_at folder reply_name) w.reply_read f.reply_read in
       let chain : w.links ≡ links = same_read w.links links (chain_at folder chain_name) w.chain_read f.chain_read in
-      (w.text, evidence_by g disk (IsBrought kind w.octets) (IsAcceptedHeader (kind.taken_header x) (IsBrought kind f.octets)) w.key key w.links links w.text (λ header signature. brings w.octets header signature octets) same chain w.rests, w.written)
+      let publication : w.publication ≡ p = same_read w.publication p (publication_at folder publication_name) w.publication_read f.publication_read in (
+        w.text,
+        evidence_by g disk (IsBrought kind w.octets) (IsAcceptedHeader (kind.taken_header x) (IsBrought kind f.octets)) (ClashIn kind w.publication w.octets) (ClashIn kind p f.octets) w.key key w.links links w.text
+            (λ header signature. brings w.octets header signature octets)
+            (λ left right h. subst (λ (xs : List ℕ). ClashIn kind p xs left right) octets (subst (λ (b : Publication). ClashIn kind b w.octets left right) publication h))
+            same chain w.rests,
+        w.written,
+      )
   finds g disk old new (Ok Refused) lost a w = refused (over_files (Ok Refused) a.0 a.1)
     where
       refused : IsEnd p (kind.taken_header x) Truth (Ok Refused) a.0 → ⊥
@@ -196,7 +203,7 @@ module _ {Q A X E : Type 0} (kind : ReplyKind Q A X E) (line : E → List ℕ) (
 
 -- the same where the library may tell its files
 pub audits_accepted : {Q A X E : Type 0} (kind : ReplyKind Q A X E) (line : E → List ℕ) → AreReplies kind → OneMaking → {D : Type 0} (g : Ghosts D) (disk : D) (files : Option Folder) (content : Option (List ℕ)) (key publication reply : List ℕ) (q : Q) (chain : Option (List ℕ)) (old new : Option (List ℕ)) (o : Result Conclusion Fault)
-    → (o ≡ Err MirrorLost → ⊥) → IfSome files (λ folder. Answered (ends_audit kind line content key publication reply q chain folder) old new o) → WritesFindings g disk (IsBrought kind) key reply chain files old new o → AuditsAccepted kind g content disk key publication reply q chain files old new o
+    → (o ≡ Err MirrorLost → ⊥) → IfSome files (λ folder. Answered (ends_audit kind line content key publication reply q chain folder) old new o) → WritesFindings g disk (IsBrought kind) (ClashIn kind) key publication reply chain files old new o → AuditsAccepted kind g content disk key publication reply q chain files old new o
 audits_accepted kind line laws makings g disk (Some folder) content key publication reply q chain old new o lost a w =
     λ k links p x f. finds kind line laws makings content folder key publication reply q chain k links p x f g disk old new o lost a w
 audits_accepted kind line laws makings g disk None content key publication reply q chain old new o lost a w = tt

@@ -20,7 +20,8 @@ use Rattle.desk_look.specs.Forgeries.{AreSigned, Forges, IsForgedLink, IsForgedH
 use Rattle.desk_look.specs.Looks.{IsKeyFrom, Look}
 use Rattle.desk_look.specs.declared.forgery.Forgery.{Forgery}
 use Rattle.key_desk.specs.declared.desk.Desk.{Desk}
-use Rattle.command_files.specs.Reading.{octets_at, chain_at, IsOfFiles}
+use Rattle.proof_octets.specs.declared.publication.Publication.{Publication}
+use Rattle.command_files.specs.Reading.{octets_at, publication_at, chain_at, IsOfFiles}
 use Rattle.command_files.specs.HexFiles.{public_key_at}
 use Rattle.command_files.proofs.Written.{moved}
 use Rattle.std.specs.Io.KnownBytes.{Appends}
@@ -110,11 +111,11 @@ abbrev pub RestsOnNone : Fault → Type 0
 RestsOnNone OtherPublication = ⊥
 RestsOnNone fault = Unit {0}
 
-pub nothing_found : {D : Type 0} (g : Ghosts D) (disk : D) (Brings : List ℕ → List ℕ → List ℕ → Type 0) (key_name reply_name : List ℕ) (chain_name : Option (List ℕ)) (files : Option Folder) (old new : Option (List ℕ)) (f : Fault)
-    → RestsOnNone f → WritesFindings g disk Brings key_name reply_name chain_name files old new (Err f)
-nothing_found g disk Brings key_name reply_name chain_name None old new f none = tt
-nothing_found g disk Brings key_name reply_name chain_name (Some folder) old new OtherPublication none = absurd none
-nothing_found g disk Brings key_name reply_name chain_name (Some folder) old new f none = tt
+pub nothing_found : {D : Type 0} (g : Ghosts D) (disk : D) (Brings : List ℕ → List ℕ → List ℕ → Type 0) (Hashed : Publication → List ℕ → List ℕ → List ℕ → Type 0) (key_name publication_name reply_name : List ℕ) (chain_name : Option (List ℕ)) (files : Option Folder) (old new : Option (List ℕ)) (f : Fault)
+    → RestsOnNone f → WritesFindings g disk Brings Hashed key_name publication_name reply_name chain_name files old new (Err f)
+nothing_found g disk Brings Hashed key_name publication_name reply_name chain_name None old new f none = tt
+nothing_found g disk Brings Hashed key_name publication_name reply_name chain_name (Some folder) old new OtherPublication none = absurd none
+nothing_found g disk Brings Hashed key_name publication_name reply_name chain_name (Some folder) old new f none = tt
 
 -- a fault of a file that was loaded is such an end
 pub files_rest_on_none : (f : Fault) → IsOfFiles f → RestsOnNone f
@@ -122,25 +123,25 @@ files_rest_on_none OtherPublication h = absurd h
 files_rest_on_none f h = tt
 
 -- what the line rests on
-module _ (files : Option Folder) (key_name reply_name : List ℕ) (chain_name : Option (List ℕ)) (key octets : List ℕ) (links : List Link)
-    (key_read : IfSome files (λ folder. public_key_at folder key_name ≡ Ok key)) (reply_read : IfSome files (λ folder. octets_at folder reply_name ≡ Ok octets)) (chain_read : IfSome files (λ folder. chain_at folder chain_name ≡ Ok links)) where
-  pub found : {D : Type 0} (g : Ghosts D) (disk : D) (Brings : List ℕ → List ℕ → List ℕ → Type 0) (old new : Option (List ℕ)) (k k' : ℕ) (end o : Result Conclusion Fault) (t : List ℕ) → RestsOn g disk (Brings octets) key links end t → MayEnd TellsNone end → Writes end t old new k k' o
-      → WritesFindings g disk Brings key_name reply_name chain_name files old new o
-  found g disk Brings old new k k' end o t rests may (inr w) = subst (λ (x : Result Conclusion Fault). WritesFindings g disk Brings key_name reply_name chain_name files old new x) (sym w.0) (nothing_found g disk Brings key_name reply_name chain_name files old new Sink tt)
-  found g disk Brings old new k k' end o t rests may (inl w) = subst (λ (x : Result Conclusion Fault). WritesFindings g disk Brings key_name reply_name chain_name files old new x) (sym w.0) (by end may rests files key_read reply_read chain_read)
+module _ (files : Option Folder) (key_name publication_name reply_name : List ℕ) (chain_name : Option (List ℕ)) (key octets : List ℕ) (links : List Link) (publication : Publication)
+    (key_read : IfSome files (λ folder. public_key_at folder key_name ≡ Ok key)) (publication_read : IfSome files (λ folder. publication_at folder publication_name ≡ Ok publication)) (reply_read : IfSome files (λ folder. octets_at folder reply_name ≡ Ok octets)) (chain_read : IfSome files (λ folder. chain_at folder chain_name ≡ Ok links)) where
+  pub found : {D : Type 0} (g : Ghosts D) (disk : D) (Brings : List ℕ → List ℕ → List ℕ → Type 0) (Hashed : Publication → List ℕ → List ℕ → List ℕ → Type 0) (old new : Option (List ℕ)) (k k' : ℕ) (end o : Result Conclusion Fault) (t : List ℕ) → RestsOn g disk (Brings octets) (Hashed publication octets) key links end t → MayEnd TellsNone end → Writes end t old new k k' o
+      → WritesFindings g disk Brings Hashed key_name publication_name reply_name chain_name files old new o
+  found g disk Brings Hashed old new k k' end o t rests may (inr w) = subst (λ (x : Result Conclusion Fault). WritesFindings g disk Brings Hashed key_name publication_name reply_name chain_name files old new x) (sym w.0) (nothing_found g disk Brings Hashed key_name publication_name reply_name chain_name files old new Sink tt)
+  found g disk Brings Hashed old new k k' end o t rests may (inl w) = subst (λ (x : Result Conclusion Fault). WritesFindings g disk Brings Hashed key_name publication_name reply_name chain_name files old new x) (sym w.0) (by end may rests files key_read publication_read reply_read chain_read)
     where
-      by : (end : Result Conclusion Fault) → MayEnd TellsNone end → RestsOn g disk (Brings octets) key links end t → (files : Option Folder) → IfSome files (λ folder. public_key_at folder key_name ≡ Ok key) → IfSome files (λ folder. octets_at folder reply_name ≡ Ok octets) → IfSome files (λ folder. chain_at folder chain_name ≡ Ok links)
-          → WritesFindings g disk Brings key_name reply_name chain_name files old new end
-      by end may rests None a c d = tt
-      by (Err OtherPublication) may rests (Some folder) a c d = absurd may
-      by (Err e) may rests (Some folder) a c d = tt
-      by (Ok v) may rests (Some folder) a c d = record { key = key; octets = octets; links = links; text = t; key_read = a; reply_read = c; chain_read = d; written = w.1; rests = rests }
+      by : (end : Result Conclusion Fault) → MayEnd TellsNone end → RestsOn g disk (Brings octets) (Hashed publication octets) key links end t → (files : Option Folder) → IfSome files (λ folder. public_key_at folder key_name ≡ Ok key) → IfSome files (λ folder. publication_at folder publication_name ≡ Ok publication) → IfSome files (λ folder. octets_at folder reply_name ≡ Ok octets) → IfSome files (λ folder. chain_at folder chain_name ≡ Ok links)
+          → WritesFindings g disk Brings Hashed key_name publication_name reply_name chain_name files old new end
+      by end may rests None a b c d = tt
+      by (Err OtherPublication) may rests (Some folder) a b c d = absurd may
+      by (Err e) may rests (Some folder) a b c d = tt
+      by (Ok v) may rests (Some folder) a b c d = record { key = key; publication = publication; octets = octets; links = links; text = t; key_read = a; publication_read = b; reply_read = c; chain_read = d; written = w.1; rests = rests }
 
-  pub found_other : {D : Type 0} (g : Ghosts D) (disk : D) (Brings : List ℕ → List ℕ → List ℕ → Type 0) (old : Option (List ℕ)) (f : Fault) → RestsOn g disk (Brings octets) key links (Err f) [] → WritesFindings g disk Brings key_name reply_name chain_name files old old (Err f)
-  found_other g disk Brings old f rests = by f rests files key_read reply_read chain_read
+  pub found_other : {D : Type 0} (g : Ghosts D) (disk : D) (Brings : List ℕ → List ℕ → List ℕ → Type 0) (Hashed : Publication → List ℕ → List ℕ → List ℕ → Type 0) (old : Option (List ℕ)) (f : Fault) → RestsOn g disk (Brings octets) (Hashed publication octets) key links (Err f) [] → WritesFindings g disk Brings Hashed key_name publication_name reply_name chain_name files old old (Err f)
+  found_other g disk Brings Hashed old f rests = by f rests files key_read publication_read reply_read chain_read
     where
-      by : (f : Fault) → RestsOn g disk (Brings octets) key links (Err f) [] → (files : Option Folder) → IfSome files (λ folder. public_key_at folder key_name ≡ Ok key) → IfSome files (λ folder. octets_at folder reply_name ≡ Ok octets) → IfSome files (λ folder. chain_at folder chain_name ≡ Ok links)
-          → WritesFindings g disk Brings key_name reply_name chain_name files old old (Err f)
-      by f rests None a c d = tt
-      by OtherPublication rests (Some folder) a c d = record { key = key; octets = octets; links = links; text = []; key_read = a; reply_read = c; chain_read = d; written = appends_none old; rests = rests }
-      by f rests (Some folder) a c d = tt
+      by : (f : Fault) → RestsOn g disk (Brings octets) (Hashed publication octets) key links (Err f) [] → (files : Option Folder) → IfSome files (λ folder. public_key_at folder key_name ≡ Ok key) → IfSome files (λ folder. publication_at folder publication_name ≡ Ok publication) → IfSome files (λ folder. octets_at folder reply_name ≡ Ok octets) → IfSome files (λ folder. chain_at folder chain_name ≡ Ok links)
+          → WritesFindings g disk Brings Hashed key_name publication_name reply_name chain_name files old old (Err f)
+      by f rests None a b c d = tt
+      by OtherPublication rests (Some folder) a b c d = record { key = key; publication = publication; octets = octets; links = links; text = []; key_read = a; publication_read = b; reply_read = c; chain_read = d; written = appends_none old; rests = rests }
+      by f rests (Some folder) a b c d = tt

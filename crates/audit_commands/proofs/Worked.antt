@@ -1,5 +1,6 @@
 -- What the words of the headline say at some ends, so that a weaker word is seen.
-use Rattle.std.proofs.Common.{◌≡◌, ◌≢◌, ◌<◌, ℕ, List, length}
+use Rattle.std.proofs.Common.{◌≡◌, ◌≢◌, ◌<◌, ◌≤◌, ℕ, List, length, arith}
+use Rattle.std.specs.Prelude.{slice_index}
 use Rattle.std.specs.declared.option.Option.{Option}
 use Rattle.std.specs.declared.result.Result.TheVariants.{Ok, Err}
 use Rattle.std.specs.Io.KnownBytes.{Appends}
@@ -23,11 +24,15 @@ use Rattle.route_audit.specs.Kinds.{ReplyKind}
 -- ---- evidence
 
 -- one text twice is no collision
-one_text_is_no_collision : (text : List ℕ) (c : IsCollisionLine text) → c.left ≡ c.right → ⊥
-one_text_is_no_collision text c same = c.differ same
+one_text_is_no_collision : (Hashed : List ℕ → List ℕ → Type 0) (text : List ℕ) (c : IsCollisionLine Hashed text) → c.left ≡ c.right → ⊥
+one_text_is_no_collision Hashed text c same = c.collide.differ same
 
-one_digest : (text : List ℕ) (c : IsCollisionLine text) → sha256 c.left ≡ sha256 c.right
-one_digest text c = c.one_digest
+one_digest : (Hashed : List ℕ → List ℕ → Type 0) (text : List ℕ) (c : IsCollisionLine Hashed text) → sha256 c.left ≡ sha256 c.right
+one_digest Hashed text c = c.collide.one_digest
+
+-- nor is a list with a number that is no octet one
+numbers_are_no_collision : (Hashed : List ℕ → List ℕ → Type 0) (text : List ℕ) (c : IsCollisionLine Hashed text) (at : ℕ) → 256 ≤ slice_index c.left at → ⊥
+numbers_are_no_collision Hashed text c at great = let small : slice_index c.left at < 256 = c.collide.left_octets at in omega (arith, great, small)
 
 module _ {D : Type 0} (g : Ghosts D) (disk : D) (Brings : List ℕ → List ℕ → Type 0) (key : List ℕ) (links : List Link) (text : List ℕ) (f : IsForgedLine g disk Brings key links text) where
   -- a text that is signed in a slot of an image is not forged
@@ -51,40 +56,40 @@ accepted_header accepted Brings header signature h = h
 
 -- ---- what an end rests on
 
-module _ {D : Type 0} (g : Ghosts D) (disk : D) (Brings : List ℕ → List ℕ → Type 0) (key : List ℕ) (links : List Link) (text : List ℕ) where
+module _ {D : Type 0} (g : Ghosts D) (disk : D) (Brings Hashed : List ℕ → List ℕ → Type 0) (key : List ℕ) (links : List Link) (text : List ℕ) where
   -- a right reply's links and header stand in slots, each in one of every image
-  right_is_signed : (r : RestsOn g disk Brings key links (Ok Done) text) → (slot : SlotId) × EachImage g disk (λ i. IsSigned i slot r.header)
+  right_is_signed : (r : RestsOn g disk Brings Hashed key links (Ok Done) text) → (slot : SlotId) × EachImage g disk (λ i. IsSigned i slot r.header)
   right_is_signed r = r.signed.sealed
 
-  right_is_linked : RestsOn g disk Brings key links (Ok Done) text → (number : ℕ) → number < length links → (slot : SlotId) × EachImage g disk (λ i. IsSigned i slot (text_at links number))
+  right_is_linked : RestsOn g disk Brings Hashed key links (Ok Done) text → (number : ℕ) → number < length links → (slot : SlotId) × EachImage g disk (λ i. IsSigned i slot (text_at links number))
   right_is_linked r = r.signed.linked
 
-  others_are_signed : (r : RestsOn g disk Brings key links (Err OtherPublication) text) → (slot : SlotId) × EachImage g disk (λ i. IsSigned i slot r.header)
+  others_are_signed : (r : RestsOn g disk Brings Hashed key links (Err OtherPublication) text) → (slot : SlotId) × EachImage g disk (λ i. IsSigned i slot r.header)
   others_are_signed r = r.signed.sealed
 
-  evidence_is_told : RestsOn g disk Brings key links (Ok Evidence) text → IsEvidence g disk Brings key links text
+  evidence_is_told : RestsOn g disk Brings Hashed key links (Ok Evidence) text → IsEvidence g disk Brings Hashed key links text
   evidence_is_told r = r
 
 -- ---- the headline
 
-module _ {D : Type 0} (g : Ghosts D) (disk : D) (Brings : List ℕ → List ℕ → Type 0) (key : List ℕ) (links : List Link) (p : Publication) (accepted : Header) (Truth : Type 0) (old new : Option (List ℕ)) where
-  done_is_true : FindsTruth g disk Brings key links p accepted Truth old new (Ok Done) → Truth × Appends old new right_line
+module _ {D : Type 0} (g : Ghosts D) (disk : D) (Brings Hashed : List ℕ → List ℕ → Type 0) (key : List ℕ) (links : List Link) (p : Publication) (accepted : Header) (Truth : Type 0) (old new : Option (List ℕ)) where
+  done_is_true : FindsTruth g disk Brings Hashed key links p accepted Truth old new (Ok Done) → Truth × Appends old new right_line
   done_is_true h = h
 
-  other_is_other : FindsTruth g disk Brings key links p accepted Truth old new (Err OtherPublication) → accepted ≢ p.header
+  other_is_other : FindsTruth g disk Brings Hashed key links p accepted Truth old new (Err OtherPublication) → accepted ≢ p.header
   other_is_other h = h.other
 
-  other_is_signed : FindsTruth g disk Brings key links p accepted Truth old new (Err OtherPublication) → (slot : SlotId) × EachImage g disk (λ i. IsSigned i slot (header_text accepted))
+  other_is_signed : FindsTruth g disk Brings Hashed key links p accepted Truth old new (Err OtherPublication) → (slot : SlotId) × EachImage g disk (λ i. IsSigned i slot (header_text accepted))
   other_is_signed h = h.signed
 
   -- what is accepted is not refused, nor is its key another, nor a file missing
-  never_refused : FindsTruth g disk Brings key links p accepted Truth old new (Ok Refused) → ⊥
+  never_refused : FindsTruth g disk Brings Hashed key links p accepted Truth old new (Ok Refused) → ⊥
   never_refused h = h
 
-  never_another_key : FindsTruth g disk Brings key links p accepted Truth old new (Err OtherKey) → ⊥
+  never_another_key : FindsTruth g disk Brings Hashed key links p accepted Truth old new (Err OtherKey) → ⊥
   never_another_key h = h
 
-  never_missing : FindsTruth g disk Brings key links p accepted Truth old new (Err Missing) → ⊥
+  never_missing : FindsTruth g disk Brings Hashed key links p accepted Truth old new (Err Missing) → ⊥
   never_missing h = h
 
 -- what is true holds in the map, has the accepted header, and that is signed

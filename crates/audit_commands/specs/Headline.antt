@@ -6,6 +6,7 @@ use Rattle.std.specs.declared.result.Result.{Result}
 use Rattle.std.specs.declared.result.Result.TheVariants.{Ok, Err}
 use Rattle.std.specs.Io.KnownBytes.{Appends}
 use Rattle.sha2.specs.Sha256.{sha256}
+use Rattle.hash_collision.specs.Collisions.{AreCollision}
 use Rattle.road_io.specs.declared.disk.Disk.{Ghosts}
 use Rattle.road_io.specs.Causes.{Rose}
 use Rattle.road_io.specs.Contents.{Folder}
@@ -19,6 +20,7 @@ use Rattle.proof_octets.specs.declared.header.Header.{Header}
 use Rattle.proof_octets.specs.declared.publication.Publication.{Publication}
 use Rattle.proof_octets.specs.Headers.{header_text}
 use Rattle.route_server.specs.Headers.{HasHeader}
+use Rattle.route_audit.specs.Evidence.{two_texts}
 use Rattle.route_audit.specs.Kinds.{ReplyKind}
 use Rattle.road_line.specs.EvidenceLine.{right_line, collision_line, forged_line}
 use Rattle.command_files.specs.Endings.{Promises, TellsNone}
@@ -43,6 +45,14 @@ pub record IsBrought {Q A X E : Type 0} (kind : ReplyKind Q A X E)
   pub header_is : header ≡ header_text (kind.header answer)
   pub signature_is : signature ≡ kind.signature answer
 
+-- two texts that collide where the answer that octets spell is not of the trees of the publication's
+-- book: the tree hashes the left one, and the fold of what the answer brings the right one
+pub record ClashIn {Q A X E : Type 0} (kind : ReplyKind Q A X E) (publication : Publication)
+    (octets left right : List ℕ) : Type 0 where
+  pub answer : A
+  pub spelled : kind.Spells octets answer
+  pub collides : kind.Collides sha256 sha256 publication answer (two_texts left right)
+
 -- Brings says which header, by its octets, and which signature a reply brings: the texts of the
 -- links and that header stand in slots, each in one of every image
 pub record AreAllSigned {D : Type 0} (g : Ghosts D) (disk : D)
@@ -54,12 +64,13 @@ pub record AreAllSigned {D : Type 0} (g : Ghosts D) (disk : D)
 
 -- ---- evidence
 
--- the line of two different texts of equal SHA-256
-pub record IsCollisionLine (text : List ℕ) : Type 0 where
+-- The line of two different texts of equal SHA-256. They are octets, so the line has them. Hashed
+-- says where they are hashed.
+pub record IsCollisionLine (Hashed : List ℕ → List ℕ → Type 0) (text : List ℕ) : Type 0 where
   pub left : List ℕ
   pub right : List ℕ
-  pub differ : left ≢ right
-  pub one_digest : sha256 left ≡ sha256 right
+  pub collide : AreCollision sha256 left right
+  pub hashed : Hashed left right
   pub line : text ≡ collision_line left right
 
 -- The line of a text that the owner never signed, in no slot of any image, and of its signature,
@@ -75,43 +86,52 @@ pub record IsForgedLine {D : Type 0} (g : Ghosts D) (disk : D) (Brings : List �
   pub forges : Forges (look_everywhere g disk) key links header signature forgery
   pub line : text ≡ forged_line forgery.text forgery.signature
 
-abbrev pub IsEvidence : {D : Type 0} → Ghosts D → D → (List ℕ → List ℕ → Type 0) → List ℕ →
-    List Link → List ℕ → Type 0
-IsEvidence g disk Brings key links text = IsCollisionLine text ⊎
+abbrev pub IsEvidence : {D : Type 0} → Ghosts D → D → (List ℕ → List ℕ → Type 0) →
+    (List ℕ → List ℕ → Type 0) → List ℕ → List Link → List ℕ → Type 0
+IsEvidence g disk Brings Hashed key links text = IsCollisionLine Hashed text ⊎
     IsForgedLine g disk Brings key links text
 
 -- ---- what an audit's end rests on, in every image that a crash may leave
 
-abbrev pub RestsOn : {D : Type 0} → Ghosts D → D → (List ℕ → List ℕ → Type 0) → List ℕ →
-    List Link → Result Conclusion Fault → List ℕ → Type 0
-RestsOn g disk Brings key links (Ok Done) text = AreAllSigned g disk Brings links
-RestsOn g disk Brings key links (Ok Evidence) text = IsEvidence g disk Brings key links text
-RestsOn g disk Brings key links (Err OtherPublication) text = AreAllSigned g disk Brings links
-RestsOn g disk Brings key links outcome text = Unit {0}
+abbrev pub RestsOn : {D : Type 0} → Ghosts D → D → (List ℕ → List ℕ → Type 0) →
+    (List ℕ → List ℕ → Type 0) → List ℕ → List Link → Result Conclusion Fault → List ℕ → Type 0
+RestsOn g disk Brings Hashed key links (Ok Done) text = AreAllSigned g disk Brings links
+RestsOn g disk Brings Hashed key links (Ok Evidence) text = IsEvidence g disk Brings Hashed key
+    links text
+RestsOn g disk Brings Hashed key links (Err OtherPublication) text = AreAllSigned g disk Brings
+    links
+RestsOn g disk Brings Hashed key links outcome text = Unit {0}
 
--- the files of a key, a reply and a chain, what was written, and what the end rests on
+-- the files of a key, a publication, a reply and a chain, what was written, and what the end rests
+-- on
 pub record WritesFinding {D : Type 0} (g : Ghosts D) (disk : D)
-    (Brings : List ℕ → List ℕ → List ℕ → Type 0) (folder : Folder) (key_name reply_name : List ℕ)
-    (chain_name old new : Option (List ℕ)) (outcome : Result Conclusion Fault) : Type 0 where
+    (Brings : List ℕ → List ℕ → List ℕ → Type 0)
+    (Hashed : Publication → List ℕ → List ℕ → List ℕ → Type 0) (folder : Folder)
+    (key_name publication_name reply_name : List ℕ) (chain_name old new : Option (List ℕ))
+    (outcome : Result Conclusion Fault) : Type 0 where
   pub key : List ℕ
+  pub publication : Publication
   pub octets : List ℕ
   pub links : List Link
   pub text : List ℕ
   pub key_read : public_key_at folder key_name ≡ Ok key
+  pub publication_read : publication_at folder publication_name ≡ Ok publication
   pub reply_read : octets_at folder reply_name ≡ Ok octets
   pub chain_read : chain_at folder chain_name ≡ Ok links
   pub written : Appends old new text
-  pub rests : RestsOn g disk (Brings octets) key links outcome text
+  pub rests : RestsOn g disk (Brings octets) (Hashed publication octets) key links outcome text
 
 abbrev pub WritesFindings : {D : Type 0} → Ghosts D → D → (List ℕ → List ℕ → List ℕ → Type 0) →
-    List ℕ → List ℕ → Option (List ℕ) → Option Folder → Option (List ℕ) → Option (List ℕ) →
+    (Publication → List ℕ → List ℕ → List ℕ → Type 0) → List ℕ → List ℕ → List ℕ →
+    Option (List ℕ) → Option Folder → Option (List ℕ) → Option (List ℕ) →
     Result Conclusion Fault → Type 0
-WritesFindings g disk Brings key reply chain (Some folder) old new
-    (Ok verdict) = WritesFinding g disk Brings folder key reply chain old new (Ok verdict)
-WritesFindings g disk Brings key reply chain (Some folder) old new
-    (Err OtherPublication) = WritesFinding g disk Brings folder key reply chain old new
-    (Err OtherPublication)
-WritesFindings g disk Brings key reply chain files old new outcome = Unit {0}
+WritesFindings g disk Brings Hashed key publication reply chain (Some folder) old new
+    (Ok verdict) = WritesFinding g disk Brings Hashed folder key publication reply chain old new
+    (Ok verdict)
+WritesFindings g disk Brings Hashed key publication reply chain (Some folder) old new
+    (Err OtherPublication) = WritesFinding g disk Brings Hashed folder key publication reply chain
+    old new (Err OtherPublication)
+WritesFindings g disk Brings Hashed key publication reply chain files old new outcome = Unit {0}
 
 -- ---- the headline
 
@@ -138,20 +158,21 @@ IsAcceptedHeader accepted Brings header signature = (header ≡ header_text acce
 -- what was accepted is true, or there is evidence, by a link of the chain or by the accepted header
 -- and the reply's own signature where the line is the forged one, or its header is another
 -- publication's, unless memory was short or an object outside failed
-abbrev pub FindsTruth : {D : Type 0} → Ghosts D → D → (List ℕ → List ℕ → Type 0) → List ℕ →
-    List Link → Publication → Header → Type 0 → Option (List ℕ) → Option (List ℕ) →
-    Result Conclusion Fault → Type 0
-FindsTruth g disk Brings key links p accepted Truth old new (Ok Done) = Truth ×
+abbrev pub FindsTruth : {D : Type 0} → Ghosts D → D → (List ℕ → List ℕ → Type 0) →
+    (List ℕ → List ℕ → Type 0) → List ℕ → List Link → Publication → Header → Type 0 →
+    Option (List ℕ) → Option (List ℕ) → Result Conclusion Fault → Type 0
+FindsTruth g disk Brings Hashed key links p accepted Truth old new (Ok Done) = Truth ×
     Appends old new right_line
-FindsTruth g disk Brings key links p accepted Truth old new (Ok Evidence) = (text : List ℕ) ×
-    IsEvidence g disk (IsAcceptedHeader accepted Brings) key links text × Appends old new text
-FindsTruth g disk Brings key links p accepted Truth old new
+FindsTruth g disk Brings Hashed key links p accepted Truth old new (Ok Evidence) = (text : List ℕ) ×
+    IsEvidence g disk (IsAcceptedHeader accepted Brings) Hashed key links text ×
+    Appends old new text
+FindsTruth g disk Brings Hashed key links p accepted Truth old new
     (Err OtherPublication) = IsOthers g disk p accepted
-FindsTruth g disk Brings key links p accepted Truth old new (Err Memory) = Unit {0}
-FindsTruth g disk Brings key links p accepted Truth old new (Err Library) = Unit {0}
-FindsTruth g disk Brings key links p accepted Truth old new (Err Sink) = Unit {0}
-FindsTruth g disk Brings key links p accepted Truth old new (Err Disk) = Unit {0}
-FindsTruth g disk Brings key links p accepted Truth old new outcome = ⊥
+FindsTruth g disk Brings Hashed key links p accepted Truth old new (Err Memory) = Unit {0}
+FindsTruth g disk Brings Hashed key links p accepted Truth old new (Err Library) = Unit {0}
+FindsTruth g disk Brings Hashed key links p accepted Truth old new (Err Sink) = Unit {0}
+FindsTruth g disk Brings Hashed key links p accepted Truth old new (Err Disk) = Unit {0}
+FindsTruth g disk Brings Hashed key links p accepted Truth old new outcome = ⊥
 
 -- The files spell a public key, a chain of links, a publication, of whatever header, that can be
 -- installed, as its header is that of its parts and settings, and octets that the client accepts
@@ -183,7 +204,8 @@ abbrev pub AuditsAccepted : {Q A X E : Type 0} → ReplyKind Q A X E → {D : Ty
 AuditsAccepted {Q} {A} {X} {E} kind g content disk key publication reply q chain (Some folder) old
     new outcome = (k : List ℕ) (links : List Link) (p : Publication) (x : X) →
     (file : IsAcceptedFile kind content folder key publication reply q chain k links p x)
-    → FindsTruth g disk (IsBrought kind file.octets) k links p (kind.taken_header x)
+    → FindsTruth g disk (IsBrought kind file.octets) (ClashIn kind p file.octets) k links p
+    (kind.taken_header x)
     (IsTrue kind g disk p q x) old new outcome
 AuditsAccepted kind g content disk key publication reply q chain None old new outcome = Unit {0}
 
@@ -201,8 +223,8 @@ pub record AuditsFiles {Q A X E : Type 0} (kind : ReplyKind Q A X E) (line : E �
   pub promised : Promises (ends_audit kind line (still_told g disk new_disk) key publication reply q chain)
       TellsNone (Rose (g.faults disk) (g.faults new_disk)) files loads new_loads taken new_taken
       writes new_writes outcome
-  pub finds : WritesFindings g new_disk (IsBrought kind) key reply chain files taken new_taken
-      outcome
+  pub finds : WritesFindings g new_disk (IsBrought kind) (ClashIn kind) key publication reply
+      chain files taken new_taken outcome
   pub headline : AuditsAccepted kind g (still_told g disk new_disk) new_disk key publication reply q chain files
       taken new_taken outcome
   pub stays : AtEachMoment g disk new_disk Stays

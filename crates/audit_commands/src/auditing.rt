@@ -11,7 +11,7 @@ ghost use Rattle.command_files.specs.Asking.{AsksFront, if_named};
 ghost use Rattle.command_files.specs.Spared.{SparesLibrary, SparesBut};
 ghost use Rattle.route_audit.specs.Routes.{routes};
 ghost use Rattle.audit_commands.specs.Auditing.{EndsAudit, ends_audit};
-ghost use Rattle.audit_commands.specs.Headline.{AuditsFiles, IsBrought, RestsOn, WritesFindings};
+ghost use Rattle.audit_commands.specs.Headline.{ClashIn, AuditsFiles, IsBrought, RestsOn, WritesFindings};
 
 use crate::telling::{RouteTelling, Telling, tell};
 use book_model::Query;
@@ -115,7 +115,8 @@ fn write_findings<T: Telling, L: Library, K: Sink, D: Disk>(
         if_named (option_map (λ name. name.now) chain.entry))
         (L.asked library.old) (L.asked library.new) }
     ensures sink { SparesBut Fault.Sink result (K.faults sink.old) (K.faults sink.new) }
-    ensures finds { WritesFindings D.Disk disk.new (IsBrought T.Kind.kind) key.now reply.now
+    ensures finds { WritesFindings D.Disk disk.new (IsBrought T.Kind.kind)
+        (ClashIn T.Kind.kind) key.now publication.now reply.now
         (option_map (λ name. name.now) chain.entry) (L.files library.new)
         (K.taken sink.old) (K.taken sink.new) result }
     ensures unfaulted { result ≢ Err Fault.Disk → D.faults disk.new ≡ D.faults disk.old }
@@ -155,10 +156,12 @@ fn find<T: Telling, D: Disk>(
         told.end told.text.items) }
     ensures verdict { IfOk result (λ told. MayEnd TellsNone told.end) }
     ensures rests { IfOk result (λ told.
-        RestsOn D.Disk disk.new (IsBrought T.Kind.kind reply.now) key.now links.now told.end
+        RestsOn D.Disk disk.new (IsBrought T.Kind.kind reply.now)
+        (ClashIn T.Kind.kind publication reply.now) key.now links.now told.end
         told.text.items) }
     ensures others { IfErr result (λ fault.
-        RestsOn D.Disk disk.new (IsBrought T.Kind.kind reply.now) key.now links.now (Err fault) []) }
+        RestsOn D.Disk disk.new (IsBrought T.Kind.kind reply.now)
+        (ClashIn T.Kind.kind publication reply.now) key.now links.now (Err fault) []) }
     ensures refused { IfErr result (WhyNot (Rose (D.faults disk.old) (D.faults disk.new))
         (EndsAudit T.Kind.kind T.refused
         (still_told D.Disk disk.old disk.new) key.now links.now publication reply.now query)) }

@@ -10,7 +10,7 @@ use Rattle.command_files.specs.declared.ended.Conclusion.{Conclusion}
 use Rattle.command_files.specs.declared.ended.Conclusion.TheVariants.{Done, Refused, Evidence}
 use Rattle.command_files.specs.Outcomes.{status_of, outcome_of}
 use Rattle.command_files.specs.Endings.{Ending, Answered, IsSilent, TellsNone, EndsReading}
-use Rattle.command_files.specs.Exact.{NoneFailed, IsExact}
+use Rattle.command_files.specs.Exact.{NoneFailed, IsExact, HidesNone}
 use Rattle.command_files.specs.Reading.{octets_in, chain_at, as_spelled, Fails, Gives}
 
 abbrev Outcome : Type 0
@@ -196,3 +196,12 @@ given_is_read read n h = h
 -- the first fault of a file ends a command, and nothing is written
 first_fault_ends : (Next : ℕ → Ending) (outcome : Outcome) (text : List ℕ) → EndsReading (Err BadHex) Next outcome text → (outcome ≡ Err BadHex) × (text ≡ [])
 first_fault_ends Next outcome text h = h
+
+-- ---- want of memory
+
+-- where memory is said to be short, no fault was counted
+no_fault_is_hidden : HidesNone (Err Memory) 3 4 → ⊥
+no_fault_is_hidden h = let same : 4 ≡ 3 = h refl in omega (arith, same)
+
+none_was_there : HidesNone (Err Memory) 3 3
+none_was_there e = refl

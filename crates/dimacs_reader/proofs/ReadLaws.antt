@@ -12,12 +12,11 @@ use Rattle.road_map.specs.declared.parts.Parts.{Parts}
 use Rattle.dimacs_reader.specs.declared.arc.Arc.{Arc}
 use Rattle.dimacs_reader.specs.declared.graph.Graph.{Graph}
 use Rattle.dimacs_reader.specs.declared.problem.GraphSize.{GraphSize}
-use Rattle.dimacs_reader.specs.declared.problem.TheConstants.{MOST_NODES, MOST_ARCS}
 use Rattle.dimacs_reader.specs.declared.error.DimacsError.{DimacsError}
 use Rattle.dimacs_reader.specs.declared.error.DimacsError.TheVariants.{NoProblem, BadLine, BadNumber, TooMany, Range, Count, Repeated, Unpaired, Memory}
 use Rattle.dimacs_reader.specs.Told.{told_lines}
 use Rattle.dimacs_reader.specs.Fields.{size_in, arc_in, place_in}
-use Rattle.dimacs_reader.specs.Dimacs.{◌>>=◌, where_holds, where_none, is_id, graph_size_of, arc_of, each_of, graph_from, graph_of, place_count_of, place_of, places_from, places_of, placed_twice, nodes_of, first_unpaired, roads_of, dimacs_of}
+use Rattle.dimacs_reader.specs.Dimacs.{◌>>=◌, where_holds, where_none, most_nodes, most_arcs, is_id, graph_size_of, arc_of, each_of, graph_from, graph_of, place_count_of, place_of, places_from, places_of, placed_twice, nodes_of, first_unpaired, roads_of, dimacs_of}
 use Rattle.dimacs_reader.proofs.FileLaws.{counted, all_placed}
 use Rattle.dimacs_reader.proofs.NodeLaws.{InRange}
 use Rattle.dimacs_reader.proofs.FitLaws.{place_fits, arc_fits}
@@ -102,7 +101,7 @@ arc_range nodes number (kind ∷ from ∷ to ∷ length ∷ []) arc h = by_kind 
         let ends = and_both (is_id nodes m.0.from) (is_id nodes m.0.to) both.0 in
         subst (λ (a : Arc). Within nodes a) both.1 (record { from = id_range nodes m.0.from ends.0; to = id_range nodes m.0.to ends.1; short = arc_fits from to length m.0 (ok_some (arc_in from to length) (BadNumber 1 number) m.0 m.1) })
 
-size_range : (number : ℕ) (words : List (List ℕ)) (size : GraphSize) → graph_size_of number words ≡ Ok size → (size.nodes ≤ MOST_NODES) × (size.arcs ≤ MOST_ARCS)
+size_range : (number : ℕ) (words : List (List ℕ)) (size : GraphSize) → graph_size_of number words ≡ Ok size → (size.nodes ≤ most_nodes) × (size.arcs ≤ most_arcs)
 size_range number [] size h = cc
 size_range number (a ∷ []) size h = cc
 size_range number (a ∷ b ∷ []) size h = cc
@@ -113,13 +112,13 @@ size_range number (kind ∷ problem ∷ nodes ∷ arcs ∷ []) size h = by_kind 
     below : (a b : ℕ) → nat_le a b ≡ true → a ≤ b
     below a b e = grind (arith, e)
 
-    by_kind : (b : Bool) → cond b (ok_or (size_in nodes arcs) (BadNumber 1 number) >>= (λ (size : GraphSize). where_holds (nat_le size.nodes MOST_NODES && nat_le size.arcs MOST_ARCS) (TooMany 1) size)) (Err (NoProblem 1)) ≡ Ok size → (size.nodes ≤ MOST_NODES) × (size.arcs ≤ MOST_ARCS)
+    by_kind : (b : Bool) → cond b (ok_or (size_in nodes arcs) (BadNumber 1 number) >>= (λ (size : GraphSize). where_holds (nat_le size.nodes most_nodes && nat_le size.arcs most_arcs) (TooMany 1) size)) (Err (NoProblem 1)) ≡ Ok size → (size.nodes ≤ most_nodes) × (size.arcs ≤ most_arcs)
     by_kind false bad = cc
     by_kind true good =
-        let m = bind_ok (ok_or (size_in nodes arcs) (BadNumber 1 number)) (λ (size : GraphSize). where_holds (nat_le size.nodes MOST_NODES && nat_le size.arcs MOST_ARCS) (TooMany 1) size) size good in
-        let both = where_ok (nat_le m.0.nodes MOST_NODES && nat_le m.0.arcs MOST_ARCS) (TooMany 1) m.0 size m.2 in
-        let counts = and_both (nat_le m.0.nodes MOST_NODES) (nat_le m.0.arcs MOST_ARCS) both.0 in
-        subst (λ (s : GraphSize). (s.nodes ≤ MOST_NODES) × (s.arcs ≤ MOST_ARCS)) both.1 (below m.0.nodes MOST_NODES counts.0, below m.0.arcs MOST_ARCS counts.1)
+        let m = bind_ok (ok_or (size_in nodes arcs) (BadNumber 1 number)) (λ (size : GraphSize). where_holds (nat_le size.nodes most_nodes && nat_le size.arcs most_arcs) (TooMany 1) size) size good in
+        let both = where_ok (nat_le m.0.nodes most_nodes && nat_le m.0.arcs most_arcs) (TooMany 1) m.0 size m.2 in
+        let counts = and_both (nat_le m.0.nodes most_nodes) (nat_le m.0.arcs most_arcs) both.0 in
+        subst (λ (s : GraphSize). (s.nodes ≤ most_nodes) × (s.arcs ≤ most_arcs)) both.1 (below m.0.nodes most_nodes counts.0, below m.0.arcs most_arcs counts.1)
 
 same_number : (a b : ℕ) → (a == b) ≡ true → a ≡ b
 same_number a b e = grind (arith, e)
@@ -127,8 +126,8 @@ same_number a b e = grind (arith, e)
 -- the arcs of a graph join its nodes, and are not too many
 pub record GraphRange (graph : Graph) : Type 0 where
   pub within : All (Within graph.nodes) graph.arcs
-  pub few : length graph.arcs ≤ MOST_ARCS
-  pub small : graph.nodes ≤ MOST_NODES
+  pub few : length graph.arcs ≤ most_arcs
+  pub small : graph.nodes ≤ most_nodes
 
 pub graph_range : (text : List ℕ) (graph : Graph) → graph_of text ≡ Ok graph → GraphRange graph
 unfolding graph_of
@@ -143,7 +142,7 @@ graph_range text graph h = by_lines (told_lines 0 text) h
         let is = where_ok (length arcs.0 == size.0.arcs) (Count 1) made graph arcs.2 in
         let long : length arcs.0 ≡ size.0.arcs = same_number (length arcs.0) size.0.arcs is.0 in
         let within : All (Within size.0.nodes) arcs.0 = each_ok (Within size.0.nodes) (arc_of size.0.nodes) (arc_range size.0.nodes) lines arcs.0 arcs.1 in
-        let most : (size.0.nodes ≤ MOST_NODES) × (size.0.arcs ≤ MOST_ARCS) = size_range problem.0 problem.1 size.0 size.1 in
+        let most : (size.0.nodes ≤ most_nodes) × (size.0.arcs ≤ most_arcs) = size_range problem.0 problem.1 size.0 size.1 in
         subst (λ (g : Graph). GraphRange g) is.1 (record { within = within; few = omega (arith, most.1); small = most.0 })
 
 -- the places are as many as the nodes, and their ids are those of nodes

@@ -12,7 +12,6 @@ use Rattle.road_reader.specs.Fields.{natural_of}
 use Rattle.dimacs_reader.specs.declared.arc.Arc.{Arc}
 use Rattle.dimacs_reader.specs.declared.graph.Graph.{Graph}
 use Rattle.dimacs_reader.specs.declared.problem.GraphSize.{GraphSize}
-use Rattle.dimacs_reader.specs.declared.problem.TheConstants.{MOST_NODES, MOST_ARCS}
 use Rattle.dimacs_reader.specs.declared.error.DimacsError.{DimacsError}
 use Rattle.dimacs_reader.specs.declared.error.DimacsError.TheVariants.{NoProblem, BadLine, BadNumber, TooMany, Range, Count, Repeated, Unpaired}
 use Rattle.dimacs_reader.specs.Told.{told_lines}
@@ -28,12 +27,19 @@ Err fault >>= next = Err fault
 abbrev pub where_holds : {A : Type 0} → Bool → DimacsError → A → Result A DimacsError
 where_holds test fault value = if test then Ok value else Err fault
 
+-- how many nodes a file may have, and how many arcs
+abbrev pub most_nodes : ℕ
+most_nodes = 65536
+
+abbrev pub most_arcs : ℕ
+most_arcs = 524288
+
 -- what the problem line of a graph says: 'p sp NODES ARCS'
 abbrev pub graph_size_of : ℕ → List (List ℕ) → Result GraphSize DimacsError
 graph_size_of number (kind ∷ problem ∷ nodes ∷ arcs ∷ []) =
     if bytes_eq kind (codes "p") && bytes_eq problem (codes "sp")
     then ok_or (size_in nodes arcs) (BadNumber 1 number) >>=
-    (λ size. where_holds (nat_le size.nodes MOST_NODES && nat_le size.arcs MOST_ARCS)
+    (λ size. where_holds (nat_le size.nodes most_nodes && nat_le size.arcs most_arcs)
     (TooMany 1) size)
     else Err (NoProblem 1)
 graph_size_of number _ = Err (NoProblem 1)
@@ -75,7 +81,7 @@ place_count_of number (kind ∷ aux ∷ problem ∷ form ∷ nodes ∷ []) =
     if bytes_eq kind (codes "p") && bytes_eq aux (codes "aux") && bytes_eq problem
     (codes "sp") && bytes_eq form (codes "co")
     then ok_or (natural_of nodes) (BadNumber 2 number) >>=
-    (λ count. where_holds (nat_le count MOST_NODES) (TooMany 2) count)
+    (λ count. where_holds (nat_le count most_nodes) (TooMany 2) count)
     else Err (NoProblem 2)
 place_count_of number _ = Err (NoProblem 2)
 

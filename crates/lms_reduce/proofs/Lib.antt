@@ -1,4 +1,5 @@
 pub mod WayLemmas
+pub mod MeetingLemmas
 pub mod TextLemmas
 pub mod DigitLemmas
 pub mod GoodLemmas

@@ -20,7 +20,7 @@ take-inside at n m xs l =
     let more : m ≡ at + (m - at) = omega arith in
     ap (λ k. take n (drop at (take k xs))) more ∙ ap (take n) (drop-take at (m - at) xs) ∙ take-take n (m - at) (drop at xs) (omega (arith, l))
 
-path-is : (i seed : List ℕ) (h q k : ℕ) → path_node i seed h q k ≡ node_of i seed h k (sibling ((2 ^ h + q) / 2 ^ k))
+pub path-is : (i seed : List ℕ) (h q k : ℕ) → path_node i seed h q k ≡ node_of i seed h k (sibling ((2 ^ h + q) / 2 ^ k))
 unfolding path_node
 path-is i seed h q k = refl
 

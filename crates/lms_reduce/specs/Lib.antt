@@ -1,5 +1,6 @@
 pub mod Texts
 pub mod Ways
 pub mod Released
+pub mod Meetings
 pub mod Comparing
 pub mod Reduction

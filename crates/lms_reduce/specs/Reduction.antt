@@ -1,9 +1,10 @@
 -- What a forgery comes down to: a collision of the hash, or a value of a chain that nobody but the
 -- owner could know.
-use Rattle.std.specs.Prelude.{ℕ, ◌≡◌, ◌<◌, ◌≤◌, ◌+◌, ◌*◌, List, take, drop, slice_index, Option, Some, Ok}
+use Rattle.std.specs.Prelude.{ℕ, ◌≡◌, ◌⊎◌, ◌<◌, ◌≤◌, ◌+◌, ◌*◌, List, take, drop, slice_index, Option, Some, Ok}
 use Rattle.sha2.specs.Sha256.{sha256}
+use Rattle.hash_collision.specs.Collisions.{AreCollision}
 use Rattle.lms_tree.specs.Signatures.{KeyOf, number_at, public_key, verified}
-use Rattle.lms_reduce.specs.Ways.{AreCollision}
+use Rattle.lms_reduce.specs.Meetings.{MeetOnWay, MeetSigned}
 use Rattle.lms_reduce.specs.Released.{claimed_digits, own_value, IsUnreleased}
 use Rattle.lms_reduce.specs.declared.reduced.Reduced.{Reduced}
 use Rattle.lms_reduce.specs.declared.reduced.Reduced.TheVariants.{Collision, Chain}
@@ -28,8 +29,16 @@ pub record ShowsUnreleased (key : KeyOf) (spent : Option (List ℕ)) (text sig :
   pub least : (b : ℕ) → b < 34 → IsUnreleased key slot spent b
       (slice_index (claimed_digits key text sig) b) → at ≤ b
 
+-- A collision where the check of a signature meets what the key itself hashes: the left text is the
+-- key's own, the right one is hashed of the signature.
+pub record CollidesWithOwn (key : KeyOf) (spent : Option (List ℕ)) (text sig left right : List ℕ) :
+    Type 0 where
+  pub collide : AreCollision sha256 left right
+  pub meet : MeetOnWay key (number_at sig 0) text sig left right
+      ⊎ MeetSigned key spent text sig left right
+
 -- what a signature on a text comes down to, where its slot has signed nothing or another text
 abbrev pub Reduces : KeyOf → Option (List ℕ) → List ℕ → List ℕ → Reduced → Type 0
-Reduces key spent text sig (Collision left right) = AreCollision sha256 left right
+Reduces key spent text sig (Collision left right) = CollidesWithOwn key spent text sig left right
 Reduces key spent text sig (Chain slot at step value) = ShowsUnreleased key spent text sig slot at
     step value

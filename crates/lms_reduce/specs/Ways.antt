@@ -1,6 +1,6 @@
 -- Chains and ways up a tree over any hash: over SHA-256 they are those of RFC 8554, § 4.3 and §
 -- 5.4.2.
-use Rattle.std.specs.Prelude.{◌≡◌, ◌≢◌, ℕ, zero, suc, ◌+◌, ◌*◌, ◌/◌, ◌^◌, List, take, drop}
+use Rattle.std.specs.Prelude.{ℕ, zero, suc, ◌+◌, ◌*◌, ◌/◌, ◌^◌, List, take, drop}
 use Rattle.lms_reduce.specs.Texts.{step_text, parent_text}
 
 -- that many steps of chain at, the first with the number from
@@ -14,8 +14,3 @@ unfoldable pub raised : (List ℕ → List ℕ) → List ℕ → ℕ → List �
 raised hash i r value path zero = value
 raised hash i r value path (suc n) =
     hash (parent_text i (r / 2 ^ n) (raised hash i r value path n) (take 32 (drop (32 * n) path)))
-
--- two different texts with one digest
-pub record AreCollision (hash : List ℕ → List ℕ) (left right : List ℕ) : Type 0 where
-  pub differ : left ≢ right
-  pub one_digest : hash left ≡ hash right

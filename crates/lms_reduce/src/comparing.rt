@@ -4,12 +4,15 @@ ghost use Rattle.std.specs.Prelude.{◌≡◌, ◌≢◌, ℕ, ◌*◌, ◌^◌,
 ghost use Rattle.sha2.specs.Sha256.{sha256};
 ghost use Rattle.lms_ots.specs.Chains.{candidate_of, ended_value, key_of, public_of, text_hash};
 ghost use Rattle.lms_tree.specs.Signatures.{height_of, number_at, path_node, public_key, sibling, verified};
+ghost use Rattle.hash_collision.specs.Collisions.{AreCollision};
 ghost use Rattle.lms_reduce.specs.Comparing.{EndsOwn, ShowsOwn};
+ghost use Rattle.lms_reduce.specs.Meetings.{MeetAtEnds, MeetInChain, MeetOnWay};
 ghost use Rattle.lms_reduce.specs.Released.{claimed_digits};
-ghost use Rattle.lms_reduce.specs.Ways.{AreCollision};
+ghost use Rattle.lms_reduce.specs.Texts.{message_text};
 
 use crate::texts::{digest_of, leaf_text, message_text, own_ends, shown_ends};
 use crate::ways::{highest_meeting, is_same, meeting};
+use hash_collision::octet_law;
 use lms_ots::{array_at, candidate, chain, digits, public_hash, secret, write_array};
 use lms_tree::Key;
 use octet_text::{Digest32, NoMemory, Octets, Sha, put_octets};
@@ -33,12 +36,18 @@ fn copied(alloc: Global, text: &[u8]) -> Result<Octets, NoMemory>
 
 // Two texts that collide, kept.
 fn keep(alloc: Global, left: &[u8], right: &[u8]) -> Result<Option<Clash>, NoMemory>
-    requires { AreCollision sha256 left.now right.now }
-    ensures { IfOk result (λ r. IsSomeAnd r (λ c. AreCollision sha256 c.left c.right)) }
+    requires differ { left.now ≢ right.now }
+    requires one_digest { sha256 left.now ≡ sha256 right.now }
+    ensures collide { IfOk result (λ r. IsSomeAnd r (λ c. AreCollision sha256 c.left c.right)) }
+    ensures kept { IfOk result (λ r.
+        IsSomeAnd r (λ c. (c.left ≡ left.now) × (c.right ≡ right.now))) }
 {
-    let left = copied(alloc, left)?;
-    let right = copied(alloc, right)?;
-    Ok(Some(Clash { left, right }))
+    let own = copied(alloc, left)?;
+    let shown = copied(alloc, right)?;
+    Ok(Some(Clash {
+        left: own,
+        right: shown,
+    }))
 }
 
 // The other child of a node's parent.
@@ -79,6 +88,8 @@ pub(crate) fn compare_ways(
     requires good { verified (public_key key.now) text.now sig.now ≡ Ok tt }
     requires slot { q ≡ number_at sig.now 0 }
     ensures found { IfOk result (λ r. IfSome r (λ c. AreCollision sha256 c.left c.right)) }
+    ensures meet { IfOk result (λ r. IfSome r (λ c.
+        MeetOnWay key.now q text.now sig.now c.left c.right)) }
     ensures none { IfOk result (λ r. IfNone r
         (candidate_of key.now.i q (take 1124 (drop 4 sig.now)) text.now
         ≡ public_of key.now.i q key.now.seed)) }
@@ -118,6 +129,8 @@ pub(crate) fn compare_ends(
     requires same { key_of i.now q (ended_value i.now q digits.now ots.now)
         ≡ public_of i.now q seed.now }
     ensures found { IfOk result (λ r. IfSome r (λ c. AreCollision sha256 c.left c.right)) }
+    ensures meet { IfOk result (λ r. IfSome r (λ c.
+        MeetAtEnds i.now q seed.now digits.now ots.now c.left c.right)) }
     ensures none { IfOk result (λ r. IfNone r (EndsOwn i.now q seed.now digits.now ots.now)) }
 {
     let own = own_ends(i, q, seed);
@@ -140,6 +153,8 @@ pub(crate) fn compare_chains(
     requires size { length ots.now ≡ 1124 }
     requires ends { EndsOwn i.now q seed.now digits.now ots.now }
     ensures found { IfOk result (λ r. IfSome r (λ c. AreCollision sha256 c.left c.right)) }
+    ensures meet { IfOk result (λ r. IfSome r (λ c.
+        MeetInChain i.now q seed.now digits.now ots.now c.left c.right)) }
     ensures none { IfOk result (λ r. IfNone r (ShowsOwn i.now q seed.now digits.now ots.now)) }
 {
     for at in 0..34u16 {
@@ -165,10 +180,14 @@ pub(crate) fn compare_messages(
 ) -> Result<Clash, NoMemory>
     requires differ { own.now ≢ text.now }
     requires one_hash { text_hash i.now q own_c.now own.now ≡ text_hash i.now q c.now text.now }
-    ensures { IfOk result (λ clash. AreCollision sha256 clash.left clash.right) }
+    ensures collide { IfOk result (λ clash. AreCollision sha256 clash.left clash.right) }
+    ensures own { IfOk result (λ clash. clash.left ≡ message_text i.now q own_c.now own.now) }
+    ensures shown { IfOk result (λ clash. clash.right ≡ message_text i.now q c.now text.now) }
 {
     let left = message_text(alloc, i, q, own_c, own)?;
     let right = message_text(alloc, i, q, c, text)?;
+    octet_law(left.as_slice());
+    octet_law(right.as_slice());
     Ok(Clash { left, right })
 }
 
@@ -183,6 +202,8 @@ pub(crate) fn compare(
     requires good { verified (public_key key.now) text.now sig.now ≡ Ok tt }
     requires slot { q ≡ number_at sig.now 0 }
     ensures found { IfOk result (λ r. IfSome r (λ c. AreCollision sha256 c.left c.right)) }
+    ensures meet { IfOk result (λ r. IfSome r (λ c.
+        MeetOnWay key.now q text.now sig.now c.left c.right)) }
     ensures none { IfOk result (λ r. IfNone r
         (ShowsOwn key.now.i q key.now.seed (claimed_digits key.now text.now sig.now)
         (take 1124 (drop 4 sig.now)))) }

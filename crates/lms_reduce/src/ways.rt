@@ -1,7 +1,10 @@
 //! Where two values that lead to one digest lead there from different texts.
 ghost use Rattle.std.specs.Prelude.{◌≡◌, ◌≢◌, ◌-◌, ◌/◌, length, IfSome, IfNone};
 ghost use Rattle.std.specs.Bool.{OnTrue, OnFalse};
-ghost use Rattle.lms_reduce.specs.Ways.{AreCollision, raised, walked};
+ghost use Rattle.octet_text.specs.Exact.{IsBytes};
+ghost use Rattle.hash_collision.specs.Collisions.{AreCollision};
+ghost use Rattle.lms_reduce.specs.Meetings.{IsFirstMeeting, IsHighestMeeting};
+ghost use Rattle.lms_reduce.specs.Ways.{raised, walked};
 
 use crate::texts::{digest_of, parent_text, step_text};
 use lms_ots::array_at;
@@ -31,6 +34,7 @@ pub(crate) fn is_same(left: &[u8], right: &[u8]) -> bool
 
 // Whether two different texts have one digest.
 fn is_collision(left: &[u8], right: &[u8], left_digest: &Digest32, right_digest: &Digest32) -> bool
+    ensures octets { IsBytes left.now × IsBytes right.now }
     ensures found { OnTrue result
         ((left.now ≢ right.now) × (left_digest.now ≡ right_digest.now)) }
     ensures none { OnFalse result (left_digest.now ≡ right_digest.now → left.now ≡ right.now) }
@@ -49,6 +53,8 @@ pub fn meeting<H: Hasher>(
     right: &Digest32,
 ) -> Option<TwoSteps>
     ensures found { IfSome result (λ two. AreCollision H.hash two.left two.right) }
+    ensures first { IfSome result (λ two.
+        IsFirstMeeting H.hash i.now q at from left.now right.now two.left two.right) }
     ensures none { IfNone result (
         walked H.hash i.now q at from (255 - from) left.now
         ≡ walked H.hash i.now q at from (255 - from) right.now
@@ -82,6 +88,9 @@ pub fn highest_meeting<H: Hasher>(
 ) -> Option<TwoNodes>
     requires paths { length left_path.now ≡ length right_path.now }
     ensures found { IfSome result (λ two. AreCollision H.hash two.left two.right) }
+    ensures highest { IfSome result (λ two.
+        IsHighestMeeting H.hash i.now r left.now left_path.now right.now right_path.now
+        (length right_path.now / 32) two.left two.right) }
     ensures none { IfNone result (
         raised H.hash i.now r left.now left_path.now (length right_path.now / 32)
         ≡ raised H.hash i.now r right.now right_path.now (length right_path.now / 32)

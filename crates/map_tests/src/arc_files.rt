@@ -49,11 +49,14 @@ fn fault_of(alloc: Global, graph: &[u8], places: &[u8]) -> Option<DimacsError> {
     read_dimacs(alloc, graph, places).err()
 }
 
-static FAULTS: [(&[u8], &[u8], DimacsError); 13] = [
+static FAULTS: [(&[u8], &[u8], DimacsError); 16] = [
     (b"# x\np sp 1 0\n", b"", DimacsError::NoProblem(1)),
     (b"p sp 1\n", b"", DimacsError::NoProblem(1)),
     (b"p sp 65537 x\na 1\n", b"", DimacsError::BadNumber(1, 1)),
     (b"p sp 2 524289\n", b"", DimacsError::TooMany(1)),
+    (b"p sp 2 524288\n", b"", DimacsError::Count(1)),
+    (b"p sp 65537 1\n", b"", DimacsError::TooMany(1)),
+    (b"p sp 65536 1\n", b"", DimacsError::Count(1)),
     (
         b"p sp 3 5\na 1 2 4\na 2 1 4\na 2 3 5\nc\na 4 2 5\na 3\n",
         b"",

@@ -23,7 +23,8 @@ use Rattle.route_server.specs.Headers.{node_texts}
 use Rattle.route_server.specs.Keeping.{Kept, IsKept, HasSpellings, header_in, publication_in, texts_in}
 use Rattle.route_server.proofs.OneHeader.{SameLeaves, same_leaves, kind_same}
 use Rattle.route_audit.specs.Comparing.{leaves_or_none}
-use Rattle.route_audit.specs.Evidence.{Part, IsTreesOwn, Clashes, AreCollision}
+use Rattle.hash_collision.specs.Collisions.{AreCollision}
+use Rattle.route_audit.specs.Evidence.{Part, IsTreesOwn, Clashes}
 use Rattle.route_audit.proofs.Authentic.{one_leaf, stands}
 use Rattle.route_audit.proofs.Folded.{leaves_are}
 use Rattle.route_audit.proofs.Judged.{leaves_same, kind_of_items}
@@ -115,7 +116,7 @@ right_of hash k q x a met true_of distances own =
 
 -- ---- collisions
 
-pub collides_of : (hash : List ℕ → List ℕ) (k : Kept) (kept : IsKept k) (a : NearReply) (two : TwoTexts) → AreCollision hash two → Clashes hash (part_of k a) two → Collides hash sha256 (publication_in hash k) a two
+pub collides_of : (hash : List ℕ → List ℕ) (k : Kept) (kept : IsKept k) (a : NearReply) (two : TwoTexts) → AreCollision hash two.left two.right → Clashes hash (part_of k a) two → Collides hash sha256 (publication_in hash k) a two
 collides_of hash k kept a two collision clash = record {
   collision = collision;
   not_own = λ own. clash.not_own (own_by hash k kept a own);

@@ -76,7 +76,7 @@ are_replies one accepts = record {
   one_taken = λ hash key links octets q x y a b h k. same_taken x y (one hash key links octets q 0 (Ok x) (Ok y) (accepts hash key links octets q 0 x h.accepts) (accepts hash key links octets q 0 y k.accepts));
   one_answer = λ octets a b h k. one_spelled a b (whole near_reply octets) h k;
   not_refused = λ hash key links octets q x a e h k. not_both_ends x e (one hash key links octets q 0 (Ok x) (Err e) (accepts hash key links octets q 0 x h.accepts) k.0);
-  collision = λ hash sha p a two h. (h.collision.differ, h.collision.one_digest);
+  collision = λ hash sha p a two h. h.collision;
   truth = λ hash sha p q x a h. h.within;
   not_both = λ hash sha p q x a two h k. k.not_own h.own;
 }

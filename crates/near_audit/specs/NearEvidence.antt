@@ -8,7 +8,8 @@ use Rattle.merkle_cover.specs.declared.clashes.TwoTexts.{TwoTexts}
 use Rattle.road_leaf.specs.declared.leaf.NodeLeaf.{NodeLeaf}
 use Rattle.proof_octets.specs.declared.publication.Publication.{Publication}
 use Rattle.route_server.specs.Headers.{node_texts, IsBook}
-use Rattle.route_audit.specs.Evidence.{Part, IsTreesOwn, Clashes, AreCollision}
+use Rattle.hash_collision.specs.Collisions.{AreCollision}
+use Rattle.route_audit.specs.Evidence.{Part, IsTreesOwn, Clashes}
 use Rattle.near_model.specs.declared.query.NearQuery.{NearQuery}
 use Rattle.near_model.specs.declared.reply.NearReply.{NearReply}
 use Rattle.near_model.specs.Radius.{AreWithin}
@@ -43,7 +44,7 @@ pub record IsRight (hash sha : List ℕ → List ℕ) (p : Publication) (q : Nea
 -- publication's book
 pub record Collides (hash sha : List ℕ → List ℕ) (p : Publication) (a : NearReply)
     (two : TwoTexts) : Type 0 where
-  pub collision : AreCollision hash two
+  pub collision : AreCollision hash two.left two.right
   pub not_own : ¬ IsOwn hash sha p a
   pub kind : Kind
   pub book : Book

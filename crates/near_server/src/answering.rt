@@ -60,7 +60,7 @@ fn reply_from<H: Hasher>(
 /// nodes whose distance is at most the radius, under the publication's header and signature, with the
 /// cover of all other leaves.
 ///
-/// `UnknownNode` comes exactly where no node has the id that was asked about.
+/// `UnknownNode` comes exactly where no node has the id that was asked about, whatever memory there is.
 pub fn answer_near<H: Hasher>(
     alloc: Global,
     held: &Held<H>,
@@ -70,6 +70,8 @@ pub fn answer_near<H: Hasher>(
     ensures honest { IfOk result (λ octets.
         IsNearHonest H.hash sha256 (publication_in H.hash held.now) query octets.items) }
     ensures refused { IfErr result (WhyNot held.now.map.parts query) }
+    ensures unknown { ¬ Knows held.now.map.parts query.from
+        → result ≡ Err (NearRefusal.UnknownNode query.from) }
 {
     near_range_laws();
     let map = held.map();

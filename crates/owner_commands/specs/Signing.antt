@@ -95,13 +95,15 @@ OnNoWriting (Err fault) P = P
 module _ {M : Type 0} (octets : M → Option (List ℕ)) (label handed puts room : M → ℕ) where
   -- The mirrors that stay took all of a text, each of the others had promised less: all stay where
   -- the work was done, and not all where one is said to be lost. Where the sink failed, those that
-  -- stay took a front of it.
-  abbrev pub Mirrored : Result Conclusion Fault → List ℕ → List M → List M → Type 0
-  Mirrored (Ok verdict) text old kept = Mirrors octets label handed puts room
+  -- stay took a front of it, no longer than the sink's.
+  abbrev pub Mirrored : Result Conclusion Fault → List ℕ → Option (List ℕ) → Option (List ℕ) →
+      List M → List M → Type 0
+  Mirrored (Ok verdict) text before now old kept = Mirrors octets label handed puts room
       (pieces_in text) text old kept × (length kept ≡ length old)
-  Mirrored (Err MirrorLost) text old kept = Mirrors octets label handed puts room
+  Mirrored (Err MirrorLost) text before now old kept = Mirrors octets label handed puts room
       (pieces_in text) text old kept × (length kept < length old)
-  Mirrored outcome text old kept = MirrorsFront octets label handed puts room text old kept
+  Mirrored outcome text before now old kept = MirrorsFront octets label handed puts room text before now
+      old kept
 
   -- what the sink and the mirrors took is of one publication, whose header stands on the disk
   pub record SpreadSealed {D : Type 0} (g : Ghosts D) (before now : D)
@@ -110,7 +112,7 @@ module _ {M : Type 0} (octets : M → Option (List ℕ)) (label handed puts room
     pub publication : Publication
     pub on_disk : StandsOnDisk g before now publication
     pub written : Wrote outcome taken_before taken_now (publication_text publication)
-    pub mirrored : Mirrored outcome (publication_text publication) old kept
+    pub mirrored : Mirrored outcome (publication_text publication) taken_before taken_now old kept
 
   -- so it is where something may have been written, and else the mirrors stay as they are
   pub record SealsWhatItMirrors {D : Type 0} (g : Ghosts D) (before now : D)

@@ -1,5 +1,5 @@
 -- Pieces that are handed on.
-use Rattle.std.proofs.Common.{◌≡◌, ℕ, ◌+◌, ◌-◌, ◌*◌, ◌<◌, ◌≤◌, ◌⊎◌, inl, inr, min, List, [], ◌++◌, length, take, drop, refl, sym, ap, ◌∙◌, subst, arith, Option}
+use Rattle.std.proofs.Common.{◌≡◌, ℕ, ◌+◌, ◌-◌, ◌*◌, ◌<◌, ◌≤◌, ◌⊎◌, inl, inr, min, List, ◌++◌, length, take, drop, refl, sym, ap, ◌∙◌, subst, arith, Option}
 use Rattle.std.specs.Prelude.{OnErr}
 use Rattle.std.specs.declared.result.Result.{Result}
 use Rattle.std.specs.declared.result.Result.TheVariants.{Ok, Err}
@@ -104,14 +104,16 @@ module _ {M : Type 0} (octets : M → Option (List ℕ)) (label handed puts room
 
   -- the sink failed
   pub front_sent : (text buffer left : List ℕ) (count : ℕ) (before now now' : Option (List ℕ)) (old kept : List M) (piece : List ℕ) → piece ≡ take count buffer → AppendsFront now now' piece → IsUnderWay text buffer left count before now old kept
-      → AppendsFront before now' text × MirrorsFront octets label handed puts room text old kept
+      → AppendsFront before now' text × MirrorsFront octets label handed puts room text before now' old kept
   front_sent text buffer left count before now now' old kept piece piece_is front at =
       let m = front.0 in
       let same : piece ≡ take count (drop at.n text) = piece_is ∙ at.piece_is in
       let size : length piece ≡ count = ap length same ∙ length-take-le count (drop at.n text) (omega (arith, at.count_is)) in
       let less : m ≤ count = omega (arith, front.1, size) in
       let part : take m piece ≡ take m (drop at.n text) = ap (take m) same ∙ take-take m count (drop at.n text) less in
-      let both : take (at.n + m) text ≡ take at.n text ++ take m piece = take-add at.n m text ∙ ap (λ x. take at.n text ++ x) (sym part) in (
-        (at.n + m, omega (arith, less, at.count_is, length-drop at.n text, at.within), subst (λ x. Appends before now' x) (sym both) (Appends-++ before now now' (take at.n text) (take m piece) at.written front.2)),
-        record { n = at.n; count = div_ceil at.n 4096; within = at.within; few = rising at.n (length text) at.within; took = at.took },
+      let both : take (at.n + m) text ≡ take at.n text ++ take m piece = take-add at.n m text ∙ ap (λ x. take at.n text ++ x) (sym part) in
+      let within : at.n + m ≤ length text = omega (arith, less, at.count_is, length-drop at.n text, at.within) in
+      let writes : Appends before now' (take (at.n + m) text) = subst (λ x. Appends before now' x) (sym both) (Appends-++ before now now' (take at.n text) (take m piece) at.written front.2) in (
+        (at.n + m, within, writes),
+        record { sent = at.n + m; within = within; written = writes; n = at.n; behind = omega arith; count = div_ceil at.n 4096; few = rising at.n (length text) at.within; took = at.took },
       )

@@ -19,7 +19,8 @@ const PIECE: usize = 4096;
 /// Hands the octets of a publication to a sink and to mirrors, in pieces of 4,096 octets, the last with
 /// what is left, each as it is made: to the sink first. Takes no memory.
 ///
-/// Where the sink fails, it has taken a front of the octets, and the mirrors that stay a front too.
+/// Where the sink fails, it has taken a front of the octets, and the mirrors that stay a front that is no
+/// longer.
 pub fn send<K: Sink, M: Mirror>(
     publication: &Publication,
     sink: &mut K,
@@ -40,7 +41,8 @@ pub fn send<K: Sink, M: Mirror>(
         (publication_text publication.now) mirrors.old.items mirrors.new.items) }
     ensures mirrored_front { OnErr result
         (MirrorsFront M.octets M.named M.handed M.puts M.room
-        (publication_text publication.now) mirrors.old.items mirrors.new.items) }
+        (publication_text publication.now) (K.taken sink.old) (K.taken sink.new)
+        mirrors.old.items mirrors.new.items) }
     ensures count { length (lost_of spreader.new) + vec_len mirrors.new ≡ length
         (lost_of spreader.old) + vec_len mirrors.old }
     ensures most { most_of spreader.new ≡ most_of spreader.old }

@@ -123,7 +123,7 @@ module _ (shows : Shows) (key : KeyOf) (area : ℕ) (text sig : List ℕ) (spent
 module _ (shows : Shows) {D : Type 0} (g : Ghosts D) (mid new : D) (desk : Desk) (area : ℕ) (text sig : List ℕ) (fits : Fits g desk mid) (le : area ≤ length desk.earlier) (moments : AtEachMoment g mid new Stays) where
   by_reduced : (spent : Option (List ℕ)) (line : List ℕ) → EachImage g new (λ i. HasSpent i area sig spent) → verified (public_key (key_of desk area)) text sig ≡ Ok tt → (r : Reduced) → Reduces (key_of desk area) spent text sig r → line ≡ reduced_line r
       → IsClashLine line ⊎ IsUnreleasedLine g new text sig line
-  by_reduced spent line each good (Collision left right) reduces is = inl (record { left = left; right = right; collide = reduces; line_is = is })
+  by_reduced spent line each good (Collision left right) reduces is = inl (record { left = left; right = right; collide = reduces.collide; line_is = is })
   by_reduced spent line each good (Chain slot at step value) reduces is = inr (record {
     key = key_of desk area;
     slot = record { area = area; number = slot };

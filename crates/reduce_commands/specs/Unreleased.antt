@@ -5,11 +5,11 @@ use Rattle.std.specs.declared.result.Result.{Result}
 use Rattle.std.specs.declared.result.Result.TheVariants.{Ok}
 use Rattle.std.specs.Io.KnownBytes.{Appends}
 use Rattle.sha2.specs.Sha256.{sha256}
+use Rattle.hash_collision.specs.Collisions.{AreCollision}
 use Rattle.road_io.specs.declared.disk.Disk.{Ghosts}
 use Rattle.road_io.specs.Contents.{Folder}
 use Rattle.road_io.specs.Moments.{EachImage}
 use Rattle.lms_tree.specs.Signatures.{KeyOf, number_at, sealed}
-use Rattle.lms_reduce.specs.Ways.{AreCollision}
 use Rattle.lms_reduce.specs.Released.{claimed_digits, own_value}
 use Rattle.desk_areas.specs.Layout.{SlotId, IsSigned}
 use Rattle.road_line.specs.EvidenceLine.{collision_line}
@@ -48,7 +48,7 @@ pub record IsUnreleasedLine {D : Type 0} (g : Ghosts D) (disk : D) (text sig lin
   pub never : EachImage g disk (λ i. (signed : List ℕ) → IsSigned i slot signed →
       ShowsLater key slot.number signed at step)
 
--- the line of two different texts of equal SHA-256
+-- The line of two different texts of equal SHA-256. They are octets, so the line has them.
 pub record IsClashLine (line : List ℕ) : Type 0 where
   pub left : List ℕ
   pub right : List ℕ

@@ -14,13 +14,13 @@ use Rattle.proof_octets.specs.declared.publication.Publication.{Publication}
 use Rattle.route_service.specs.Forms.{form_of}
 use Rattle.route_service.specs.Machine.{State, after, MayReply}
 use Rattle.route_service.specs.Isolation.{is_form_of, is_kept, IsIsolated}
-use Rattle.road_command.specs.Requests.{Route}
+use Rattle.road_command.specs.Requests.{Route, Key, Links, Serve, Survey}
 use Rattle.command_files.specs.declared.fault.Fault.{Fault}
 use Rattle.command_files.specs.declared.fault.Fault.TheVariants.{Source, UnknownNode}
 use Rattle.command_files.specs.declared.ended.Conclusion.{Conclusion}
 use Rattle.command_files.specs.declared.ended.Conclusion.TheVariants.{Done}
 use Rattle.road_run.specs.Accepting.{IsTaken, IsNoAnswer, WritesReply}
-use Rattle.road_run.specs.Commands.{LeavesAll}
+use Rattle.road_run.specs.Commands.{LeavesAll, LeavesUnused, IsTold}
 use Rattle.road_run.specs.Sources.{RunTakes}
 
 -- ---- words that ask for nothing
@@ -67,3 +67,36 @@ module _ (hash sha : List ℕ → List ℕ) (first : State) (i : ℕ) (mine told
   behind_another : (other : List ℕ) → is_kept hash sha i first other ≡ false → IsIsolated hash sha first (other ∷ mine ∷ []) (told ∷ reply ∷ []) → MayReply hash sha first mine reply
   behind_another other strange h =
       subst (λ (b : Bool). MayReply hash sha (after hash sha first (if b then other ∷ [] else [])) mine reply) strange (h i (other ∷ []) [] mine (told ∷ []) reply [] refl refl refl own)
+
+-- ---- what a command has no use for
+
+module _ (library source sink disk : Type 0) where
+  nothing_leaves : LeavesUnused None library source sink disk → library × source × sink × disk
+  nothing_leaves h = h
+
+  route_leaves : (roads : List ℕ) (from to : ℕ) → LeavesUnused (Some (Route roads from to)) library source sink disk → source × disk
+  route_leaves roads from to h = h
+
+  serve_leaves : (publication : List ℕ) → LeavesUnused (Some (Serve publication)) library source sink disk → disk
+  serve_leaves publication h = h
+
+  links_leave : LeavesUnused (Some Links) library source sink disk → library × source
+  links_leave h = h
+
+  survey_leaves : (width seed method queries : ℕ) → LeavesUnused (Some (Survey width seed method queries)) library source sink disk → library × source × disk
+  survey_leaves width seed method queries h = h
+
+  key_leaves : (secret : List ℕ) (kind : ℕ) → LeavesUnused (Some (Key secret kind)) library source sink disk → source
+  key_leaves secret kind h = h
+
+-- ---- what must be told of the disk
+
+-- nothing, for a command without a disk
+route_asks_for_nothing : (roads : List ℕ) (from to : ℕ) (content : Option (List ℕ)) → IsTold (Route roads from to) content
+route_asks_for_nothing roads from to content = tt
+
+links_ask_for_the_disk : IsTold Links None → ⊥
+links_ask_for_the_disk told = told refl
+
+key_asks_for_the_disk : (secret : List ℕ) (kind : ℕ) → IsTold (Key secret kind) None → ⊥
+key_asks_for_the_disk secret kind told = told refl

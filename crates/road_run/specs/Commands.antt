@@ -31,7 +31,7 @@ use Rattle.owner_commands.specs.StandingKeys.{ChainsWhatItWrites}
 use Rattle.owner_commands.specs.Publishing.{TellsLost, ends_publish}
 use Rattle.owner_commands.specs.Signing.{SealsWhatItWrites, SealsWhatItMirrors, SignsAtMostOne, StaysRefused}
 use Rattle.audit_commands.specs.Auditing.{ends_audit}
-use Rattle.audit_commands.specs.Headline.{IsBrought, WritesFindings, AuditsAccepted}
+use Rattle.audit_commands.specs.Headline.{ClashIn, IsBrought, WritesFindings, AuditsAccepted}
 use Rattle.reduce_commands.specs.Reducing.{ends_reduce}
 use Rattle.reduce_commands.specs.Unreleased.{WritesReduced}
 use Rattle.survey_commands.specs.Surveying.{EndsSurvey}
@@ -87,12 +87,14 @@ OnDisk g old new (Publish roads settings) files taken_before taken_now outcome =
     SignsAtMostOne g old new files roads settings × IfErr outcome (StaysRefused g old new)
 OnDisk g old new (Audit key publication reply q chain) files taken_before taken_now outcome =
     AtEachMoment g old new Stays ×
-    WritesFindings g new (IsBrought routes) key reply chain files taken_before taken_now outcome
+    WritesFindings g new (IsBrought routes) (ClashIn routes) key publication reply chain files
+    taken_before taken_now outcome
     × AuditsAccepted routes g (still_told g old new) new key publication reply q chain files taken_before
     taken_now outcome
 OnDisk g old new (AuditReach key publication reply q chain) files taken_before taken_now outcome =
     AtEachMoment g old new Stays ×
-    WritesFindings g new (IsBrought radii) key reply chain files taken_before taken_now outcome
+    WritesFindings g new (IsBrought radii) (ClashIn radii) key publication reply chain files
+    taken_before taken_now outcome
     × AuditsAccepted radii g (still_told g old new) new key publication reply q chain files taken_before
     taken_now outcome
 OnDisk g old new (Reduce key text signature) files taken_before taken_now outcome =

@@ -34,7 +34,8 @@ use Rattle.route_server.specs.Keeping.{Kept, IsKept, HasSpellings, header_in, pu
 use Rattle.route_server.proofs.Answering.{code_is, leaf_kind_is}
 use Rattle.route_server.proofs.OneHeader.{SameLeaves, same_leaves, kind_same}
 use Rattle.route_audit.specs.Comparing.{leaves_or_none, node_part_of, pair_part_of}
-use Rattle.route_audit.specs.Evidence.{Part, IsTreesOwn, IsOwn, IsRight, ClashesFirst, AreCollision, Collides, node_part, pair_part}
+use Rattle.hash_collision.specs.Collisions.{AreCollision}
+use Rattle.route_audit.specs.Evidence.{Part, IsTreesOwn, IsOwn, IsRight, ClashesFirst, Collides, node_part, pair_part}
 use Rattle.route_audit.proofs.Authentic.{one_leaf, one_pair, stands}
 use Rattle.route_audit.proofs.Folded.{leaves_are}
 
@@ -167,7 +168,7 @@ not_both : (hash : List ℕ → List ℕ) (one other : Part) (two : TwoTexts) �
 not_both hash one other two (inl clash) own also = clash.not_own own
 not_both hash one other two (inr clash) own also = clash.1.not_own also
 
-pub collides_of : (hash : List ℕ → List ℕ) (k : Kept) (kept : IsKept k) (a : answers.Answer) (two : TwoTexts) → AreCollision hash two → ClashesFirst hash (node_part_of k a) (pair_part_of k a) two
+pub collides_of : (hash : List ℕ → List ℕ) (k : Kept) (kept : IsKept k) (a : answers.Answer) (two : TwoTexts) → AreCollision hash two.left two.right → ClashesFirst hash (node_part_of k a) (pair_part_of k a) two
     → Collides hash sha256 (publication_in hash k) a two
 collides_of hash k kept a two collision clash = record {
   collision = collision;

@@ -4,7 +4,8 @@ use Rattle.proof_octets.specs.declared.reply.Answer as answers
 use Rattle.route_client.specs.Verdicts.{covered}
 use Rattle.route_server.specs.Headers.{node_texts, pair_texts, root_or_zeros}
 use Rattle.route_server.specs.Keeping.{Kept, texts_in}
-use Rattle.route_audit.specs.Evidence.{Part, IsTreesOwn, ClashesFirst, AreCollision, two_texts}
+use Rattle.hash_collision.specs.Collisions.{AreCollision}
+use Rattle.route_audit.specs.Evidence.{Part, IsTreesOwn, ClashesFirst, two_texts}
 use Rattle.route_audit.specs.declared.finding.Finding.{Finding}
 use Rattle.route_audit.specs.declared.finding.Finding.TheVariants.{Right, Collision, Forged}
 
@@ -39,6 +40,6 @@ pair_part_of k a = part_under k 2 a.pair_places (pair_texts a.items.pairs) a.pai
 -- what a comparison finds in two trees
 abbrev pub Compares : (List ℕ → List ℕ) → Part → Part → Finding → Type 0
 Compares hash nodes pairs Right = IsTreesOwn hash nodes × IsTreesOwn hash pairs
-Compares hash nodes pairs (Collision left right) = AreCollision hash (two_texts left right) ×
+Compares hash nodes pairs (Collision left right) = AreCollision hash left right ×
     ClashesFirst hash nodes pairs (two_texts left right)
 Compares hash nodes pairs (Forged key text signature) = ⊥

@@ -1,7 +1,8 @@
 -- What an answer shows over a publication's own trees.
 -- Source: Merkle, A Digital Signature Based on a Conventional Encryption Function, CRYPTO 1987:
 -- what folds to a tree's root and is not the tree's own shows two texts with one digest.
-use Rattle.std.specs.Prelude.{◌≡◌, ◌≢◌, ◌⊎◌, ℕ, List, length}
+use Rattle.std.specs.Prelude.{◌≡◌, ◌⊎◌, ℕ, List, length}
+use Rattle.hash_collision.specs.Collisions.{AreCollision}
 use Rattle.book_model.specs.declared.items.Query.{Query}
 use Rattle.book_model.specs.Books.{Kind, Book, leaves_of, leaf_order}
 use Rattle.merkle_cover.specs.Clashes.{AreHashed}
@@ -89,16 +90,11 @@ abbrev pub ClashesFirst : (List ℕ → List ℕ) → Part → Part → TwoTexts
 ClashesFirst hash one other two = Clashes hash one two ⊎
     (IsTreesOwn hash one × Clashes hash other two)
 
--- two different texts with one digest
-pub record AreCollision (hash : List ℕ → List ℕ) (two : TwoTexts) : Type 0 where
-  pub differ : two.left ≢ two.right
-  pub one_digest : hash two.left ≡ hash two.right
-
--- two such texts, where an answer brings what is not of the trees of the publication's book, the
--- node tree first
+-- two different texts with one digest, where an answer brings what is not of the trees of the
+-- publication's book, the node tree first
 pub record Collides (hash sha : List ℕ → List ℕ) (p : Publication) (a : answers.Answer)
     (two : TwoTexts) : Type 0 where
-  pub collision : AreCollision hash two
+  pub collision : AreCollision hash two.left two.right
   pub not_own : ¬ IsOwn hash sha p a
   pub kind : Kind
   pub book : Book

@@ -1,7 +1,8 @@
 -- Kinds of replies: what a client takes of them, and what they show of a publication. Replies on
 -- routes are one kind, those on the nodes within a radius another, and all of them are audited
 -- alike.
-use Rattle.std.specs.Prelude.{◌≡◌, ◌≢◌, ℕ, List, Ok}
+use Rattle.std.specs.Prelude.{◌≡◌, ℕ, List, Ok}
+use Rattle.hash_collision.specs.Collisions.{AreCollision}
 use Rattle.lms_tree.specs.Chains.{chained, verified_along}
 use Rattle.lms_tree.specs.declared.links.Link.{Link}
 use Rattle.merkle_cover.specs.declared.clashes.TwoTexts.{TwoTexts}
@@ -65,9 +66,10 @@ pub record AreReplies {Query Answer Taken Refusal : Type 0}
   pub not_refused : (hash : List ℕ → List ℕ) (key : List ℕ) (links : List Link) (octets : List ℕ)
       (q : Query) (x : Taken) (a : Answer) (e : Refusal)
       → kind.Accepts hash key links octets q 0 x a → kind.Refuses hash key links octets q e → ⊥
-  -- a collision is two different texts with one digest; what is right is true, and doesn't collide
+  -- a collision is two different texts of octets with one digest; what is right is true, and
+  -- doesn't collide
   pub collision : (hash sha : List ℕ → List ℕ) (p : Publication) (a : Answer) (two : TwoTexts)
-      → kind.Collides hash sha p a two → (two.left ≢ two.right) × (hash two.left ≡ hash two.right)
+      → kind.Collides hash sha p a two → AreCollision hash two.left two.right
   pub truth : (hash sha : List ℕ → List ℕ) (p : Publication) (q : Query) (x : Taken) (a : Answer)
       → kind.IsRight hash sha p q x a → kind.IsTrue p q x
   pub not_both : (hash sha : List ℕ → List ℕ) (p : Publication) (q : Query) (x : Taken) (a : Answer)

@@ -1,20 +1,53 @@
 //! A reply against a publication's book.
-ghost use Rattle.std.specs.Prelude.{◌≡◌, ◌↔◌, ◌<◌, ◌^◌, length, IfOk, IfSome, IsNone, Ok};
+ghost use Rattle.std.specs.Prelude.{◌≡◌, ◌≢◌, ◌↔◌, ◌<◌, ◌^◌, length, IfOk, IfSome, IsNone, Ok};
 ghost use Rattle.route_client.specs.Verdicts.{nodes_covered, pairs_covered};
 ghost use Rattle.proof_octets.specs.Good.{IsGood};
 ghost use Rattle.proof_octets.specs.Replies.{reply_of, reply_text};
 ghost use Rattle.route_server.specs.Headers.{node_texts, pair_texts};
 ghost use Rattle.route_server.specs.Keeping.{header_in};
 ghost use Rattle.route_audit.specs.Comparing.{part_under, node_part_of, pair_part_of, FoldsUnder, Compares};
-ghost use Rattle.route_audit.specs.Evidence.{AreCollision, Clashes, IsTreesOwn};
+ghost use Rattle.hash_collision.specs.Collisions.{AreCollision};
+ghost use Rattle.route_audit.specs.Evidence.{Clashes, IsTreesOwn};
 
 use crate::Finding;
+use hash_collision::octet_law;
 use merkle_cover::{CutTexts, TwoTexts, clash};
 use octet_text::{Digest32, Hasher, NoMemory};
 use proof_octets::Answer;
 use route_client::leaf_cuts;
 use route_server::Held;
 use std::alloc::Global;
+
+// What the tree and the fold hash, where they clash.
+fn clash_in<H: Hasher>(
+    alloc: Global,
+    held: &Held<H>,
+    which: u8,
+    places: &[u32],
+    texts: &CutTexts<'_>,
+    cover: &[Digest32],
+) -> Result<Option<TwoTexts>, NoMemory>
+    requires texts { length texts.now ≡ length places.now }
+    requires folds { FoldsUnder H.hash which
+        (part_under held.now which places.now texts.now cover.now) }
+    ensures own { IfOk result (λ r. IsNone r ↔
+        IsTreesOwn H.hash (part_under held.now which places.now texts.now cover.now)) }
+    ensures differ { IfOk result (λ r. IfSome r (λ two. two.left ≢ two.right)) }
+    ensures one_digest { IfOk result (λ r. IfSome r (λ two. H.hash two.left ≡ H.hash two.right)) }
+    ensures clash { IfOk result (λ r.
+        IfSome r (Clashes H.hash (part_under held.now which places.now texts.now cover.now))) }
+{
+    if places.is_empty() {
+        return Ok(None);
+    }
+    let Some(tree) = held.tree(which) else {
+        unreachable!()
+    };
+    let Some(leaves) = held.leaves(which) else {
+        unreachable!()
+    };
+    clash(alloc, tree, leaves, places, texts, cover)
+}
 
 /// Two texts with one digest, where what is brought of a tree of a book, 1 that of nodes or 2 that of pairs,
 /// folds to the tree's root and is not the tree's own.
@@ -31,20 +64,18 @@ pub fn clash_under<H: Hasher>(
         (part_under held.now which places.now texts.now cover.now) }
     ensures own { IfOk result (λ r. IsNone r ↔
         IsTreesOwn H.hash (part_under held.now which places.now texts.now cover.now)) }
-    ensures collision { IfOk result (λ r. IfSome r (AreCollision H.hash)) }
+    ensures collision { IfOk result (λ r. IfSome r (λ two.
+        AreCollision H.hash two.left two.right)) }
     ensures clash { IfOk result (λ r.
         IfSome r (Clashes H.hash (part_under held.now which places.now texts.now cover.now))) }
 {
-    if places.is_empty() {
+    let found = clash_in::<H>(alloc, held, which, places, texts, cover)?;
+    let Some(two) = found else {
         return Ok(None);
-    }
-    let Some(tree) = held.tree(which) else {
-        unreachable!()
     };
-    let Some(leaves) = held.leaves(which) else {
-        unreachable!()
-    };
-    clash(alloc, tree, leaves, places, texts, cover)
+    octet_law(two.left.as_slice());
+    octet_law(two.right.as_slice());
+    Ok(Some(two))
 }
 
 // Where the node items and the node cover are not those of the node tree.
@@ -60,7 +91,8 @@ fn clash_of_nodes<H: Hasher>(
     requires covered { nodes_covered H.hash answer.now ≡ Ok tt }
     ensures own { IfOk result (λ r. IsNone r ↔
         IsTreesOwn H.hash (node_part_of held.now answer.now)) }
-    ensures collision { IfOk result (λ r. IfSome r (AreCollision H.hash)) }
+    ensures collision { IfOk result (λ r. IfSome r (λ two.
+        AreCollision H.hash two.left two.right)) }
     ensures clash { IfOk result (λ r.
         IfSome r (Clashes H.hash (node_part_of held.now answer.now))) }
 {
@@ -87,7 +119,8 @@ fn clash_of_pairs<H: Hasher>(
     requires covered { pairs_covered H.hash answer.now ≡ Ok tt }
     ensures own { IfOk result (λ r. IsNone r ↔
         IsTreesOwn H.hash (pair_part_of held.now answer.now)) }
-    ensures collision { IfOk result (λ r. IfSome r (AreCollision H.hash)) }
+    ensures collision { IfOk result (λ r. IfSome r (λ two.
+        AreCollision H.hash two.left two.right)) }
     ensures clash { IfOk result (λ r.
         IfSome r (Clashes H.hash (pair_part_of held.now answer.now))) }
 {

@@ -1,1 +1,2 @@
 pub mod RoomSteps
+mod Worked

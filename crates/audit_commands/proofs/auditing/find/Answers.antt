@@ -7,7 +7,7 @@ use Rattle.road_io.proofs.StillTold.{seen_still, told_between}
 use Rattle.command_files.specs.declared.told.Told.{Told}
 use Rattle.command_desks.proofs.Openings.{stays_twice}
 use Rattle.key_desk.specs.declared.desk.DeskError.TheVariants.{DiskFault}
-use Rattle.audit_commands.specs.Headline.{IsBrought}
+use Rattle.audit_commands.specs.Headline.{ClashIn, IsBrought}
 use Rattle.audit_commands.proofs.Steps.{if_ok, if_err}
 use Rattle.audit_commands.proofs.AuditLemmas.{ends_of, why_not, look_failed, not_opened, not_opened_rests, rests_on, rests_otherwise}
 use Rattle.audit_commands.proofs.auditing.find.Goals as goal
@@ -22,7 +22,7 @@ pub returns-in_err-desk-clause-others : goal.returns-in_err-desk-clause-others
 returns-in_err-desk-clause-others g c =
     let p = err_from_is_err_and c.from_residual.result c.from_residual.ensures.1 in
     rw (p.1, p.2)
-    (not_opened_rests g.D.Disk c.open_desk.new.disk (IsBrought g.T.Kind.Replies.kind c.args.reply.now) (Rose (g.D.Disk.faults c.args.disk.now) (g.D.Disk.faults c.open_desk.new.disk)) (still_told g.D.Disk c.args.disk.now c.open_desk.new.disk) c.args.key.now c.args.links.now c.in_err-desk.field-0.0 c.in_err-desk.ensures.refused)
+    (not_opened_rests g.D.Disk c.open_desk.new.disk (IsBrought g.T.Kind.Replies.kind c.args.reply.now) (ClashIn g.T.Kind.Replies.kind c.args.publication c.args.reply.now) (Rose (g.D.Disk.faults c.args.disk.now) (g.D.Disk.faults c.open_desk.new.disk)) (still_told g.D.Disk c.args.disk.now c.open_desk.new.disk) c.args.key.now c.args.links.now c.in_err-desk.field-0.0 c.in_err-desk.ensures.refused)
 
 pub returns-clause-told : goal.returns-clause-told
 returns-clause-told g c =

@@ -1,7 +1,7 @@
 use Rattle.std.proofs.Common.{◌∷◌, []}
 use Rattle.std.proofs.lemmas.Result.{err_from_is_err_and}
 use Rattle.road_io.specs.Moments.{still_told}
-use Rattle.audit_commands.specs.Headline.{IsBrought}
+use Rattle.audit_commands.specs.Headline.{ClashIn, IsBrought}
 use Rattle.command_files.proofs.Written.{moved, narrows_on}
 use Rattle.audit_commands.proofs.Steps.{reply_as, chain_as, found, found_other, nothing_found, files_rest_on_none}
 use Rattle.audit_commands.proofs.AuditLemmas.{audit_refused, audit_told}
@@ -29,36 +29,38 @@ returns-clause-promised g c =
 pub returns-in_err-key-clause-finds : goal.returns-in_err-key-clause-finds
 returns-in_err-key-clause-finds g c =
     let p = err_from_is_err_and c.from_residual.result c.from_residual.ensures.1 in
-    rw (p.1, p.2) (nothing_found g.D.Disk c.args.disk.now (IsBrought g.T.Kind.Replies.kind) c.args.key.now c.args.reply.now _ _ _ _ _ (files_rest_on_none _ c.in_err-key.ensures.loads.others))
+    rw (p.1, p.2) (nothing_found g.D.Disk c.args.disk.now (IsBrought g.T.Kind.Replies.kind) (ClashIn g.T.Kind.Replies.kind) c.args.key.now c.args.publication.now c.args.reply.now _ _ _ _ _ (files_rest_on_none _ c.in_err-key.ensures.loads.others))
 
 pub returns-in_err-publication-clause-finds : goal.returns-in_err-publication-clause-finds
 returns-in_err-publication-clause-finds g c =
     let p = err_from_is_err_and c.from_residual-in_err-publication.result c.from_residual-in_err-publication.ensures.1 in
-    rw (p.1, p.2) (nothing_found g.D.Disk c.args.disk.now (IsBrought g.T.Kind.Replies.kind) c.args.key.now c.args.reply.now _ _ _ _ _ (files_rest_on_none _ c.in_err-publication.ensures.loads.others))
+    rw (p.1, p.2) (nothing_found g.D.Disk c.args.disk.now (IsBrought g.T.Kind.Replies.kind) (ClashIn g.T.Kind.Replies.kind) c.args.key.now c.args.publication.now c.args.reply.now _ _ _ _ _ (files_rest_on_none _ c.in_err-publication.ensures.loads.others))
 
 pub returns-in_err-reply-clause-finds : goal.returns-in_err-reply-clause-finds
 returns-in_err-reply-clause-finds g c =
     let p = err_from_is_err_and c.from_residual-in_err-reply.result c.from_residual-in_err-reply.ensures.1 in
-    rw (p.1, p.2) (nothing_found g.D.Disk c.args.disk.now (IsBrought g.T.Kind.Replies.kind) c.args.key.now c.args.reply.now _ _ _ _ _ (files_rest_on_none _ c.in_err-reply.ensures.loads.others))
+    rw (p.1, p.2) (nothing_found g.D.Disk c.args.disk.now (IsBrought g.T.Kind.Replies.kind) (ClashIn g.T.Kind.Replies.kind) c.args.key.now c.args.publication.now c.args.reply.now _ _ _ _ _ (files_rest_on_none _ c.in_err-reply.ensures.loads.others))
 
 pub returns-in_err-links-clause-finds : goal.returns-in_err-links-clause-finds
 returns-in_err-links-clause-finds g c =
     let p = err_from_is_err_and c.from_residual-in_err-links.result c.from_residual-in_err-links.ensures.1 in
-    rw (p.1, p.2) (nothing_found g.D.Disk c.args.disk.now (IsBrought g.T.Kind.Replies.kind) c.args.key.now c.args.reply.now _ _ _ _ _ (files_rest_on_none _ c.in_err-links.ensures.loads.others))
+    rw (p.1, p.2) (nothing_found g.D.Disk c.args.disk.now (IsBrought g.T.Kind.Replies.kind) (ClashIn g.T.Kind.Replies.kind) c.args.key.now c.args.publication.now c.args.reply.now _ _ _ _ _ (files_rest_on_none _ c.in_err-links.ensures.loads.others))
 
 pub returns-in_err-told-clause-finds : goal.returns-in_err-told-clause-finds
 returns-in_err-told-clause-finds g c =
     let p = err_from_is_err_and c.from_residual-in_err-told.result c.from_residual-in_err-told.ensures.1 in
     rw (p.1, p.2)
-    (found_other _ c.args.key.now c.args.reply.now _ _ c.deref.result.now c.as_slice.result.now (moved _ _ _ (narrows_on _ _ _ (narrows_on _ _ _ c.in_ok-publication.ensures.narrows c.in_ok-reply.ensures.narrows) c.in_ok-links.ensures.narrows) c.in_ok-key.ensures.loads.read)
+    (found_other _ c.args.key.now c.args.publication.now c.args.reply.now _ _ c.deref.result.now c.as_slice.result.now _ (moved _ _ _ (narrows_on _ _ _ (narrows_on _ _ _ c.in_ok-publication.ensures.narrows c.in_ok-reply.ensures.narrows) c.in_ok-links.ensures.narrows) c.in_ok-key.ensures.loads.read)
+    (moved _ _ _ (narrows_on _ _ _ c.in_ok-reply.ensures.narrows c.in_ok-links.ensures.narrows) c.in_ok-publication.ensures.loads.read)
     (reply_as _ _ _ _ _ c.in_ok-links.ensures.narrows c.deref.ensures.value c.in_ok-reply.ensures.loads.read)
-    (chain_as _ _ _ _ c.as_slice.ensures c.in_ok-links.ensures.loads.read) g.D.Disk c.find.new.disk (IsBrought g.T.Kind.Replies.kind) _ c.in_err-told.field-0.0 c.in_err-told.ensures.others)
+    (chain_as _ _ _ _ c.as_slice.ensures c.in_ok-links.ensures.loads.read) g.D.Disk c.find.new.disk (IsBrought g.T.Kind.Replies.kind) (ClashIn g.T.Kind.Replies.kind) _ c.in_err-told.field-0.0 c.in_err-told.ensures.others)
 
 pub returns-clause-finds : goal.returns-clause-finds
 returns-clause-finds g c =
-    found _ c.args.key.now c.args.reply.now _ _ c.deref.result.now c.as_slice.result.now (moved _ _ _ (narrows_on _ _ _ (narrows_on _ _ _ c.in_ok-publication.ensures.narrows c.in_ok-reply.ensures.narrows) c.in_ok-links.ensures.narrows) c.in_ok-key.ensures.loads.read)
+    found _ c.args.key.now c.args.publication.now c.args.reply.now _ _ c.deref.result.now c.as_slice.result.now _ (moved _ _ _ (narrows_on _ _ _ (narrows_on _ _ _ c.in_ok-publication.ensures.narrows c.in_ok-reply.ensures.narrows) c.in_ok-links.ensures.narrows) c.in_ok-key.ensures.loads.read)
+    (moved _ _ _ (narrows_on _ _ _ c.in_ok-reply.ensures.narrows c.in_ok-links.ensures.narrows) c.in_ok-publication.ensures.loads.read)
     (reply_as _ _ _ _ _ c.in_ok-links.ensures.narrows c.deref.ensures.value c.in_ok-reply.ensures.loads.read)
-    (chain_as _ _ _ _ c.as_slice.ensures c.in_ok-links.ensures.loads.read) g.D.Disk c.find.new.disk (IsBrought g.T.Kind.Replies.kind) _ _ _ _ _ _ _ c.in_ok-told.ensures.rests c.in_ok-told.ensures.verdict c.write_told.ensures.writes
+    (chain_as _ _ _ _ c.as_slice.ensures c.in_ok-links.ensures.loads.read) g.D.Disk c.find.new.disk (IsBrought g.T.Kind.Replies.kind) (ClashIn g.T.Kind.Replies.kind) _ _ _ _ _ _ _ c.in_ok-told.ensures.rests c.in_ok-told.ensures.verdict c.write_told.ensures.writes
 
 pub returns-in_err-key-clause-asked : goal.returns-in_err-key-clause-asked
 returns-in_err-key-clause-asked g c = asks_front (_ ∷ []) _ _ _ c.in_err-key.ensures.asked

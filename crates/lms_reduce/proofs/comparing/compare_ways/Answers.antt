@@ -1,11 +1,14 @@
-use Rattle.std.proofs.Common.{◌≡◌, ℕ, ◌+◌, ◌-◌, ◌*◌, ◌/◌, ◌^◌, ◌<◌, List, length, take, drop, arith, ap, ◌∙◌, sym}
+use Rattle.std.proofs.Common.{◌≡◌, ℕ, ◌+◌, ◌-◌, ◌*◌, ◌/◌, ◌^◌, ◌<◌, List, length, take, drop, arith, ap, ◌∙◌, sym, inl, inr}
 use Rattle.std.proofs.lemmas.List.{take_all, length-take-le, length-drop}
 use Rattle.sha2.specs.Sha256.{sha256}
 use Rattle.lms_ots.specs.Chains.{public_of, candidate_of}
 use Rattle.lms_tree.specs.Signatures.{height_of, leaf_of}
 use Rattle.lms_tree.proofs.SealLemmas.{height-max}
+use Rattle.lms_reduce.specs.Meetings.{IsHighestMeeting, MeetAtNode, MeetOnWay}
+use Rattle.lms_reduce.specs.Texts.{leaf_text}
 use Rattle.lms_reduce.specs.Ways.{raised}
 use Rattle.lms_reduce.proofs.GoodLemmas.{IsGood, IsGood-verified}
+use Rattle.lms_reduce.proofs.MeetingLemmas.{kept-meet, node-meet}
 use Rattle.lms_reduce.proofs.RootLemmas.{ends-meet}
 use Rattle.lms_reduce.proofs.TextLemmas.{leaf_text-same, sha256-leaf_text}
 use Rattle.lms_reduce.proofs.comparing.compare_ways.Goals as goal
@@ -63,13 +66,50 @@ ends c =
     (c.digest_of.ensures ∙ ap sha256 c.leaf_text-own.ensures ∙ sha256-leaf_text i leaf c.public_hash.result ∙ ap (leaf_of i leaf) (own_key c))
     (c.digest_of-2.ensures ∙ ap sha256 c.leaf_text-shown.ensures ∙ sha256-leaf_text i leaf c.candidate.result ∙ ap (leaf_of i leaf) (shown_key c))
 
-pub keep-requires-then-not-is_same : goal.keep-requires-then-not-is_same
-keep-requires-then-not-is_same c =
-    let e = ends (goal.at.keep-requires-then-not-is_same c).After-highest_meeting in
-    record {
-      differ = c.if-not-is_same.ensures.apart;
-      one_digest = sym c.digest_of.ensures ∙ c.in_default.ensures.none e ∙ c.digest_of-2.ensures;
-    }
+-- where they meet on the way
+nodes : (c : After-highest_meeting) (one other : List ℕ) → (λ (path : List ℕ). IsHighestMeeting sha256 c.i-i.result (c.slots.result + c.args.q) c.digest_of.result (take (32 * c.height.result) c.own_path-own_path.result) c.digest_of-2.result path (length path / 32) one other) (take (length c.args.sig.now - 1132) (drop 1132 c.args.sig.now)) → MeetAtNode c.args.key.now c.args.q c.args.text.now c.args.sig.now one other
+nodes c one other m =
+    let key = c.args.key.now in
+    let sig = c.args.sig.now in
+    let fine : IsGood key c.args.text.now sig = IsGood-verified key c.args.text.now sig c.height.ensures.known (omega (arith, ap (λ (l : List ℕ). length l) c.i-i.ensures)) c.requires.good in
+    let h = height_of key.kind in
+    let i = c.i-i.result in
+    let leaf : ℕ = c.slots.result + c.args.q in
+    let beside = take (length sig - 1132) (drop 1132 sig) in
+    let back : length (drop 1132 sig) ≡ length sig - 1132 = length-drop 1132 sig in
+    let whole : beside ≡ drop 1132 sig = take_all (length sig - 1132) (drop 1132 sig) (omega (arith, back)) in
+    let levels : length beside / 32 ≡ h = omega (arith, ap (λ (l : List ℕ). length l) whole, back, fine.size) in
+    node-meet key c.args.q c.args.text.now sig c.own_path-own_path.result c.digest_of.result c.digest_of-2.result i beside leaf c.height.result (length beside / 32)
+    (omega (arith, c.requires.slot, fine.slot)) c.own_path-own_path.ensures c.i-i.ensures (ap (λ x. x + c.args.q) c.slots.ensures) c.height.ensures.height levels whole
+    (c.digest_of.ensures ∙ ap sha256 c.leaf_text-own.ensures ∙ sha256-leaf_text i leaf c.public_hash.result ∙ ap (leaf_of i leaf) (own_key c))
+    (c.digest_of-2.ensures ∙ ap sha256 c.leaf_text-shown.ensures ∙ sha256-leaf_text i leaf c.candidate.result ∙ ap (leaf_of i leaf) (shown_key c))
+    one other m
+
+pub returns-in-Some-clause-meet : goal.returns-in-Some-clause-meet
+returns-in-Some-clause-meet c =
+    kept-meet (λ (left right : List ℕ). MeetOnWay c.args.key.now c.args.q c.args.text.now c.args.sig.now left right) c.keep.result c.in-Some.two.left c.in-Some.two.right c.keep.ensures.kept
+    (inl (nodes (goal.at.returns-in-Some-clause-meet c).After-highest_meeting c.in-Some.two.left c.in-Some.two.right c.in-Some.ensures.highest))
+
+pub keep-requires-then-not-is_same-clause-one_digest : goal.keep-requires-then-not-is_same-clause-one_digest
+keep-requires-then-not-is_same-clause-one_digest c =
+    let e = ends (goal.at.keep-requires-then-not-is_same-clause-one_digest c).After-highest_meeting in
+    sym c.digest_of.ensures ∙ c.in_default.ensures.none e ∙ c.digest_of-2.ensures
+
+-- the text of a leaf, in the terms of the key
+leaf_is : (i of_key : List ℕ) (n leaf : ℕ) (public own : List ℕ) → i ≡ of_key → n ≡ leaf → public ≡ own → leaf_text i n public ≡ leaf_text of_key leaf own
+leaf_is i of_key n leaf public own ei en ep = ap (λ (x : List ℕ). leaf_text x n public) ei ∙ ap (λ x. leaf_text of_key x public) en ∙ ap (leaf_text of_key leaf) ep
+
+pub returns-then-not-is_same-clause-meet : goal.returns-then-not-is_same-clause-meet
+returns-then-not-is_same-clause-meet c =
+    let d = (goal.at.returns-then-not-is_same-clause-meet c).After-highest_meeting in
+    let key = c.args.key.now in
+    let q = c.args.q in
+    let leaf : c.slots.result + q ≡ 2 ^ height_of key.kind + q = ap (λ x. x + q) c.slots.ensures in
+    kept-meet (λ (left right : List ℕ). MeetOnWay key q c.args.text.now c.args.sig.now left right) c.keep-then-not-is_same.result c.leaf_text-own.result c.leaf_text-shown.result c.keep-then-not-is_same.ensures.kept
+    (inr (inl (record {
+      own = c.leaf_text-own.ensures ∙ leaf_is c.i-i.result key.i (c.slots.result + q) (2 ^ height_of key.kind + q) c.public_hash.result (public_of key.i q key.seed) c.i-i.ensures leaf (own_key d);
+      shown = c.leaf_text-shown.ensures ∙ leaf_is c.i-i.result key.i (c.slots.result + q) (2 ^ height_of key.kind + q) c.candidate.result (candidate_of key.i q (take 1124 (drop 4 c.args.sig.now)) c.args.text.now) c.i-i.ensures leaf (shown_key d);
+    })))
 
 pub returns-clause-none : goal.returns-clause-none
 returns-clause-none c =

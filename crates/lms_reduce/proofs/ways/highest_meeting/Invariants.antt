@@ -1,5 +1,7 @@
 use Rattle.std.proofs.Common.{◌≡◌, ◌/◌, ◌^◌, length, IfSome, IfNone}
-use Rattle.lms_reduce.specs.Ways.{AreCollision, raised}
+use Rattle.hash_collision.specs.Collisions.{AreCollision}
+use Rattle.lms_reduce.specs.Meetings.{IsHighestMeeting}
+use Rattle.lms_reduce.specs.Ways.{raised}
 use Rattle.lms_reduce.proofs.ways.highest_meeting.Given as goal
 
 abbrev pub invariant-loop-level : goal.invariant-loop-level
@@ -12,5 +14,6 @@ invariant-loop-level g l =
       left_is : l.left ≡ raised hash l.i l.r l.initial.left l.left_path l.level;
       right_is : l.right ≡ raised hash l.i l.r l.initial.right l.right_path l.level;
       found : IfSome l.highest (λ two. AreCollision hash two.left two.right);
+      highest : IfSome l.highest (λ two. IsHighestMeeting hash l.i l.r l.initial.left l.left_path l.initial.right l.right_path l.level two.left two.right);
       together : IfNone l.highest (l.left ≡ l.right → l.initial.left ≡ l.initial.right);
     }

@@ -1,4 +1,4 @@
-use Rattle.std.proofs.Common.{◌≤◌, ◌<◌, ◌≡◌, length, arith, refl, ◌∙◌, ap, rules}
+use Rattle.std.proofs.Common.{arith, refl, ◌∙◌, rules}
 use Rattle.publication_out.proofs.SendLemmas.{begins, goes_on, all_sent, front_sent, on_err}
 use Rattle.publication_out.proofs.sending.send.Goals as goal
 

@@ -1,0 +1,116 @@
+#!/usr/bin/env python3
+"""Lists each list that a statement says exists, with what ties it: checks/existing_lists.py [--check] [CRATE..]
+
+No client trusts this: it reads the definitions, and proves nothing. A clause that says "there are texts, of which this
+holds" is met by any lists, so each must be tied to octets that a file, a sink, the disk or a result holds. One line for
+each, in the order of the crates: the file and the line, the record or the definition, the name of the list, and the
+other fields that speak of it. A record counts where a field of it is a statement; plain data does not. The status is 1
+where nothing at all speaks of a list; with --check only these are listed.
+"""
+import glob
+import os
+import re
+import sys
+
+TOP = os.path.join(os.path.dirname(os.path.abspath(__file__)), "..")
+LISTS = r"List \S+|List \(List \S+\)|Option \(List \S+\)"
+STATEMENT = re.compile(r"[≡≢≤<×⊎¬↔]|\b(?:Is|Are|Has|Can|Each|All|Appends|Verified|Meet)(?:[A-Z]\w*)?\b")
+RECORD = re.compile(r"\s*(?:pub )?record (\S+)")
+FIELD = re.compile(r"\s*(?:pub )?([a-z_]+(?: [a-z_]+)*) : (.*)")
+EXISTS = re.compile(r"\(([a-z_]+(?: [a-z_]+)*) : (?:" + LISTS + r")\) ×")
+DEFINED = re.compile(r"\s*(?:abbrev |unfoldable )*pub (\S+) :|\s*([A-Z]\w*) .*=")
+
+
+def paragraph(lines, at):
+    """The lines from a place up to the next empty one, without comments."""
+    for number in range(at, len(lines)):
+        if not lines[number].strip():
+            return
+        if not lines[number].strip().startswith("--"):
+            yield number, lines[number]
+
+
+def fields_of(lines, at):
+    """The fields of the record whose head ends before a line: each its line, its names and its type."""
+    fields = []
+    for number, line in paragraph(lines, at):
+        field = FIELD.match(line)
+        if field:
+            fields.append([number, field[1].split(), field[2]])
+        elif fields:
+            fields[-1][2] += " " + line.strip()
+    return fields
+
+
+def ties_of(name, fields):
+    """What the fields of a record say of one of them."""
+    word = re.compile(r"\b" + name + r"\b")
+    return [f"{' '.join(names)} : {kind}" for _, names, kind in fields if word.search(kind)]
+
+
+def lists_of_record(lines, at):
+    """The lists of the record whose head begins at a line, where a field of it is a statement."""
+    head = at
+    while not lines[head].rstrip().endswith("where") and head + 1 < len(lines):
+        head += 1
+    fields = fields_of(lines, head + 1)
+    if not any(STATEMENT.search(kind) for _, _, kind in fields):
+        return
+    for number, names, kind in fields:
+        if re.fullmatch(LISTS, kind.strip()):
+            for name in names:
+                yield number + 1, name, ties_of(name, fields)
+
+
+def equation(lines, at, where):
+    """The rest of the equation of a definition that a line belongs to."""
+    for number, line in paragraph(lines, at):
+        if number > at and line.strip().startswith(where + " "):
+            return
+        yield line.strip()
+
+
+def lists_of_line(lines, at, where):
+    """The lists that a line of a definition says exist."""
+    for found in EXISTS.finditer(lines[at]):
+        rest = " ".join(equation(lines, at, where))
+        rest = rest[rest.index(found[0]) + len(found[0]):].strip()
+        for name in found[1].split():
+            yield at + 1, name, [rest] if re.search(r"\b" + name + r"\b", rest) else []
+
+
+def lists_in(path):
+    """The lists that exist by a file's statements: each its line, where it stands, its name and its ties."""
+    with open(path, encoding="utf-8") as file:
+        lines = file.read().splitlines()
+    where = ""
+    for at, line in enumerate(lines):
+        defined = DEFINED.match(line)
+        record = RECORD.match(line)
+        if record:
+            where = record[1]
+            for number, name, ties in lists_of_record(lines, at):
+                yield number, where, name, ties
+        elif defined:
+            where = defined[1] or defined[2]
+        for number, name, ties in lists_of_line(lines, at, where):
+            yield number, where, name, ties
+
+
+def main():
+    names = [name for name in sys.argv[1:] if name != "--check"]
+    with open(os.path.join(TOP, "crates.txt"), encoding="utf-8") as file:
+        crates = [line.split(":")[0].split()[0] for line in file if ":" in line and not line.startswith("#")]
+    loose = 0
+    for crate in names or crates:
+        for path in sorted(glob.glob(os.path.join(TOP, "crates", crate, "specs", "*.antt"))):
+            for line, where, name, ties in lists_in(path):
+                loose += not ties
+                if not ties or "--check" not in sys.argv:
+                    told = "; ".join(ties) or "nothing speaks of it"
+                    print(f"{os.path.relpath(path, TOP)}:{line} {where} {name}: {told}")
+    return 1 if loose else 0
+
+
+if __name__ == "__main__":
+    sys.exit(main())

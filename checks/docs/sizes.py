@@ -15,7 +15,7 @@ import sys
 TOP = os.path.dirname(os.path.dirname(os.path.dirname(os.path.abspath(__file__))))
 README_WORDS, ALL_WORDS, SENTENCE_WORDS = 1_100, 20_000, 40
 VERSIONS = {"crates/road_tell/src/usage.rt": r'VERSION: &str = "([^"]*)"', "CHANGELOG.md": r"^## (\S+)",
-            "bindings/route_check.h": r'ROUTE_CHECK_VERSION "([^"]*)"', "bindings/route_check.py": r'__version__ = "([^"]*)"'}
+            "bindings/gogbetiku.h": r'GOG_VERSION "([^"]*)"', "bindings/python/gogbetiku/__init__.py": r'__version__ = "([^"]*)"'}
 APART = ["SECURITY.md", "CONTRIBUTING.md", "CHANGELOG.md", "checks/README.md"]
 
 

@@ -4,7 +4,7 @@
 Builds the library with bindings/build, lets PROGRAM make a key, publications under the four methods, replies
 and a chain, and compares what the examples in C and in Python say with what PROGRAM's `check` and
 `check-reach` write, and the places of their nodes with the road file. Compares the header's numbers, and those of
-the Python module, with the crate's definitions. Shows that a code that the Python module does not
+the modules for Python and JavaScript, with the crate's definitions. Shows that a code that the Python module does not
 know is a refusal, that a library in the working folder is not loaded, that null pointers count as nothing, that the
 greatest accepted version is kept, and that a route which passes a node twice is refused where that is asked.
 With --long, turns each bit of a reply of each method, and checks from eight threads.
@@ -64,6 +64,9 @@ def numbers_of_the_header():
         same(name, listed.get("GOG_COVER_" + name.upper()), number)
     same("the codes that accept", (listed["GOG_ACCEPTED"], listed["GOG_NO_ROUTE"]), ("1", "2"))
     same("the codes that Python knows", sorted(gogbetiku._REFUSALS), list(range(3, 19)))
+    kinds = re.search(r"KINDS = \[(.*?)\]", (TOP / "web/route_check.mjs").read_text(), re.S)[1]
+    names = [name.strip().strip('"') for name in kinds.split(",")][:-1]
+    same("the names in JavaScript", {at: name for at, name in enumerate(names) if at > 2}, gogbetiku._KINDS)
 
 
 class Played:

@@ -112,6 +112,31 @@ def vector_cases():
             yield {**asked, "said": said}, bytes.fromhex(given["reply"])
 
 
+def chain_cases(party):
+    """The octets of vectors/ that are no chain."""
+    for family in files.FAMILIES:
+        for case in files.read_family(TOP / "vectors", family) if family.name == "chain_files" else []:
+            if "malformed" in case["result"]:
+                asked = {"ask": "route", "from": 1, "end": 3, "least": 0, "simple": False, "key": party.key.hex()}
+                said = {"code": 18, "kind": "MalformedChain", "first": str(case["result"]["malformed"])}
+                yield {**asked, "chain": case["given"]["octets"], "said": said}, b"\x01"
+
+
+def round_cases(party):
+    """A route that goes round a road of length 0, where that is taken and where it is not."""
+    roads = party.folder / "round.roads"
+    roads.write_text("roads 1\nnode 1 0 0\nnode 2 5 0\nnode 3 5 0\nroad 1 2 7\nroad 2 3 0\n")
+    (party.folder / "round.pub").write_bytes(party.run("publish round.roads dij 8 id 0 2 0 0 0"))
+    reply = party.run("prove round.pub 1 3")
+    at = 107 + struct.unpack(">H", reply[105:107])[0]
+    longer = reply[:at] + struct.pack(">6I", 5, 1, 2, 3, 2, 3) + reply[at + 16 :]
+    for simple in (False, True):
+        case = {"ask": "route", "from": 1, "end": 3, "least": 3, "simple": simple, "chain": True}
+        said = party.said(case, longer)
+        assert said["code"] == (15 if simple else 1)
+        yield {**case, "key": party.key.hex(), "chain": party.chain.hex(), "said": said}, longer
+
+
 def made_cases(party, count, queries, seed):
     """Honest replies, right replies to other questions, and `count` changed ones."""
     draw = random.Random(seed)
@@ -133,7 +158,8 @@ def made_cases(party, count, queries, seed):
 def write_cases(party, folder, count, queries=6, seed=1):
     """Writes cases.json and cases.bin. Gives how many cases there are of each code."""
     cases, octets, codes = [], bytearray(), {}
-    for case, reply in [*vector_cases(), *made_cases(party, count, queries, seed)]:
+    told = [*vector_cases(), *chain_cases(party), *round_cases(party), *made_cases(party, count, queries, seed)]
+    for case, reply in told:
         cases.append({**case, "at": len(octets), "octets": len(reply)})
         octets += reply
         codes[case["said"]["code"]] = codes.get(case["said"]["code"], 0) + 1

@@ -73,7 +73,7 @@ def in_chromium(folder):
     with http.server.ThreadingHTTPServer(("127.0.0.1", 0), handler) as server:
         threading.Thread(target=server.serve_forever, daemon=True).start()
         words = ["chromium", "--headless", "--no-sandbox", "--disable-gpu", "--virtual-time-budget=600000", "--dump-dom"]
-        done = subprocess.run([*words, f"http://127.0.0.1:{server.server_port}/page.html"], capture_output=True, text=True, check=False)
+        done = subprocess.run([*words, f"http://127.0.0.1:{server.server_port}/page.html"], capture_output=True, text=True, check=False, timeout=600)
         server.shutdown()
     if ", 0 differ" in done.stdout:
         return 0

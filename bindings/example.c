@@ -1,6 +1,6 @@
-/* Checks the reply in a file to the query for a shortest route, and prints the route, that there is none, or the refusal.
- * Usage: example KEY REPLY FROM TO LEAST [CHAIN], where KEY has the public key in hex. */
-#include "route_check.h"
+/* Checks the reply in a file to the query for a shortest route, and prints the route and its places, that there is
+ * none, or the refusal. Usage: example KEY REPLY FROM TO LEAST [CHAIN], where KEY has the public key in hex. */
+#include <gogbetiku.h>
 
 #include <inttypes.h>
 #include <stdio.h>
@@ -24,13 +24,13 @@ static struct octets load(const char *name) {
         perror(name);
         exit(2);
     }
+    octets.at[octets.length] = 0;
     fclose(file);
     return octets;
 }
 
 static void read_key(const char *name, uint8_t key[56]) {
     struct octets hex = load(name);
-    hex.at[hex.length] = 0;
     for (int place = 0; place < 56; place++) {
         unsigned octet;
         if (hex.length < 112 || sscanf((const char *)hex.at + 2 * place, "%2x", &octet) != 1) {
@@ -42,11 +42,31 @@ static void read_key(const char *name, uint8_t key[56]) {
     free(hex.at);
 }
 
+static int tell(const struct gog_verdict *verdict, const struct gog_node *nodes) {
+    if (!gog_accepted(verdict)) {
+        char text[256];
+        gog_sentence(verdict->code, verdict->first, verdict->second, text, sizeof text);
+        printf("%s", verdict->line);
+        fprintf(stderr, "%s\n", text);
+        return 1;
+    }
+    if (verdict->code == GOG_NO_ROUTE) {
+        printf("accepted none\n");
+        return 0;
+    }
+    printf("accepted %" PRIu64 ":", verdict->length);
+    for (uint64_t stop = 0; stop < verdict->count; stop++) printf(" %" PRIu32, nodes[stop].id);
+    printf("\n");
+    for (uint64_t stop = 0; stop < verdict->count; stop++)
+        fprintf(stderr, "%" PRIu32 " %" PRId32 " %" PRId32 "\n", nodes[stop].id, nodes[stop].x, nodes[stop].y);
+    return 0;
+}
+
 int main(int count, char **words) {
-    static uint32_t route[ROUTE_MOST_NODES];
-    uint8_t key[56], line[ROUTE_LINE_ROOM], none = 0;
-    struct octets chain = {&none, 0};
-    struct route_verdict verdict;
+    static struct gog_node nodes[GOG_MOST_NODES];
+    struct gog_verdict verdict = GOG_VERDICT_INIT;
+    struct octets chain = {NULL, 0};
+    uint8_t key[56];
     if (count < 6 || count > 7) {
         fprintf(stderr, "usage: example KEY REPLY FROM TO LEAST [CHAIN]\n");
         return 2;
@@ -55,19 +75,11 @@ int main(int count, char **words) {
     struct octets reply = load(words[2]);
     if (count == 7) chain = load(words[6]);
     uint32_t from = (uint32_t)strtoul(words[3], NULL, 10), to = (uint32_t)strtoul(words[4], NULL, 10);
-    uint32_t code = route_check(key, sizeof key, chain.at, chain.length, reply.at, reply.length, from, to,
-                                strtoull(words[5], NULL, 10), route, ROUTE_MOST_NODES, line, sizeof line,
-                                &verdict);
-    if (code == ROUTE_APART) {
-        printf("accepted none\n");
-        return 0;
-    }
-    if (code != ROUTE_ACCEPTED) {
-        printf("%.*s", (int)verdict.line, (const char *)line);
-        return 1;
-    }
-    printf("accepted %" PRIu64 ":", verdict.length);
-    for (uint64_t stop = 0; stop < verdict.count; stop++) printf(" %" PRIu32, route[stop]);
-    printf("\n");
-    return 0;
+    if (gog_check_route(key, sizeof key, chain.at, chain.length, reply.at, reply.length, from, to,
+                        strtoull(words[5], NULL, 10), 0, nodes, GOG_MOST_NODES, &verdict) == GOG_UNCHECKED)
+        return 2;
+    int status = tell(&verdict, nodes);
+    free(reply.at);
+    free(chain.at);
+    return status;
 }

@@ -1,28 +1,30 @@
-"""Checks the reply in a file to the query for a shortest route, and prints the route, that there is none, or the refusal.
-Usage: example.py KEY REPLY FROM TO LEAST [CHAIN], where KEY has the public key in hex, beside libroute_check.so."""
+"""Checks the reply in a file to the query for a shortest route, and prints the route and its places, that there is
+none, or the refusal.
+Usage: example.py KEY REPLY FROM TO LEAST [CHAIN], where KEY has the public key in hex."""
 
-import pathlib
 import sys
+from pathlib import Path
 
-from route_check import Apart, Client, Refused
+from gogbetiku import Client, NoRoute, Refused
 
 
 def main(words):
     if len(words) not in (5, 6):
         print(__doc__, file=sys.stderr)
         return 2
-    key, reply, start, end, least = words[:5]
-    chain = pathlib.Path(words[5]).read_bytes() if len(words) == 6 else b""
-    client = Client(bytes.fromhex(pathlib.Path(key).read_text()), chain)
+    key, reply, start, end, least, *chain = words
+    client = Client.from_file(key, *chain)
     try:
-        route = client.check_route(pathlib.Path(reply).read_bytes(), int(start), int(end), int(least))
+        found = client.check_route(Path(reply).read_bytes(), int(start), int(end), int(least))
     except Refused as refusal:
-        print(refusal)
+        print(refusal.line or f"refused {refusal.kind}")
+        print(refusal, file=sys.stderr)
         return 1
-    if isinstance(route, Apart):
+    if isinstance(found, NoRoute):
         print("accepted none")
-    else:
-        print(f"accepted {route.length}:", *route.nodes)
+        return 0
+    print(f"accepted {found.length}:", *found.ids)
+    print(*(f"{node.id} {node.x} {node.y}" for node in found.nodes), sep="\n", file=sys.stderr)
     return 0
 
 

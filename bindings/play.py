@@ -3,14 +3,18 @@
 
 Builds the library with bindings/build, lets PROGRAM make a key, publications under the four methods, replies
 and a chain, and compares what the examples in C and in Python say with what PROGRAM's `check` and
-`check-reach` write. Compares the header's numbers, and those of the Python module, with the crate's
-definitions, and shows that a code that the module does not know is a refusal. With --long, turns each bit of
-a reply of each method, and checks from eight threads.
-Ends with status 1 where anything differs."""
+`check-reach` write, and the places of their nodes with the road file. Compares the header's numbers, and those of
+the modules for Python and JavaScript, with the crate's definitions. Shows that a code that the Python module does not
+know is a refusal, that a library in the working folder is not loaded, that null pointers count as nothing, that the
+greatest accepted version is kept, and that a route which passes a node twice is refused where that is asked.
+With --long, turns each bit of a reply of each method, and checks from eight threads.
+Ends with status 1 where anything differs. Nobody trusts this file."""
 
+import ctypes
 import pathlib
 import re
 import shutil
+import struct
 import subprocess
 import sys
 import tempfile
@@ -19,9 +23,12 @@ import threading
 HERE = pathlib.Path(__file__).resolve().parent
 TOP = HERE.parent
 METHODS = {"dij": "3 id 0 2 0 0 0", "full": "4 kd 0 2 0 0 0", "ldm": "5 id 0 2 1 2 0", "hyp": "6 hilbert 0 2 3 1 0"}
-sys.path.insert(0, str(HERE))
+WARNINGS = ["-std=c99", "-Wall", "-Wextra", "-Werror"]
+SANITIZERS = ["-g", "-fsanitize=address,undefined", "-fno-sanitize-recover=all"]
+sys.path.insert(0, str(HERE / "python"))
 
-import route_check  # noqa: E402
+import gogbetiku  # noqa: E402
+from gogbetiku import Client, NoRoute, Refused  # noqa: E402
 
 faults = []
 
@@ -31,22 +38,35 @@ def same(what, seen, wanted):
         faults.append(f"{what}: {seen!r}, and not {wanted!r}")
 
 
+def refusal_of(check, *words, **options):
+    """How a check is refused, or nothing, which is a fault."""
+    try:
+        faults.append(f"accepted: {check(*words, **options)}")
+    except Refused as refusal:
+        return refusal
+
+
 def numbers_of_the_header():
-    """The codes of the header and of the crate's definitions are the same, name by name."""
-    header = (HERE / "route_check.h").read_text()
-    listed = dict(re.findall(r"(ROUTE_[A-Z_]+) = (\d+)", header))
+    """The codes of the header, of the crate's definitions and of both modules are the same, name by name."""
+    header = (HERE / "gogbetiku.h").read_text()
+    listed = dict(re.findall(r"(GOG_[A-Z_]+) = (\d+)", header))
     codes = (TOP / "crates/route_check_c/specs/Codes.antt").read_text()
     named = re.findall(r"^(?:route|judged)_(?:reason) \(?\w+\.(\w+)[^=]*= told (\d+)", codes, re.M)
     assert len(named) >= 12
     for name, code in named:
-        macro = "ROUTE_" + re.sub(r"(?<=[a-z])(?=[A-Z])", "_", name).upper()
-        same(macro, listed.get(macro.replace("ROUTE_MEMORY", "ROUTE_NO_MEMORY")), code)
+        macro = "GOG_" + re.sub(r"(?<=[a-z])(?=[A-Z])", "_", name).upper()
+        same(macro, listed.get(macro.replace("GOG_MEMORY", "GOG_NO_MEMORY")), code)
+        same(f"the name of {code} in Python", gogbetiku._KINDS[int(code)], name.replace("Memory", "NoMemory"))
     for name, number in re.findall(r"^seal_number seals\.(\w+) = (\d+)", codes, re.M):
-        macro = "ROUTE_" + re.sub(r"(?<=[a-z])(?=[A-Z])", "_", name).upper()
+        macro = "GOG_" + re.sub(r"(?<=[a-z])(?=[A-Z])", "_", name).upper()
         same(macro, listed.get(macro), number)
     for name, number in re.findall(r"^cover_number faults\.(\w+) = (\d+)", codes, re.M):
-        same(name, listed.get("ROUTE_COVER_" + name.upper()), number)
-    same("the codes that Python knows", sorted(route_check._REFUSALS), list(range(1, 16)))
+        same(name, listed.get("GOG_COVER_" + name.upper()), number)
+    same("the codes that accept", (listed["GOG_ACCEPTED"], listed["GOG_NO_ROUTE"]), ("1", "2"))
+    same("the codes that Python knows", sorted(gogbetiku._REFUSALS), list(range(3, 19)))
+    kinds = re.search(r"KINDS = \[(.*?)\]", (TOP / "web/route_check.mjs").read_text(), re.S)[1]
+    names = [name.strip().strip('"') for name in kinds.split(",")][:-1]
+    same("the names in JavaScript", {at: name for at, name in enumerate(names) if at > 2}, gogbetiku._KINDS)
 
 
 class Played:
@@ -55,10 +75,12 @@ class Played:
     def __init__(self, program, folder):
         self.program, self.folder = str(program), folder
         subprocess.run([HERE / "build", folder], check=True)
-        subprocess.run(
-            ["cc", "-std=c99", "-Wall", "-Werror", "-O2", "-I", HERE, HERE / "example.c", "libroute_check.a", "-o", "example"],
-            cwd=folder, check=True,
-        )
+        for name, words in (("example", ["-O2"]), ("sanitized", SANITIZERS)):
+            subprocess.run(
+                ["cc", *WARNINGS, *words, "-I", HERE, HERE / "example.c", "libgogbetiku.a", "-o", name],
+                cwd=folder, check=True,
+            )
+        self.library = folder / "libgogbetiku.so.0"
         shutil.copy(TOP / "crates/road_proof/data/m1.roads", folder)
         (folder / "secret.hex").write_text("00" * 48)
         (folder / "next.hex").write_text("01" * 48)
@@ -67,24 +89,28 @@ class Played:
             (folder / f"{method}.pub").write_bytes(self.run(f"publish m1.roads {method} {words}")[1])
         self.replies = {f"{method}.reply": self.run(f"prove {method}.pub 1 3")[1] for method in METHODS}
         self.replies["near.reply"] = self.run("reach dij.pub 1 4")[1]
-        self.write()
-
-    def write(self):
         for name, octets in self.replies.items():
-            (self.folder / name).write_bytes(octets)
+            (folder / name).write_bytes(octets)
 
     def run(self, words):
         done = subprocess.run([self.program, *words.split()], cwd=self.folder, capture_output=True)
         return done.returncode, done.stdout
 
+    def client(self, **words):
+        return Client.from_file(self.folder / "owner.key", library=self.library, **words)
+
     def example(self, words):
-        """What the examples in C and in Python print, which must be the same."""
-        by_c = subprocess.run(["./example", *words.split()], cwd=self.folder, capture_output=True, text=True)
-        by_python = subprocess.run(
-            [sys.executable, HERE / "example.py", *words.split()], cwd=self.folder, capture_output=True, text=True
-        )
-        same(f"python {words}", (by_python.returncode, by_python.stdout), (by_c.returncode, by_c.stdout))
-        return by_c.returncode, by_c.stdout.encode()
+        """What the examples in C, also under the sanitizers, and in Python print, which must be the same."""
+        runs = []
+        for command in (["./example"], ["./sanitized"], [sys.executable, HERE / "example.py"]):
+            done = subprocess.run(
+                [*command, *words.split()], cwd=self.folder, capture_output=True, text=True,
+                env={"LD_LIBRARY_PATH": str(self.folder), "PYTHONPATH": str(HERE / "python"), "PATH": "/usr/bin:/bin"},
+            )
+            runs.append((done.returncode, done.stdout, done.stderr))
+        same(f"under the sanitizers, {words}", runs[1], runs[0])
+        same(f"python, {words}", runs[2], runs[0])
+        return runs[0][0], runs[0][1].encode()
 
     def compare(self, words):
         same(f"check {words}", self.example(words), self.run(f"check {words}"))
@@ -109,14 +135,156 @@ def routes(played):
         played.compare(f"owner.key turned.reply 1 3 {least}")
 
 
-def unknown_codes(folder, key):
-    """A code that the module does not know is a refusal."""
-    client = route_check.Client(key, library=folder / "libroute_check.so")
-    client._route = lambda *words: 17
+def places(played):
+    """Nodes have the places of the road file."""
+    text = (played.folder / "m1.roads").read_text()
+    lines = [line.split() for line in text.splitlines() if line.startswith("node ")]
+    wanted = {int(words[1]): (int(words[2]), int(words[3])) for words in lines}
+    client = played.client()
+    for method in METHODS:
+        found = client.check_route(played.replies[f"{method}.reply"], 1, 3, 0)
+        same(f"{method}: the ids", found.ids, [1, 2, 3])
+        same(f"{method}: the places", [(node.x, node.y) for node in found.nodes], [wanted[id] for id in found.ids])
+    found = client.check_reach(played.replies["near.reply"], 1, 4, 0)
+    same("the places within 4", [(node.x, node.y) for node in found.nodes], [wanted[node.id] for node in found.nodes])
+
+
+def passes_twice(played):
+    """A route that goes round a road of length 0 is a shortest one, and refused where none such is wanted."""
+    (played.folder / "round.roads").write_text("roads 1\nnode 1 0 0\nnode 2 5 0\nnode 3 5 0\nroad 1 2 7\nroad 2 3 0\n")
+    status, publication = played.run("publish round.roads dij 7 id 0 2 0 0 0")
+    same("publish round.roads", status, 0)
+    (played.folder / "round.pub").write_bytes(publication)
+    reply = played.run("prove round.pub 1 3")[1]
+    at = 107 + struct.unpack(">H", reply[105:107])[0]
+    same("the route of the reply", reply[at : at + 16], struct.pack(">4I", 3, 1, 2, 3))
+    longer = reply[:at] + struct.pack(">6I", 5, 1, 2, 3, 2, 3) + reply[at + 16 :]
+    client = played.client()
+    same("a route that passes a node twice", client.check_route(longer, 1, 3, 7).ids, [1, 2, 3, 2, 3])
+    same("where none such is wanted", refusal_of(client.check_route, longer, 1, 3, 7, simple=True).kind, "PassesTwice")
+    same("one that does not", client.check_route(reply, 1, 3, 7, simple=True).ids, [1, 2, 3])
+
+
+def unknown_codes(played):
+    """A code that the module does not know is a refusal, and so is one of no check."""
+    for code in (0, 19, 2**32 - 1):
+        client = played.client()
+
+        class Calls:
+            gog_check_route = staticmethod(lambda *words: code)
+            gog_accepted, gog_sentence = client._calls.gog_accepted, client._calls.gog_sentence
+
+        client._calls = Calls
+        same(f"the code {code}", refusal_of(client.check_route, b"", 1, 3, 0).kind, "Unknown")
+    same("wrong keys", [wrong_key(key) for key in (b"", bytes(55), "00" * 55, "g" * 112)], [True] * 4)
+
+
+def wrong_key(key):
     try:
-        faults.append(f"the code 17 is taken: {client.check_route(b'', 1, 3)}")
-    except route_check.Unknown as refusal:
-        same("a code that the module does not know", refusal.code, 17)
+        Client(key)
+    except ValueError:
+        return True
+
+
+def nulls(played):
+    """Null pointers count as no octets and no room; a verdict of zeros is refused; a room may be too small."""
+    calls = ctypes.CDLL(str(played.library))
+    calls.gog_filled.restype = ctypes.c_size_t
+    key = bytes.fromhex((played.folder / "owner.key").read_text())
+    reply = played.replies["dij.reply"]
+    verdict = gogbetiku._Verdict()
+    size = ctypes.c_size_t
+    seen = ctypes.byref(verdict)
+    same("a verdict of zeros", calls.gog_accepted(seen), 0)
+
+    def check(key, reply, room, places):
+        words = (key, size(len(key or b"")), None, size(0), reply, size(len(reply or b"")))
+        return calls.gog_check_route(*words, 1, 3, ctypes.c_uint64(0), 0, room, size(places), seen)
+
+    for places in (0, 2, 3, 4):
+        room = (gogbetiku._Node * 5)()
+        same("the code", check(key, reply, room, places), 1)
+        same(f"ids in a room of {places}", [node.id for node in room], [1, 2, 3][:places] + [0] * (5 - min(places, 3)))
+        same("how much is filled", (calls.gog_filled(seen, size(places)), verdict.count), (min(places, 3), 3))
+    same("no room", (check(key, reply, None, 9), verdict.count), (1, 3))
+    same("no reply", (check(key, None, None, 0), calls.gog_accepted(seen)), (4, 0))
+    same("no key", (check(None, reply, None, 0), verdict.first), (7, 1))
+    words = (key, size(56), None, size(0), reply, size(len(reply)))
+    same("no verdict", calls.gog_check_route(*words, 1, 3, ctypes.c_uint64(0), 0, None, size(0), None), 0)
+    same("accepted without a node", calls.gog_accepted(ctypes.byref(gogbetiku._Verdict(code=1))), 0)
+
+
+def sentences(played):
+    """Each sentence is whole, also in a room that it does not fit into."""
+    calls = ctypes.CDLL(str(played.library))
+    calls.gog_sentence.restype = ctypes.c_size_t
+    wide = [ctypes.c_uint64(number) for number in (2**64 - 1, 12)]
+    for code in [*range(19), 19, 2**32 - 1]:
+        whole = ctypes.create_string_buffer(256)
+        length = calls.gog_sentence(code, *wide, whole, ctypes.c_size_t(256))
+        same(f"the length of the sentence {code}", length, len(whole.value))
+        same(f"the sentence {code}", (whole.value[-1:], b"#" in whole.value, length > 15), (b".", False, True))
+        for room in (0, 1, 9):
+            cut = ctypes.create_string_buffer(b"?" * 12)
+            same("a room that is too small", calls.gog_sentence(code, *wide, cut, ctypes.c_size_t(room)), length)
+            same("what is cut", cut.raw, (whole.value[: room - 1] + b"\0" if room else b"").ljust(12, b"?") + b"\0")
+
+
+def buffers(played):
+    """A reply is taken as it lies, in any buffer; one that is too long is not looked at."""
+    client, reply = played.client(), played.replies["ldm.reply"]
+    for octets in (reply, bytearray(reply), memoryview(b"x" + reply + b"y")[1:-1], memoryview(bytes(reply))):
+        same(f"a {type(octets).__name__}", client.check_route(octets, 1, 3, 5).ids, [1, 2, 3])
+    same("too long", refusal_of(played.client(most_octets=99).check_route, reply, 1, 3, 5).kind, "TooLong")
+    same("too long as told", refusal_of(Huge(played).check_route, reply, 1, 3, 5).kind, "TooLong")
+    for words in ((-1, 3, 5), (1, 2**32, 5), (1, 3, 2**64)):
+        try:
+            faults.append(f"{words} is taken: {client.check_route(reply, *words)}")
+        except ValueError:
+            pass
+
+
+class Huge:
+    """A client that tells the library of 2^32 octets."""
+
+    def __init__(self, played):
+        client = played.client()
+        call = client._calls.gog_check_route
+        calls = type("Calls", (), {"gog_accepted": client._calls.gog_accepted, "gog_sentence": client._calls.gog_sentence})
+        calls.gog_check_route = staticmethod(lambda *words: call(*words[:5], 2**32, *words[6:]))
+        client._calls = calls
+        self.check_route = client.check_route
+
+
+def floors(played):
+    """The greatest accepted version is kept by key, and less is refused."""
+    floor = played.folder / "floor.json"
+    client = played.client(floor=floor)
+    for method in ("dij", "hyp"):
+        client.check_route(played.replies[f"{method}.reply"], 1, 3, 0)
+    same("below the floor", refusal_of(played.client(floor=floor).check_route, played.replies["full.reply"], 1, 3, 0).kind, "Stale")
+    other = Client("11" * 56, library=played.library, floor=floor)
+    same("another key", refusal_of(other.check_route, played.replies["full.reply"], 1, 3, 0).kind, "BadSignature")
+
+
+def planted(played):
+    """A library in the working folder is not loaded."""
+    folder = played.folder / "planted"
+    folder.mkdir()
+    shown = re.search(r"global: (.*)", (HERE / "exported.map").read_text())[1].split()
+    (folder / "planted.c").write_text("".join(f"int {name.rstrip(';')}() {{ return 1; }}\n" for name in shown))
+    subprocess.run(["cc", "-w", "-shared", "-fPIC", "planted.c", "-o", "libgogbetiku.so.0"], cwd=folder, check=True)
+    shutil.copy(folder / "libgogbetiku.so.0", folder / "libgogbetiku.so")
+    named = "import gogbetiku; gogbetiku.Client(bytes(56), library='libgogbetiku.so.0'); print('loaded')"
+    there = {"PYTHONPATH": str(HERE / "python")}
+    done = subprocess.run([sys.executable, "-c", named], cwd=folder, capture_output=True, text=True, env=there)
+    same("a planted library that is named", (done.returncode, done.stdout), (0, "loaded\n"))
+    ask = f"import sys; sys.path.append({str(HERE / 'python')!r}); import gogbetiku; gogbetiku.Client(bytes(56)); print('loaded')"
+    for path in ("", ":", f"{played.folder}/none:", ".", "planted/.."):
+        done = subprocess.run(
+            [sys.executable, "-c", ask], cwd=folder, capture_output=True, text=True, env={"LD_LIBRARY_PATH": path} if path else {}
+        )
+        same(f"a planted library, LD_LIBRARY_PATH={path!r}", (done.returncode, done.stdout), (1, ""))
 
 
 def chains(played):
@@ -130,36 +298,31 @@ def chains(played):
     same("the new key", played.example("owner.key later.reply 1 3 9 owner.chain"), (0, b"accepted 9: 1 2 3\n"))
 
 
-def radii(played, client):
-    within = client.check_reach(played.replies["near.reply"], 1, 4)
+def radii(played):
+    client = played.client()
+    within = client.check_reach(played.replies["near.reply"], 1, 4, 0)
     same("the nodes within 4", within.distances, {1: 0, 2: 4, 4: 3})
     line = f"within {len(within.distances)}: {' '.join(map(str, within.distances))}\n"
     same("check-reach", played.run("check-reach owner.key near.reply 1 4 0")[1].decode(), line)
     for radius in (9, 2**63):
-        try:
-            client.check_reach(played.replies["near.reply"], 1, radius)
-            faults.append(f"the reply is accepted for the radius {radius}")
-        except route_check.Refused as refusal:
-            same(f"check-reach {radius}", played.run(f"check-reach owner.key near.reply 1 {radius} 0")[1].decode(), refusal.line + "\n")
+        refusal = refusal_of(client.check_reach, played.replies["near.reply"], 1, radius, 0)
+        same(f"check-reach {radius}", played.run(f"check-reach owner.key near.reply 1 {radius} 0")[1].decode(), refusal.line + "\n")
 
 
-def long_runs(played, client):
+def long_runs(played):
+    client = played.client()
     for method in METHODS:
         reply = played.replies[f"{method}.reply"]
         for place in range(8 * len(reply)):
             turned = bytearray(reply)
             turned[place // 8] ^= 1 << place % 8
-            try:
-                route = client.check_route(bytes(turned), 1, 3)
-                faults.append(f"{method}, bit {place}: accepted {route}")
-            except route_check.Refused:
-                pass
+            refusal_of(client.check_route, turned, 1, 3, 0)
         print(f"{method}: each of {8 * len(reply)} bits turned")
 
     def check_often():
         for turn in range(2_000):
             method = list(METHODS)[turn % 4]
-            same("a thread's route", client.check_route(played.replies[f"{method}.reply"], 1, 3).nodes, [1, 2, 3])
+            same("a thread's route", client.check_route(played.replies[f"{method}.reply"], 1, 3, 0).ids, [1, 2, 3])
 
     threads = [threading.Thread(target=check_often) for _ in range(8)]
     for thread in threads:
@@ -171,15 +334,11 @@ def long_runs(played, client):
 def main(program, is_long):
     numbers_of_the_header()
     with tempfile.TemporaryDirectory() as name:
-        folder = pathlib.Path(name)
-        played = Played(pathlib.Path(program).resolve(), folder)
-        key = bytes.fromhex((folder / "owner.key").read_text())
-        client = route_check.Client(key, library=folder / "libroute_check.so")
-        routes(played)
-        radii(played, client)
-        unknown_codes(folder, key)
+        played = Played(pathlib.Path(program).resolve(), pathlib.Path(name))
+        for part in (routes, places, radii, passes_twice, unknown_codes, nulls, sentences, buffers, floors, planted):
+            part(played)
         if is_long:
-            long_runs(played, client)
+            long_runs(played)
         chains(played)
     for fault in faults:
         print(fault)

@@ -1,14 +1,14 @@
 /* Strains the library by hand: each request for memory of a check refused in turn, and then so many checks
  * from eight threads, each with rooms of its own. Usage: strain KEY REPLY FROM TO CHECKS.
- * cc -O2 -pthread -Wl,--wrap=malloc,--wrap=realloc strain.c FOLDER/libroute_check.a -o strain */
-#include "route_check.h"
+ * cc -O2 -pthread -Wl,--wrap=malloc,--wrap=realloc strain.c FOLDER/libgogbetiku.a -o strain */
+#include "gogbetiku.h"
 
 #include <pthread.h>
 #include <stdio.h>
 #include <stdlib.h>
 #include <string.h>
 
-enum { THREADS = 8 };
+enum { THREADS = 8, ROOM = 64 };
 
 static uint8_t key[56], *reply;
 static size_t length;
@@ -21,24 +21,21 @@ void *__real_realloc(void *, size_t);
 void *__wrap_malloc(size_t size) { return ++calls == refused_call ? NULL : __real_malloc(size); }
 void *__wrap_realloc(void *at, size_t size) { return ++calls == refused_call ? NULL : __real_realloc(at, size); }
 
-static uint32_t check(uint32_t *route, uint8_t *line, struct route_verdict *verdict) {
-    uint8_t none = 0;
-    return route_check(key, sizeof key, &none, 0, reply, length, from, to, 0, route, 64, line, ROUTE_LINE_ROOM, verdict);
+static uint32_t check(struct gog_node *nodes, struct gog_verdict *verdict) {
+    return gog_check_route(key, sizeof key, NULL, 0, reply, length, from, to, 0, 1, nodes, ROOM, verdict);
 }
 
 static void *check_often(void *bad) {
-    uint32_t route[64];
-    uint8_t line[ROUTE_LINE_ROOM];
-    struct route_verdict verdict;
+    struct gog_node nodes[ROOM];
+    struct gog_verdict verdict;
     for (unsigned long turn = 0; turn < checks / THREADS; turn++)
-        if (check(route, line, &verdict) != ROUTE_ACCEPTED || route[0] != from) ++*(unsigned long *)bad;
+        if (check(nodes, &verdict) != GOG_ACCEPTED || nodes[0].id != from) ++*(unsigned long *)bad;
     return NULL;
 }
 
 int main(int count, char **words) {
-    uint32_t route[64];
-    uint8_t line[ROUTE_LINE_ROOM];
-    struct route_verdict verdict;
+    struct gog_node nodes[ROOM];
+    struct gog_verdict verdict;
     char hex[113] = {0};
     FILE *file = count == 6 ? fopen(words[1], "rb") : NULL;
     if (file == NULL || fread(hex, 1, 112, file) != 112) return 2;
@@ -51,11 +48,11 @@ int main(int count, char **words) {
     long went_on = 0;
     for (refused_call = 1;; refused_call++) {
         calls = 0;
-        memset(route, 7, sizeof route);
-        uint32_t code = check(route, line, &verdict);
+        memset(nodes, 7, sizeof nodes);
+        uint32_t code = check(nodes, &verdict);
         if (calls < refused_call) break;
-        if (code == ROUTE_ACCEPTED && route[0] == from) went_on++;
-        else if (code != ROUTE_NO_MEMORY || route[0] != 0x07070707) return printf("request %ld: code %u\n", refused_call, code), 1;
+        if (code == GOG_ACCEPTED && nodes[0].id == from) went_on++;
+        else if (code != GOG_NO_MEMORY || nodes[0].id != 0x07070707) return printf("request %ld: code %u\n", refused_call, code), 1;
     }
     printf("%ld requests for memory, each refused in turn: the check went on without %ld of them, and said no memory else\n",
            calls, went_on);

@@ -3,7 +3,7 @@
 
 Each case of vectors/ is given to reference/gogbetiku_reference, with PROGRAM behind it only where --all stands too,
 since the reference made them; to PROGRAM by the command that has a use for it, in a fresh folder; and, where it is one
-of a client, to LIBRARY (libroute_check.so, which bindings/build makes) through bindings/route_check.py. What no command
+of a client, to LIBRARY (libgogbetiku.so.0, which bindings/build makes) through bindings/python. What no command
 takes alone is wrapped: a leaf or a header stands in a reply, a fold in a signed reply. Ranges of bits and of lengths
 are played at some of their places, with --all at each, and with it the case whose key takes a minute. Nothing here is
 proved, and no client trusts it. Ends with status 1 where anything comes out otherwise.
@@ -17,7 +17,7 @@ from collections import Counter
 from collections.abc import Callable
 
 TOP = pathlib.Path(__file__).resolve().parent.parent
-sys.path[:0] = [str(TOP / "reference"), str(TOP / "bindings")]
+sys.path[:0] = [str(TOP / "reference"), str(TOP / "bindings/python")]
 
 from gogbetiku_reference import desks  # noqa: E402
 from gogbetiku_reference.headers import HYP, LDM, Header  # noqa: E402
@@ -334,7 +334,7 @@ def checked(program: Program, given: Fields) -> tuple[int, str]:
 
 
 def client(program: Program, given: Fields, result: Fields) -> None:
-    same("check", checked(program, given), (0 if result["code"] in (0, 16) else REFUSED, result["line"]))
+    same("check", checked(program, given), (0 if result["code"] in (1, 2) else REFUSED, result["line"]))
 
 
 def turned_reply(program: Program, given: Fields, result: Fields) -> None:
@@ -466,22 +466,22 @@ PLAYS: dict[str, Callable[[Program, Fields, Fields], None]] = {
 
 def by_library(library: str) -> Callable[[Fields], Fields]:
     """What the library says of what a client is given."""
-    import route_check
+    import gogbetiku
 
     def run(given: Fields) -> Fields:
-        client_of = route_check.Client(octets(given["public"]), octets(given["chain"]), library)
+        client_of = gogbetiku.Client(octets(given["public"]), octets(given["chain"]), library=library)
         start, least = given["from"], int(given["least"])
         try:
             if "radius" in given:
-                found = client_of.check_reach(octets(given["reply"]), start, int(given["radius"]), least)
-                ids = "".join(f" {node}" for node in found.distances)
-                return told(f"within {len(found.distances)}:{ids}\n", 0, 0, 0, found.version)
+                within = client_of.check_reach(octets(given["reply"]), start, int(given["radius"]), least)
+                ids = "".join(f" {node.id}" for node in within.nodes)
+                return told(f"within {len(within.nodes)}:{ids}\n", 1, 0, 0, within.version)
             found = client_of.check_route(octets(given["reply"]), start, given["to"], least)
-        except route_check.Refused as refused:
+        except gogbetiku.Refused as refused:
             return told(refused.line + "\n", refused.code, refused.first, refused.second, 0)
-        if isinstance(found, route_check.Apart):
-            return told("accepted none\n", 16, 0, 0, found.version)
-        return told(f"accepted {found.length}:{''.join(f' {node}' for node in found.nodes)}\n", 0, 0, 0, found.version)
+        if isinstance(found, gogbetiku.NoRoute):
+            return told("accepted none\n", 2, 0, 0, found.version)
+        return told(f"accepted {found.length}:{''.join(f' {id}' for id in found.ids)}\n", 1, 0, 0, found.version)
 
     return run
 
@@ -512,7 +512,7 @@ def library_plays(
     if name == "chain_files" and "malformed" in result:
         query = asking.asked(b"\x01", 1, 3, 0)
         seen = run({**query, "chain": given["octets"]})
-        same("library", (seen["code"], seen["first"]), (15, str(result["malformed"])))
+        same("library", (seen["code"], seen["first"]), (18, str(result["malformed"])))
         return 1
     return 0
 

@@ -1,20 +1,22 @@
 """Asks the proved client of a reply: the one place of the tools that knows its library.
 
-What it gives is what the client accepted, and the places of its nodes out of the accepted reply's own leaves, which
-lie under the signed root. A refused reply gives nothing. docs/LIBRARY.md says what the client's word is worth; no
+What it gives is what the client accepted, with the places of its nodes, which the client has out of the reply's leaves
+under the signed root. Where no route joins two nodes, their places are read here, out of the accepted reply. A refused reply gives nothing. docs/LIBRARY.md says what the client's word is worth; no
 client trusts this file, and whoever runs it trusts that it asks.
 """
 import argparse
 import pathlib
+import string
 import sys
 from dataclasses import dataclass
+from typing import Any
 
 from replies import APART, RADIUS, ROUTE, reply_of
 from roads import Place, Trouble
 
 TOP = pathlib.Path(__file__).resolve().parent.parent
-LIBRARY = TOP / "crates/route_check_c/out/libroute_check.so"
-sys.path.insert(0, str(TOP / "bindings"))
+LIBRARY = TOP / "crates/route_check_c/out/libgogbetiku.so.0"
+sys.path.insert(0, str(TOP / "bindings/python"))
 
 
 @dataclass(frozen=True)
@@ -53,35 +55,38 @@ def octets_of(path: str) -> bytes:
     return pathlib.Path(path).read_bytes()
 
 
-def key_of(path: str) -> bytes:
+def key_of(path: str) -> str:
     """A public key, out of the file of hex digits that `road_proof key` writes."""
-    try:
-        return bytes.fromhex(octets_of(path).decode("ascii"))
-    except ValueError:
-        raise Trouble(f"{path}: no public key in hex digits") from None
+    text = octets_of(path).decode("ascii", "replace").strip()
+    if len(text) != 112 or not all(digit in string.hexdigits for digit in text):
+        raise Trouble(f"{path}: no public key in hex digits")
+    return text
+
+
+def places_of(nodes: list[Any]) -> dict[int, Place]:
+    return {node.id: (node.x, node.y) for node in nodes}
 
 
 def accepted(question: Question) -> Accepted:
     """What the client accepts of the reply to the question. A refusal is a Trouble with the client's own line."""
-    import route_check
+    import gogbetiku
 
     if not pathlib.Path(question.library).exists():
         raise Trouble(f"{question.library}: the proved client is not there: bindings/archive and bindings/build make it (docs/LIBRARY.md)")
     chain = octets_of(question.chain) if question.chain else b""
-    client = route_check.Client(key_of(question.key), chain, question.library)
+    client = gogbetiku.Client(key_of(question.key), chain, library=question.library)
     octets = octets_of(question.reply)
     check = client.check_reach if question.reach else client.check_route
     try:
         found = check(octets, question.start, question.end, question.least)
-    except route_check.Refused as refusal:
-        raise Trouble(f"{question.reply}: {refusal}") from None
+    except gogbetiku.Refused as refusal:
+        raise Trouble(f"{question.reply}: {refusal.line}") from None
     except ValueError as error:
         raise Trouble(str(error)) from None
-    places = reply_of(octets, question.reply).places
-    if isinstance(found, route_check.Within):
-        nodes = list(found.distances)
-        return Accepted(RADIUS, nodes, {node: places[node] for node in nodes}, found.version, distances=found.distances)
-    if isinstance(found, route_check.Apart):
-        ends = [question.start, question.end]
+    if isinstance(found, gogbetiku.NoRoute):
+        places, ends = reply_of(octets, question.reply).places, [question.start, question.end]
         return Accepted(APART, ends, {node: places[node] for node in ends}, found.version)
-    return Accepted(ROUTE, found.nodes, {node: places[node] for node in found.nodes}, found.version, found.length)
+    ids = [node.id for node in found.nodes]
+    if isinstance(found, gogbetiku.Within):
+        return Accepted(RADIUS, ids, places_of(found.nodes), found.version, distances=found.distances)
+    return Accepted(ROUTE, ids, places_of(found.nodes), found.version, found.length)

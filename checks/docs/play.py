@@ -26,9 +26,9 @@ SECONDS = 120
 # words of the shell's own, and the two programs that this script puts on the path
 KNOWN = {"cd", "echo", "export", "printf", "umask", "exit", "true", "false", "road_proof", "rt", "test"}
 STAND_IN = """#!/bin/sh
-# Runs the built program in place of `rt run -- WORDS` and `rt try -- WORDS`.
-case "$1 $2" in "run --"|"try --") shift 2; exec out/road_proof "$@";; esac
-echo "rt: only run -- and try -- are stood in for here" >&2
+# Runs the built program in place of `rt run -- WORDS` and `rt try -- WORDS`; where the kit lies, rt itself says.
+case "$1 $2" in "run --"|"try --") shift 2; exec out/road_proof "$@";; "doc ") exec REAL doc;; esac
+echo "rt: only run --, try -- and doc are stood in for here" >&2
 exit 2
 """
 
@@ -100,7 +100,7 @@ def fresh_folder(room, program):
         os.makedirs(os.path.dirname(f"{room}/clone/{ARCHIVE}"))
         shutil.copyfile(f"{TOP}/{ARCHIVE}", f"{room}/clone/{ARCHIVE}")
     with open(f"{room}/bin/rt", "w", encoding="utf-8") as file:
-        file.write(STAND_IN)
+        file.write(STAND_IN.replace("REAL", shutil.which("rt") or "false"))
     os.chmod(f"{room}/bin/rt", 0o755)
     return f"{room}/clone", f"{room}/bin:{os.environ.get('PATH', '/usr/bin:/bin')}"
 

@@ -3,8 +3,9 @@
 
 Words beside code blocks of README.md and docs/*.md, sentences of more than 40 words, and links to files or headings
 that are not there, in these and in the documents at the top; and looks that the version of the file VERSION is the one
-that the program, the changelog, the C header and the Python module say, that the program names the toolchain of SUMS,
-and that Git tracks nothing under an out folder. Ends with status 1 where one is above its budget or differs.
+that the program, the changelog, the C header and the modules for Python and JavaScript say, that the program names the
+toolchain of SUMS, and that Git tracks nothing under an out folder. Ends with status 1 where one is above its budget or
+differs.
 """
 import glob
 import os
@@ -15,7 +16,8 @@ import sys
 TOP = os.path.dirname(os.path.dirname(os.path.dirname(os.path.abspath(__file__))))
 README_WORDS, ALL_WORDS, SENTENCE_WORDS = 1_100, 20_000, 40
 VERSIONS = {"crates/road_tell/src/usage.rt": r'VERSION: &str = "([^"]*)"', "CHANGELOG.md": r"^## (\S+)",
-            "bindings/route_check.h": r'ROUTE_CHECK_VERSION "([^"]*)"', "bindings/route_check.py": r'__version__ = "([^"]*)"'}
+            "bindings/gogbetiku.h": r'GOG_VERSION "([^"]*)"', "bindings/python/gogbetiku/__init__.py": r'__version__ = "([^"]*)"',
+            "web/route_check.mjs": r'VERSION = "([^"]*)"', "web/package.json": r'"version": "([^"]*)"'}
 KIT = r'KIT: &str = "([^"]*)"'
 APART = ["SECURITY.md", "CONTRIBUTING.md", "CHANGELOG.md", "checks/README.md"]
 

@@ -31,7 +31,7 @@ from draw import BLUE, DARK, GREY, ORANGE, POINT  # noqa: E402
 import roads  # noqa: E402
 
 LICENCE = roads.OSM_LICENCE
-LIBRARY = TOP / "crates/route_check_c/out/libroute_check.so"
+LIBRARY = TOP / "crates/route_check_c/out/libgogbetiku.so.0"
 # metres of a thousandth of a degree on the equator, which is a circle of 6,378,137 metres
 STEP = 6_378_137 * math.pi / 180_000
 faults: list[str] = []

@@ -4,21 +4,21 @@ docs/LIBRARY.md, "The calls". Part of the reference: tested, not proved, and tru
 """
 from .faults import Refused
 
-ACCEPTED, APART = 0, 16
+ACCEPTED, APART = 1, 2
 TESTS = {
-    "NotAnswer": 1,
-    "Malformed": 2,
-    "Stale": 3,
-    "BadChain": 4,
-    "BadSignature": 5,
-    "BadCover": 6,
-    "RepeatedNode": 7,
-    "BadRoute": 8,
-    "MissingTuple": 9,
-    "MissingPair": 10,
-    "Shorter": 11,
-    "Disagrees": 12,
-    "MalformedChain": 15,
+    "NotAnswer": 3,
+    "Malformed": 4,
+    "Stale": 5,
+    "BadChain": 6,
+    "BadSignature": 7,
+    "BadCover": 8,
+    "RepeatedNode": 9,
+    "BadRoute": 10,
+    "MissingTuple": 11,
+    "MissingPair": 12,
+    "Shorter": 13,
+    "Disagrees": 14,
+    "MalformedChain": 18,
 }
 SEALS = {"BadKey": 1, "BadForm": 2, "NoMatch": 3}
 COVERS = {"Place": 1, "Short": 2, "Long": 3, "Differs": 4}

@@ -1,5 +1,5 @@
 -- Octets have at most one verdict, and what is accepted passes each test.
-use Rattle.std.proofs.Common.{◌≡◌, ℕ, ◌⊎◌, inl, inr, List, Option, Some, None, Result, Ok, Err, refl, sym, ap, subst, ◌∙◌}
+use Rattle.std.proofs.Common.{◌≡◌, ℕ, ◌⊎◌, inl, inr, List, Option, Some, None, Result, Ok, Err, IfOk, refl, sym, ap, subst, ◌∙◌}
 use Rattle.octet_text.specs.Format.{whole}
 use Rattle.road_map.specs.Least.{IsLeast}
 use Rattle.road_map.proofs.LeastLaws.{IsLeast-unique}
@@ -21,6 +21,7 @@ use Rattle.near_model.specs.Radius.{ListsMarks}
 use Rattle.near_model.proofs.MarkLaws.{listed_once}
 use Rattle.near_client.specs.declared.errors.NearError.{NearError}
 use Rattle.near_client.specs.declared.errors.NearError.TheVariants as errors
+use Rattle.near_client.specs.declared.within.CheckedReply.{CheckedReply}
 use Rattle.near_client.specs.declared.within.Within.{Within}
 use Rattle.near_client.specs.NearVerdicts.{spelled, items_covered, header_and_cover, near_error, after_tests, tested, near_passed, IsReached, LacksItem, Listed, Walked, as_within, WalkedAfter, IsNearVerdict, NearAccepts, UnlessMemory, Meets}
 
@@ -153,6 +154,16 @@ accepts_of hash key links octets q least x is =
       version = all.version;
       header = all.header;
     }
+
+-- the reply that passes the tests before its items are walked is the one that the octets spell
+pub spelled_of : (hash : List ℕ → List ℕ) (key : List ℕ) (links : List Link) (octets : List ℕ) (least : ℕ) (a : NearReply) → near_passed hash key links octets least ≡ Ok a → whole near_reply octets ≡ Ok a
+unfolding near_passed
+spelled_of hash key links octets least a is = (passes_of hash key links least (whole near_reply octets) a is).spelled
+
+-- what holds of a reply holds of the same one, once it passes
+pub of_same : (P : NearReply → Type 0) (a : NearReply) (r : Result CheckedReply NearError) → P a → IfOk r (λ c. c.reply ≡ a) → IfOk r (λ c. P c.reply)
+of_same P a (Ok c) holds same = subst P (sym same) holds
+of_same P a (Err e) holds same = tt
 
 -- ---- and back
 

@@ -24,6 +24,7 @@ use Rattle.near_model.specs.NearReplies.{near_reply}
 use Rattle.near_model.specs.Radius.{ListsMarks}
 use Rattle.near_client.specs.declared.errors.NearError.{NearError}
 use Rattle.near_client.specs.declared.errors.NearError.TheVariants as errors
+use Rattle.near_client.specs.declared.within.CheckedReply.{CheckedReply}
 use Rattle.near_client.specs.declared.within.Within.{Within}
 
 -- ---- the tests before the items are walked
@@ -102,6 +103,11 @@ as_within a (Ok marks) = Ok (record {
   header = a.header;
 })
 as_within a (Err e) = Err e
+
+-- and what it takes from what passes each test
+abbrev pub taken : Result CheckedReply NearError → Result Within NearError
+taken (Ok checked) = as_within checked.reply (Ok checked.nodes)
+taken (Err e) = Err e
 
 abbrev pub WalkedAfter : Result NearReply NearError → NearQuery → Result Within NearError → Type 0
 WalkedAfter (Err e) q v = v ≡ Err e

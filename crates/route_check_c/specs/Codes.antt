@@ -1,5 +1,6 @@
 -- Verdicts in numbers. Each number is part of the library's interface: none changes its meaning, and
--- further ones follow the last.
+-- further ones follow the last. No verdict has the code 0, so that numbers that no check has written are
+-- not taken for an acceptance.
 use Rattle.std.specs.Prelude.{ℕ}
 use Rattle.lms_tree.specs.declared.seals.SealError.{SealError}
 use Rattle.lms_tree.specs.declared.seals.SealError.TheVariants as seals
@@ -33,42 +34,42 @@ cover_number faults.Differs = 4
 
 -- why the items don't show a shortest route, or that there is none
 abbrev pub judged_reason : Refusal → Reason
-judged_reason (refusals.RepeatedNode id) = told 7 id 0
-judged_reason (refusals.BadRoute hop) = told 8 hop 0
-judged_reason (refusals.MissingTuple id) = told 9 id 0
-judged_reason (refusals.MissingPair a b) = told 10 a b
-judged_reason (refusals.Shorter length) = told 11 length 0
-judged_reason (refusals.Disagrees distance) = told 12 distance 0
-judged_reason refusals.Memory = told 13 0 0
+judged_reason (refusals.RepeatedNode id) = told 9 id 0
+judged_reason (refusals.BadRoute hop) = told 10 hop 0
+judged_reason (refusals.MissingTuple id) = told 11 id 0
+judged_reason (refusals.MissingPair a b) = told 12 a b
+judged_reason (refusals.Shorter length) = told 13 length 0
+judged_reason (refusals.Disagrees distance) = told 14 distance 0
+judged_reason refusals.Memory = told 16 0 0
 
 -- the first test that the reply to a query for a route fails
 abbrev pub route_reason : CheckError → Reason
-route_reason (errors.NotAnswer kind) = told 1 kind 0
-route_reason (errors.Malformed at) = told 2 at 0
-route_reason (errors.Stale version) = told 3 version 0
-route_reason (errors.BadChain link why) = told 4 link (seal_number why)
-route_reason (errors.BadSignature why) = told 5 (seal_number why) 0
-route_reason (errors.BadCover tree why) = told 6 tree (cover_number why)
+route_reason (errors.NotAnswer kind) = told 3 kind 0
+route_reason (errors.Malformed at) = told 4 at 0
+route_reason (errors.Stale version) = told 5 version 0
+route_reason (errors.BadChain link why) = told 6 link (seal_number why)
+route_reason (errors.BadSignature why) = told 7 (seal_number why) 0
+route_reason (errors.BadCover tree why) = told 8 tree (cover_number why)
 route_reason (errors.Judged why) = judged_reason why
-route_reason errors.Memory = told 13 0 0
+route_reason errors.Memory = told 16 0 0
 
 -- the first test that the reply to a query for a radius fails
 abbrev pub reach_reason : NearError → Reason
-reach_reason (near_errors.Malformed at) = told 2 at 0
-reach_reason (near_errors.Stale version) = told 3 version 0
-reach_reason (near_errors.BadChain link why) = told 4 link (seal_number why)
-reach_reason (near_errors.BadSignature why) = told 5 (seal_number why) 0
-reach_reason (near_errors.BadCover why) = told 6 1 (cover_number why)
-reach_reason (near_errors.RepeatedNode id) = told 7 id 0
-reach_reason (near_errors.MissingTuple id) = told 9 id 0
-reach_reason near_errors.Memory = told 13 0 0
+reach_reason (near_errors.Malformed at) = told 4 at 0
+reach_reason (near_errors.Stale version) = told 5 version 0
+reach_reason (near_errors.BadChain link why) = told 6 link (seal_number why)
+reach_reason (near_errors.BadSignature why) = told 7 (seal_number why) 0
+reach_reason (near_errors.BadCover why) = told 8 1 (cover_number why)
+reach_reason (near_errors.RepeatedNode id) = told 9 id 0
+reach_reason (near_errors.MissingTuple id) = told 11 id 0
+reach_reason near_errors.Memory = told 16 0 0
 
 -- ---- the verdict
 
 -- so many nodes are accepted, of a route of this length, out of a publication of this version
 abbrev pub accepted_numbers : ℕ → ℕ → ℕ → Verdict
 accepted_numbers count length version = record {
-  code = 0;
+  code = 1;
   count = count;
   length = length;
   version = version;
@@ -80,7 +81,7 @@ accepted_numbers count length version = record {
 -- it is accepted that no walk joins the two ends, out of a publication of this version
 abbrev pub apart_numbers : ℕ → Verdict
 apart_numbers version = record {
-  code = 16;
+  code = 2;
   count = 0;
   length = 0;
   version = version;

@@ -1,41 +1,42 @@
 -- What a check says to a program in another language: the numbers of its verdict, and what it puts
 -- into the caller's rooms.
-use Rattle.std.specs.Prelude.{◌≡◌, ◌⊎◌, ℕ, ◌≤◌, ◌^◌, List, ◌++◌, length, take, drop, map, Result, Ok, Err}
+use Rattle.std.specs.Prelude.{◌≡◌, ◌≢◌, ◌⊎◌, ℕ, ◌≤◌, ◌^◌, List, ◌++◌, length, take, drop, AllPairs, Option, None, Some, Result, Ok, Err}
 use Rattle.octet_text.specs.Format.{whole}
 use Rattle.lms_tree.specs.declared.links.Link.{Link}
 use Rattle.lms_tree.specs.ChainFiles.{chain_file}
-use Rattle.near_model.specs.declared.marks.Mark.{Mark}
+use Rattle.near_model.specs.NearReplies.{near_reply}
 use Rattle.near_client.specs.declared.errors.NearError.{NearError}
+use Rattle.near_client.specs.declared.within.CheckedReply.{CheckedReply}
 use Rattle.near_client.specs.declared.within.Within.{Within}
 use Rattle.near_client.specs.NearVerdicts as near
 use Rattle.near_line.specs.WithinLine.{refused_near_line}
+use Rattle.proof_octets.specs.declared.reply.Answer as answers
+use Rattle.proof_octets.specs.Replies.{reply as reply_format, reply_of}
 use Rattle.road_line.specs.VerdictLine.{refused_line}
 use Rattle.route_client.specs.declared.accepted.Checked.{Checked}
-use Rattle.route_client.specs.declared.accepted.Checked.TheVariants.{Route, Apart}
+use Rattle.route_client.specs.declared.accepted.CheckedAnswer.{CheckedAnswer}
 use Rattle.route_client.specs.declared.errors.CheckError.{CheckError}
-use Rattle.route_client.specs.Verdicts.{UnlessMemory}
-use Rattle.route_check_c.specs.declared.reach.ReachedNode.{ReachedNode}
+use Rattle.route_client.specs.Verdicts.{UnlessMemory, taken}
+use Rattle.route_check_c.specs.declared.nodes.ReachedNode.{ReachedNode}
+use Rattle.route_check_c.specs.declared.nodes.RouteNode.{RouteNode}
 use Rattle.route_check_c.specs.declared.reasons.Reason.{Reason}
 use Rattle.route_check_c.specs.declared.verdict.Verdict.{Verdict}
 use Rattle.route_check_c.specs.Codes.{told, route_reason, reach_reason, accepted_numbers, apart_numbers, refused_numbers}
+use Rattle.route_check_c.specs.Placing.{HaveLeaves, HaveLeavesOf, route_nodes, reached_nodes}
 
 -- a room that took as many of the items as it has places for, and is as it was behind them
 abbrev pub filled : {X : Type 0} → List X → List X → List X
 filled items room = take (length room) items ++ drop (length items) room
-
--- a node with its distance, as the caller gets it
-abbrev pub node_of : Mark → ReachedNode
-node_of mark = record { id = mark.id; distance = mark.distance }
 
 -- ---- what is not checked
 
 -- The reply was not checked: memory was short, or the octets of the chain or of the reply are too
 -- many, or the chain's spell none; the first field that can't be read begins at that place.
 pub data IsUnread (chain reply : List ℕ) (why : Reason) : Type 0 where
-  NoMemory : why ≡ told 13 0 0 → IsUnread chain reply why
-  TooLong : why ≡ told 14 0 0 → (2 ^ 32 ≤ length chain) ⊎ (2 ^ 32 ≤ length reply) →
+  NoMemory : why ≡ told 16 0 0 → IsUnread chain reply why
+  TooLong : why ≡ told 17 0 0 → (2 ^ 32 ≤ length chain) ⊎ (2 ^ 32 ≤ length reply) →
       IsUnread chain reply why
-  NoChain : (at : ℕ) → why ≡ told 15 at 0 → whole chain_file chain ≡ Err at →
+  NoChain : (at : ℕ) → why ≡ told 18 at 0 → whole chain_file chain ≡ Err at →
       IsUnread chain reply why
 
 -- then both rooms stay
@@ -49,27 +50,58 @@ pub record Unread {X : Type 0} (chain reply : List ℕ) (old_room new_room : Lis
 
 -- ---- a route
 
--- what is told of what is accepted: of a route its numbers, and its ids are in their room; that no
--- walk joins the two ends by a code of its own, and the room stays
-abbrev pub TellsAccepted : Checked → List ℕ → List ℕ → Verdict → Type 0
-TellsAccepted (Route x) old_room new_room v =
-    (v ≡ accepted_numbers (length x.route) x.length x.version) × (new_room ≡ filled x.route old_room)
-TellsAccepted (Apart version header) old_room new_room v = (v ≡ apart_numbers version) ×
+-- a route passes no node twice
+abbrev pub IsSimple : List ℕ → Type 0
+IsSimple ids = AllPairs (λ x y. x ≢ y) ids
+
+-- a route is wanted as far as no node may come twice, or it is refused for that, or memory is short
+abbrev pub Unwanted : ℕ → List ℕ → Result (Unit {0}) Reason → Type 0
+Unwanted simple ids (Ok _) = simple ≢ 0 → IsSimple ids
+Unwanted simple ids (Err why) = (why ≡ told 16 0 0) ⊎
+    ((why ≡ told 15 0 0) × (simple ≢ 0) × ¬ IsSimple ids)
+
+-- What is told of an accepted route of this length: its numbers, and its nodes are in their room, each
+-- by the leaf of its id among the answer's; or, where none such is wanted, that it passes a node twice;
+-- or that memory was short.
+pub data TellsFound (simple : ℕ) (a : answers.Answer) (d : ℕ) (old_room new_room : List RouteNode)
+    (v : Verdict) : Type 0 where
+  Found : HaveLeaves a.items.nodes a.items.route → (simple ≢ 0 → IsSimple a.items.route) →
+      v ≡ accepted_numbers (length a.items.route) d a.header.version →
+      new_room ≡ filled (route_nodes a.items.nodes a.items.route) old_room →
+      TellsFound simple a d old_room new_room v
+  Twice : simple ≢ 0 → ¬ IsSimple a.items.route → v ≡ refused_numbers (told 15 0 0) 0 →
+      new_room ≡ old_room → TellsFound simple a d old_room new_room v
+  Short : v ≡ refused_numbers (told 16 0 0) 0 → new_room ≡ old_room →
+      TellsFound simple a d old_room new_room v
+
+-- what is told of an answer that passes each test: its route; or, by a code of its own, that no walk
+-- joins the two ends, and then the room stays
+abbrev pub TellsWay : ℕ → answers.Answer → Option ℕ → List RouteNode → List RouteNode → Verdict → Type 0
+TellsWay simple a (Some d) old_room new_room v = TellsFound simple a d old_room new_room v
+TellsWay simple a None old_room new_room v = (v ≡ apart_numbers a.header.version) ×
     (new_room ≡ old_room)
 
--- the client accepts the reply under the chain, and no line is written
+abbrev pub TellsChecked : ℕ → CheckedAnswer → List RouteNode → List RouteNode → Verdict → Type 0
+TellsChecked simple checked old_room new_room v =
+    TellsWay simple checked.answer checked.length old_room new_room v
+
+-- The client accepts the reply under the chain, by the answer that its octets spell. Of that answer is
+-- what is told, and no line is written.
 pub record AcceptsRoute (IsVerdict : List Link → Result Checked CheckError → Type 0)
-    (chain : List ℕ) (old_room new_room old_line new_line : List ℕ) (v : Verdict) : Type 0 where
+    (chain reply : List ℕ) (simple : ℕ) (old_room new_room : List RouteNode)
+    (old_line new_line : List ℕ) (v : Verdict) : Type 0 where
   pub links : List Link
   pub spelled : whole chain_file chain ≡ Ok links
-  pub accepted : Checked
-  pub verdict : IsVerdict links (Ok accepted)
-  pub told : TellsAccepted accepted old_room new_room v
+  pub checked : CheckedAnswer
+  pub brought : whole reply_format reply ≡ Ok (reply_of checked.answer)
+  pub verdict : IsVerdict links (taken (Ok checked))
+  pub told : TellsChecked simple checked old_room new_room v
   pub line : new_line ≡ old_line
 
--- the client refuses the reply under the chain; the line is in its room, and no id is written
+-- the client refuses the reply under the chain; the line is in its room, and no node is written
 pub record RefusesRoute (IsVerdict : List Link → Result Checked CheckError → Type 0)
-    (chain : List ℕ) (old_room new_room old_line new_line : List ℕ) (v : Verdict) : Type 0 where
+    (chain : List ℕ) (old_room new_room : List RouteNode) (old_line new_line : List ℕ)
+    (v : Verdict) : Type 0 where
   pub links : List Link
   pub spelled : whole chain_file chain ≡ Ok links
   pub error : CheckError
@@ -78,25 +110,37 @@ pub record RefusesRoute (IsVerdict : List Link → Result Checked CheckError →
   pub room : new_room ≡ old_room
   pub line : new_line ≡ filled (refused_line error) old_line
 
-abbrev pub TellsRoute : (List Link → Result Checked CheckError → Type 0) → List ℕ → List ℕ →
-    List ℕ → List ℕ → List ℕ → List ℕ → Verdict → Type 0
-TellsRoute IsVerdict chain reply old_room new_room old_line new_line v =
-    AcceptsRoute IsVerdict chain old_room new_room old_line new_line v ⊎
+abbrev pub TellsRoute : (List Link → Result Checked CheckError → Type 0) → List ℕ → List ℕ → ℕ →
+    List RouteNode → List RouteNode → List ℕ → List ℕ → Verdict → Type 0
+TellsRoute IsVerdict chain reply simple old_room new_room old_line new_line v =
+    AcceptsRoute IsVerdict chain reply simple old_room new_room old_line new_line v ⊎
     (RefusesRoute IsVerdict chain old_room new_room old_line new_line v ⊎
     Unread chain reply old_room new_room old_line new_line v)
 
 -- ---- a radius
 
--- the client accepts the nodes under the chain; they are in their room, and no line is written
+-- What is told of the accepted nodes: how many they are, and they are in their room, each by the leaf
+-- of its id among the reply's; or that memory was short.
+pub data TellsReached (checked : CheckedReply) (old_room new_room : List ReachedNode)
+    (v : Verdict) : Type 0 where
+  Reached : HaveLeavesOf checked.reply.nodes checked.nodes →
+      v ≡ accepted_numbers (length checked.nodes) 0 checked.reply.header.version →
+      new_room ≡ filled (reached_nodes checked.reply.nodes checked.nodes) old_room →
+      TellsReached checked old_room new_room v
+  ReachShort : v ≡ refused_numbers (told 16 0 0) 0 → new_room ≡ old_room →
+      TellsReached checked old_room new_room v
+
+-- The client accepts the nodes under the chain, by the reply that the octets spell. Of that reply is
+-- what is told, and no line is written.
 pub record AcceptsReach (IsVerdict : List Link → Result Within NearError → Type 0)
-    (chain : List ℕ) (old_room new_room : List ReachedNode) (old_line new_line : List ℕ)
+    (chain reply : List ℕ) (old_room new_room : List ReachedNode) (old_line new_line : List ℕ)
     (v : Verdict) : Type 0 where
   pub links : List Link
   pub spelled : whole chain_file chain ≡ Ok links
-  pub accepted : Within
-  pub verdict : IsVerdict links (Ok accepted)
-  pub numbers : v ≡ accepted_numbers (length accepted.nodes) 0 accepted.version
-  pub room : new_room ≡ filled (map node_of accepted.nodes) old_room
+  pub checked : CheckedReply
+  pub brought : whole near_reply reply ≡ Ok checked.reply
+  pub verdict : IsVerdict links (near.taken (Ok checked))
+  pub told : TellsReached checked old_room new_room v
   pub line : new_line ≡ old_line
 
 -- the client refuses the reply under the chain; the line is in its room, and no node is written
@@ -114,6 +158,6 @@ pub record RefusesReach (IsVerdict : List Link → Result Within NearError → T
 abbrev pub TellsReach : (List Link → Result Within NearError → Type 0) → List ℕ → List ℕ →
     List ReachedNode → List ReachedNode → List ℕ → List ℕ → Verdict → Type 0
 TellsReach IsVerdict chain reply old_room new_room old_line new_line v =
-    AcceptsReach IsVerdict chain old_room new_room old_line new_line v ⊎
+    AcceptsReach IsVerdict chain reply old_room new_room old_line new_line v ⊎
     (RefusesReach IsVerdict chain old_room new_room old_line new_line v ⊎
     Unread chain reply old_room new_room old_line new_line v)

@@ -18,11 +18,11 @@ pub(crate) fn links_of(alloc: Global, chain: &[u8], reply: &[u8]) -> Result<List
     ensures unread { IfErr result (IsUnread chain.now reply.now) }
 {
     if chain.len() >= 4_294_967_296 || reply.len() >= 4_294_967_296 {
-        return Err(told(14, 0, 0));
+        return Err(told(17, 0, 0));
     }
     match read_links(alloc, chain) {
         Ok(links) => Ok(links),
-        Err(ReadError::Malformed(Malformed { at })) => Err(told(15, u64::from(at), 0)),
-        Err(ReadError::Memory) => Err(told(13, 0, 0)),
+        Err(ReadError::Malformed(Malformed { at })) => Err(told(18, u64::from(at), 0)),
+        Err(ReadError::Memory) => Err(told(16, 0, 0)),
     }
 }

@@ -1,9 +1,12 @@
 //! What is put into a caller's room.
-ghost use Rattle.std.specs.Prelude.{◌≡◌, map};
-ghost use Rattle.route_check_c.specs.Telling.{filled, node_of};
+ghost use Rattle.std.specs.Prelude.{◌≡◌};
+ghost use Rattle.route_check_c.specs.Placing.{HaveLeaves, HaveLeavesOf, route_nodes, reached_nodes};
+ghost use Rattle.route_check_c.specs.Telling.{filled};
 
-use crate::ReachedNode;
+use crate::nodes::{reached_node, route_node};
+use crate::{ReachedNode, RouteNode};
 use near_model::Mark;
+use proof_judge::NodesById;
 
 /// Puts as many of the items as there is room for.
 pub(crate) fn fill<T: Copy>(room: &mut [T], items: &[T])
@@ -13,15 +16,24 @@ pub(crate) fn fill<T: Copy>(room: &mut [T], items: &[T])
     room[..count].copy_from_slice(&items[..count]);
 }
 
+/// Puts as many nodes of a route as there is room for.
+pub(crate) fn fill_route(room: &mut [RouteNode], by_id: &NodesById<'_>, ids: &[u32])
+    requires { HaveLeaves by_id.now ids.now }
+    ensures { room.new ≡ filled (route_nodes by_id.now ids.now) room.old }
+{
+    let count = room.len().min(ids.len());
+    for place in 0..count {
+        room[place] = route_node(by_id, ids[place]);
+    }
+}
+
 /// Puts as many nodes, each with its distance, as there is room for.
-pub(crate) fn fill_nodes(room: &mut [ReachedNode], marks: &[Mark])
-    ensures { room.new ≡ filled (map node_of marks.now) room.old }
+pub(crate) fn fill_reached(room: &mut [ReachedNode], by_id: &NodesById<'_>, marks: &[Mark])
+    requires { HaveLeavesOf by_id.now marks.now }
+    ensures { room.new ≡ filled (reached_nodes by_id.now marks.now) room.old }
 {
     let count = room.len().min(marks.len());
     for place in 0..count {
-        room[place] = ReachedNode {
-            id: marks[place].id,
-            distance: marks[place].distance,
-        };
+        room[place] = reached_node(by_id, marks[place]);
     }
 }

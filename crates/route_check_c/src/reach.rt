@@ -2,35 +2,43 @@
 ghost use Rattle.std.specs.Prelude.{◌≡◌};
 ghost use Rattle.sha2.specs.Sha256.{sha256};
 ghost use Rattle.near_client.specs.NearVerdicts.{IsNearVerdict};
-ghost use Rattle.route_check_c.specs.Telling.{TellsReach};
+ghost use Rattle.route_check_c.specs.Placing.{HaveLeavesOf};
+ghost use Rattle.route_check_c.specs.Telling.{TellsReach, TellsReached};
 
-use crate::Verdict;
 use crate::chains::links_of;
-use crate::filling::{fill, fill_nodes};
+use crate::filling::{fill, fill_reached};
 use crate::reasons::{reason_of_reach, told};
 use crate::verdict::{accepted, refused};
-use near_client::check_near;
+use crate::{ReachedNode, Verdict};
+use near_client::{CheckedReply, check_near_reply};
 use near_line::line_of_refused_near;
 use near_model::NearQuery;
 use octet_text::Sha;
+use proof_judge::NodesById;
 use std::alloc::Global;
 
-/// A node within a radius.
-#[repr(C)]
-#[derive(Clone, Copy, Debug, PartialEq, Eq)]
-pub struct ReachedNode {
-    pub id: u32,
-    /// How far it is from the start, in the unit of the roads' lengths.
-    pub distance: u64,
+/// The numbers of what is accepted; the nodes go into their room.
+fn tell(alloc: Global, checked: &CheckedReply, nodes: &mut [ReachedNode]) -> Verdict
+    requires { HaveLeavesOf checked.now.reply.nodes checked.now.nodes }
+    ensures { TellsReached checked.now nodes.old nodes.new result }
+{
+    match NodesById::new(alloc, checked.reply.nodes.as_slice()) {
+        Ok(by_id) => {
+            let marks = checked.nodes.as_slice();
+            fill_reached(nodes, &by_id, marks);
+            accepted(marks.len() as u64, 0, checked.reply.header.version)
+        }
+        Err(_) => refused(told(16, 0, 0), 0),
+    }
 }
 
 /// Checks a reply to the query for the nodes within a radius under the owner's public key, and answers
-/// the verdict's code; `chain` and `least` are as in `route_check`.
+/// the verdict's code; `chain` and `least` are as in `gog_proved_route`.
 ///
-/// The accepted nodes go into `nodes`, by rising id, as many as there is room for; of a refused reply the
-/// line goes into `line`. The other room stays as it was.
+/// The accepted nodes go into `nodes`, by rising id, as many as there is room for, each as its leaf in
+/// the reply places it; of a refused reply the line goes into `line`. The other room stays as it was.
 #[unsafe(no_mangle)]
-pub extern "C" fn reach_check(
+pub extern "C" fn gog_proved_reach(
     alloc: Global,
     public: &[u8],
     chain: &[u8],
@@ -56,18 +64,14 @@ pub extern "C" fn reach_check(
         }
     };
     let query = NearQuery { from, radius };
-    match check_near::<Sha>(alloc, public, links.as_slice(), reply, query, least) {
-        Ok(x) => {
-            let marks = x.nodes.as_slice();
-            fill_nodes(nodes, marks);
-            *verdict = accepted(marks.len() as u64, 0, x.version);
-        }
+    match check_near_reply::<Sha>(alloc, public, links.as_slice(), reply, query, least) {
+        Ok(checked) => *verdict = tell(alloc, &checked, nodes),
         Err(error) => match line_of_refused_near(alloc, error) {
             Ok(text) => {
                 fill(line, &text);
                 *verdict = refused(reason_of_reach(error), text.len() as u64);
             }
-            Err(_) => *verdict = refused(told(13, 0, 0), 0),
+            Err(_) => *verdict = refused(told(16, 0, 0), 0),
         },
     }
     verdict.code

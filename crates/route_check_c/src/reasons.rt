@@ -51,13 +51,13 @@ fn reason_of_judged(why: Refusal) -> Reason
     ensures { result ≡ judged_reason why }
 {
     match why {
-        Refusal::RepeatedNode(id) => told(7, u64::from(id), 0),
-        Refusal::BadRoute(hop) => told(8, u64::from(hop), 0),
-        Refusal::MissingTuple(id) => told(9, u64::from(id), 0),
-        Refusal::MissingPair(a, b) => told(10, u64::from(a), u64::from(b)),
-        Refusal::Shorter(length) => told(11, length, 0),
-        Refusal::Disagrees(distance) => told(12, distance, 0),
-        Refusal::Memory => told(13, 0, 0),
+        Refusal::RepeatedNode(id) => told(9, u64::from(id), 0),
+        Refusal::BadRoute(hop) => told(10, u64::from(hop), 0),
+        Refusal::MissingTuple(id) => told(11, u64::from(id), 0),
+        Refusal::MissingPair(a, b) => told(12, u64::from(a), u64::from(b)),
+        Refusal::Shorter(length) => told(13, length, 0),
+        Refusal::Disagrees(distance) => told(14, distance, 0),
+        Refusal::Memory => told(16, 0, 0),
     }
 }
 
@@ -66,14 +66,14 @@ pub(crate) fn reason_of_route(why: CheckError) -> Reason
     ensures { result ≡ route_reason why }
 {
     match why {
-        CheckError::NotAnswer(kind) => told(1, u64::from(kind), 0),
-        CheckError::Malformed(at) => told(2, u64::from(at), 0),
-        CheckError::Stale(version) => told(3, version, 0),
-        CheckError::BadChain(link, why) => told(4, u64::from(link), number_of_seal(why)),
-        CheckError::BadSignature(why) => told(5, number_of_seal(why), 0),
-        CheckError::BadCover(tree, why) => told(6, u64::from(tree), number_of_cover(why)),
+        CheckError::NotAnswer(kind) => told(3, u64::from(kind), 0),
+        CheckError::Malformed(at) => told(4, u64::from(at), 0),
+        CheckError::Stale(version) => told(5, version, 0),
+        CheckError::BadChain(link, why) => told(6, u64::from(link), number_of_seal(why)),
+        CheckError::BadSignature(why) => told(7, number_of_seal(why), 0),
+        CheckError::BadCover(tree, why) => told(8, u64::from(tree), number_of_cover(why)),
         CheckError::Judged(why) => reason_of_judged(why),
-        CheckError::Memory => told(13, 0, 0),
+        CheckError::Memory => told(16, 0, 0),
     }
 }
 
@@ -82,13 +82,13 @@ pub(crate) fn reason_of_reach(why: NearError) -> Reason
     ensures { result ≡ reach_reason why }
 {
     match why {
-        NearError::Malformed(at) => told(2, u64::from(at), 0),
-        NearError::Stale(version) => told(3, version, 0),
-        NearError::BadChain(link, why) => told(4, u64::from(link), number_of_seal(why)),
-        NearError::BadSignature(why) => told(5, number_of_seal(why), 0),
-        NearError::BadCover(why) => told(6, 1, number_of_cover(why)),
-        NearError::RepeatedNode(id) => told(7, u64::from(id), 0),
-        NearError::MissingTuple(id) => told(9, u64::from(id), 0),
-        NearError::Memory => told(13, 0, 0),
+        NearError::Malformed(at) => told(4, u64::from(at), 0),
+        NearError::Stale(version) => told(5, version, 0),
+        NearError::BadChain(link, why) => told(6, u64::from(link), number_of_seal(why)),
+        NearError::BadSignature(why) => told(7, number_of_seal(why), 0),
+        NearError::BadCover(why) => told(8, 1, number_of_cover(why)),
+        NearError::RepeatedNode(id) => told(9, u64::from(id), 0),
+        NearError::MissingTuple(id) => told(11, u64::from(id), 0),
+        NearError::Memory => told(16, 0, 0),
     }
 }

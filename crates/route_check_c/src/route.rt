@@ -1,43 +1,84 @@
 //! The check of a route's reply.
-ghost use Rattle.std.specs.Prelude.{◌≡◌};
+ghost use Rattle.std.specs.Prelude.{◌≡◌, IfSome};
 ghost use Rattle.sha2.specs.Sha256.{sha256};
 ghost use Rattle.route_client.specs.Verdicts.{IsVerdict};
-ghost use Rattle.route_check_c.specs.Telling.{TellsAccepted, TellsRoute};
+ghost use Rattle.route_check_c.specs.Placing.{HaveLeaves};
+ghost use Rattle.route_check_c.specs.Telling.{TellsChecked, TellsFound, TellsRoute, Unwanted};
 
-use crate::Verdict;
 use crate::chains::links_of;
-use crate::filling::fill;
-use crate::reasons::{reason_of_route, told};
+use crate::filling::{fill, fill_route};
+use crate::reasons::{Reason, reason_of_route, told};
+use crate::repeats::is_simple;
 use crate::verdict::{accepted, accepted_apart, refused};
+use crate::{RouteNode, Verdict};
 use book_model::Query;
 use octet_text::Sha;
+use proof_judge::NodesById;
+use proof_octets::Answer;
 use road_line::line_of_refused;
-use route_client::{Checked, check};
+use route_client::{CheckedAnswer, check_answer};
 use std::alloc::Global;
 
-/// The numbers of what is accepted; the ids of a route go into their room.
-fn tell(checked: &Checked, route: &mut [u32]) -> Verdict
-    ensures { TellsAccepted checked.now route.old route.new result }
+/// Why a route is not wanted where `simple` is not 0: it passes a node twice, or memory was short.
+fn unwanted(alloc: Global, ids: &[u32], simple: u32) -> Result<(), Reason>
+    ensures { Unwanted simple ids.now result }
 {
-    match checked {
-        Checked::Route(x) => {
-            let ids = x.route.as_slice();
-            fill(route, ids);
-            accepted(ids.len() as u64, x.length, x.version)
+    if simple == 0 {
+        return Ok(());
+    }
+    match is_simple(alloc, ids) {
+        Ok(true) => Ok(()),
+        Ok(false) => Err(told(15, 0, 0)),
+        Err(_) => Err(told(16, 0, 0)),
+    }
+}
+
+/// The numbers of a route; its nodes go into their room.
+fn tell_route(
+    alloc: Global,
+    answer: &Answer,
+    length: u64,
+    simple: u32,
+    nodes: &mut [RouteNode],
+) -> Verdict
+    requires { HaveLeaves answer.now.items.nodes answer.now.items.route }
+    ensures { TellsFound simple answer.now length nodes.old nodes.new result }
+{
+    let ids = answer.items.route.as_slice();
+    if let Err(why) = unwanted(alloc, ids, simple) {
+        return refused(why, 0);
+    }
+    match NodesById::new(alloc, answer.items.nodes.as_slice()) {
+        Ok(by_id) => {
+            fill_route(nodes, &by_id, ids);
+            accepted(ids.len() as u64, length, answer.header.version)
         }
-        Checked::Apart { version, .. } => accepted_apart(*version),
+        Err(_) => refused(told(16, 0, 0), 0),
+    }
+}
+
+/// The numbers of what is accepted; the nodes of a route go into their room.
+fn tell(alloc: Global, checked: &CheckedAnswer, simple: u32, nodes: &mut [RouteNode]) -> Verdict
+    requires { IfSome checked.now.length
+        (λ _. HaveLeaves checked.now.answer.items.nodes checked.now.answer.items.route) }
+    ensures { TellsChecked simple checked.now nodes.old nodes.new result }
+{
+    match checked.length {
+        Some(length) => tell_route(alloc, &checked.answer, length, simple, nodes),
+        None => accepted_apart(checked.answer.header.version),
     }
 }
 
 /// Checks a reply to the query for a shortest route under the owner's public key, and answers the
 /// verdict's code. `chain` has the octets of a chain file that leads from the key to the owner's later
-/// ones, none for no link. `least` is the least version that is taken.
+/// ones, none for no link. `least` is the least version that is taken. Where `simple` is not 0, a route
+/// that passes a node twice is refused.
 ///
-/// An accepted route's ids go into `route`, as many as there is room for; of a refused reply the line
-/// goes into `line`. The other room stays as it was, and where it is accepted that no walk joins the two
-/// ends both do.
+/// An accepted route's nodes go into `nodes`, as many as there is room for, each as its leaf in the reply
+/// places it; of a refused reply the line goes into `line`. The other room stays as it was, and where it
+/// is accepted that no walk joins the two ends both do.
 #[unsafe(no_mangle)]
-pub extern "C" fn route_check(
+pub extern "C" fn gog_proved_route(
     alloc: Global,
     public: &[u8],
     chain: &[u8],
@@ -45,14 +86,15 @@ pub extern "C" fn route_check(
     from: u32,
     to: u32,
     least: u64,
-    route: &mut [u32],
+    simple: u32,
+    nodes: &mut [RouteNode],
     line: &mut [u8],
     verdict: &mut Verdict,
 ) -> u32
     ensures code { result ≡ verdict.new.code }
     ensures told { TellsRoute
         (λ links. IsVerdict sha256 public.now links reply.now (record { from = from; to = to }) least)
-        chain.now reply.now route.old route.new line.old line.new verdict.new }
+        chain.now reply.now simple nodes.old nodes.new line.old line.new verdict.new }
 {
     let links = match links_of(alloc, chain, reply) {
         Ok(links) => links,
@@ -62,14 +104,14 @@ pub extern "C" fn route_check(
         }
     };
     let query = Query { from, to };
-    match check::<Sha>(alloc, public, links.as_slice(), reply, query, least) {
-        Ok(checked) => *verdict = tell(&checked, route),
+    match check_answer::<Sha>(alloc, public, links.as_slice(), reply, query, least) {
+        Ok(checked) => *verdict = tell(alloc, &checked, simple, nodes),
         Err(error) => match line_of_refused(alloc, error) {
             Ok(text) => {
                 fill(line, &text);
                 *verdict = refused(reason_of_route(error), text.len() as u64);
             }
-            Err(_) => *verdict = refused(told(13, 0, 0), 0),
+            Err(_) => *verdict = refused(told(16, 0, 0), 0),
         },
     }
     verdict.code

@@ -8,8 +8,8 @@ use crate::reasons::Reason;
 #[repr(C)]
 #[derive(Clone, Copy, Debug, PartialEq, Eq)]
 pub struct Verdict {
-    /// 0 where the reply is accepted, with a route or with nodes; 16 where it is accepted that no walk
-    /// joins the two ends; else the number of the first test that it fails.
+    /// 1 where the reply is accepted, with a route or with nodes; 2 where it is accepted that no walk
+    /// joins the two ends; else the number of the first test that it fails. Never 0.
     pub code: u32,
     /// How many nodes are accepted: those of the route, or those within the radius. There may be more
     /// than the caller has room for.
@@ -31,7 +31,7 @@ pub(crate) fn accepted(count: u64, length: u64, version: u64) -> Verdict
     ensures { result ≡ accepted_numbers count length version }
 {
     Verdict {
-        code: 0,
+        code: 1,
         count,
         length,
         version,
@@ -46,7 +46,7 @@ pub(crate) fn accepted_apart(version: u64) -> Verdict
     ensures { result ≡ apart_numbers version }
 {
     Verdict {
-        code: 16,
+        code: 2,
         count: 0,
         length: 0,
         version,

@@ -5,9 +5,9 @@ use Rattle.near_client.specs.NearVerdicts.{Walked, UnlessMemory}
 use Rattle.near_client.proofs.NearVerdictLaws.{refused_walk}
 use Rattle.near_client.proofs.checking.accept.Goals as goal
 
-pub returns-in-Ok : goal.returns-in-Ok
-returns-in-Ok c = (Ok c.in-Ok.nodes, subst (λ (ns : List NodeLeaf). Walked ns c.args.query (Ok c.in-Ok.nodes)) c.as_slice.ensures c.in-Ok.ensures, refl)
+pub returns-in-Ok-clause-verdict : goal.returns-in-Ok-clause-verdict
+returns-in-Ok-clause-verdict c = (Ok c.in-Ok.nodes, subst (λ (ns : List NodeLeaf). Walked ns c.args.query (Ok c.in-Ok.nodes)) c.as_slice.ensures c.in-Ok.ensures, refl)
 
-pub returns : goal.returns
-returns c =
+pub returns-in-Err-clause-verdict : goal.returns-in-Err-clause-verdict
+returns-in-Err-clause-verdict c =
     refused_walk c.args.reply c.args.query c.in-Err.error (subst (λ (ns : List NodeLeaf). UnlessMemory {A = List Mark} (Walked ns c.args.query) (Err c.in-Err.error)) c.as_slice.ensures c.in-Err.ensures)

@@ -1,7 +1,6 @@
-use Rattle.std.proofs.Common.{◌≡◌, ◌∙◌, ap, subst}
+use Rattle.std.proofs.Common.{subst}
 use Rattle.octet_text.specs.Format.{Fails, whole}
 use Rattle.lms_tree.specs.ChainFiles.{chain_file}
-use Rattle.route_check_c.specs.Codes.{told}
 use Rattle.route_check_c.specs.Telling.{NoChain}
 use Rattle.route_check_c.proofs.chains.links_of.Goals as goal
 

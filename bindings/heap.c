@@ -1,0 +1,21 @@
+/* The heap that compiled Rattle calls, over the C library's, for machines that the kit has no object of it for. */
+#include <stdint.h>
+#include <stdlib.h>
+
+struct block {
+    uint64_t found;
+    void *at;
+};
+
+static uint64_t nothing;
+
+static struct block block_of(void *at) { return (struct block){at != NULL, at != NULL ? at : &nothing}; }
+
+struct block rattle_alloc(uint64_t size, uint64_t align) { return block_of(malloc(size != 0 ? size : align)); }
+
+struct block rattle_realloc(void *at, uint64_t old, uint64_t size, uint64_t align) {
+    (void)old;
+    return block_of(realloc(at, size != 0 ? size : align));
+}
+
+void rattle_dealloc(void *at) { free(at); }

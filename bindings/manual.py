@@ -1,0 +1,117 @@
+#!/usr/bin/env python3
+"""Makes manual pages and completion for bash out of what the program says of itself: bindings/manual.py PROGRAM FOLDER
+
+Writes man1/road_proof.1, of what `PROGRAM help` writes and the statuses of docs/COMMANDS.md, man3/gogbetiku.3, of the
+comments of bindings/gogbetiku.h, and completions/road_proof, into the folder. Nobody trusts them."""
+
+import pathlib
+import re
+import subprocess
+import sys
+import textwrap
+
+TOP = pathlib.Path(__file__).resolve().parent.parent
+VERSION = (TOP / "VERSION").read_text().strip()
+FILES = {"ROADS", "GRAPH", "PLACES", "SECRET", "PUB", "PUBKEY", "REPLY", "CHAIN", "TEXT", "SIGNATURE"}
+WORDS = {"KIND": "h5 h10", "METHOD": "dij full ldm hyp", "ORDER": "id breadth depth hilbert kd shuffled"}
+
+
+def commands_of(program):
+    """The commands with their words and what each does, in the order of the usage text."""
+    text = subprocess.run([program, "help"], capture_output=True, text=True, check=False).stderr
+    body = text.split("commands:\n", 1)[1]
+    found = re.findall(r"^  (\S.*)\n((?:      .*\n?)+)", body, re.M)
+    return [(head.split(), " ".join(what.split())) for head, what in found]
+
+
+def statuses():
+    """The statuses and what each says, out of the table of docs/COMMANDS.md."""
+    text = (TOP / "docs/COMMANDS.md").read_text().split("| status | means |", 1)[1].split("\n\n", 1)[0]
+    return [(number, re.sub(r"[`*]", "", what)) for number, what in re.findall(r"^\| (\d+) \| (.+?) \|", text, re.M)]
+
+
+def plain(text):
+    """A text as roff takes it: each sentence begins a line, none is long, and none begins as a control does."""
+    text = text.replace("\\", "\\e").replace("'", "\\(aq").replace("`", "")
+    lines = [part for line in re.split(r"(?<=[.:;]) +", text) for part in textwrap.wrap(line, 76)]
+    return "\n".join("\\&" + line if line[:1] == "." else line for line in lines)
+
+
+def head(name, section, about, title):
+    return f".Dd $Mdocdate$\n.Dt {title} {section}\n.Os\n.Sh NAME\n.Nm {name}\n.Nd {about}\n"
+
+
+def program_page(commands):
+    page = head("road_proof", 1, "shortest routes that prove themselves", "ROAD_PROOF")
+    page += ".Sh SYNOPSIS\n" + "".join(f".Nm\n.Cm {words[0]}{arguments(words[1:])}\n" for words, _ in commands)
+    page += ".Sh DESCRIPTION\nThe answer goes to standard output, messages go to standard error.\n.Bl -tag -width Ds\n"
+    page += "".join(f".It Cm {words[0]}{arguments(words[1:])}\n{plain(what[0].upper() + what[1:])}.\n" for words, what in commands)
+    page += ".El\n.Sh EXIT STATUS\n.Bl -tag -width Ds\n"
+    page += "".join(f".It {number}\n{plain(what)}\n" for number, what in statuses()) + ".El\n"
+    return page + ".Sh SEE ALSO\ngogbetiku(3)\n"
+
+
+def arguments(words):
+    return "".join(f" Op Ar {word[1:-1]}" if word[0] == "[" else f" Ar {word}" for word in words)
+
+
+def library_page():
+    """The calls of the header, each behind its comment."""
+    header = (TOP / "bindings/gogbetiku.h").read_text()
+    page = head("gogbetiku", 3, "checks routes against the public key of the owner of a map", "GOGBETIKU")
+    page += ".Sh LIBRARY\nlibgogbetiku: cc with the words of pkg-config --cflags --libs gogbetiku\n"
+    calls = re.findall(r"/\* ([^/]*?) \*/\n(?:GOG_READ_IT )?([a-z][^;{}]*\([^;{}]*\));", header)
+    page += ".Sh SYNOPSIS\n.In gogbetiku.h\n" + "".join(prototype(call) for _, call in calls)
+    page += ".Sh DESCRIPTION\n" + ".Pp\n".join(f"{described(call)}{plain(joined(comment))}\n" for comment, call in calls)
+    codes = re.findall(r"(GOG_[A-Z_]+) = (\d+),?\s*(?:/\* (.*?) \*/)?", re.search(r"enum gog_code \{(.*?)\};", header, re.S)[1])
+    page += ".Sh RETURN VALUES\nA code; beside each stands what the two numbers of the verdict are.\n.Bl -tag -width Ds\n"
+    page += "".join(f".It {number} Dv {name}\n{plain(what or 'no number')}\n" for name, number, what in codes) + ".El\n"
+    return page + ".Sh SEE ALSO\nroad_proof(1)\n"
+
+
+def joined(comment):
+    return " ".join(re.sub(r"^ \* ?", "", line, flags=re.M).strip() for line in comment.splitlines())
+
+
+def prototype(call):
+    kind, name, words = re.match(r"(.*?)(\w+)\((.*)\)", joined(call), re.S).groups()
+    words = [" ".join(word.split()) for word in words.split(",")]
+    return f".Ft {kind.strip()}\n.Fo {name}\n" + "".join(f'.Fa "{word}"\n' for word in words) + ".Fc\n"
+
+
+def described(call):
+    return f".Fn {re.search(r'(gog_[a-z_]+)[(]', call)[1]}\n.br\n"
+
+
+def completion(commands):
+    """Commands first, then the words of each command, place by place."""
+    cases = []
+    for words, _ in commands:
+        places = []
+        for at, word in enumerate(words[1:], 2):
+            bare = word.strip("[]")
+            if bare in FILES:
+                places.append(f"            {at}) COMPREPLY=($(compgen -f -- \"$word\")) ;;")
+            elif bare in WORDS:
+                places.append(f"            {at}) COMPREPLY=($(compgen -W '{WORDS[bare]}' -- \"$word\")) ;;")
+        if places:
+            cases.append("\n".join([f"        {words[0]}) case $COMP_CWORD in", *places, "            esac ;;"]))
+    names = " ".join(words[0] for words, _ in commands)
+    return "\n".join([
+        "# completion of road_proof for bash", "_road_proof() {", "    local word=${COMP_WORDS[COMP_CWORD]}", "    COMPREPLY=()",
+        "    if [ \"$COMP_CWORD\" -eq 1 ]; then", f"        COMPREPLY=($(compgen -W '{names} help' -- \"$word\"))", "        return",
+        "    fi", "    case ${COMP_WORDS[1]} in", *cases, "    esac", "}", "complete -F _road_proof road_proof", ""])
+
+
+def main(program, folder):
+    commands = commands_of(program)
+    assert len(commands) > 10 and len(statuses()) > 5
+    for name, text in (("man1/road_proof.1", program_page(commands)), ("man3/gogbetiku.3", library_page()),
+                       ("completions/road_proof", completion(commands))):
+        path = pathlib.Path(folder) / name
+        path.parent.mkdir(parents=True, exist_ok=True)
+        path.write_text(text)
+
+
+if __name__ == "__main__":
+    main(*sys.argv[1:])

@@ -1,0 +1,54 @@
+#!/usr/bin/env python3
+"""Plays the library for aarch64 beside the program: bindings/play_aarch64.py PROGRAM
+
+Takes out/aarch64/libroute_check_c.a, which `bindings/archive aarch64-unknown-linux-gnu` made, builds the example in C
+over it, and compares under qemu what it says of replies under the four methods, right and wrong, with PROGRAM's `check`.
+Ends with status 1 where anything differs. Nobody trusts this file."""
+
+import pathlib
+import shutil
+import subprocess
+import sys
+import tempfile
+
+HERE = pathlib.Path(__file__).resolve().parent
+METHODS = {"dij": "3 id 0 2 0 0 0", "full": "4 kd 0 2 0 0 0", "ldm": "5 id 0 2 1 2 0", "hyp": "6 hilbert 0 2 3 1 0"}
+
+
+def main(program):
+    program, differ = str(pathlib.Path(program).resolve()), 0
+    with tempfile.TemporaryDirectory() as name:
+        folder = pathlib.Path(name)
+
+        def run(*words):
+            done = subprocess.run([*map(str, words)], cwd=folder, capture_output=True, check=False)
+            return done.returncode, done.stdout
+
+        def keep(file, command):
+            (folder / file).write_bytes(run(program, *command.split())[1])
+
+        subprocess.run([HERE / "build", folder, "aarch64"], check=True)
+        words = ["-std=c99", "-O2", "-static", "-I", HERE, HERE / "example.c", "libgogbetiku.a", "-o", "example"]
+        subprocess.run(["aarch64-linux-gnu-gcc", *words], cwd=folder, check=True)
+        shutil.copy(HERE.parent / "crates/road_proof/data/m1.roads", folder)
+        (folder / "secret.hex").write_text("00" * 48)
+        keep("owner.key", "key secret.hex h5")
+        for method, settings in METHODS.items():
+            keep("m1.pub", f"publish m1.roads {method} {settings}")
+            for end in (3, 5):
+                keep("m1.reply", f"prove m1.pub 1 {end}")
+                turned = bytearray((folder / "m1.reply").read_bytes())
+                turned[-40] ^= 1
+                (folder / "turned.reply").write_bytes(turned)
+                for ask in (f"m1.reply 1 {end} 3", "m1.reply 1 2 3", f"m1.reply 1 {end} 9", f"turned.reply 1 {end} 3"):
+                    by_library = run("qemu-aarch64", "./example", "owner.key", *ask.split())
+                    by_program = run(program, "check", "owner.key", *ask.split())
+                    if by_library != by_program:
+                        print(f"{method} {ask}: {by_library}, and not {by_program}")
+                        differ += 1
+    print(f"aarch64: {differ} differ" if differ else "aarch64: the library says what the program says")
+    return 1 if differ else 0
+
+
+if __name__ == "__main__":
+    sys.exit(main(sys.argv[1]))

@@ -1,0 +1,172 @@
+#!/usr/bin/env python3
+"""Plays the installed library: bindings/play_install.py PROGRAM
+
+Installs into a staged DESTDIR, builds the example in C by pkg-config alone, static and shared, in a folder outside the
+checkout, and lets it and the installed module for Python check a reply, and what docs/LIBRARY.md shows in C and Python. Looks at the manual pages with mandoc, types a
+command for bash to complete, builds and installs a wheel without a network, checks the types with mypy, compiles the
+header as C++, and undoes the installation, after which no file is left. What a missing program keeps it from is
+`skipped`. Ends with status 1 where anything differs. Nobody trusts this file."""
+
+import os
+import pathlib
+import re
+import shutil
+import subprocess
+import sys
+import tempfile
+
+HERE = pathlib.Path(__file__).resolve().parent
+TOP = HERE.parent
+faults = []
+
+
+def same(what, seen, wanted):
+    if seen != wanted:
+        faults.append(f"{what}: {seen!r}, and not {wanted!r}")
+
+
+def run(*words, **options):
+    done = subprocess.run([*map(str, words)], capture_output=True, text=True, check=False, **options)
+    return done.returncode, done.stdout, done.stderr
+
+
+def lacks(name, what):
+    if shutil.which(name) is None:
+        print(f"skipped: {what}, since this machine has no {name}")
+        return True
+    return False
+
+
+def made_reply(program, folder):
+    """A key and a reply to the query from 1 to 3, in a folder."""
+    shutil.copy(TOP / "crates/road_proof/data/m1.roads", folder)
+    (folder / "secret.hex").write_text("00" * 48)
+    words = {"owner.key": "key secret.hex h5", "m1.pub": "publish m1.roads dij 3 id 0 2 0 0 0", "m1.reply": "prove m1.pub 1 3"}
+    for name, command in words.items():
+        with open(folder / name, "wb") as file:
+            subprocess.run([program, *command.split()], cwd=folder, stdout=file, check=True)
+
+
+ASK = ["owner.key", "m1.reply", "1", "3", "3"]
+ACCEPTED = (0, "accepted 9: 1 2 3\n", "1 0 0\n2 10 0\n3 20 0\n")
+
+
+def by_pkg_config(stage, folder):
+    """The example builds outside the checkout, static and shared, and the shared one asks for soname 0."""
+    if lacks("pkg-config", "programs by pkg-config"):
+        return
+    prefix = stage / "opt/gog"
+    env = {**os.environ, "PKG_CONFIG_PATH": str(prefix / "lib/pkgconfig"), "PKG_CONFIG_SYSROOT_DIR": str(stage)}
+    shutil.copy(HERE / "example.c", folder)
+    for name, options, link in (("shared", [], []), ("static", ["--static"], ["-static"])):
+        status, words, said = run("pkg-config", *options, "--cflags", "--libs", "gogbetiku", env=env)
+        same(f"pkg-config, {name}", (status, said), (0, ""))
+        built = run("cc", "-std=c99", "-Wall", "-Werror", "example.c", *words.split(), *link, "-o", name, cwd=folder)
+        same(f"cc, {name}", built, (0, "", ""))
+        same(f"the example, {name}", run(f"./{name}", *ASK, cwd=folder, env={"LD_LIBRARY_PATH": str(prefix / "lib")}), ACCEPTED)
+    same("the version", run("pkg-config", "--modversion", "gogbetiku", env=env)[1], (TOP / "VERSION").read_text())
+    same("the soname", "[libgogbetiku.so.0]" in run("readelf", "-d", "shared", cwd=folder)[1], True)
+
+
+def by_python(stage, folder):
+    """The installed module finds the installed library by the loader's own path."""
+    shutil.copy(HERE / "example.py", folder)
+    env = {"PYTHONPATH": str(stage / "opt/gog/lib/python3/dist-packages"), "LD_LIBRARY_PATH": str(stage / "opt/gog/lib")}
+    same("the example in Python", run(sys.executable, "example.py", *ASK, cwd=folder, env=env), ACCEPTED)
+
+
+def shown(stage, folder):
+    """What docs/LIBRARY.md shows in C and in Python, as it stands there."""
+    text = (TOP / "docs/LIBRARY.md").read_text()
+    c, python = (re.search(rf"^```{name}\n(.*?)^```", text, re.M | re.S)[1] for name in ("c", "python"))
+    (folder / "shown.c").write_text(c)
+    (folder / "shown.py").write_text(python)
+    (folder / "owner.bin").write_bytes(bytes.fromhex((folder / "owner.key").read_text()))
+    prefix = stage / "opt/gog"
+    built = run("cc", "-Wall", "-Wextra", "-Werror", "-I", prefix / "include", "shown.c", prefix / "lib/libgogbetiku.a", "-o", "shown", cwd=folder)
+    same("what LIBRARY shows in C", built, (0, "", ""))
+    same("what it prints", run("./shown", cwd=folder), (0, "1 at 0, 0\n2 at 10, 0\n3 at 20, 0\n", ""))
+    env = {"PYTHONPATH": str(prefix / "lib/python3/dist-packages"), "LD_LIBRARY_PATH": str(prefix / "lib")}
+    same("what LIBRARY shows in Python", run(sys.executable, "shown.py", cwd=folder, env=env), (0, "[(1, 0, 0), (2, 10, 0), (3, 20, 0)]\n", ""))
+    same("the floor", "3" in (folder / "owner.floor").read_text(), True)
+
+
+def pages(stage):
+    manual = stage / "opt/gog/share/man"
+    if not lacks("mandoc", "the manual pages"):
+        for page in ("man1/road_proof.1", "man3/gogbetiku.3"):
+            same(f"mandoc {page}", run("mandoc", "-Tlint", manual / page), (0, "", ""))
+    script = f'source {stage}/opt/gog/share/bash-completion/completions/road_proof; COMP_WORDS=(road_proof "$@"); COMP_CWORD=$#; _road_proof; echo ${{COMPREPLY[@]}}'
+    for typed, wanted in (("ch", "check check-reach"), ("publish m1.roads l", "ldm"), ("key secret.hex h", "h5 h10")):
+        same(f"completion of {typed}", run("bash", "-c", script, "bash", *typed.split())[1], wanted + "\n")
+
+
+def wheel(folder, library):
+    """A wheel is built and installed without a network, and the module finds the library beside itself."""
+    python = "/usr/bin/python3"
+    if run(python, "-c", "import setuptools, wheel, pip")[0] != 0:
+        print("skipped: the wheel, since this machine has no python3-pip, python3-setuptools or python3-wheel")
+        return
+    source = folder / "source"
+    shutil.copytree(HERE / "python", source, ignore=shutil.ignore_patterns("__pycache__"))
+    quiet = ["-q", "--no-index", "--no-deps", "--disable-pip-version-check"]
+    built = run(python, "-m", "pip", "wheel", *quiet, "--no-build-isolation", "-w", folder, source)
+    same("the wheel", (built[0], built[1]), (0, ""))
+    made = list(folder.glob("gogbetiku-*.whl"))
+    same("its name", [one.name for one in made], [f"gogbetiku-{(TOP / 'VERSION').read_text().strip()}-py3-none-any.whl"])
+    installed = run(python, "-m", "pip", "install", *quiet, "--target", folder / "site", *made)
+    same("its installation", installed[0], 0)
+    shutil.copy(library, folder / "site/gogbetiku/libgogbetiku.so.0")
+    shutil.copy(HERE / "example.py", folder)
+    same("the example over the wheel", run(python, "example.py", *ASK, cwd=folder, env={"PYTHONPATH": str(folder / "site")}), ACCEPTED)
+
+
+def types(folder):
+    """The module's types are checked, and so is a caller's use of them."""
+    mypy = "/usr/bin/mypy" if os.path.exists("/usr/bin/mypy") else "mypy"
+    if lacks(mypy, "the types of the module for Python"):
+        return
+    same("mypy", run(mypy, "--strict", "--cache-dir", folder / "mypy", HERE / "python/gogbetiku")[0], 0)
+    (folder / "caller.py").write_text("from gogbetiku import Client\nClient(b'').check_route(b'', 1, 3)\n")
+    status, said, _ = run(mypy, "--strict", "--cache-dir", folder / "mypy", "caller.py", cwd=folder, env={**os.environ, "MYPYPATH": str(HERE / "python")})
+    same("a call without the least version", (status, "least" in said or "Too few" in said or "Missing positional" in said), (1, True))
+
+
+def header(folder):
+    """The header is C++ too, and a result that is left unread is told."""
+    (folder / "unread.c").write_text("#include <gogbetiku.h>\nvoid f(struct gog_verdict *v) { gog_check_route(0, 0, 0, 0, 0, 0, 1, 3, 0, 0, 0, 0, v); }\n")
+    status, _, said = run("cc", "-Werror", "-I", HERE, "-c", "unread.c", cwd=folder)
+    same("an unread result", (status != 0, "unused" in said), (True, True))
+    if not lacks("c++", "the header as C++"):
+        shutil.copy(folder / "unread.c", folder / "unread.cc")
+        status, _, said = run("c++", "-std=c++17", "-Wall", "-Werror", "-I", HERE, "-c", "unread.cc", cwd=folder)
+        same("an unread result in C++", (status != 0, "nodiscard" in said), (True, True))
+        (folder / "read.cc").write_text("#include <gogbetiku.h>\nint f(const gog_verdict *v) { return gog_accepted(v); }\n")
+        same("the header as C++", run("c++", "-std=c++17", "-Wall", "-Werror", "-I", HERE, "-c", "read.cc", cwd=folder)[0], 0)
+
+
+def main(program):
+    with tempfile.TemporaryDirectory() as name:
+        folder, stage = pathlib.Path(name) / "outside", pathlib.Path(name) / "stage"
+        folder.mkdir()
+        env = {**os.environ, "DESTDIR": str(stage), "PROGRAM": str(pathlib.Path(program).resolve())}
+        installed = run(HERE / "install", "/opt/gog", env=env)
+        same("bindings/install", installed, (0, "", ""))
+        made_reply(stage / "opt/gog/bin/road_proof", folder)
+        by_pkg_config(stage, folder)
+        by_python(stage, folder)
+        shown(stage, folder)
+        pages(stage)
+        wheel(folder, stage / "opt/gog/lib/libgogbetiku.so.0")
+        types(folder)
+        header(folder)
+        same("its undoing", run(HERE / "install", "/opt/gog", "--undo", env=env), (0, "", ""))
+        same("what is left", [str(path) for path in stage.rglob("*") if not path.is_dir()], [])
+    for fault in faults:
+        print(fault)
+    print(f"installed: {len(faults)} differ" if faults else "installed: programs outside the checkout check replies")
+    return 1 if faults else 0
+
+
+if __name__ == "__main__":
+    sys.exit(main(sys.argv[1]))

@@ -1,0 +1,58 @@
+//! The nodes of what is accepted, each as its leaf in the reply places it.
+ghost use Rattle.std.specs.Prelude.{◌≡◌, IsSome};
+ghost use Rattle.proof_judge.specs.ItemWalks.{item_at};
+ghost use Rattle.route_check_c.specs.Placing.{route_node as placed, reached_node as reached};
+
+use near_model::Mark;
+use proof_judge::NodesById;
+
+/// A node of a route.
+#[repr(C)]
+#[derive(Clone, Copy, Debug, PartialEq, Eq)]
+pub struct RouteNode {
+    pub id: u32,
+    /// Where it lies, in the unit of the map.
+    pub x: i32,
+    pub y: i32,
+}
+
+/// A node within a radius.
+#[repr(C)]
+#[derive(Clone, Copy, Debug, PartialEq, Eq)]
+pub struct ReachedNode {
+    pub id: u32,
+    /// Where it lies, in the unit of the map.
+    pub x: i32,
+    pub y: i32,
+    /// How far it is from the start, in the unit of the roads' lengths.
+    pub distance: u64,
+}
+
+/// The node of an id that has a leaf.
+pub(crate) fn route_node(by_id: &NodesById<'_>, id: u32) -> RouteNode
+    requires { IsSome (item_at by_id.now id) }
+    ensures { result ≡ placed (item_at by_id.now id) }
+{
+    match by_id.find(id) {
+        Some(leaf) => RouteNode {
+            id: leaf.id,
+            x: leaf.x,
+            y: leaf.y,
+        },
+        None => unreachable!(),
+    }
+}
+
+/// The node of a mark whose id has a leaf.
+pub(crate) fn reached_node(by_id: &NodesById<'_>, mark: Mark) -> ReachedNode
+    requires { IsSome (item_at by_id.now mark.id) }
+    ensures { result ≡ reached (item_at by_id.now mark.id) mark }
+{
+    let RouteNode { id, x, y } = route_node(by_id, mark.id);
+    ReachedNode {
+        id,
+        x,
+        y,
+        distance: mark.distance,
+    }
+}

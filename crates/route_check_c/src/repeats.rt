@@ -1,0 +1,14 @@
+//! Whether a route passes a node twice.
+ghost use Rattle.std.specs.Prelude.{◌↔◌, IfOk, IsTrue};
+ghost use Rattle.route_check_c.specs.Telling.{IsSimple};
+
+use std::alloc::{AllocError, Global};
+use std::collections::HashSet;
+
+/// Whether a route passes no node twice.
+pub(crate) fn is_simple(alloc: Global, ids: &[u32]) -> Result<bool, AllocError>
+    ensures { IfOk result (λ simple. IsTrue simple ↔ IsSimple ids.now) }
+{
+    let nodes: HashSet<u32> = ids.iter().copied().collect(alloc)?;
+    Ok(nodes.len() == ids.len())
+}

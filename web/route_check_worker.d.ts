@@ -1,0 +1,11 @@
+import type { ClientOptions, NoRoute, Octets, Route, Whole, Within } from "./route_check.js";
+
+/** Checks replies in a worker. A check that takes longer than `seconds` (30) ends it, and is an error. */
+export declare class WorkerClient {
+    static start(key: Octets | string, options?: ClientOptions & { seconds?: number }): Promise<WorkerClient>;
+    /** Rejects with `Refused`. */
+    checkRoute(reply: Octets, from: number, to: number, least: Whole, options?: { simple?: boolean }): Promise<Route | NoRoute>;
+    /** Rejects with `Refused`. */
+    checkReach(reply: Octets, from: number, radius: Whole, least: Whole): Promise<Within>;
+    end(): void;
+}

@@ -1,5 +1,5 @@
 -- What the words of ends and files say at some ends, so that a changed word is seen.
-use Rattle.std.proofs.Common.{◌≡◌, ℕ, ◌≤◌, List, [], length, nat_lt, cond, Bool, true, false, Option, Some, None, Ok, Err, arith, refl}
+use Rattle.std.proofs.Common.{◌≡◌, ◌≢◌, ℕ, ◌≤◌, List, [], length, nat_lt, cond, Bool, true, false, Option, Some, None, Ok, Err, arith, refl}
 use Rattle.std.specs.declared.result.Result.{Result}
 use Rattle.std.specs.Io.KnownBytes.{Appends, Keeps}
 use Rattle.road_io.specs.Causes.{Rose}
@@ -10,7 +10,8 @@ use Rattle.command_files.specs.declared.ended.Conclusion.{Conclusion}
 use Rattle.command_files.specs.declared.ended.Conclusion.TheVariants.{Done, Refused, Evidence}
 use Rattle.command_files.specs.Outcomes.{status_of, outcome_of}
 use Rattle.command_files.specs.Endings.{Ending, Answered, IsSilent, TellsNone, EndsReading}
-use Rattle.command_files.specs.Exact.{NoneFailed, IsExact, HidesNone}
+use Rattle.command_files.specs.Exact.{NoneFailed, IsExact}
+use Rattle.command_files.specs.Spared.{BlamesLibrary, SparesBut, SparesLibrary}
 use Rattle.command_files.specs.Reading.{octets_in, chain_at, as_spelled, Fails, Gives}
 
 abbrev Outcome : Type 0
@@ -200,8 +201,17 @@ first_fault_ends Next outcome text h = h
 -- ---- want of memory
 
 -- where memory is said to be short, no fault was counted
-no_fault_is_hidden : HidesNone (Err Memory) 3 4 → ⊥
-no_fault_is_hidden h = let same : 4 ≡ 3 = h refl in omega (arith, same)
+abbrev short : Outcome
+short = Err Memory
 
-none_was_there : HidesNone (Err Memory) 3 3
-none_was_there e = refl
+memory_blames_none : ¬ BlamesLibrary short
+memory_blames_none b = b
+
+no_fault_is_hidden : SparesLibrary short 3 4 → ⊥
+no_fault_is_hidden h = let same : 4 ≡ 3 = h memory_blames_none in omega (arith, same)
+
+not_the_sink : short ≢ Err Sink
+not_the_sink e = cc
+
+none_of_the_sink : SparesBut Sink short 3 4 → ⊥
+none_of_the_sink h = let same : 4 ≡ 3 = h not_the_sink in omega (arith, same)

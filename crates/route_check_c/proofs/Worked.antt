@@ -8,8 +8,8 @@ code_of : Reason → ℕ
 code_of why = why.code
 
 -- nothing below 2 ^ 32 octets is too long
-short_enough : (chain reply : List ℕ) → length chain < 2 ^ 32 → length reply < 2 ^ 32 → IsUnread chain reply (told 14 0 0) → ⊥
-short_enough chain reply few little (NoMemory is) = let same : 14 ≡ 13 = ap code_of is in omega (arith, same)
+short_enough : (chain reply : List ℕ) → length chain < 2 ^ 32 → length reply < 2 ^ 32 → IsUnread chain reply (told 17 0 0) → ⊥
+short_enough chain reply few little (NoMemory is) = let same : 17 ≡ 16 = ap code_of is in omega (arith, same)
 short_enough chain reply few little (TooLong is (inl many)) = omega (arith, few, many)
 short_enough chain reply few little (TooLong is (inr many)) = omega (arith, little, many)
-short_enough chain reply few little (NoChain at is bad) = let same : 14 ≡ 15 = ap code_of is in omega (arith, same)
+short_enough chain reply few little (NoChain at is bad) = let same : 17 ≡ 18 = ap code_of is in omega (arith, same)

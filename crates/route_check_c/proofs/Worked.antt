@@ -4,7 +4,7 @@ use Rattle.route_check_c.specs.Codes.{told}
 use Rattle.route_check_c.specs.Telling.{IsUnread, NoMemory, TooLong, NoChain}
 use Rattle.route_check_c.specs.declared.reasons.Reason.{Reason}
 
-code_of : Reason → ℕ
+abbrev code_of : Reason → ℕ
 code_of why = why.code
 
 -- nothing below 2 ^ 32 octets is too long

@@ -18,7 +18,7 @@ WORDS = {"KIND": "h5 h10", "METHOD": "dij full ldm hyp", "ORDER": "id breadth de
 
 def commands_of(program):
     """The commands with their words and what each does, in the order of the usage text."""
-    text = subprocess.run([program, "help"], capture_output=True, text=True, check=False).stderr
+    text = subprocess.run([program, "help"], capture_output=True, text=True, check=True).stdout
     body = text.split("commands:\n", 1)[1]
     found = re.findall(r"^  (\S.*)\n((?:      .*\n?)+)", body, re.M)
     return [(head.split(), " ".join(what.split())) for head, what in found]

@@ -2,10 +2,10 @@
 """Plays clients of `serve` over a pipe: checks/serve/client.py PROGRAM [parties | speed | memory | frames]
 
 parties  Three parties hold sessions over two publications under two methods, interleaved frame by
-         frame, with the install of a newer publication between them. Each reply is the one that
-         docs/SPEC.md says, and each answer is checked with `check`, over the least version that
-         its party was told, and compared with what `prove` writes over the publication that the
-         session began with.
+         frame, with the install of a newer publication between them. No octet of a frame is written
+         before the reply to the last one came. Each reply is the one that docs/SPEC.md says, and
+         each answer is checked with `check`, over the least version that its party was told, and
+         compared with what `prove` writes over the publication that the session began with.
 speed    Asks a second over grids of 10,000 and of 65,536 nodes, of near and of far ends, beside
          `prove` as a command.
 memory   The memory of `serve` while its 16 sessions are pinned to 16 publications of 65,536 nodes.
@@ -24,6 +24,8 @@ import time
 GRID = os.path.join(os.path.dirname(os.path.abspath(__file__)), "../speed/grid.py")
 PROGRAM = os.path.abspath(sys.argv[1])
 OVER = "the two replies differ"
+# how many seconds a reply may take
+LONGEST = 60
 
 
 def run(*words, wanted=0, **more):
@@ -91,9 +93,16 @@ class Server:
         return self.child.stdout.read(size)
 
     def told(self, body):
-        """The reply to a body."""
+        """The reply to a body, which comes while the server has no octet of another frame."""
         self.send(body)
-        return self.reply()
+        watch = threading.Timer(LONGEST, self.child.kill)
+        watch.start()
+        try:
+            return self.reply()
+        except struct.error:
+            sys.exit(f"serve: no reply to {body[:10].hex()} before the next frame")
+        finally:
+            watch.cancel()
 
     def memory(self, what):
         """A line of /proc/PID/status, in MB."""

@@ -17,4 +17,5 @@ pub mod Standing
 pub mod Steps
 pub mod Successors
 pub mod Tickets
+pub mod Unspent
 mod Worked

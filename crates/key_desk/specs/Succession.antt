@@ -14,7 +14,7 @@ use Rattle.desk_areas.specs.declared.area.Count.TheVariants
 use Rattle.desk_areas.specs.Faults.{IsBadBlock, IsUsable}
 use Rattle.desk_areas.specs.Keys.{key_at}
 use Rattle.desk_areas.specs.Layout.{slots_of, place_in, base_of, gate_at, gate_of, last_slot, IsAreaOpen, IsOpen, IsCurrent, SignsAtMost}
-use Rattle.desk_areas.specs.Blank.{HasKey}
+use Rattle.desk_areas.specs.Blank.{HasKey, IsBlankArea}
 use Rattle.key_desk.specs.Desk.{count_at, key_of}
 
 -- the number of the slot that signs the next key
@@ -44,6 +44,12 @@ pub record CanSucceed (desk : Desk) (key : KeyOf) : Type 0 where
   pub known : 0 < slots_of key.kind
   pub named : length key.i ≡ 16
   pub distinct : (area : ℕ) → area ≤ length desk.earlier → (key_of desk area).i ≢ key.i
+
+-- the area at a base is this key's, and every octet of it but the key's kind and secret is zero: its
+-- gate octet too, so that no slot is spent
+pub record IsUnspent (key : KeyOf) (base : ℕ) (image : List ℕ) : Type 0 where
+  pub blank : IsBlankArea key base image
+  pub gate : gate_at image base ≡ 0
 
 -- the blocks of the desk's keys stand in the image
 abbrev pub HasKeys : Desk → List ℕ → Type 0

@@ -12,7 +12,7 @@ ghost use Rattle.key_desk.specs.Stands.{KeepsStanding, SameKeys};
 ghost use Rattle.desk_areas.specs.Settled.{IsSettled};
 ghost use Rattle.key_desk.specs.Desk.{slot_here, Fits};
 ghost use Rattle.key_desk.specs.View.{View};
-ghost use Rattle.key_desk.specs.Succession.{last_number, next_desk, CanSucceed, HasKeys, SignsLink, DeskRefuses, CanFollow, IsDeskCalledFor, AnswersDeskRefusal, IsCalledFor, AnswersRefusal, started};
+ghost use Rattle.key_desk.specs.Succession.{last_number, next_desk, CanSucceed, HasKeys, IsUnspent, SignsLink, DeskRefuses, CanFollow, IsDeskCalledFor, AnswersDeskRefusal, IsCalledFor, AnswersRefusal, started};
 
 use crate::desk::Desk;
 use desk_areas::{
@@ -61,6 +61,8 @@ fn raise<D: Disk>(
         → OnOk result (EachImage D.Disk disk.new
         (λ i. IsSigned i (slot_here desk (last_number desk))
         (link_text (public_key (key_from kind secret.now))))) }
+    ensures unspent { OnOk result (EachImage D.Disk disk.new
+        (IsUnspent (key_from kind secret.now) (place_in base slots))) }
     ensures cause { HasCause (D.faults disk.old) (D.faults disk.new) result }
     ensures kept { OnOk result (D.faults disk.new ≡ D.faults disk.old) }
 {
@@ -213,6 +215,8 @@ impl Desk {
             (EachImage D.Disk disk.new
             (λ i. (a : ℕ) × IsCurrent i (suc a) ×
             IsSigned i (last_slot i a) (link_text (public_key (key_from kind secret.now))))) }
+        ensures unspent { IfOk result
+            (λ desk. EachImage D.Disk disk.new (IsUnspent desk.key desk.base)) }
         ensures refused { IfErr result (IsCalledFor (D.content disk.new) (take 16 secret.now)) }
         ensures refused_else { ForSome (still_told D.Disk disk.old disk.new)
             (λ c. AnswersRefusal c (take 16 secret.now) result) }
@@ -256,6 +260,8 @@ impl Desk {
             (SignsAtMost (slot_here self (last_number self))
             (link_text (public_key (key_from kind secret.now)))) }
         ensures keys { AtEachMoment D.Disk disk.old disk.new (λ d i. HasKeys self i) }
+        ensures unspent { IfOk result
+            (λ next. EachImage D.Disk disk.new (IsUnspent next.key next.base)) }
         ensures refused { IfErr result (IsDeskCalledFor self (take 16 secret.now)) }
         ensures refused_else { AnswersDeskRefusal self (take 16 secret.now) result }
         ensures untouched { IsErr result → result ≢ Err SucceedError.DiskFault →
@@ -293,6 +299,8 @@ impl Desk {
             (SignsAtMost (slot_here self (last_number self))
             (link_text (public_key (key_from kind secret.now)))) }
         ensures keys { AtEachMoment D.Disk disk.old disk.new (λ d i. HasKeys self i) }
+        ensures unspent { IfOk result
+            (λ next. EachImage D.Disk disk.new (IsUnspent next.key next.base)) }
         ensures only { IfErr result
             (λ e. (e ≡ SucceedError.DiskFault) ⊎ (e ≡ SucceedError.Memory)) }
         ensures untouched { IsErr result → result ≢ Err SucceedError.DiskFault →

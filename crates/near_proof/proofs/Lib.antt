@@ -1,3 +1,4 @@
 pub mod NearAccepted
 pub mod NearMarks
 pub mod NearHonest
+pub mod RightLemmas

@@ -1,23 +1,21 @@
 -- The honest reply is accepted.
-use Rattle.std.proofs.Common.{◌≡◌, ℕ, ◌+◌, ◌≤◌, ◌<◌, ◌==◌, Bool, true, false, cond, Option, None, Some, IsSome, List, [], ◌∷◌, length, map, count_by, nat_eq, Result, Ok, refl, arith, sym, ap, subst, ◌∙◌}
+use Rattle.std.proofs.Common.{◌≡◌, ℕ, ◌+◌, ◌≤◌, ◌<◌, ◌==◌, Bool, true, false, cond, Option, None, Some, IsSome, List, [], ◌∷◌, length, map, count_by, nat_eq, Ok, refl, arith, sym, ap, subst, ◌∙◌}
 use Rattle.std.specs.List.{Contains, IsDistinct, cons_option}
-use Rattle.std.specs.Option.{option_map}
 use Rattle.std.proofs.lemmas.List.{length-map}
 use Rattle.std.proofs.lemmas.Map.Keys.{IsDistinct-head, IsDistinct-tail}
 use Rattle.octet_text.specs.Format.{whole}
 use Rattle.octet_text.proofs.Fields.{whole_again}
-use Rattle.road_map.specs.declared.arc.Arc.{Arc}
 use Rattle.road_map.specs.declared.parts.Parts.{Parts}
 use Rattle.road_map.specs.Walks.{Knows, Joins, distance}
 use Rattle.road_map.specs.Laws.{DistanceLaws}
 use Rattle.road_map.specs.Maps.{IsMap}
 use Rattle.road_map.specs.Least.{IsLeast}
 use Rattle.road_map.proofs.Among.{Contains-here, Contains-there}
-use Rattle.road_search.specs.Passing.{Ways, Reaches}
+use Rattle.road_search.specs.Passing.{Ways}
 use Rattle.road_leaf.specs.declared.leaf.NodeLeaf.{NodeLeaf}
 use Rattle.road_leaf.specs.Leaves.{node_leaf_text}
 use Rattle.book_model.specs.declared.settings.Settings.{Settings}
-use Rattle.book_model.specs.Books.{Kind, Book, kind_of, leaf, leaves_of, leaf_order, IsBookOf}
+use Rattle.book_model.specs.Books.{Kind, Book, leaf, leaves_of, leaf_order, IsBookOf}
 use Rattle.merkle_cover.specs.Covers.{IsRising, cover_of}
 use Rattle.lms_tree.specs.declared.links.Link.{Link}
 use Rattle.proof_judge.specs.ItemWalks.{item_at, any_ways, StandsTwice}
@@ -31,7 +29,7 @@ use Rattle.proof_method.proofs.RouteLaws.{have_arcs, items_of_map, leaf_id, road
 use Rattle.proof_octets.specs.declared.header.Header.{Header}
 use Rattle.proof_octets.specs.declared.publication.Publication.{Publication}
 use Rattle.proof_octets.specs.Headers.{header_text}
-use Rattle.route_server.specs.Headers.{root_or_zeros, node_texts, book_header, header_of, HasHeader, IsBook}
+use Rattle.route_server.specs.Headers.{root_or_zeros, node_texts, book_header, header_of, HasHeader}
 use Rattle.route_server.specs.Honesty.{ids_at}
 use Rattle.route_server.proofs.Known.{known_leaf, length-leaves_of}
 use Rattle.route_laws.specs.Honest.{IsSigned, Leads}
@@ -42,11 +40,11 @@ use Rattle.near_model.specs.declared.marks.Mark.{Mark}
 use Rattle.near_model.specs.declared.query.NearQuery.{NearQuery}
 use Rattle.near_model.specs.declared.reply.NearReply.{NearReply}
 use Rattle.near_model.specs.NearReplies.{near_reply}
-use Rattle.near_model.specs.Radius.{IsWithin, IsNear, AreWithin, ListsMarks}
+use Rattle.near_model.specs.Radius.{IsWithin, IsNear, AreWithin}
 use Rattle.near_model.proofs.NearFormat.{near_exact}
 use Rattle.near_client.specs.declared.within.Within.{Within}
-use Rattle.near_client.specs.NearVerdicts.{IsReached, LacksItem, NearAccepts, items_covered, limit_of}
-use Rattle.near_server.specs.NearHonesty.{IsNearReply, IsNearHonest}
+use Rattle.near_client.specs.NearVerdicts.{LacksItem, items_covered, limit_of}
+use Rattle.near_server.specs.NearHonesty.{IsNearReply}
 use Rattle.near_audit.proofs.NearSound.{alone, authentic_alone, items_listed}
 use Rattle.near_proof.specs.NearLaws.{AreAccepted, NearRepliesAreAccepted}
 use Rattle.near_proof.proofs.NearMarks.{marks_of, all_listed}
@@ -85,7 +83,7 @@ same_self n = grind arith
 
 -- ---- what is known of an honest reply: the book, and the header over it
 
-record Over (hash sha : List ℕ → List ℕ) (p : Publication) (q : NearQuery) (kind : Kind) (b : Book) (a : NearReply) : Type 0 where
+pub record Over (hash sha : List ℕ → List ℕ) (p : Publication) (q : NearQuery) (kind : Kind) (b : Book) (a : NearReply) : Type 0 where
   pub is_map : IsMap p.parts
   pub lists : IsOrderOf p.parts (leaf_order sha p.parts p.settings)
   pub book : IsBookOf kind p.parts p.settings (leaf_order sha p.parts p.settings) b
@@ -93,11 +91,11 @@ record Over (hash sha : List ℕ → List ℕ) (p : Publication) (q : NearQuery)
   pub known : Knows p.parts q.from
   pub reply : IsNearReply hash (leaf_order sha p.parts p.settings) b p q a
 
-all_known : (hash sha : List ℕ → List ℕ) (p : Publication) (q : NearQuery) (kind : Kind) (b : Book) (a : NearReply) → Over hash sha p q kind b a
+pub all_known : (hash sha : List ℕ → List ℕ) (p : Publication) (q : NearQuery) (kind : Kind) (b : Book) (a : NearReply) → Over hash sha p q kind b a
     → (id : ℕ) → Contains (leaf_order sha p.parts p.settings) id → Knows b.parts id
 all_known hash sha p q kind b a over id h = subst (λ (ps : Parts). Knows ps id) (sym over.book.of_parts) ((over.lists.same id).0 h)
 
-node_count : (hash sha : List ℕ → List ℕ) (p : Publication) (q : NearQuery) (kind : Kind) (b : Book) (a : NearReply) → Over hash sha p q kind b a
+pub node_count : (hash sha : List ℕ → List ℕ) (p : Publication) (q : NearQuery) (kind : Kind) (b : Book) (a : NearReply) → Over hash sha p q kind b a
     → length (node_texts (leaves_of b (leaf_order sha p.parts p.settings))) ≡ length (leaf_order sha p.parts p.settings)
 node_count hash sha p q kind b a over =
     length-map (leaves_of b (leaf_order sha p.parts p.settings)) _ ∙ length-leaves_of b (leaf_order sha p.parts p.settings) (all_known hash sha p q kind b a over)
@@ -118,7 +116,7 @@ items_fold hash sha p q kind b a over =
 -- ---- its items
 
 -- the items are leaves of the book
-own : (hash sha : List ℕ → List ℕ) (p : Publication) (q : NearQuery) (kind : Kind) (b : Book) (a : NearReply) → Over hash sha p q kind b a → (n : NodeLeaf) → Contains a.nodes n → leaf b n.id ≡ Some n
+pub own : (hash sha : List ℕ → List ℕ) (p : Publication) (q : NearQuery) (kind : Kind) (b : Book) (a : NearReply) → Over hash sha p q kind b a → (n : NodeLeaf) → Contains a.nodes n → leaf b n.id ≡ Some n
 own hash sha p q kind b a over n c =
     let r : (id : ℕ) × Contains (ids_at (leaf_order sha p.parts p.settings) a.places) id × (leaf b id ≡ Some n) =
     picked_from (leaf b) (ids_at (leaf_order sha p.parts p.settings) a.places) n (subst (λ (xs : List NodeLeaf). Contains xs n) over.reply.nodes c) in

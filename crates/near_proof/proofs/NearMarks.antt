@@ -1,5 +1,5 @@
 -- The marks of a map within a radius: they can be listed.
-use Rattle.std.proofs.Common.{◌≡◌, ℕ, ◌<◌, ◌≤◌, Bool, true, false, Option, None, Some, List, [], ◌∷◌, length, map, refl, arith, ap, sym, ◌∙◌, subst}
+use Rattle.std.proofs.Common.{◌≡◌, ℕ, ◌<◌, ◌≤◌, Bool, true, Option, None, Some, List, [], ◌∷◌, map, refl, arith, ap, sym, ◌∙◌, subst}
 use Rattle.std.specs.Prelude.{nat_le}
 use Rattle.std.specs.List.{Contains, AllByRecursion, filter}
 use Rattle.std.specs.List.Sorted.{IsStrictlySortedBy}
@@ -8,14 +8,13 @@ use Rattle.std.specs.Ordering.{nat_cmp}
 use Rattle.std.specs.declared.cmp.Ordering.TheVariants.{Less}
 use Rattle.std.proofs.lemmas.Bool.Decides.{nat_tests}
 use Rattle.std.proofs.lemmas.List.Kept.{IsStrictlySortedBy-filter}
-use Rattle.road_map.specs.declared.parts.Node.{Node}
 use Rattle.road_map.specs.declared.parts.Parts.{Parts}
 use Rattle.road_map.specs.Walks.{Knows, ids, distance}
 use Rattle.road_map.specs.Maps.{IsMap}
 use Rattle.road_map.proofs.Among.{Contains-map, Contains-from_map}
 use Rattle.road_search.specs.Nearness.{is_within}
 use Rattle.book_model.specs.Orders.{by_id}
-use Rattle.book_model.proofs.ById.{Up, up_sorted, once, sorted_kept, sorted_from}
+use Rattle.book_model.proofs.ById.{Up, up_sorted, once, sorted_kept}
 use Rattle.proof_method.proofs.Picks.{kept_from, kept_to}
 use Rattle.near_model.specs.declared.marks.Mark.{Mark}
 use Rattle.near_model.specs.declared.query.NearQuery.{NearQuery}

@@ -1,2 +1,3 @@
 pub mod NearAcceptance
 pub mod NearLaws
+pub mod Right

@@ -5,6 +5,7 @@
 #![tactic(auto)]
 
 pub use acceptance::near_acceptance_laws;
+pub use honesty::right_laws;
 pub use laws::near_laws;
 pub use near_audit::{AuditError, Finding, audit_near};
 pub use near_client::{NearError, Within, check_near, near_verdict_laws};
@@ -12,4 +13,5 @@ pub use near_model::{Mark, Marks, NearQuery, NearReply};
 pub use near_server::{NearRefusal, answer_near};
 
 mod acceptance;
+mod honesty;
 mod laws;

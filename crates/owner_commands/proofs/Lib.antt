@@ -1,3 +1,4 @@
+pub mod NameLemmas
 pub mod OwnerLemmas
 pub mod PublishLemmas
 pub mod OneOwner

@@ -6,8 +6,11 @@ use Rattle.std.specs.declared.result.Result.{Result}
 use Rattle.std.specs.declared.result.Result.TheVariants.{Ok, Err}
 use Rattle.std.specs.Option.{ForSome}
 use Rattle.road_io.specs.declared.disk.Disk.{Ghosts}
+use Rattle.road_io.specs.Moments.{EachImage}
 use Rattle.road_io.specs.Contents.{Folder}
 use Rattle.lms_tree.specs.Signatures.{KeyOf, public_key}
+use Rattle.desk_areas.specs.Blank.{IsBlank}
+use Rattle.desk_areas.specs.Keys.{key_from}
 use Rattle.desk_areas.specs.Layout.{slots_of, base_of, keys_left}
 use Rattle.key_desk.specs.Desk.{IsSound}
 use Rattle.key_desk.specs.declared.desk.Desk.{Desk}
@@ -21,7 +24,8 @@ use Rattle.command_files.proofs.Written.{CallsFor, over, over_any, reads, refuse
 use Rattle.desk_areas.specs.Faults.{IsUsable}
 use Rattle.command_desks.specs.Opening.{EndsOpening, HasBlocks}
 use Rattle.command_desks.proofs.Openings.{shut, key_on}
-use Rattle.owner_commands.specs.OwnerKey.{EndsKey, ends_key}
+use Rattle.owner_commands.specs.OwnerKey.{EndsKey, MakesKey, ends_key}
+use Rattle.owner_commands.specs.Names.{HasDistinctNames}
 use Rattle.owner_commands.specs.OwnerDesk.{IsDeskLine, TellsDesk, EndsDesk}
 use Rattle.owner_commands.specs.Signing.{StaysRefused}
 
@@ -40,6 +44,11 @@ module _ (files : Option Folder) (name secret : List ℕ) (content : Option (Lis
   pub key_told : (new : Option (List ℕ)) (o : Result Conclusion Fault) (text line : List ℕ) → text ≡ line → EndsKey content kind secret (Ok Done) line → Writes (Ok Done) text old new k k' o
       → Promises (ends_key content name kind) TellsNone DiskFailed files l l' old new k k' o
   key_told new o text line same is w = written_done (ends_key content name kind) TellsNone DiskFailed files l l' k k' old (EndsKey content kind secret) calls new Done o text line same is w
+
+-- the key of the secret that was read is that of the file's
+pub makes_key : {D : Type 0} (g : Ghosts D) (disk : D) (files : Option Folder) (name : List ℕ) (kind : ℕ) (secret : List ℕ) → IfSome files (λ folder. secret_at folder name ≡ Ok secret)
+    → EachImage g disk (IsBlank (key_from kind secret)) → EachImage g disk HasDistinctNames → MakesKey g disk files name kind
+makes_key g disk files name kind secret read blank names = record { secret = secret; of_file = read; blank = blank; names = names }
 
 -- what holds whatever a call answers
 pub on_any : {T E : Type 0} (r : Result T E) (P : Type 0) → P → OnOk r P

@@ -17,9 +17,9 @@ use Rattle.lms_tree.specs.Signatures.{KeyOf}
 use Rattle.desk_areas.specs.Layout.{slots_of, gate_of, IsSigned}
 use Rattle.desk_areas.specs.declared.area.Count.TheVariants as counts
 use Rattle.key_desk.specs.Desk.{count_at, slot_here, Fits, IsUsedUp}
-use Rattle.key_desk.proofs.Counts.{count_here, own_here}
+use Rattle.key_desk.proofs.Counts.{count_here, own_here, key_here}
 use Rattle.key_desk.proofs.Successors.{slots_on}
-use Rattle.key_desk.specs.Stands.{KeepsStanding}
+use Rattle.key_desk.specs.Stands.{KeepsStanding, SameKeys}
 use Rattle.key_desk.proofs.Standing.{standing, standing_same}
 use Rattle.key_desk.specs.declared.desk.Desk.{Desk}
 use Rattle.proof_octets.specs.declared.header.Header.{Header}
@@ -41,6 +41,7 @@ use Rattle.command_desks.specs.Opening.{EndsOpening, IsOpened}
 use Rattle.command_desks.proofs.Openings.{shut, key_on}
 use Rattle.command_books.specs.Installing.{EndsBuilding, fault_of_build}
 use Rattle.command_books.proofs.Installings.{no_book}
+use Rattle.owner_commands.proofs.NameLemmas.{held_after, names_after}
 use Rattle.owner_commands.specs.Publishing.{IsSignedFrom, AllSpent, EndsSigning, EndsPublish, TellsLost, ends_publish}
 use Rattle.owner_commands.specs.Signing.{IsSealedOnDisk, SignsAtMostHeader, SignsAtMostOne, StaysRefused, WroteSealed, SealsWhatItWrites}
 
@@ -59,13 +60,23 @@ module _ {D : Type 0} (g : Ghosts D) (old mid new : D) where
   -- what was published over the opened desk is what was promised over the disk
   pub sealed_on_disk : (desk : Desk) (parts : Parts) (s : Settings) (p : Publication) → ((c : List ℕ) → g.content mid ≡ Some c → Image g mid c) → ((c : List ℕ) → still_told g old new ≡ Some c → g.content mid ≡ Some c)
       → IsOpened g old mid desk → ((number : ℕ) → number < slot_of p → count_at desk number ≢ counts.Free)
-      → IsPublication sha256 desk.key parts s p → IsSealed g mid new (length desk.earlier) p → IsSealedOnDisk g old new parts s p
-  sealed_on_disk desk parts s p reads told o lowest is on_disk = record {
+      → IsPublication sha256 desk.key parts s p → IsSealed g mid new (length desk.earlier) p → AtEachMoment g mid new SameKeys → IsSealedOnDisk g old new parts s p
+  sealed_on_disk desk parts s p reads told o lowest is on_disk keys = record {
     header = p.header;
     of_book = is.has_header;
     usable = λ c at. o.usable c (told c at);
     is = record { of_parts = is.of_parts; of_settings = is.of_settings; of_header = refl; signed = signed; fits = is.fits };
-    on_disk = record { area = length desk.earlier; current = on_disk.current; early = on_disk.early; was_free = λ c at. on_disk.was_free c (reads c (told c at)); stands = on_disk.stands };
+    on_disk = record {
+      area = length desk.earlier;
+      key = desk.key;
+      current = on_disk.current;
+      held = λ i now. held_after g desk mid new o.fits keys on_disk.current i now (length desk.earlier) (omega arith) ∙ key_here desk (length desk.earlier) refl;
+      names = names_after g desk mid new o.fits keys on_disk.current;
+      exact = is.exact;
+      early = on_disk.early;
+      was_free = λ c at. on_disk.was_free c (reads c (told c at));
+      stands = on_disk.stands;
+    };
   }
     where
       signed : ForSome (still_told g old new) (λ c. IsSignedFrom c p.header p)

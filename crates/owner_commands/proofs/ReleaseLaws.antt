@@ -12,14 +12,16 @@ use Rattle.book_model.specs.declared.settings.Settings.{Settings}
 use Rattle.lms_tree.specs.Signatures.{KeyOf, sealed}
 use Rattle.lms_tree.specs.Links.{IsLink}
 use Rattle.desk_areas.specs.Layout.{SlotId, slots_of, slots_at, base_of, gate_of, text_of, last_slot, IsAreaOpen, IsCurrent, IsOpen, IsSigned}
-use Rattle.desk_areas.proofs.Areas.{slot_cases, open_first, open_down, open_link}
+use Rattle.std.proofs.lemmas.Bool.{cases_eq}
+use Rattle.desk_areas.proofs.Areas.{slot_cases, slot_eq, open_first, open_down, open_link}
 use Rattle.key_desk.specs.Stands.{AllSigned, Stands, key_in, SameKeys}
 use Rattle.key_desk.proofs.KeptKeys.{stays_keys, slot_keys}
 use Rattle.proof_octets.specs.declared.publication.Publication.{Publication}
-use Rattle.route_owner.specs.Published.{SignsInSlot}
+use Rattle.route_owner.specs.Published.{SignsInSlot, slot_in}
 use Rattle.owner_commands.specs.Signing.{StandsOnDisk, SignsAtMostOne}
 use Rattle.owner_commands.specs.StandingKeys.{last_of, next_text, link_by, KeysStand, FollowsAnother}
-use Rattle.owner_commands.specs.Releases.{Release, header_release, link_release, AllStand, AreApart, AllApart}
+use Rattle.owner_commands.specs.Names.{HasDistinctNames}
+use Rattle.owner_commands.specs.Releases.{Release, header_release, link_release, IsReleasedFrom, AllStand, AreApart, AllApart}
 
 -- ---- lists
 
@@ -43,62 +45,44 @@ each_of f P start (suc n) h =
 
 -- ---- a release in an image
 
--- it is on a link text, by the last one-time key of its area
-pub record IsLinkBy (image : List ℕ) (r : Release) : Type 0 where
-  pub last : r.slot.number ≡ slots_at image (base_of image r.slot.area) - 1
-  pub octets : r.octets ≡ sealed (key_in image r.slot.area) r.slot.number r.text
-  pub link : IsLink r.text
-
--- its text stands in its slot, and it is on a link text, or by another one-time key than the last
-pub record IsGiven (image : List ℕ) (r : Release) : Type 0 where
-  pub signed : IsSigned image r.slot r.text
-  pub how : (r.slot.number + 1 < slots_at image (base_of image r.slot.area)) ⊎ IsLinkBy image r
-
-pub given_kept : (d i : List ℕ) (r : Release) → SameKeys d i → IsGiven d r → IsSigned i r.slot r.text → IsGiven i r
-given_kept d i r same given signed =
-    let key : key_in i r.slot.area ≡ key_in d r.slot.area = same r.slot.area given.signed.area in
-    let slots : slots_at i (base_of i r.slot.area) ≡ slots_at d (base_of d r.slot.area) = ap (λ (k : KeyOf). slots_of k.kind) key in
-    record {
-      signed = signed;
-      how = elim given.how [
-        | inl early ↦ inl (omega (arith, early, slots))
-        | inr link ↦ inr (record { last = link.last ∙ ap (λ (n : ℕ). n - 1) (sym slots); octets = link.octets ∙ ap (λ (k : KeyOf). sealed k r.slot.number r.text) (sym key); link = link.link })
-      ];
-    }
+pub given_kept : (d i : List ℕ) (r : Release) → SameKeys d i → IsReleasedFrom d r → IsSigned i r.slot r.text → IsReleasedFrom i r
+given_kept d i r same given signed = record { signed = signed; held = same r.slot.area given.signed.area ∙ given.held; sealed_by = given.sealed_by }
 
 -- ---- two releases
 
-parts : (a b : Release) → a.slot ≡ b.slot → a.text ≡ b.text → a.octets ≡ b.octets → a ≡ b
-parts a b slot text octets =
-    let f : SlotId → List ℕ → List ℕ → Release = λ s t o. record { slot = s; text = t; octets = o } in
-    ap (λ (s : SlotId). f s a.text a.octets) slot ∙ ap (λ (t : List ℕ). f b.slot t a.octets) text ∙ ap (λ (o : List ℕ). f b.slot b.text o) octets
+parts : (a b : Release) → a.key ≡ b.key → a.slot ≡ b.slot → a.text ≡ b.text → a.octets ≡ b.octets → a ≡ b
+parts a b key slot text octets =
+    let f : KeyOf → SlotId → List ℕ → List ℕ → Release = λ k s t o. record { key = k; slot = s; text = t; octets = o } in
+    ap (λ (k : KeyOf). f k a.slot a.text a.octets) key ∙ ap (λ (s : SlotId). f b.key s a.text a.octets) slot ∙ ap (λ (t : List ℕ). f b.key b.slot t a.octets) text ∙ ap (λ (o : List ℕ). f b.key b.slot b.text o) octets
 
--- a link by a slot that has signed before is the one from before
-same_link : (i : List ℕ) (a b : Release) → IsGiven i a → IsSigned i b.slot b.text → IsLinkBy i b → a.slot ≡ b.slot → (a ≡ b) × IsLink a.text
-same_link i a b given signed link same =
-    let text : a.text ≡ b.text = sym given.signed.spent.text_is ∙ ap (λ (s : SlotId). text_of i s) same ∙ signed.spent.text_is in
-    let octets : a.octets ≡ b.octets = elim given.how [
-      | inl early ↦
-          let e : b.slot.number + 1 < slots_at i (base_of i b.slot.area) = subst (λ (s : SlotId). s.number + 1 < slots_at i (base_of i s.area)) same early in
-          absurd (omega (arith, e, link.last))
-      | inr was ↦
-          was.octets
-          ∙ ap (λ (s : SlotId). sealed (key_in i s.area) s.number a.text) same
-          ∙ ap (λ (t : List ℕ). sealed (key_in i b.slot.area) b.slot.number t) text
-          ∙ sym link.octets
-    ] in
-    (parts a b same text octets, subst IsLink (sym text) link.link)
+-- two releases of one slot of an image are one
+one_release : (i : List ℕ) (a b : Release) → IsReleasedFrom i a → IsReleasedFrom i b → a.slot ≡ b.slot → a ≡ b
+one_release i a b h k same =
+    let key : a.key ≡ b.key = sym h.held ∙ ap (λ (s : SlotId). key_in i s.area) same ∙ k.held in
+    let text : a.text ≡ b.text = sym h.signed.spent.text_is ∙ ap (λ (s : SlotId). text_of i s) same ∙ k.signed.spent.text_is in
+    let octets : a.octets ≡ b.octets =
+    h.sealed_by ∙ ap (λ (x : KeyOf). sealed x a.slot.number a.text) key ∙ ap (λ (s : SlotId). sealed b.key s.number a.text) same ∙ ap (λ (t : List ℕ). sealed b.key b.slot.number t) text ∙ sym k.sealed_by in
+    parts a b key same text octets
 
-apart_link : (i : List ℕ) (a b : Release) → IsGiven i a → IsSigned i b.slot b.text → IsLinkBy i b → AreApart a b
-apart_link i a b given signed link = elim (slot_cases a.slot b.slot) [
-  | inl same ↦ inr (same_link i a b given signed link same)
-  | inr ne ↦ inl ne
+-- two slots of an image whose open areas have keys of distinct identifiers
+two_slots : (i : List ℕ) → HasDistinctNames i → (a b : Release) → IsReleasedFrom i a → IsReleasedFrom i b → a.slot ≢ b.slot → AreApart a b
+two_slots i names a b h k other = elim (cases_eq a.slot.number b.slot.number) [
+  | inr ne ↦ inr (inl ne)
+  | inl number ↦ inl (λ is.
+      other (slot_eq a.slot b.slot (names a.slot.area b.slot.area h.signed.area k.signed.area (ap (λ (x : KeyOf). x.i) h.held ∙ is ∙ ap (λ (x : KeyOf). x.i) (sym k.held))) number))
+]
+
+-- a link that is given out beside what was
+apart_link : (i : List ℕ) → HasDistinctNames i → (a b : Release) → IsReleasedFrom i a → IsReleasedFrom i b → IsLink b.text → AreApart a b
+apart_link i names a b h k link = elim (slot_cases a.slot b.slot) [
+  | inl same ↦ let one = one_release i a b h k same in inr (inr (one, subst (λ (r : Release). IsLink r.text) (sym one) link))
+  | inr ne ↦ two_slots i names a b h k ne
 ]
 
 -- a slot whose gate is closed has made none of these
-apart_fresh : (c : List ℕ) (before : List Release) (r : Release) → All (IsGiven c) before → gate_of c r.slot ≡ 0 → All (λ a. AreApart a r) before
-apart_fresh c before r given shut = All-weaker (IsGiven c) (λ a. AreApart a r)
-    (λ a h. inl (λ is. let gate : 0 < gate_of c r.slot = subst (λ (s : SlotId). 0 < gate_of c s) is h.signed.spent.gate in omega (arith, gate, shut))) before given
+others_fresh : (c : List ℕ) (before : List Release) (r : Release) → All (IsReleasedFrom c) before → gate_of c r.slot ≡ 0 → All (λ a. a.slot ≢ r.slot) before
+others_fresh c before r given shut = All-weaker (IsReleasedFrom c) (λ a. a.slot ≢ r.slot)
+    (λ a h is. let gate : 0 < gate_of c r.slot = subst (λ (s : SlotId). 0 < gate_of c s) is h.signed.spent.gate in omega (arith, gate, shut)) before given
 
 pub apart_append : (before given : List Release) → AllApart before → AllApart given → All (λ a. All (AreApart a) given) before → AllApart (before ++ given)
 apart_append [] given h k cross = k
@@ -109,88 +93,80 @@ apart_append (r ∷ rest) given h k cross = (
 
 -- ---- the links of keys that stand
 
-chain_apart : (keys : ℕ → KeyOf) (start n : ℕ) → AllApart (map (link_release keys) (range_with_len start n))
-chain_apart keys start zero = tt
-chain_apart keys start (suc n) = (
-  each_of (link_release keys) (AreApart (link_release keys start)) (start + 1) n
-      (λ a from to. inl (λ is. let same : start ≡ a = ap (λ (s : SlotId). s.area) is in omega (arith, from, same))),
-  chain_apart keys (start + 1) n,
-)
-
-module _ {D : Type 0} (g : Ghosts D) (disk : D) (last : ℕ) (keys : ℕ → KeyOf) (stand : KeysStand g disk last keys) (i : List ℕ) (now : Image g disk i) (area : ℕ) (lt : area < last) where
-  key_there : key_in i area ≡ keys area
-  key_there = stand.held i now area (omega (arith, lt))
-
-  slots_there : slots_at i (base_of i area) ≡ slots_of (keys area).kind
-  slots_there = ap (λ (k : KeyOf). slots_of k.kind) key_there
-
-  link_signed : IsSigned i (last_of keys area) (next_text keys area)
-  link_signed = stand.linked i now area lt
-
-  link_is : IsLink (next_text keys area)
-  link_is =
+module _ {D : Type 0} (g : Ghosts D) (disk : D) (last : ℕ) (keys : ℕ → KeyOf) (stand : KeysStand g disk last keys) (i : List ℕ) (now : Image g disk i) where
+  link_is : (area : ℕ) → area < last → IsLink (next_text keys area)
+  link_is area lt =
       let current = stand.current i now in
       let has = open_link i area (open_down i (suc area) last lt current.is_open) in
+      let slots : slots_at i (base_of i area) ≡ slots_of (keys area).kind = ap (λ (k : KeyOf). slots_of k.kind) (stand.held i now area (omega (arith, lt))) in
       let f : ℕ → SlotId = λ n. record { area = area; number = n - 1 } in
-      let at : last_slot i area ≡ last_of keys area = ap f slots_there in
-      subst IsLink (ap (λ (s : SlotId). text_of i s) at ∙ link_signed.spent.text_is) has.link
+      let at : last_slot i area ≡ last_of keys area = ap f slots in
+      let signed = stand.linked i now area lt in
+      subst IsLink (ap (λ (s : SlotId). text_of i s) at ∙ signed.spent.text_is) has.link
 
-  link_made : IsLinkBy i (link_release keys area)
-  link_made = record {
-    last = ap (λ (n : ℕ). n - 1) (sym slots_there);
-    octets = ap (λ (k : KeyOf). sealed k (slots_of (keys area).kind - 1) (next_text keys area)) (sym key_there);
-    link = link_is;
-  }
+  link_given : (area : ℕ) → area < last → IsReleasedFrom i (link_release keys area)
+  link_given area lt = record { signed = stand.linked i now area lt; held = stand.held i now area (omega (arith, lt)); sealed_by = refl }
 
-  link_given : IsGiven i (link_release keys area)
-  link_given = record { signed = link_signed; how = inr link_made }
+  -- two of them are by keys of two areas
+  chain_apart : (start n : ℕ) → start + n ≤ last → AllApart (map (link_release keys) (range_with_len start n))
+  chain_apart start zero le = tt
+  chain_apart start (suc n) le = (
+    each_of (link_release keys) (AreApart (link_release keys start)) (start + 1) n
+        (λ a from to.
+        two_slots i (stand.names i now) (link_release keys start) (link_release keys a) (link_given start (omega (arith, le))) (link_given a (omega (arith, to, le)))
+        (λ is. let same : start ≡ a = ap (λ (s : SlotId). s.area) is in omega (arith, from, same))),
+    chain_apart (start + 1) n (omega (arith, le)),
+  )
 
 -- ---- what is given out beside what was
 
 -- what is given out stands in every image, and is apart from all before
 pub record Adds {D : Type 0} (g : Ghosts D) (disk : D) (before given : List Release) : Type 0 where
-  pub stand : EachImage g disk (λ i. All (IsGiven i) given)
+  pub stand : EachImage g disk (AllStand given)
   pub apart : AllApart given
   pub cross : All (λ a. All (AreApart a) given) before
 
 module _ {D : Type 0} (g : Ghosts D) (disk : D) (before : List Release) where
   pub adds_none : Adds g disk before []
   adds_none = record {
-    stand = λ i now. All-nil (IsGiven i);
+    stand = λ i now. All-nil (IsReleasedFrom i);
     apart = tt;
     cross = all_any (λ a. All (AreApart a) []) before (λ a. All-nil (AreApart a));
   }
 
-  adds_one : (r : Release) → EachImage g disk (λ i. IsGiven i r) → All (λ a. AreApart a r) before → Adds g disk before (r ∷ [])
+  adds_one : (r : Release) → EachImage g disk (λ i. IsReleasedFrom i r) → All (λ a. AreApart a r) before → Adds g disk before (r ∷ [])
   adds_one r stand cross = record {
-    stand = λ i now. All-cons (IsGiven i) r [] (stand i now) (All-nil (IsGiven i));
+    stand = λ i now. All-cons (IsReleasedFrom i) r [] (stand i now) (All-nil (IsReleasedFrom i));
     apart = (All-nil (AreApart r), tt);
     cross = All-weaker (λ a. AreApart a r) (λ a. All (AreApart a) (r ∷ [])) (λ a apart. All-cons (AreApart a) r [] apart (All-nil (AreApart a))) before cross;
   }
 
-  -- a header's signature, by a slot that was free in what the disk read
-  pub adds_header : (old : D) (c : List ℕ) → still_told g old disk ≡ Some c → All (IsGiven c) before → (p : Publication) (on_disk : StandsOnDisk g old disk p) → Adds g disk before (header_release on_disk.area p ∷ [])
-  adds_header old c told given p on_disk = adds_one (header_release on_disk.area p)
-      (λ i now. record { signed = on_disk.stands i now; how = inl (on_disk.early i now) })
-      (apart_fresh c before (header_release on_disk.area p) given (on_disk.was_free c told))
+  module _ (n : List ℕ) (image : Image g disk n) (given : All (IsReleasedFrom n) before) where
+    -- a header's signature, by a slot that was free in what the disk read
+    pub adds_header : (old : D) (c : List ℕ) → still_told g old disk ≡ Some c → All (IsReleasedFrom c) before → (p : Publication) (on_disk : StandsOnDisk g old disk p) → Adds g disk before (header_release on_disk.key on_disk.area p ∷ [])
+    adds_header old c told was p on_disk =
+        let stand : EachImage g disk (λ i. IsReleasedFrom i (header_release on_disk.key on_disk.area p)) = λ i now. record { signed = on_disk.stands i now; held = on_disk.held i now; sealed_by = on_disk.exact } in
+        adds_one (header_release on_disk.key on_disk.area p) stand
+        (both (IsReleasedFrom n) (λ a. a.slot ≢ slot_in on_disk.area p) (λ a. AreApart a (header_release on_disk.key on_disk.area p)) before
+        (λ a h other. two_slots n (on_disk.names n image) a (header_release on_disk.key on_disk.area p) h (stand n image) other) given
+        (others_fresh c before (header_release on_disk.key on_disk.area p) was (on_disk.was_free c told)))
 
-  module _ (c : List ℕ) (image : Image g disk c) (given : All (IsGiven c) before) where
     -- the links of a chain
     pub adds_chain : (last : ℕ) (keys : ℕ → KeyOf) → KeysStand g disk last keys → Adds g disk before (map (link_release keys) (range_with_len 0 last))
     adds_chain last keys stand = record {
-      stand = λ i now. each_of (link_release keys) (IsGiven i) 0 last (λ a from to. link_given g disk last keys stand i now a (omega (arith, to)));
-      apart = chain_apart keys 0 last;
-      cross = All-weaker (IsGiven c) (λ a. All (AreApart a) (map (link_release keys) (range_with_len 0 last)))
+      stand = λ i now. each_of (link_release keys) (IsReleasedFrom i) 0 last (λ a from to. link_given g disk last keys stand i now a (omega (arith, to)));
+      apart = chain_apart g disk last keys stand n image 0 last (omega arith);
+      cross = All-weaker (IsReleasedFrom n) (λ a. All (AreApart a) (map (link_release keys) (range_with_len 0 last)))
           (λ a h. each_of (link_release keys) (AreApart a) 0 last
-          (λ x from to. apart_link c a (link_release keys x) h (link_signed g disk last keys stand c image x (omega (arith, to))) (link_made g disk last keys stand c image x (omega (arith, to))))) before given;
+          (λ x from to. apart_link n (stand.names n image) a (link_release keys x) h (link_given g disk last keys stand n image x (omega (arith, to))) (link_is g disk last keys stand n image x (omega (arith, to))))) before given;
     }
 
     -- the link to a new key
     pub adds_link : (key : KeyOf) (it : FollowsAnother g disk key) → Adds g disk before (link_release it.keys it.before ∷ [])
     adds_link key it = adds_one (link_release it.keys it.before)
         (λ i now. link_given g disk (suc it.before) it.keys it.stand i now it.before (omega arith))
-        (All-weaker (IsGiven c) (λ a. AreApart a (link_release it.keys it.before))
-        (λ a h. apart_link c a (link_release it.keys it.before) h (link_signed g disk (suc it.before) it.keys it.stand c image it.before (omega arith)) (link_made g disk (suc it.before) it.keys it.stand c image it.before (omega arith))) before given)
+        (All-weaker (IsReleasedFrom n) (λ a. AreApart a (link_release it.keys it.before))
+        (λ a h. apart_link n (it.stand.names n image) a (link_release it.keys it.before) h (link_given g disk (suc it.before) it.keys it.stand n image it.before (omega arith)) (link_is g disk (suc it.before) it.keys it.stand n image it.before (omega arith))) before given)
 
 -- ---- what a call keeps
 
@@ -208,32 +184,31 @@ module _ {D : Type 0} (g : Ghosts D) (old new : D) where
 abbrev pub pair_of : Release → SlotId × List ℕ
 pair_of r = (r.slot, r.text)
 
-pub stand_as_pairs : {D : Type 0} (g : Ghosts D) (disk : D) (given : List Release) → EachImage g disk (λ i. All (IsGiven i) given) → Stands g disk (map pair_of given)
+pub stand_as_pairs : {D : Type 0} (g : Ghosts D) (disk : D) (given : List Release) → EachImage g disk (AllStand given) → Stands g disk (map pair_of given)
 stand_as_pairs g disk given stand i now =
-    All-map (λ pair. IsSigned i pair.0 pair.1) pair_of given (All-weaker (IsGiven i) (λ r. IsSigned i r.slot r.text) (λ r h. h.signed) given (stand i now))
-
-pub given_stand : (i : List ℕ) (given : List Release) → All (IsGiven i) given → AllStand given i
-given_stand i given h = All-weaker (IsGiven i) (λ r. IsSigned i r.slot r.text) (λ r x. x.signed) given h
+    All-map (λ pair. IsSigned i pair.0 pair.1) pair_of given (All-weaker (IsReleasedFrom i) (λ r. IsSigned i r.slot r.text) (λ r h. h.signed) given (stand i now))
 
 -- what stands, with the keys that stay, is still given
-pub given_after : (d i : List ℕ) (given : List Release) → SameKeys d i → All (IsGiven d) given → AllSigned (map pair_of given) i → All (IsGiven i) given
+pub given_after : (d i : List ℕ) (given : List Release) → SameKeys d i → AllStand given d → AllSigned (map pair_of given) i → AllStand given i
 given_after d i given same before signed =
-    both (IsGiven d) (λ r. IsSigned i r.slot r.text) (IsGiven i) given (λ r h k. given_kept d i r same h k) before (unmapped (λ pair. IsSigned i pair.0 pair.1) pair_of given signed)
+    both (IsReleasedFrom d) (λ r. IsSigned i r.slot r.text) (IsReleasedFrom i) given (λ r h k. given_kept d i r same h k) before (unmapped (λ pair. IsSigned i pair.0 pair.1) pair_of given signed)
 
 -- where something was given out, the key gate is open
-pub given_open : (c : List ℕ) (r : Release) (rest : List Release) → All (IsGiven c) (r ∷ rest) → IsOpen c
+pub given_open : (c : List ℕ) (r : Release) (rest : List Release) → AllStand (r ∷ rest) c → IsOpen c
 given_open c r rest all =
-    let given = All-head (IsGiven c) r rest all in
+    let given = All-head (IsReleasedFrom c) r rest all in
     record { long = omega (arith, given.signed.place.whole); gate = open_first c (open_down c 0 r.slot.area (omega arith) given.signed.area) }
 
 -- ---- what the words refuse
 
 -- one one-time key on two texts
-pub two_texts : (a b : Release) → a.slot ≡ b.slot → a.text ≢ b.text → AreApart a b → ⊥
-two_texts a b slot text (inl other) = other slot
-two_texts a b slot text (inr same) = text (ap (λ (r : Release). r.text) same.0)
+pub two_texts : (a b : Release) → a.key.i ≡ b.key.i → a.slot.number ≡ b.slot.number → a.text ≢ b.text → AreApart a b → ⊥
+two_texts a b key number text (inl other) = other key
+two_texts a b key number text (inr (inl other)) = other number
+two_texts a b key number text (inr (inr same)) = text (ap (λ (r : Release). r.text) same.0)
 
 -- or twice on a text that is no link text
-pub two_headers : (a b : Release) → a.slot ≡ b.slot → (IsLink a.text → ⊥) → AreApart a b → ⊥
-two_headers a b slot plain (inl other) = other slot
-two_headers a b slot plain (inr same) = plain same.1
+pub two_headers : (a b : Release) → a.key.i ≡ b.key.i → a.slot.number ≡ b.slot.number → (IsLink a.text → ⊥) → AreApart a b → ⊥
+two_headers a b key number plain (inl other) = other key
+two_headers a b key number plain (inr (inl other)) = other number
+two_headers a b key number plain (inr (inr same)) = plain same.1

@@ -19,7 +19,6 @@ use Rattle.key_desk.specs.Desk.{key_of, HasAreas, IsSound, Fits}
 use Rattle.key_desk.specs.Links.{links_of}
 use Rattle.key_desk.specs.Stands.{SameKeys}
 use Rattle.key_desk.proofs.Counts.{key_here}
-use Rattle.key_desk.proofs.ReadGood.{key_is}
 use Rattle.key_desk.proofs.KeptKeys.{stays_keys}
 use Rattle.command_desks.proofs.Disks.{no_moment}
 use Rattle.command_files.specs.Endings.{Ending, WhyNot, Writes}
@@ -28,6 +27,7 @@ use Rattle.command_files.specs.declared.fault.Fault.{Fault}
 use Rattle.command_files.specs.declared.fault.Fault.TheVariants.{Sink, MirrorLost}
 use Rattle.command_files.specs.declared.ended.Conclusion.{Conclusion}
 use Rattle.command_files.specs.declared.ended.Conclusion.TheVariants.{Done}
+use Rattle.owner_commands.proofs.NameLemmas.{held_in, names_on}
 use Rattle.owner_commands.specs.Signing.{OnWriting}
 use Rattle.owner_commands.specs.StandingKeys.{last_of, next_text, KeysStand, FollowsAnother, IsStandingChain, ChainsWhatItWrites}
 
@@ -47,7 +47,8 @@ module _ {D : Type 0} (g : Ghosts D) (desk : Desk) (disk : D) (fits : Fits g des
   pub keys_stand : KeysStand g disk (length desk.earlier) (key_of desk)
   keys_stand = record {
     current = λ i now. let areas = fits.areas i now in areas.current;
-    held = λ i now area le. let areas = fits.areas i now in key_is (key_of desk area) (base_of i area) i (areas.keys area le) (fits.sound.named area le);
+    held = λ i now area le. held_in desk i fits.sound (fits.areas i now) area le;
+    names = names_on g desk disk fits;
     linked = λ i now area lt. link_stands desk i (fits.areas i now) area lt;
   }
 

@@ -1,7 +1,7 @@
 -- What the words of the owner's promises say at some ends, so that a weaker word is seen.
 use Rattle.std.proofs.Common.{◌≡◌, ◌≢◌, ◌⊎◌, inl, inr, ℕ, suc, ◌+◌, ◌-◌, ◌<◌, ◌≤◌, List, [], ◌∷◌, length, arith, refl, sym, ap, ◌∙◌, subst}
 use Rattle.std.specs.declared.option.Option.{Option}
-use Rattle.std.specs.declared.option.Option.TheVariants.{Some}
+use Rattle.std.specs.declared.option.Option.TheVariants.{None, Some}
 use Rattle.std.specs.declared.result.Result.{Result}
 use Rattle.std.specs.declared.result.Result.TheVariants.{Ok, Err}
 use Rattle.std.specs.Io.KnownBytes.{Appends, Keeps}
@@ -22,13 +22,14 @@ use Rattle.command_files.specs.declared.ended.Conclusion.{Conclusion}
 use Rattle.command_files.specs.declared.ended.Conclusion.TheVariants.{Done}
 use Rattle.desk_areas.specs.Blank.{IsBlank}
 use Rattle.desk_areas.specs.Keys.{key_from}
-use Rattle.desk_areas.specs.Layout.{slots_of, IsOpen, IsSigned}
-use Rattle.lms_tree.specs.Signatures.{KeyOf, public_key}
+use Rattle.desk_areas.specs.Layout.{slots_of, IsOpen, IsAreaOpen, IsSigned}
+use Rattle.lms_tree.specs.Signatures.{KeyOf, public_key, sealed}
 use Rattle.lms_tree.specs.Links.{IsLink, link_text}
 use Rattle.key_desk.specs.Stands.{key_in}
 use Rattle.proof_octets.specs.declared.publication.Publication.{Publication}
 use Rattle.proof_octets.specs.Headers.{header_text}
 use Rattle.command_files.specs.HexFiles.{secret_at}
+use Rattle.owner_commands.specs.Names.{HasDistinctNames}
 use Rattle.owner_commands.specs.OwnerKey.{KeepsKey, MakesByFile}
 use Rattle.owner_commands.specs.NextKey.{AddsKey}
 use Rattle.owner_commands.specs.Publishing.{TellsLost}
@@ -138,26 +139,50 @@ module _ {M : Type 0} (octets : M → Option (List ℕ)) (label handed puts room
 
 -- ---- what went out
 
-module _ (a b : Release) where
+module _ (a b : Release) (key : a.key.i ≡ b.key.i) (number : a.slot.number ≡ b.slot.number) where
   -- two texts by one one-time key are not apart, nor are two signatures by it
-  two_texts_of_one_slot : a.slot ≡ b.slot → (a.text ≡ b.text → ⊥) → AreApart a b → ⊥
-  two_texts_of_one_slot same other (inl slots) = slots same
-  two_texts_of_one_slot same other (inr (equal, link)) = other (ap (λ (r : Release). r.text) equal)
+  two_texts_of_one_key : (a.text ≡ b.text → ⊥) → AreApart a b → ⊥
+  two_texts_of_one_key other (inl keys) = keys key
+  two_texts_of_one_key other (inr (inl numbers)) = numbers number
+  two_texts_of_one_key other (inr (inr (equal, link))) = other (ap (λ (r : Release). r.text) equal)
 
-  two_signatures_of_one_slot : a.slot ≡ b.slot → (a.octets ≡ b.octets → ⊥) → AreApart a b → ⊥
-  two_signatures_of_one_slot same other (inl slots) = slots same
-  two_signatures_of_one_slot same other (inr (equal, link)) = other (ap (λ (r : Release). r.octets) equal)
+  two_signatures_of_one_key : (a.octets ≡ b.octets → ⊥) → AreApart a b → ⊥
+  two_signatures_of_one_key other (inl keys) = keys key
+  two_signatures_of_one_key other (inr (inl numbers)) = numbers number
+  two_signatures_of_one_key other (inr (inr (equal, link))) = other (ap (λ (r : Release). r.octets) equal)
+
+  -- nor where it stands in two areas
+  one_key_in_two_areas : (a.slot.area ≡ b.slot.area → ⊥) → AreApart a b → ⊥
+  one_key_in_two_areas other (inl keys) = keys key
+  one_key_in_two_areas other (inr (inl numbers)) = numbers number
+  one_key_in_two_areas other (inr (inr (equal, link))) = other (ap (λ (r : Release). r.slot.area) equal)
 
   -- and no header is signed twice by it
-  a_header_twice : a.slot ≡ b.slot → (IsLink a.text → ⊥) → AreApart a b → ⊥
-  a_header_twice same header (inl slots) = slots same
-  a_header_twice same header (inr (equal, link)) = header link
+  a_header_twice : (IsLink a.text → ⊥) → AreApart a b → ⊥
+  a_header_twice header (inl keys) = keys key
+  a_header_twice header (inr (inl numbers)) = numbers number
+  a_header_twice header (inr (inr (equal, link))) = header link
 
+module _ (a b : Release) where
   each_pair_is_apart : AllApart (a ∷ b ∷ []) → AreApart a b
   each_pair_is_apart h = h.0 0 b (omega arith)
 
   each_stands : (i : List ℕ) → AllStand (a ∷ b ∷ []) i → IsSigned i b.slot b.text
-  each_stands i h = h 1 b (omega arith)
+  each_stands i h = let given = h 1 b (omega arith) in given.signed
+
+  each_is_held : (i : List ℕ) → AllStand (a ∷ b ∷ []) i → key_in i b.slot.area ≡ b.key
+  each_is_held i h = let given = h 1 b (omega arith) in given.held
+
+  each_is_of_its_key : (i : List ℕ) → AllStand (a ∷ b ∷ []) i → b.octets ≡ sealed b.key b.slot.number b.text
+  each_is_of_its_key i h = let given = h 1 b (omega arith) in given.sealed_by
+
+-- two open areas with one identifier are one
+one_area : (i : List ℕ) → HasDistinctNames i → IsAreaOpen i 0 → IsAreaOpen i 1 → (key_in i 0).i ≡ (key_in i 1).i → ⊥
+one_area i names first second same = omega (arith, names 0 1 first second same)
+
+-- the key of a new area is that of some secret, also where no file is told
+made_of_some_secret : {D : Type 0} (g : Ghosts D) (old new : D) (name : List ℕ) (kind : ℕ) → KeepsKey g old new None name kind (Ok Done) → (secret : List ℕ) × EachImage g new (IsBlank (key_from kind secret))
+made_of_some_secret g old new name kind h = (h.made.secret, h.made.blank)
 
 -- the key of an area signs the link to the next by its last one-time key
 last_is : (keys : ℕ → KeyOf) (area : ℕ) → last_of keys area ≡ record { area = area; number = slots_of (keys area).kind - 1 }
@@ -172,8 +197,11 @@ by_the_last keys area = refl
 on_the_next : (keys : ℕ → KeyOf) (area : ℕ) → (link_release keys area).text ≡ next_text keys area
 on_the_next keys area = refl
 
-on_its_header : (area : ℕ) (p : Publication) → (header_release area p).text ≡ header_text p.header
-on_its_header area p = refl
+on_its_header : (key : KeyOf) (area : ℕ) (p : Publication) → (header_release key area p).text ≡ header_text p.header
+on_its_header key area p = refl
+
+by_its_key : (keys : ℕ → KeyOf) (area : ℕ) → (link_release keys area).key ≡ keys area
+by_its_key keys area = refl
 
 -- what stands of keys: up to the last, and each link before it
 module _ {D : Type 0} (g : Ghosts D) (disk : D) (last : ℕ) (keys : ℕ → KeyOf) where

@@ -1,4 +1,5 @@
 pub mod OwnerKey
+pub mod Names
 pub mod NextKey
 pub mod ChainLine
 pub mod OwnerDesk

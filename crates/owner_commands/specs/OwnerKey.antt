@@ -1,5 +1,5 @@
 -- What `key` writes, and does to the owner's disk.
-use Rattle.std.specs.Prelude.{◌≡◌, ◌≢◌, ◌⊎◌, ℕ, List, [], ◌++◌, codes, IfOk, OnOk, IfSome, IfErr}
+use Rattle.std.specs.Prelude.{◌≡◌, ◌≢◌, ◌⊎◌, ℕ, List, [], ◌++◌, codes, OnOk, IfSome, IfErr}
 use Rattle.std.specs.declared.option.Option.{Option}
 use Rattle.std.specs.declared.result.Result.{Result}
 use Rattle.std.specs.declared.result.Result.TheVariants.{Ok, Err}
@@ -19,6 +19,7 @@ use Rattle.command_files.specs.declared.fault.Fault.{Fault}
 use Rattle.command_files.specs.declared.fault.Fault.TheVariants.{Held}
 use Rattle.command_files.specs.declared.ended.Conclusion.{Conclusion}
 use Rattle.command_files.specs.declared.ended.Conclusion.TheVariants.{Done}
+use Rattle.owner_commands.specs.Names.{HasDistinctNames}
 use Rattle.owner_commands.specs.Signing.{StaysRefused}
 
 -- the public key of a secret and a type, in lower case hex, and a line end
@@ -37,11 +38,14 @@ EndsKey content kind secret outcome text = ⊥
 abbrev pub ends_key : Option (List ℕ) → List ℕ → ℕ → Folder → Ending
 ends_key content secret kind folder = EndsReading (secret_at folder secret) (EndsKey content kind)
 
--- in every image the gate is open, the block is that of the secret and the type, and no slot is
--- spent
-abbrev pub MakesKey : {D : Type 0} → Ghosts D → D → ℕ → Result (List ℕ) Fault → Type 0
-MakesKey g disk kind secret = IfOk secret
-    (λ secret. EachImage g disk (IsBlank (key_from kind secret)))
+-- The key of the file's secret stands in every image: the gate is open, the block is that of the secret
+-- and the type, and no slot is spent. Where no file is told, it is the key of some secret.
+pub record MakesKey {D : Type 0} (g : Ghosts D) (disk : D) (files : Option Folder)
+    (name : List ℕ) (kind : ℕ) : Type 0 where
+  pub secret : List ℕ
+  pub of_file : IfSome files (λ folder. secret_at folder name ≡ Ok secret)
+  pub blank : EachImage g disk (IsBlank (key_from kind secret))
+  pub names : EachImage g disk HasDistinctNames
 
 -- from some moment on each image has a closed gate, or the whole block of the file's secret and no
 -- spent slot; before that moment each is one from entry
@@ -55,7 +59,7 @@ pub record MakesByFile {D : Type 0} (g : Ghosts D) (old new : D) (files : Option
 -- than that of the file's secret is ever made, and what is refused leaves every image.
 pub record KeepsKey {D : Type 0} (g : Ghosts D) (old new : D) (files : Option Folder)
     (secret : List ℕ) (kind : ℕ) (outcome : Result Conclusion Fault) : Type 0 where
-  pub made : OnOk outcome (IfSome files (λ folder. MakesKey g new kind (secret_at folder secret)))
+  pub made : OnOk outcome (MakesKey g new files secret kind)
   pub held : ForSome (g.content old) IsOpen → AtEachMoment g old new Stays
   pub kept : ForSome (still_told g old new) (λ c. IsOpen c → outcome ≢ Ok Done)
   pub moments : AtEachMoment g old new Stays ⊎ MakesByFile g old new files secret kind

@@ -1,24 +1,29 @@
 -- Signatures that went out of the program, and one-time keys that made them.
+-- Source: RFC 8554, sections 1.2 and 9.2: a one-time key signs one text. A key makes the same one-time key again
+-- where it has the same identifier I, number and seed (appendix A).
 use Rattle.std.specs.Prelude.{◌≡◌, ◌≢◌, ◌⊎◌, ℕ, List, [], ◌∷◌}
 use Rattle.std.specs.List.{All}
-use Rattle.lms_tree.specs.Signatures.{KeyOf}
+use Rattle.lms_tree.specs.Signatures.{KeyOf, sealed}
 use Rattle.lms_tree.specs.Links.{IsLink}
 use Rattle.desk_areas.specs.Layout.{SlotId, IsSigned}
 use Rattle.proof_octets.specs.declared.publication.Publication.{Publication}
+use Rattle.key_desk.specs.Stands.{key_in}
 use Rattle.proof_octets.specs.Headers.{header_text}
 use Rattle.route_owner.specs.Published.{slot_in}
 use Rattle.owner_commands.specs.StandingKeys.{last_of, next_text, link_by}
 
--- A signature that went out: the slot of the one-time key that made it, the text that it is on, and
--- its octets.
+-- A signature that went out: the key that made it, the slot of its one-time key, the text that it is
+-- on, and its octets.
 pub record Release : Type 0 where
+  pub key : KeyOf
   pub slot : SlotId
   pub text : List ℕ
   pub octets : List ℕ
 
--- a publication's signature on its header, by a one-time key of this area
-abbrev pub header_release : ℕ → Publication → Release
-header_release area p = record {
+-- a publication's signature on its header, by a one-time key of this key in this area
+abbrev pub header_release : KeyOf → ℕ → Publication → Release
+header_release key area p = record {
+  key = key;
   slot = slot_in area p;
   text = header_text p.header;
   octets = p.signature;
@@ -27,18 +32,27 @@ header_release area p = record {
 -- the signature on the link text of the key behind an area's, by that area's last one-time key
 abbrev pub link_release : (ℕ → KeyOf) → ℕ → Release
 link_release keys area = record {
+  key = keys area;
   slot = last_of keys area;
   text = next_text keys area;
   octets = (link_by keys area).signature;
 }
 
--- each of the texts stands in its slot in the image
-abbrev pub AllStand : List Release → List ℕ → Type 0
-AllStand given image = All (λ r. IsSigned image r.slot r.text) given
+-- The text of a release stands in its slot of the image, in an area of its key, and its octets are the
+-- signature that this key makes of the text by the one-time key of the slot's number.
+pub record IsReleasedFrom (image : List ℕ) (r : Release) : Type 0 where
+  pub signed : IsSigned image r.slot r.text
+  pub held : key_in image r.slot.area ≡ r.key
+  pub sealed_by : r.octets ≡ sealed r.key r.slot.number r.text
 
--- two signatures are by two one-time keys, or are equal octets on one link text
+-- so it is with each of these
+abbrev pub AllStand : List Release → List ℕ → Type 0
+AllStand given image = All (IsReleasedFrom image) given
+
+-- Two signatures are by keys of two identifiers, or by one-time keys of two numbers, or they are equal
+-- octets on one link text.
 abbrev pub AreApart : Release → Release → Type 0
-AreApart a b = (a.slot ≢ b.slot) ⊎ ((a ≡ b) × IsLink a.text)
+AreApart a b = (a.key.i ≢ b.key.i) ⊎ ((a.slot.number ≢ b.slot.number) ⊎ ((a ≡ b) × IsLink a.text))
 
 abbrev pub AllApart : List Release → Type 0
 AllApart [] = Unit {0}

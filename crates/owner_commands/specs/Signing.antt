@@ -12,9 +12,11 @@ use Rattle.road_io.specs.declared.disk.Disk.{Ghosts}
 use Rattle.road_io.specs.Disk.{Stays}
 use Rattle.road_io.specs.Moments.{EachImage, AtEachMoment, still_told}
 use Rattle.road_io.specs.Contents.{Folder, AppendsFront}
+use Rattle.lms_tree.specs.Signatures.{KeyOf, sealed}
 use Rattle.mirror_out.specs.Mirrors.{Mirrors}
 use Rattle.publication_out.specs.Sent.{pieces_in, MirrorsFront}
 use Rattle.desk_areas.specs.Layout.{IsCurrent, slots_at, base_of, gate_of, IsSigned}
+use Rattle.key_desk.specs.Stands.{key_in}
 use Rattle.proof_octets.specs.declared.header.Header.{Header}
 use Rattle.proof_octets.specs.declared.publication.Publication.{Publication}
 use Rattle.proof_octets.specs.Headers.{header_text}
@@ -23,6 +25,7 @@ use Rattle.route_server.specs.Headers.{HasHeader}
 use Rattle.route_owner.specs.Published.{slot_of, slot_in, SignsHeader}
 use Rattle.command_files.specs.Reading.{parts_at}
 use Rattle.desk_areas.specs.Faults.{IsUsable}
+use Rattle.owner_commands.specs.Names.{HasDistinctNames}
 use Rattle.owner_commands.specs.Publishing.{IsPublicationOf}
 use Rattle.command_files.specs.declared.fault.Fault.{Fault}
 use Rattle.command_files.specs.declared.fault.Fault.TheVariants.{Sink, Disk, MirrorLost}
@@ -31,10 +34,15 @@ use Rattle.command_files.specs.declared.ended.Conclusion.{Conclusion}
 -- ---- one signing
 
 -- A publication's header stands in every image, in the slot of the last open area that its
--- signature names, and that slot was not spent in what the disk read. It is not the area's last.
+-- signature names, and that slot was not spent in what the disk read. It is not the area's last. The
+-- signature is the one that the area's key makes, and no two open areas have keys of one identifier.
 pub record StandsOnDisk {D : Type 0} (g : Ghosts D) (old new : D) (p : Publication) : Type 0 where
   pub area : ℕ
+  pub key : KeyOf
   pub current : EachImage g new (λ i. IsCurrent i area)
+  pub held : EachImage g new (λ i. key_in i area ≡ key)
+  pub names : EachImage g new HasDistinctNames
+  pub exact : p.signature ≡ sealed key (slot_of p) (header_text p.header)
   pub early : EachImage g new (λ i. slot_of p + 1 < slots_at i (base_of i area))
   pub was_free : ForSome (still_told g old new) (λ c. gate_of c (slot_in area p) ≡ 0)
   pub stands : EachImage g new (λ i. IsSigned i (slot_in area p) (header_text p.header))

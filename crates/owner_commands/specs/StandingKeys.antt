@@ -18,6 +18,7 @@ use Rattle.key_desk.specs.Stands.{key_in}
 use Rattle.command_files.specs.HexFiles.{secret_at}
 use Rattle.command_files.specs.declared.fault.Fault.{Fault}
 use Rattle.command_files.specs.declared.ended.Conclusion.{Conclusion}
+use Rattle.owner_commands.specs.Names.{HasDistinctNames}
 use Rattle.owner_commands.specs.Signing.{Wrote, OnWriting}
 
 -- the last slot of an area with a key, which is kept for the link to the next
@@ -32,12 +33,13 @@ next_text keys area = link_text (public_key (keys (suc area)))
 abbrev pub link_by : (ℕ → KeyOf) → ℕ → Link
 link_by keys area = link_of (keys area) (public_key (keys (suc area)))
 
--- In every image these are the keys of the areas up to the last open one, and the last slot of each
--- earlier area has signed the link text of the key behind it.
+-- In every image these are the keys of the areas up to the last open one, no two of one identifier,
+-- and the last slot of each earlier area has signed the link text of the key behind it.
 pub record KeysStand {D : Type 0} (g : Ghosts D) (disk : D) (last : ℕ)
     (keys : ℕ → KeyOf) : Type 0 where
   pub current : EachImage g disk (λ i. IsCurrent i last)
   pub held : EachImage g disk (λ i. (area : ℕ) → area ≤ last → key_in i area ≡ keys area)
+  pub names : EachImage g disk HasDistinctNames
   pub linked : EachImage g disk (λ i. (area : ℕ) → area < last →
       IsSigned i (last_of keys area) (next_text keys area))
 

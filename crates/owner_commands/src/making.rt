@@ -1,6 +1,6 @@
 //! The command `key`.
 
-ghost use Rattle.std.specs.Prelude.{◌≡◌, ◌≢◌, ◌⊎◌, ◌++◌, codes, IfOk, IfErr, IfSome, OnOk, Err, ◌∷◌, []};
+ghost use Rattle.std.specs.Prelude.{◌≡◌, ◌≢◌, ◌⊎◌, ◌++◌, codes, IfOk, IfErr, OnOk, Err, ◌∷◌, []};
 ghost use Rattle.std.specs.Option.{ForSome};
 ghost use Rattle.hex.specs.Hex.{encode_lower};
 ghost use Rattle.road_io.specs.Causes.{Rose};
@@ -11,9 +11,9 @@ ghost use Rattle.desk_areas.specs.Keys.{key_from};
 ghost use Rattle.desk_areas.specs.Layout.{IsOpen};
 ghost use Rattle.key_desk.specs.Stands.{KeepsStanding};
 ghost use Rattle.road_command.specs.View.{type_of};
-ghost use Rattle.command_files.specs.HexFiles.{secret_at};
 ghost use Rattle.command_files.specs.Endings.{Promises, TellsNone, WhyNot};
 ghost use Rattle.command_files.specs.Spared.{SparesLibrary, SparesBut};
+ghost use Rattle.owner_commands.specs.Names.{HasDistinctNames};
 ghost use Rattle.owner_commands.specs.OwnerKey.{EndsKey, MakesByFile, MakesKey, ends_key};
 ghost use Rattle.owner_commands.specs.Signing.{StaysRefused};
 
@@ -40,8 +40,8 @@ pub fn key<L: Library, K: Sink, D: Disk>(
     ensures library { SparesLibrary result (L.faults library.old) (L.faults library.new) }
     ensures asked { L.asked library.new ≡ L.asked library.old ++ secret.now ∷ [] }
     ensures sink { SparesBut Fault.Sink result (K.faults sink.old) (K.faults sink.new) }
-    ensures made { OnOk result (IfSome (L.files library.new)
-        (λ folder. MakesKey D.Disk disk.new (type_of kind) (secret_at folder secret.now))) }
+    ensures made { OnOk result
+        (MakesKey D.Disk disk.new (L.files library.new) secret.now (type_of kind)) }
     ensures held { ForSome (D.content disk.old) IsOpen →
         AtEachMoment D.Disk disk.old disk.new Stays }
     ensures kept { ForSome (still_told D.Disk disk.old disk.new)
@@ -69,6 +69,7 @@ fn make_key<D: Disk>(
         (Ok Conclusion.Done) line) }
     ensures made { OnOk result (EachImage D.Disk disk.new
         (IsBlank (key_from (type_of kind) secret.now))) }
+    ensures names { OnOk result (EachImage D.Disk disk.new HasDistinctNames) }
     ensures refused { IfErr result
         (WhyNot (Rose (D.faults disk.old) (D.faults disk.new))
         (EndsKey (still_told D.Disk disk.old disk.new) (type_of kind) secret.now)) }

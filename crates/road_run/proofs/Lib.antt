@@ -1,6 +1,8 @@
 pub mod HonestLemmas
 pub mod TakenLemmas
 pub mod RunLemmas
+pub mod SyncLemmas
+pub mod RightLemmas
 pub mod LifeLaws
 pub mod LifeWorked
 pub mod CompleteLemmas

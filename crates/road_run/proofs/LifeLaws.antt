@@ -20,8 +20,8 @@ use Rattle.command_files.specs.declared.ended.Conclusion.{Conclusion}
 use Rattle.owner_commands.specs.Signing.{OnWriting, SpreadSealed}
 use Rattle.owner_commands.specs.StandingKeys.{FollowsByFile, WroteChain}
 use Rattle.desk_areas.specs.Keys.{key_from}
-use Rattle.owner_commands.specs.Releases.{Release, header_release, link_release, AllApart}
-use Rattle.owner_commands.proofs.ReleaseLaws.{IsGiven, Adds, adds_none, adds_header, adds_chain, adds_link, apart_append, keys_stay, keys_published, pair_of, stand_as_pairs, given_stand, given_after, given_open}
+use Rattle.owner_commands.specs.Releases.{Release, header_release, link_release, IsReleasedFrom, AllStand, AllApart}
+use Rattle.owner_commands.proofs.ReleaseLaws.{Adds, adds_none, adds_header, adds_chain, adds_link, apart_append, keys_stay, keys_published, pair_of, stand_as_pairs, given_after, given_open}
 use Rattle.road_run.specs.Commands.{OnDisk, OnMirrors, LeavesAll}
 use Rattle.road_run.specs.Lives.{where_written, Run, given_by, given, Step, Ran, Cut, Broke, EachTells, IsLife, StandWithin, NoneSignsTwice}
 
@@ -57,8 +57,8 @@ module _ {D : Type 0} (g : Ghosts D) (old new : D) (files : Option Folder) (take
 
 module _ {M : Type 0} (octets : M → Option (List ℕ)) (label handed puts room : M → ℕ) {D : Type 0} (g : Ghosts D) (reads : (d : D) (c : List ℕ) → g.content d ≡ Some c → Image g d c) where
   -- at each moment of a run what was given out stays given
-  kept : (old new : D) → Run octets label handed puts room g old new → (before : List Release) → EachImage g old (λ i. All (IsGiven i) before) → (k : ℕ) (i : List ℕ) → g.clock old ≤ k → k ≤ g.clock new → g.image_at new k i → All (IsGiven i) before
-  kept old new run [] here k i from to h = All-nil (IsGiven i)
+  kept : (old new : D) → Run octets label handed puts room g old new → (before : List Release) → EachImage g old (AllStand before) → (k : ℕ) (i : List ℕ) → g.clock old ≤ k → k ≤ g.clock new → g.image_at new k i → AllStand before i
+  kept old new run [] here k i from to h = All-nil (IsReleasedFrom i)
   kept old new run (r ∷ rest) here k i from to h =
       let opened : ForSome (g.content old) IsOpen = λ c is. given_open c r rest (here c (reads old c is)) in
       let keys = keys_of g old new run.files run.taken_before run.taken_now run.outcome opened run.asked run.promised.nothing run.promised.on_disk in
@@ -66,13 +66,13 @@ module _ {M : Type 0} (octets : M → Option (List ℕ)) (label handed puts room
       given_after d.0 i (r ∷ rest) d.2 (here d.0 d.1) (run.promised.stands.each (map pair_of (r ∷ rest)) (stand_as_pairs g old (r ∷ rest) here) k i from to h)
 
   -- what a run gives out
-  adds_by : (old new : D) (before : List Release) (c n : List ℕ) → still_told g old new ≡ Some c → All (IsGiven c) before → Image g new n → All (IsGiven n) before
+  adds_by : (old new : D) (before : List Release) (c n : List ℕ) → still_told g old new ≡ Some c → AllStand before c → Image g new n → AllStand before n
       → (asked : Option Request) (files : Option Folder) (taken_before taken_now : Option (List ℕ)) (mirrors_before mirrors_now : List M) (o : Result Conclusion Fault)
       → (on_disk : IfSome asked (λ request. OnDisk g old new request files taken_before taken_now o)) (mirrored : OnMirrors octets label handed puts room g old new asked taken_before taken_now mirrors_before mirrors_now o)
       → Adds g new before (given_by octets label handed puts room g old new asked files taken_before taken_now mirrors_before mirrors_now o on_disk mirrored)
   adds_by old new before c n told was image now (Some (Publish roads settings)) files tb tn mb mn o on_disk mirrored =
-      written (SpreadSealed octets label handed puts room g old new tb tn mb mn o) o mirrored.sealed (λ it. header_release it.on_disk.area it.publication ∷ []) (Adds g new before)
-      (adds_none g new before) (λ it. adds_header g new before old c told was it.publication it.on_disk)
+      written (SpreadSealed octets label handed puts room g old new tb tn mb mn o) o mirrored.sealed (λ it. header_release it.on_disk.key it.on_disk.area it.publication ∷ []) (Adds g new before)
+      (adds_none g new before) (λ it. adds_header g new before n image now old c told was it.publication it.on_disk)
   adds_by old new before c n told was image now (Some (Succeed secret kind)) files tb tn mb mn o on_disk mirrored =
       written (FollowsByFile g new files secret kind) o on_disk.follows (λ it. link_release it.follows.keys it.follows.before ∷ []) (Adds g new before)
       (adds_none g new before) (λ it. adds_link g new before n image now (key_from kind it.secret) it.follows)
@@ -82,7 +82,7 @@ module _ {M : Type 0} (octets : M → Option (List ℕ)) (label handed puts room
   adds_by old new before c n told was image now asked files tb tn mb mn o on_disk mirrored = adds_none g new before
 
   module _ (old new : D) (told_before : g.content old ≢ None) (told_now : g.content new ≢ None) where
-    adds_run : (run : Run octets label handed puts room g old new) (before : List Release) → EachImage g old (λ i. All (IsGiven i) before) → Adds g new before (given octets label handed puts room g old new run)
+    adds_run : (run : Run octets label handed puts room g old new) (before : List Release) → EachImage g old (AllStand before) → Adds g new before (given octets label handed puts room g old new run)
     adds_run run before here =
         let c = some_told (g.content old) told_before in
         let n = some_told (g.content new) told_now in
@@ -91,36 +91,36 @@ module _ {M : Type 0} (octets : M → Option (List ℕ)) (label handed puts room
         run.asked run.files run.taken_before run.taken_now run.mirrors_before run.mirrors_now run.outcome run.promised.on_disk run.mirrored
 
     -- one step
-    stepped : (before after : List Release) → Step octets label handed puts room g old new before after → EachImage g old (λ i. All (IsGiven i) before) → AllApart before
-        → EachImage g new (λ i. All (IsGiven i) after) × AllApart after
+    stepped : (before after : List Release) → Step octets label handed puts room g old new before after → EachImage g old (AllStand before) → AllApart before
+        → EachImage g new (AllStand after) × AllApart after
     stepped before after (Ran run more) here apart =
         let adds = adds_run run before here in (
-          subst (λ (all : List Release). EachImage g new (λ i. All (IsGiven i) all)) (sym more)
-              (λ i now. All-append (IsGiven i) before (given octets label handed puts room g old new run) (kept old new run before here (g.clock new) i run.promised.stands.later (omega arith) now) (adds.stand i now)),
+          subst (λ (all : List Release). EachImage g new (AllStand all)) (sym more)
+              (λ i now. All-append (IsReleasedFrom i) before (given octets label handed puts room g old new run) (kept old new run before here (g.clock new) i run.promised.stands.later (omega arith) now) (adds.stand i now)),
           subst AllApart (sym more) (apart_append before (given octets label handed puts room g old new run) apart adds.apart adds.cross),
         )
     stepped before after (Cut called run k from to crashed same) here apart = (
-      subst (λ (all : List Release). EachImage g new (λ i. All (IsGiven i) all)) (sym same) (λ i now. kept old called run before here k i from to (crashed.left i now)),
+      subst (λ (all : List Release). EachImage g new (AllStand all)) (sym same) (λ i now. kept old called run before here k i from to (crashed.left i now)),
       subst AllApart (sym same) apart,
     )
     stepped before after (Broke crashed same) here apart = (
-      subst (λ (all : List Release). EachImage g new (λ i. All (IsGiven i) all)) (sym same) (λ i now. here i (crashed.left i now)),
+      subst (λ (all : List Release). EachImage g new (AllStand all)) (sym same) (λ i now. here i (crashed.left i now)),
       subst AllApart (sym same) apart,
     )
 
-  within : (old new : D) (before after : List Release) (step : Step octets label handed puts room g old new before after) → EachImage g old (λ i. All (IsGiven i) before) → StandWithin octets label handed puts room g old new before after step
-  within old new before after (Ran run more) here = λ k i from to h. given_stand i before (kept old new run before here k i from to h)
-  within old new before after (Cut called run k from to crashed same) here = λ n i past upto h. given_stand i before (kept old called run before here n i past upto h)
-  within old new before after (Broke crashed same) here = λ i now. given_stand i before (here i (crashed.left i now))
+  within : (old new : D) (before after : List Release) (step : Step octets label handed puts room g old new before after) → EachImage g old (AllStand before) → StandWithin octets label handed puts room g old new before after step
+  within old new before after (Ran run more) here = λ k i from to h. kept old new run before here k i from to h
+  within old new before after (Cut called run k from to crashed same) here = λ n i past upto h. kept old called run before here n i past upto h
+  within old new before after (Broke crashed same) here = λ i now. here i (crashed.left i now)
 
   -- a whole life
-  pub none_twice : (disk : D) (before : List Release) (states : List (D × List Release)) (life : IsLife octets label handed puts room g disk before states) → EachTells g disk states → EachImage g disk (λ i. All (IsGiven i) before) → AllApart before
+  pub none_twice : (disk : D) (before : List Release) (states : List (D × List Release)) (life : IsLife octets label handed puts room g disk before states) → EachTells g disk states → EachImage g disk (AllStand before) → AllApart before
       → NoneSignsTwice octets label handed puts room g disk before states life
   none_twice disk before [] life told here apart = tt
   none_twice disk before (state ∷ states) life told here apart =
       let next = stepped disk state.0 told.0 (first_tells g state.0 states told.1) before state.1 life.0 here apart in (
         within disk state.0 before state.1 life.0 here,
-        (λ i now. given_stand i state.1 (next.0 i now)),
+        next.0,
         next.1,
         none_twice state.0 state.1 states life.1 told.1 next.0 next.1,
       )

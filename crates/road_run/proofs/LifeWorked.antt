@@ -17,15 +17,15 @@ use Rattle.road_run.specs.Lives.{given_by}
 module _ {M : Type 0} (octets : M → Option (List ℕ)) (label handed puts room : M → ℕ) {D : Type 0} (g : Ghosts D) (old new : D) (files : Option Folder) (tb tn : Option (List ℕ)) (before now : List M) where
   -- a publication that was written, or of which a mirror or the sink failed to take all
   publish_gives : (roads : List ℕ) (s : Settings) (d : OnDisk g old new (Publish roads s) files tb tn (Ok Done)) (m : OnMirrors octets label handed puts room g old new (Some (Publish roads s)) tb tn before now (Ok Done))
-      → given_by octets label handed puts room g old new (Some (Publish roads s)) files tb tn before now (Ok Done) d m ≡ header_release m.sealed.on_disk.area m.sealed.publication ∷ []
+      → given_by octets label handed puts room g old new (Some (Publish roads s)) files tb tn before now (Ok Done) d m ≡ header_release m.sealed.on_disk.key m.sealed.on_disk.area m.sealed.publication ∷ []
   publish_gives roads s d m = refl
 
   cut_gives : (roads : List ℕ) (s : Settings) (d : OnDisk g old new (Publish roads s) files tb tn (Err Sink)) (m : OnMirrors octets label handed puts room g old new (Some (Publish roads s)) tb tn before now (Err Sink))
-      → given_by octets label handed puts room g old new (Some (Publish roads s)) files tb tn before now (Err Sink) d m ≡ header_release m.sealed.on_disk.area m.sealed.publication ∷ []
+      → given_by octets label handed puts room g old new (Some (Publish roads s)) files tb tn before now (Err Sink) d m ≡ header_release m.sealed.on_disk.key m.sealed.on_disk.area m.sealed.publication ∷ []
   cut_gives roads s d m = refl
 
   lost_gives : (roads : List ℕ) (s : Settings) (d : OnDisk g old new (Publish roads s) files tb tn (Err MirrorLost)) (m : OnMirrors octets label handed puts room g old new (Some (Publish roads s)) tb tn before now (Err MirrorLost))
-      → given_by octets label handed puts room g old new (Some (Publish roads s)) files tb tn before now (Err MirrorLost) d m ≡ header_release m.sealed.on_disk.area m.sealed.publication ∷ []
+      → given_by octets label handed puts room g old new (Some (Publish roads s)) files tb tn before now (Err MirrorLost) d m ≡ header_release m.sealed.on_disk.key m.sealed.on_disk.area m.sealed.publication ∷ []
   lost_gives roads s d m = refl
 
   -- the link to a new key

@@ -39,7 +39,7 @@ IsBehind (Ok verdict) = Unit {0}
 IsBehind (Err (UnknownNode id)) = Unit {0}
 IsBehind (Err fault) = ⊥
 
-behind : (p : Publication) (Next : Ending) (o : Result Conclusion Fault) (t : List ℕ) → IsBehind o → EndsInstalling p Next o t → Next o t
+pub behind : (p : Publication) (Next : Ending) (o : Result Conclusion Fault) (t : List ℕ) → IsBehind o → EndsInstalling p Next o t → Next o t
 behind p Next o t late h = by h.made h.follows
   where
     installed : (header : Header) → IfInstalled p Next header o t → Next o t

@@ -1,5 +1,5 @@
 -- How the files let each command end, and what a run promises.
-use Rattle.std.specs.Prelude.{◌≡◌, ◌≢◌, ◌↔◌, ℕ, List, IfSome, IfNone, IfErr}
+use Rattle.std.specs.Prelude.{◌≡◌, ◌≢◌, ◌⊎◌, ◌↔◌, ℕ, List, IfSome, IfNone, IfErr}
 use Rattle.std.specs.declared.option.Option.{Option}
 use Rattle.std.specs.declared.option.Option.TheVariants.{None, Some}
 use Rattle.std.specs.declared.result.Result.{Result}
@@ -29,7 +29,7 @@ use Rattle.owner_commands.specs.ChainLine.{EndsLinks}
 use Rattle.owner_commands.specs.OwnerDesk.{EndsDesk}
 use Rattle.owner_commands.specs.StandingKeys.{ChainsWhatItWrites}
 use Rattle.owner_commands.specs.Publishing.{TellsLost, ends_publish}
-use Rattle.owner_commands.specs.Signing.{SealsWhatItWrites, SealsWhatItMirrors, SignsAtMostOne, StaysRefused}
+use Rattle.owner_commands.specs.Signing.{SealsWhatItWrites, SealsWhatItMirrors, SpreadSealed, SignsAtMostOne, StaysRefused}
 use Rattle.audit_commands.specs.Auditing.{ends_audit}
 use Rattle.audit_commands.specs.Headline.{ClashIn, IsBrought, WritesFindings, AuditsAccepted}
 use Rattle.reduce_commands.specs.Reducing.{ends_reduce}
@@ -112,6 +112,17 @@ module _ {M : Type 0} (octets : M → Option (List ℕ)) (label handed puts room
       SealsWhatItMirrors octets label handed puts room g before now taken_before taken_now old kept
       outcome
   OnMirrors g before now asked taken_before taken_now old kept outcome = kept ≡ old
+
+  -- Nothing is written before the slot is synced: after `publish` the sink and the mirrors are as
+  -- they were, or what they took is of one publication, whose header stands in its slot in every
+  -- image of the disk.
+  abbrev pub WritesBehindSync : {D : Type 0} → Ghosts D → D → D → Option Request →
+      Option (List ℕ) → Option (List ℕ) → List M → List M → Result Conclusion Fault → Type 0
+  WritesBehindSync g before now (Some (Publish roads settings)) taken_before taken_now old kept
+      outcome = (Keeps taken_before taken_now × (kept ≡ old)) ⊎
+      SpreadSealed octets label handed puts room g before now taken_before taken_now old kept
+      outcome
+  WritesBehindSync g before now asked taken_before taken_now old kept outcome = Unit {0}
 
 -- What a command has no use for is as it was, and words that ask for nothing use nothing. Each of
 -- library, source, sink and disk says of one object that it is as before.

@@ -58,7 +58,9 @@ module _ {M : Type 0} (octets : M → Option (List ℕ)) (label handed puts room
   -- The signatures that went out by what a run promises: of `publish`, that of the publication of
   -- which octets went to the sink or to a mirror; of `succeed`, that on the link text of the new
   -- key; of `links`, those of the chain of which octets went to the sink. No other command gives
-  -- any.
+  -- any. Where a sink and the mirrors tell nothing of what they took, or took none of it, the
+  -- publication or the chain that the promise names counts as given out: it stands on the disk, and
+  -- nothing says that its octets are those that were taken.
   abbrev pub given_by : (old new : D) (asked : Option Request) (files : Option Folder)
       (taken_before taken_now : Option (List ℕ)) (before now : List M)
       (outcome : Result Conclusion Fault) →
@@ -70,7 +72,7 @@ module _ {M : Type 0} (octets : M → Option (List ℕ)) (label handed puts room
       on_disk mirrored =
       where_written
       (SpreadSealed octets label handed puts room g old new taken_before taken_now before now outcome)
-      outcome mirrored.sealed (λ it. header_release it.on_disk.area it.publication ∷ [])
+      outcome mirrored.sealed (λ it. header_release it.on_disk.key it.on_disk.area it.publication ∷ [])
   given_by old new (Some (Succeed secret kind)) files taken_before taken_now before now outcome
       on_disk mirrored =
       where_written (FollowsByFile g new files secret kind) outcome on_disk.follows
@@ -113,9 +115,9 @@ module _ {M : Type 0} (octets : M → Option (List ℕ)) (label handed puts room
       StandAlong old called before
   StandWithin old new before after (Broke crashed same) = EachImage g new (AllStand before)
 
-  -- At each moment of a life what was given out before stands in its slots in every image, and of
-  -- all that was given out no two signatures are by one one-time key, unless they are equal octets
-  -- on one link text.
+  -- At each moment of a life what was given out before stands in its slots in every image, in areas
+  -- of the keys that made it. Of all that was given out no two signatures are by keys of one
+  -- identifier and by one-time keys of one number, unless they are equal octets on one link text.
   abbrev pub NoneSignsTwice : (disk : D) (before : List Release) (states : List (D × List Release)) →
       IsLife disk before states → Type 0
   NoneSignsTwice disk before [] life = Unit {0}

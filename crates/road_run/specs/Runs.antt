@@ -21,11 +21,11 @@ use Rattle.command_files.specs.Spared.{SparesLibrary, SparesBut}
 use Rattle.command_files.specs.declared.fault.Fault.{Fault}
 use Rattle.command_files.specs.declared.fault.Fault.TheVariants.{Source, Sink, Disk}
 use Rattle.command_files.specs.declared.ended.Conclusion.{Conclusion}
-use Rattle.road_run.specs.Commands.{Ends, IsTold, LeavesUnused, OnMirrors, RunPromises, but_for_mirrors}
+use Rattle.road_run.specs.Commands.{Ends, IsTold, LeavesUnused, OnMirrors, WritesBehindSync, RunPromises, but_for_mirrors}
 use Rattle.road_run.specs.Complete.{CallsFor, AreTold, IsComplete, PromisedEnough, ProvesKnown}
 use Rattle.road_run.specs.Names.{files_named}
 use Rattle.road_run.specs.Sources.{IfServe, IsExactServing, RunGave, RunTakes}
-use Rattle.road_run.specs.Accepting.{AcceptsHonest, RepliesAreTaken}
+use Rattle.road_run.specs.Accepting.{AcceptsHonest, FindsHonest, RepliesAreTaken}
 
 module _ {L S K D M : Type 0} (library : LibraryView L) (source : SourceView S) (sink : SinkView K)
     (disk : DiskView D) (mirror : MirrorView M) where
@@ -41,6 +41,8 @@ module _ {L S K D M : Type 0} (library : LibraryView L) (source : SourceView S) 
         (source.faults s) (source.faults s') (sink.taken k) (sink.taken k') o
     pub mirrors : OnMirrors mirror.octets mirror.named mirror.handed mirror.puts mirror.room disk d
         d' asked (sink.taken k) (sink.taken k') ms ms' o
+    pub synced : WritesBehindSync mirror.octets mirror.named mirror.handed mirror.puts mirror.room disk
+        d d' asked (sink.taken k) (sink.taken k') ms ms' o
     pub unfaulted : o ≢ Err Disk → disk.faults d' ≡ disk.faults d
     pub library_spared : SparesLibrary o (library.faults l) (library.faults l')
     pub source_spared : SparesBut Source o (source.faults s) (source.faults s')
@@ -61,6 +63,8 @@ module _ {L S K D M : Type 0} (library : LibraryView L) (source : SourceView S) 
         IsExactServing file (library.files l') (Some octets) o))
     pub honest : IfSome asked (λ request. AcceptsHonest request (library.files l') (sink.taken k)
         (sink.taken k') o)
+    pub right : IfSome asked (λ request. FindsHonest request (library.files l') (still_told disk d d')
+        (sink.taken k) (sink.taken k') o)
     pub taken : IfSome asked (λ request. RepliesAreTaken request (library.files l') (sink.taken k)
         (sink.taken k') o)
     pub proves : IfSome asked (λ request. ProvesKnown request (library.files l') (sink.taken k)

@@ -9,11 +9,11 @@ ghost use Rattle.command_files.specs.Outcomes.{outcome_of, status_of};
 ghost use Rattle.command_files.specs.Asking.{AsksFront};
 ghost use Rattle.command_files.specs.Exact.{NoneFailed, IsExact};
 ghost use Rattle.command_files.specs.Spared.{SparesLibrary, SparesBut};
-ghost use Rattle.road_run.specs.Commands.{Ends, IsTold, LeavesUnused, OnMirrors, RunPromises, but_for_mirrors};
+ghost use Rattle.road_run.specs.Commands.{Ends, IsTold, LeavesUnused, OnMirrors, RunPromises, WritesBehindSync, but_for_mirrors};
 ghost use Rattle.road_run.specs.Complete.{CallsFor, AreTold, IsComplete, PromisedEnough, ProvesKnown};
 ghost use Rattle.road_run.specs.Names.{files_named};
 ghost use Rattle.road_run.specs.Sources.{IfServe, IsExactServing, RunGave, RunTakes};
-ghost use Rattle.road_run.specs.Accepting.{AcceptsHonest, RepliesAreTaken};
+ghost use Rattle.road_run.specs.Accepting.{AcceptsHonest, FindsHonest, RepliesAreTaken};
 
 use crate::laws::no_key_signs_twice;
 use audit_commands::{audit, audit_reach};
@@ -22,7 +22,7 @@ use command_files::{Conclusion, Ended, Fault};
 use map_commands::{dimacs, root, route};
 use mirror_out::Mirror;
 use near_client::near_verdict_laws;
-use near_proof::near_laws;
+use near_proof::{near_laws, right_laws};
 use owner_commands::{desk, key, links, publish, succeed};
 use reduce_commands::reduce;
 use road_command::{Command, Words, command_of};
@@ -61,6 +61,10 @@ pub fn run<L: Library, S: Source, K: Sink, D: Disk, M: Mirror>(
         (request_of words.now)
         (K.taken sink.old) (K.taken sink.new) mirrors.old.items mirrors.new.items
         (outcome_of result) }
+    ensures synced { WritesBehindSync M.octets M.named M.handed M.puts M.room D.Disk disk.old
+        disk.new (request_of words.now)
+        (K.taken sink.old) (K.taken sink.new) mirrors.old.items mirrors.new.items
+        (outcome_of result) }
     ensures unfaulted { outcome_of result ≢ Err Fault.Disk → D.faults disk.new ≡ D.faults disk.old }
     ensures library { SparesLibrary (outcome_of result) (L.faults library.old)
         (L.faults library.new) }
@@ -94,6 +98,10 @@ pub fn run<L: Library, S: Source, K: Sink, D: Disk, M: Mirror>(
     ensures honest { IfSome (request_of words.now) (λ request.
         AcceptsHonest request (L.files library.new) (K.taken sink.old) (K.taken sink.new)
         (outcome_of result)) }
+    ensures right { IfSome (request_of words.now) (λ request.
+        FindsHonest request (L.files library.new) (still_told D.Disk disk.old disk.new)
+        (K.taken sink.old) (K.taken sink.new)
+        (outcome_of result)) }
     ensures taken { IfSome (request_of words.now) (λ request.
         RepliesAreTaken request (L.files library.new) (K.taken sink.old) (K.taken sink.new)
         (outcome_of result)) }
@@ -117,6 +125,7 @@ pub fn run<L: Library, S: Source, K: Sink, D: Disk, M: Mirror>(
     honest_laws();
     near_verdict_laws();
     near_laws();
+    right_laws();
     Ended::of(work(alloc, words, library, source, sink, disk, mirrors))
 }
 

@@ -1,3 +1,4 @@
 pub mod Refusing
 pub mod Sealing
+pub mod Standing
 mod Worked

@@ -4,7 +4,7 @@ ghost use Rattle.std.specs.Prelude.{◌≡◌, ◌≢◌, ◌⊎◌, ℕ, Some, 
 ghost use Rattle.sha2.specs.Sha256.{sha256};
 ghost use Rattle.road_io.specs.Causes.{Rose};
 ghost use Rattle.desk_areas.specs.declared.area.Count.TheVariants.{Free, Spent};
-ghost use Rattle.key_desk.specs.Desk.{count_at, Fits, KeepsAllKnown};
+ghost use Rattle.key_desk.specs.Desk.{count_at, Fits, KeepsAllKnown, SameAreas};
 ghost use Rattle.key_desk.specs.Stands.{KeepsStanding};
 ghost use Rattle.key_desk.specs.declared.desk.DeskError.{DeskError};
 ghost use Rattle.key_desk.specs.declared.desk.DeskError.TheVariants as desk_errors;
@@ -52,6 +52,7 @@ fn zeros(alloc: Global, count: usize) -> Result<Vec<u8>, NoMemory>
 
 /// Signs the header of the book of parts and settings by the next one-time key, and answers the
 /// publication. All memory is taken before the signing begins.
+#[tactic(auto, using(crate::proofs::Standing::stands_same, crate::proofs::Standing::same_areas))]
 pub fn publish<H: Hasher, D: Disk>(
     alloc: Global,
     desk: &mut Desk,
@@ -93,7 +94,8 @@ pub fn publish<H: Hasher, D: Disk>(
     ensures moments { OnSigning result
         (SignsHeader D.Disk disk.old disk.new H.hash parts settings.now) }
     ensures fits { Fits D.Disk desk.new disk.new }
-    ensures key { desk.new.key ≡ desk.old.key }
+    ensures same { SameAreas desk.old desk.new }
+    ensures stands { KeepsStanding D.Disk disk.old disk.new }
 {
     server_laws();
     let Headed { header, parts } = match make_signable::<H>(alloc, parts, settings) {

@@ -25,13 +25,13 @@ use Rattle.route_serving.specs.declared.serving.ServeError.TheVariants as errors
 use Rattle.command_files.specs.Reading.{publication_at, IsOfFiles, Fails, Loads}
 use Rattle.command_files.specs.Endings.{EndsReading, MayEnd, Promises, NoDisk, NoEnd, WhyNot}
 use Rattle.command_files.specs.declared.fault.Fault.{Fault}
-use Rattle.command_files.specs.declared.fault.Fault.TheVariants.{Words, Missing, TooLong as too_long, Road, Dimacs, Malformed, HeaderWrong, BadHex, TruncatedFrame, FrameTooLong, Library, Source, Sink, Disk, Memory, TooManyFrames, MirrorLost}
+use Rattle.command_files.specs.declared.fault.Fault.TheVariants.{Words, Missing, TooLong as too_long, Road, Dimacs, Map, Plan, Malformed, HeaderWrong, BadHex, TruncatedFrame, FrameTooLong, Library, Source, Sink, Disk, Memory, TooManyFrames, MirrorLost}
 use Rattle.command_files.specs.declared.ended.Conclusion.{Conclusion}
 use Rattle.command_files.specs.declared.ended.Conclusion.TheVariants.{Done}
 use Rattle.command_files.proofs.Written.{CallsFor, failed, over, over_any, reads, keeps_same, appends_none, no_untold, refused, written, why_map}
 use Rattle.command_books.specs.Installing.{AfterBuild, IfInstalled, EndsInstalling, IsInstallable}
 use Rattle.command_books.proofs.Installings.{installed, not_installed}
-use Rattle.server_commands.specs.Serving.{EndsFrames, EndsServe, EndsServeSome, ends_serving, ends_serve, AnswersFrames, AnswersInput, TookFrames, LeavesInput, ServesFrames, TellsFrames, first_frames, ended_at, most_octets, most_frames}
+use Rattle.server_commands.specs.Serving.{EndsFrames, EndsServe, EndsServeSome, ends_serving, ends_serve, AnswersFrames, AnswersInput, TookFrames, LeavesInput, ServedOver, AnswersTaken, ServesFrames, TellsFrames, first_frames, ended_at, most_octets, most_frames}
 use Rattle.server_commands.specs.ServingEnds.{ended_serving}
 
 abbrev not_loaded : Fault → Result Publication Fault
@@ -89,6 +89,18 @@ part_few octets part = elim (cases_lt (length octets) 4) [
   | inr long ↦ let h = part.whole long in omega (arith, h.0, h.1)
 ]
 
+-- nothing was taken or written for such a file
+unread_takes : (files : Option Folder) (name : List ℕ) (left old : Option (List ℕ)) (e : Fault) → IsOfFiles e → AnswersTaken name files left left old old (Err e)
+unread_takes files name left old Missing of = (refl, keeps_same old)
+unread_takes files name left old too_long of = (refl, keeps_same old)
+unread_takes files name left old (Road fault) of = (refl, keeps_same old)
+unread_takes files name left old (Dimacs fault) of = (refl, keeps_same old)
+unread_takes files name left old (Malformed at) of = (refl, keeps_same old)
+unread_takes files name left old BadHex of = (refl, keeps_same old)
+unread_takes files name left old Library of = (refl, keeps_same old)
+unread_takes files name left old Memory of = inl (refl, keeps_same old)
+unread_takes files name left old e of = absurd of
+
 -- frames that were served, and what was taken behind them
 module _ (first last : State) (count : ℕ) (left rest old new : Option (List ℕ)) where
   took_then : (Is : List ℕ → Type 0) → ((octets : List ℕ) → Is octets → length octets ≤ 4 + most_octets) → Then sha256 sha256 first last most_octets count left rest old new Is → TookFrames left rest
@@ -120,11 +132,19 @@ leaves first last left rest old new (Err errors.Source) s = took_then first last
 leaves first last left rest old new (Err errors.Sink) s = took_cut first last s.0 left rest old new s.2
 leaves first last left rest old new (Err errors.Memory) s = took_then first last s.0 left rest old new (λ octets. length octets ≤ 4 + most_octets) (λ octets h. h) s.2
 
+-- the faults of a book that isn't built or is another's
+abbrev IsOfBooks : Fault → Type 0
+IsOfBooks (Map fault) = Unit {0}
+IsOfBooks (Plan fault) = Unit {0}
+IsOfBooks HeaderWrong = Unit {0}
+IsOfBooks fault = ⊥
+
 pub unread_serves : (files : Option Folder) (name : List ℕ) (left old : Option (List ℕ)) (s s' : ℕ) (e : Fault) → IsOfFiles e → IfSome files (λ folder. Fails e (publication_at folder name))
     → ServesFrames name files left left s s' old old (Err e)
 unread_serves files name left old s s' e of read = record {
   served = over files (λ folder. Fails e (publication_at folder name)) (λ folder. AnswersInput name left folder old old (Err e))
       (λ folder h. let i = some_input left in (i.0, i.1, unread name i.0 folder old e of h)) read;
+  taken = unread_takes files name left old e of;
   source = λ is. absurd (subst IsOfFiles (same_fault e Source is) of);
   left = unread_leaves left e of;
   drained = λ is. absurd (not_done e is);
@@ -145,19 +165,20 @@ module _ (files : Option Folder) (name : List ℕ) (p : Publication) (l l' k k' 
   no_frames : Input
   no_frames = record { frames = []; ending = Regular }
 
-  is_header : failed Source ≡ failed HeaderWrong → ⊥
-  is_header e = cc
+  -- it has one of these
+  of_books : (f : Fault) (text : List ℕ) → EndsInstalling p NoEnd (failed f) text → IsOfBooks f
+  of_books f text h = after h.made h.follows
+    where
+      after : (m : Result Header BuildError) → AfterBuild (IfInstalled p NoEnd) m (failed f) text → IsOfBooks f
+      after (Ok x) (inl a) = absurd a.1
+      after (Ok x) (inr a) = subst IsOfBooks (sym (same_fault f HeaderWrong a.1)) tt
+      after (Err (build.Map e)) a = subst IsOfBooks (sym (same_fault f (Map e) a.0)) tt
+      after (Err (build.Plan e)) a = subst IsOfBooks (sym (same_fault f (Plan e) a.0)) tt
+      after (Err build.Memory) a = absurd a
 
   -- no source is blamed for it
   no_source : (text : List ℕ) → EndsInstalling p NoEnd (failed Source) text → ⊥
-  no_source text h = after h.made h.follows
-    where
-      after : (m : Result Header BuildError) → AfterBuild (IfInstalled p NoEnd) m (failed Source) text → ⊥
-      after (Ok x) (inl a) = a.1
-      after (Ok x) (inr a) = is_header a.1
-      after (Err (build.Map e)) a = cc
-      after (Err (build.Plan e)) a = cc
-      after (Err build.Memory) a = a
+  no_source text h = of_books Source text h
 
   ends_some : (o : Result Conclusion Fault) (text : List ℕ) → EndsInstalling p NoEnd o text → EndsServeSome p o text
   ends_some (Err Source) text h = absurd (no_source text h)
@@ -195,10 +216,20 @@ module _ (files : Option Folder) (name : List ℕ) (p : Publication) (l l' k k' 
   refused_leaves left Sink h = none_taken left
   refused_leaves left f h = refl
 
+  refused_takes : (left old : Option (List ℕ)) (f : Fault) → WhyNot NoDisk (EndsInstalling p NoEnd) f → AnswersTaken name files left left old old (Err f)
+  refused_takes left old Memory h = inl (refl, keeps_same old)
+  refused_takes left old TruncatedFrame h = absurd (of_books TruncatedFrame [] h)
+  refused_takes left old FrameTooLong h = absurd (of_books FrameTooLong [] h)
+  refused_takes left old TooManyFrames h = absurd (of_books TooManyFrames [] h)
+  refused_takes left old Source h = absurd h
+  refused_takes left old Sink h = absurd h
+  refused_takes left old f h = (refl, keeps_same old)
+
   pub refused_serves : (left old : Option (List ℕ)) (s s' : ℕ) (f : Fault) → WhyNot NoDisk (EndsInstalling p NoEnd) f → ServesFrames name files left left s s' old old (Err f)
   refused_serves left old s s' f h = record {
     served = over files (λ folder. publication_at folder name ≡ Ok p) (λ folder. AnswersInput name left folder old old (Err f))
         (λ folder is. let i = some_input left in (i.0, i.1, refused_here folder is i.0 old f h)) read;
+    taken = refused_takes left old f h;
     source = λ e. absurd (subst (λ x. WhyNot NoDisk (EndsInstalling p NoEnd) x) (same_fault f Source e) h);
     left = refused_leaves left f h;
     drained = λ e. absurd (not_done f e);
@@ -304,12 +335,26 @@ module _ (files : Option Folder) (name : List ℕ) (p : Publication) (l l' k k' 
     at_end first last left rest old new (Err errors.Sink) s e = absurd (cc)
     at_end first last left rest old new (Err errors.Memory) s e = absurd (cc)
 
+    -- each frame that was taken
+    taken_over : (last : State) (left rest old new : Option (List ℕ)) (r : Result (Unit {0}) ServeError) → Serves sha256 sha256 (first_state p) last most_octets most_frames left rest old new r → ServedOver name files left rest old new r
+    taken_over last left rest old new r serves = record { publication = p; of_file = read; last = last; serves = serves }
+
+    takes : (last : State) (left rest old new : Option (List ℕ)) (r : Result (Unit {0}) ServeError) → Serves sha256 sha256 (first_state p) last most_octets most_frames left rest old new r → AnswersTaken name files left rest old new (ended_serving r)
+    takes last left rest old new (Ok ended) s = taken_over last left rest old new (Ok tt) s
+    takes last left rest old new (Err errors.FrameTooLong) s = taken_over last left rest old new (Err errors.FrameTooLong) s
+    takes last left rest old new (Err errors.TruncatedFrame) s = taken_over last left rest old new (Err errors.TruncatedFrame) s
+    takes last left rest old new (Err errors.TooManyFrames) s = taken_over last left rest old new (Err errors.TooManyFrames) s
+    takes last left rest old new (Err errors.Source) s = taken_over last left rest old new (Err errors.Source) s
+    takes last left rest old new (Err errors.Sink) s = taken_over last left rest old new (Err errors.Sink) s
+    takes last left rest old new (Err errors.Memory) s = inr (taken_over last left rest old new (Err errors.Memory) s)
+
     pub serves_frames : (left rest old new : Option (List ℕ)) (s s' : ℕ) (r : Result (Unit {0}) ServeError) (state last : State) → state ≡ first_state p →
         ((input : Input) × IsInput most_octets most_frames left input × ServesInput sha256 sha256 state input old new r)
         → Serves sha256 sha256 state last most_octets most_frames left rest old new r → (r ≡ Err errors.Source → Rose s s')
         → ServesFrames name files left rest s s' old new (ended_serving r)
     serves_frames left rest old new s s' r state last is h serves rose = record {
       served = served_answers left old new r (from_first left old new r state is h);
+      taken = takes last left rest old new r (subst (λ (st : State). Serves sha256 sha256 st last most_octets most_frames left rest old new r) is serves);
       source = λ e. rose (blamed r e);
       left = leaves state last left rest old new r serves;
       drained = λ e. at_end state last left rest old new r serves e;

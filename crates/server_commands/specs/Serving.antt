@@ -12,6 +12,9 @@ use Rattle.proof_octets.specs.declared.publication.Publication.{Publication}
 use Rattle.route_service.specs.Machine.{State, first_state, Run}
 use Rattle.route_service.specs.Isolation.{IsIsolated}
 use Rattle.route_serving.specs.Inputs.{Ending as InputEnding, Input, IsInput}
+use Rattle.route_serving.specs.Serving.{Serves}
+use Rattle.route_serving.specs.declared.serving.ServeError.{ServeError}
+use Rattle.route_serving.specs.declared.serving.ServeError.TheVariants as serve
 use Rattle.route_serving.specs.Inputs.Ending.{Regular, TooLong, Truncated, TooMany}
 use Rattle.command_files.specs.Reading.{publication_at}
 use Rattle.command_files.specs.Endings.{Ending, EndsReading}
@@ -131,13 +134,52 @@ LeavesInput left rest (Err Sink) = TookFrames left rest
 LeavesInput left rest (Err Memory) = TookFrames left rest
 LeavesInput left rest (Err fault) = rest ≡ left
 
+-- ---- each frame that was taken, with its reply
+
+-- Serving over the file's publication: which whole frames were taken, that the replies of a run over
+-- exactly these are written, but for the last of them where the sink failed or memory ran out, and
+-- what was taken behind them. Where no file is told, it is served over some publication.
+pub record ServedOver (file : List ℕ) (files : Option Folder) (left rest old new : Option (List ℕ))
+    (served : Result (Unit {0}) ServeError) : Type 0 where
+  pub publication : Publication
+  pub of_file : IfSome files (λ folder. publication_at folder file ≡ Ok publication)
+  pub last : State
+  pub serves : Serves sha256 sha256 (first_state publication) last most_octets most_frames left rest
+      old new served
+
+-- no octet was taken, and none written
+abbrev pub ServedNone : (left rest old new : Option (List ℕ)) → Type 0
+ServedNone left rest old new = (rest ≡ left) × Keeps old new
+
+-- What was taken and written by the end of `serve`: nothing where it ended before its first frame.
+-- Memory may run out before that or later.
+abbrev pub AnswersTaken : List ℕ → Option Folder → (left rest old new : Option (List ℕ)) →
+    Result Conclusion Fault → Type 0
+AnswersTaken file files left rest old new (Ok verdict) =
+    ServedOver file files left rest old new (Ok tt)
+AnswersTaken file files left rest old new (Err FrameTooLong) =
+    ServedOver file files left rest old new (Err serve.FrameTooLong)
+AnswersTaken file files left rest old new (Err TruncatedFrame) =
+    ServedOver file files left rest old new (Err serve.TruncatedFrame)
+AnswersTaken file files left rest old new (Err TooManyFrames) =
+    ServedOver file files left rest old new (Err serve.TooManyFrames)
+AnswersTaken file files left rest old new (Err Source) =
+    ServedOver file files left rest old new (Err serve.Source)
+AnswersTaken file files left rest old new (Err Sink) =
+    ServedOver file files left rest old new (Err serve.Sink)
+AnswersTaken file files left rest old new (Err Memory) = ServedNone left rest old new ⊎
+    ServedOver file files left rest old new (Err serve.Memory)
+AnswersTaken file files left rest old new (Err fault) = ServedNone left rest old new
+
 -- What `serve` does with its source, beside what each command promises: the sink has taken the
--- replies to the frames of what was left in it; a source that is blamed has failed; what is left is
--- behind the frames that were taken; and where the work was done, nothing is.
+-- replies to the frames of what was left in it; each whole frame that was taken is answered; a
+-- source that is blamed has failed; what is left is behind the frames that were taken; and where the
+-- work was done, nothing is.
 pub record ServesFrames (file : List ℕ) (files : Option Folder)
     (left_before left_now : Option (List ℕ)) (source_before source_now : ℕ)
     (old new : Option (List ℕ)) (outcome : Result Conclusion Fault) : Type 0 where
   pub served : IfSome files (λ folder. AnswersInput file left_before folder old new outcome)
+  pub taken : AnswersTaken file files left_before left_now old new outcome
   pub source : outcome ≡ Err Source → Rose source_before source_now
   pub left : LeavesInput left_before left_now outcome
   pub drained : outcome ≡ Ok Done → IsAtEnd left_now

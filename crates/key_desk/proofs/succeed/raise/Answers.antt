@@ -6,6 +6,7 @@ use Rattle.desk_areas.specs.Keys.{key_from}
 use Rattle.desk_areas.specs.Layout.{text_at}
 use Rattle.desk_areas.proofs.OnOks.{on_ok, on_ok_both}
 use Rattle.key_desk.proofs.RaisingSteps.{signs1, signs2, signs3, signs4, keys1, keys2, keys3, keys4, fits4, signed4, link_size}
+use Rattle.key_desk.proofs.Unspent.{unspent, some_zeros}
 use Rattle.key_desk.proofs.succeed.raise.Given.{Over}
 use Rattle.key_desk.proofs.succeed.raise.Goals as goal
 use Rattle.key_desk.proofs.succeed.raise.Goals.{After-open_gate}
@@ -68,3 +69,9 @@ returns-clause-signed g c desk fits can base slots =
     on_ok c.open_gate.result _ _ c.open_gate.ensures.stored (λ gate.
     signed4 g.D.Disk desk (key_from c.args.kind c.args.secret.now) c.args.disk.now fits can c.args.base c.args.slots c.place_in-end.result c.place_in-place.result base slots c.place_in-end.ensures.place c.place_in-place.ensures.place c.clear_next.new.disk (length c.args.zeros.now) c.clear_next.ensures.moments
     c.put_block.new.disk c.put_block.ensures.moments c.put_text.new.disk c.put_text.ensures.moments c.open_gate.new.disk c.open_gate.ensures.moments c.in_ok-put_block.ensures.blank (stored g at) (size g at) gate)
+
+pub returns-clause-unspent : goal.returns-clause-unspent
+returns-clause-unspent g c =
+    on_ok c.open_gate.result _ _ c.open_gate.ensures.stored (λ gate.
+    unspent g.D.Disk (key_from c.args.kind c.args.secret.now) c.clear_next.new.disk c.put_block.new.disk c.put_text.new.disk c.open_gate.new.disk c.args.base c.args.slots c.place_in-end.result c.place_in-place.result (length c.args.zeros.now)
+    c.requires.some c.place_in-end.ensures.place c.place_in-place.ensures.place (some_zeros c.args.zeros.now c.args.kind c.requires.zeros) c.in_ok-clear_next.ensures.cleared c.put_block.ensures.moments c.in_ok-put_block.ensures.blank c.put_text.ensures.moments c.open_gate.ensures.moments)

@@ -1,12 +1,8 @@
 use Rattle.std.proofs.lemmas.Result.{err_from_is_err_and}
 use Rattle.command_desks.proofs.Disks.{no_moment, no_step}
 use Rattle.std.proofs.Common.{refl, inl, inr}
-use Rattle.owner_commands.proofs.OwnerLemmas.{key_refused, key_told, made_of, on_any, written_stays}
+use Rattle.owner_commands.proofs.OwnerLemmas.{key_refused, key_told, makes_key, on_any, written_stays}
 use Rattle.owner_commands.proofs.PublishLemmas.{stays_refused}
-use Rattle.road_io.specs.Moments.{EachImage}
-use Rattle.desk_areas.specs.Blank.{IsBlank}
-use Rattle.desk_areas.specs.Keys.{key_from}
-use Rattle.road_command.specs.View.{type_of}
 use Rattle.owner_commands.proofs.making.key.Goals as goal
 
 pub returns-in_err-secret-clause-stands : goal.returns-in_err-secret-clause-stands
@@ -24,7 +20,7 @@ returns-clause-promised g c =
 
 pub returns-clause-made : goal.returns-clause-made
 returns-clause-made g c =
-    on_any _ _ (made_of _ _ _ (λ s. EachImage g.D.Disk c.make_key.new.disk (IsBlank (key_from (type_of c.args.kind) s))) c.in_ok-secret.ensures.loads.read c.in_ok-line.ensures.made)
+    on_any _ _ (makes_key g.D.Disk c.make_key.new.disk _ _ _ c.in_ok-secret.secret c.in_ok-secret.ensures.loads.read c.in_ok-line.ensures.made c.in_ok-line.ensures.names)
 
 pub returns-clause-kept : goal.returns-clause-kept
 returns-clause-kept g c = λ x is opened e. c.in_ok-line.ensures.line.0 x is opened

@@ -7,6 +7,7 @@ use Rattle.std.specs.declared.result.Result.TheVariants.{Err}
 use Rattle.key_desk.specs.declared.desk.DeskError.TheVariants.{KeysUsedUp}
 use Rattle.route_owner.specs.declared.errors.PublishError.TheVariants.{Desk}
 use Rattle.command_files.specs.declared.fault.Fault.TheVariants as faults
+use Rattle.owner_commands.proofs.NameLemmas.{keys_signed}
 use Rattle.owner_commands.proofs.PublishLemmas.{not_opened, not_built, used_up, sealed_on_disk, all_spent, signs_after, stands_after, stays_opened, stays_refused}
 use Rattle.owner_commands.proofs.publishing.signed.Goals as goal
 
@@ -22,6 +23,7 @@ returns-in-Ok-clause-sealed g c =
     sealed_on_disk g.D.Disk c.args.disk.now c.open_desk.new.disk c.publish.new.disk c.in_ok-desk.desk c.args.parts c.args.settings.now _ (g.met.D.Disk.reads_image c.open_desk.new.disk)
     (told_between g.D.Disk c.args.disk.now c.open_desk.new.disk c.publish.new.disk _ (g.met.D.Disk.reads_image c.publish.new.disk) (g.met.D.Disk.image_tells c.open_desk.new.disk) o.content c.in-Ok.ensures.moments.each) o
     c.in-Ok.ensures.lowest c.in-Ok.ensures.published c.in-Ok.ensures.sealed
+    (keys_signed g.D.Disk c.open_desk.new.disk c.publish.new.disk _ _ _ c.in-Ok.ensures.moments)
 
 pub returns-in-Ok-clause-signs : goal.returns-in-Ok-clause-signs
 returns-in-Ok-clause-signs g c = signs_after g.D.Disk c.args.disk.now c.open_desk.new.disk c.publish.new.disk c.args.parts c.args.settings.now c.in_ok-desk.ensures.stays c.in-Ok.ensures.moments

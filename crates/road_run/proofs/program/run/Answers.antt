@@ -1,5 +1,7 @@
 use Rattle.road_run.proofs.CompleteLemmas.{complete_run, proves_run}
 use Rattle.road_run.proofs.RunLemmas.{exact_run, honest_run, taken_run, exact_serving, exact_given}
+use Rattle.road_run.proofs.SyncLemmas.{synced_run}
+use Rattle.road_run.proofs.RightLemmas.{right_run}
 use Rattle.road_run.proofs.HonestLemmas.{Verdicts, AcceptedLaws}
 use Rattle.road_run.proofs.program.run.Given.{Over}
 use Rattle.road_run.proofs.program.run.Goals as goal
@@ -81,3 +83,14 @@ pub returns-clause-given_exact : goal.returns-clause-given_exact
 returns-clause-given_exact g c =
     rw c.of.ensures.outcome
     (exact_given g.D.Disk c.args.disk.now c.work.new.disk c.server_laws.ensures _ _ _ _ _ _ _ _ _ _ _ _ _ _ c.work.ensures.promised c.work.ensures.gave)
+
+pub returns-clause-synced : goal.returns-clause-synced
+returns-clause-synced g c =
+    rw c.of.ensures.outcome
+    (synced_run g.M.Mirror.octets g.M.Mirror.named g.M.Mirror.handed g.M.Mirror.puts g.M.Mirror.room g.D.Disk c.args.disk.now c.work.new.disk _ _ _ _ _ _ _ _ _ _ _ c.work.ensures.promised c.work.ensures.mirrors)
+
+pub returns-clause-right : goal.returns-clause-right
+returns-clause-right g c =
+    rw c.of.ensures.outcome
+    (right_run g.D.Disk c.args.disk.now c.work.new.disk _ _ _ _ _ _ _ _ _ c.server_laws.ensures (verdicts g (goal.at.returns-clause-right g c).After-near_laws)
+    c.right_laws.ensures.routes c.right_laws.ensures.radii c.work.ensures.promised)

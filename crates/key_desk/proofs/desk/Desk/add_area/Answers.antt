@@ -10,6 +10,7 @@ use Rattle.key_desk.specs.Desk.{Fits}
 use Rattle.key_desk.specs.Succession.{next_desk}
 use Rattle.desk_areas.proofs.KeyLemmas.{some_slots}
 use Rattle.key_desk.proofs.Successors.{long_on}
+use Rattle.key_desk.proofs.Unspent.{unspent_next}
 use Rattle.key_desk.proofs.desk.Desk.add_area.Goals as goal
 
 pub build_key-requires : goal.build_key-requires
@@ -68,3 +69,8 @@ returns-in_err-raise-clause-keys g c =
 
 pub returns-clause-keys : goal.returns-clause-keys
 returns-clause-keys g c = c.raise.ensures.keys c.args.self c.requires.fits c.requires.can (sym c.base-base.ensures.base) (sym c.counts.ensures.sized)
+
+pub returns-clause-unspent : goal.returns-clause-unspent
+returns-clause-unspent g c =
+    let next : c.in_ok-next.next ≡ next_desk c.args.self (key_from c.args.kind c.args.secret.now) = c.in_ok-next.ensures.next ∙ ap (λ (k : KeyOf). next_desk c.args.self k) c.in-Ok.ensures.key in
+    unspent_next g.D.Disk c.args.self (key_from c.args.kind c.args.secret.now) c.raise.new.disk c.in_ok-next.next _ _ next (sym c.base-base.ensures.base) (sym c.counts.ensures.sized) c.in_ok-raise.ensures.unspent

@@ -15,6 +15,7 @@ import sys
 TOP = os.path.join(os.path.dirname(os.path.abspath(__file__)), "..")
 LISTS = r"List \S+|List \(List \S+\)|Option \(List \S+\)"
 STATEMENT = re.compile(r"[≡≢≤<×⊎¬↔]|\b(?:Is|Are|Has|Can|Each|All|Appends|Verified|Meet)(?:[A-Z]\w*)?\b")
+PLAIN = re.compile(r"(?:[\s×()ℕ]|\b(?:List|Option|Bool)\b)+")
 RECORD = re.compile(r"\s*(?:pub )?record (\S+)")
 FIELD = re.compile(r"\s*(?:pub )?([a-z_]+(?: [a-z_]+)*) : (.*)")
 EXISTS = re.compile(r"\(([a-z_]+(?: [a-z_]+)*) : (?:" + LISTS + r")\) ×")
@@ -54,7 +55,7 @@ def lists_of_record(lines, at):
     while not lines[head].rstrip().endswith("where") and head + 1 < len(lines):
         head += 1
     fields = fields_of(lines, head + 1)
-    if not any(STATEMENT.search(kind) for _, _, kind in fields):
+    if not any(STATEMENT.search(kind) and not PLAIN.fullmatch(kind) for _, _, kind in fields):
         return
     for number, names, kind in fields:
         if re.fullmatch(LISTS, kind.strip()):

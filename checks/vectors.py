@@ -309,6 +309,13 @@ def service(program: Program, given: Fields, result: Fields) -> None:
     same("serve", ended[:2], (0 if result["end"] == "End" else FAULTY, octets(result["output"])))
 
 
+def guarded(program: Program, given: Fields, result: Fields) -> None:
+    files = {"pub": octets(given["publication"]), "key": key_file(given["public"]), "chain": octets(given["chain"])}
+    ended = program.run("serve", "pub", "key", "chain", **files, source=octets(given["input"]))
+    wanted = (1, result["line"].encode()) if "line" in result else (0, octets(result["output"]))
+    same("serve", ended[:2], wanted)
+
+
 def survey(program: Program, given: Fields, result: Fields) -> None:
     ended = program.run("survey", given["width"], given["seed"], given["method"], given["queries"])
     if "fault" in result:
@@ -453,6 +460,7 @@ PLAYS: dict[str, Callable[[Program, Fields, Fields], None]] = {
     "radii": radius,
     "routes": route,
     "services": service,
+    "guarded_services": guarded,
     "surveys": survey,
     "client": client,
     "client_radius": client,

@@ -12,7 +12,7 @@ from . import audits, clients, desks, dimacs, reductions, servers, surveys
 from .books import book_of
 from .chains import Link, read_chain, write_chain
 from .faults import Fault, Refused
-from .frames import Service, bodies_of, framed
+from .frames import Guard, Service, bodies_of, framed
 from .headers import METHODS
 from .leaves import NodeLeaf
 from .lines import accepted_line, finding_line, reduction_line, root_line, route_line, within_line
@@ -178,8 +178,15 @@ def reach(world: World, publication: str, start: int, radius: int) -> Ended:
     return world.ended(DONE, servers.answer_near(servers.install(world.publication(publication)), start, radius))
 
 
-def serve(world: World, publication: str) -> Ended:
-    service = Service(servers.install(world.publication(publication)))
+def serve(world: World, publication: str, *guard: str) -> Ended:
+    first, guarding = world.publication(publication), None
+    if guard:
+        guarding = Guard(world.hex_file(guard[0], PUBLIC_DIGITS), world.chain(guard[1:]))
+        try:
+            clients.test_header(guarding.public, guarding.chain, first.header, first.signature, 0)
+        except Refused as refused:
+            return world.ended(REFUSED, refused.line())
+    service = Service(servers.install(first), guarding)
     bodies, fault = bodies_of(world.source)
     written = b"".join(framed(service.step(body)) for body in bodies)
     return world.ended(DONE if fault is None else status_of(fault), written, fault=fault)
@@ -259,24 +266,24 @@ def one_of(names: dict[str, int]) -> Callable[[str], int | None]:
 
 FILE, ID, WIDE, FAN = file_name, number(range(2**32)), number(range(2**64)), number(range(2, 33))
 METHOD, ORDER, KIND = one_of(METHODS), one_of(ORDERS), one_of(KINDS)
-FORMS: dict[str, tuple[Callable[..., Ended], list, bool]] = {
-    "route": (route, [FILE, ID, ID], False),
-    "root": (root, [FILE, FAN], False),
-    "dimacs": (dimacs_files, [FILE, FILE], False),
-    "key": (key, [FILE, KIND], False),
-    "desk": (desk, [], False),
-    "succeed": (succeed, [FILE, KIND], False),
-    "links": (links, [], False),
-    "publish": (publish, [FILE, METHOD, WIDE, ORDER, WIDE, FAN, WIDE, WIDE, WIDE], False),
-    "prove": (prove, [FILE, ID, ID], False),
-    "reach": (reach, [FILE, ID, WIDE], False),
-    "serve": (serve, [FILE], False),
-    "check": (check, [FILE, FILE, ID, ID, WIDE], True),
-    "check-reach": (check_reach, [FILE, FILE, ID, WIDE, WIDE], True),
-    "audit": (audit, [FILE, FILE, FILE, ID, ID], True),
-    "audit-reach": (audit_reach, [FILE, FILE, FILE, ID, WIDE], True),
-    "reduce": (reduce, [FILE, FILE, FILE], False),
-    "survey": (survey, [number(range(2, 257)), WIDE, METHOD, number(range(1, 1001))], False),
+FORMS: dict[str, tuple[Callable[..., Ended], list, int]] = {
+    "route": (route, [FILE, ID, ID], 0),
+    "root": (root, [FILE, FAN], 0),
+    "dimacs": (dimacs_files, [FILE, FILE], 0),
+    "key": (key, [FILE, KIND], 0),
+    "desk": (desk, [], 0),
+    "succeed": (succeed, [FILE, KIND], 0),
+    "links": (links, [], 0),
+    "publish": (publish, [FILE, METHOD, WIDE, ORDER, WIDE, FAN, WIDE, WIDE, WIDE], 0),
+    "prove": (prove, [FILE, ID, ID], 0),
+    "reach": (reach, [FILE, ID, WIDE], 0),
+    "serve": (serve, [FILE], 2),
+    "check": (check, [FILE, FILE, ID, ID, WIDE], 1),
+    "check-reach": (check_reach, [FILE, FILE, ID, WIDE, WIDE], 1),
+    "audit": (audit, [FILE, FILE, FILE, ID, ID], 1),
+    "audit-reach": (audit_reach, [FILE, FILE, FILE, ID, WIDE], 1),
+    "reduce": (reduce, [FILE, FILE, FILE], 0),
+    "survey": (survey, [number(range(2, 257)), WIDE, METHOD, number(range(1, 1001))], 0),
 }
 
 
@@ -284,10 +291,9 @@ def command_of(words: list[str]) -> tuple[Callable[..., Ended], list]:
     """The command that words ask for, and what they say."""
     if not words or words[0] not in FORMS:
         raise Fault("Words")
-    command, readers, may_name_chain = FORMS[words[0]]
+    command, readers, further = FORMS[words[0]]
     given = words[1:]
-    if may_name_chain and len(given) == len(readers) + 1:
-        readers = [*readers, FILE]
+    readers = [*readers, *[FILE] * min(further, max(0, len(given) - len(readers)))]
     values = [read(word) for read, word in zip(readers, given)]
     if len(given) != len(readers) or None in values:
         raise Fault("Words")

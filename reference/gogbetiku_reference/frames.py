@@ -2,22 +2,48 @@
 
 docs/SPEC.md, 6.5 Frames. Part of the reference: tested, not proved, and trusted by no client.
 """
-from .faults import Fault
+from collections.abc import Sequence
+from dataclasses import dataclass
+
+from .chains import Link
+from .clients import test_header
+from .faults import Fault, Refused
 from .octets import Malformed, Reader, u8, u32, u64
-from .publications import read_publication
-from .servers import Held, answer, install
+from .publications import Publication, read_publication
+from .servers import Held, answer, answer_near, install, is_known
 
 SESSIONS, MOST_OCTETS, MOST_FRAMES = 16, 4_194_304, 1_000_000
-BEGIN, ASK, FINISH, INSTALL = 1, 2, 3, 4
+BEGIN, ASK, FINISH, INSTALL, NEAR = 1, 2, 3, 4, 5
 LENGTHS = {BEGIN: 2, ASK: 10, FINISH: 2}
+GUARDED_LENGTHS = LENGTHS | {NEAR: 14}
+CAUSES = {"BadKey": 1, "BadForm": 2, "NoMatch": 3}
+UNKNOWN_START = b"\x01"
 MAP_FAULTS = {"Empty", "TooMany", "RepeatedNode", "UnknownEnd", "SelfRoad", "Crowded"}
+
+
+@dataclass(frozen=True)
+class Guard:
+    """A public key, and the links from it: a guarded service installs what is signed along them alone."""
+
+    public: bytes
+    chain: Sequence[Link]
+
+    def cause(self, publication: Publication) -> int | None:
+        """Why a publication is not signed."""
+        try:
+            test_header(self.public, self.chain, publication.header, publication.signature, 0)
+        except Refused as refused:
+            return CAUSES[refused.fields[-1]]
+        return None
 
 
 class Service:
     """The newest publication, and what each session is pinned to."""
 
-    def __init__(self, first: Held):
+    def __init__(self, first: Held, guard: Guard | None = None):
         self.newest = first
+        self.guard = guard
+        self.lengths = GUARDED_LENGTHS if guard else LENGTHS
         self.pins: dict[int, Held] = {}
 
     def step(self, body: bytes) -> bytes:
@@ -25,7 +51,7 @@ class Service:
         kind = body[0] if body else 0
         if kind == INSTALL:
             return self.install(body[1:])
-        if LENGTHS.get(kind) != len(body):
+        if self.lengths.get(kind) != len(body):
             return b"\xe1"
         return self.session(kind, body[1], body[2:])
 
@@ -36,7 +62,7 @@ class Service:
             return b"\xe3" + u8(session)
         if kind != BEGIN and session not in self.pins:
             return b"\xe4" + u8(session)
-        return {BEGIN: self.begin, ASK: self.ask, FINISH: self.finish}[kind](session, rest)
+        return {BEGIN: self.begin, ASK: self.ask, FINISH: self.finish, NEAR: self.near}[kind](session, rest)
 
     def begin(self, session: int, _rest: bytes) -> bytes:
         self.pins[session] = self.newest
@@ -45,6 +71,11 @@ class Service:
     def ask(self, session: int, rest: bytes) -> bytes:
         start, end = int.from_bytes(rest[:4], "big"), int.from_bytes(rest[4:], "big")
         return b"\x82" + u8(session) + answer(self.pins[session], start, end)
+
+    def near(self, session: int, rest: bytes) -> bytes:
+        start, radius = int.from_bytes(rest[:4], "big"), int.from_bytes(rest[4:], "big")
+        held = self.pins[session]
+        return b"\x85" + u8(session) + (answer_near(held, start, radius) if is_known(held, start) else UNKNOWN_START)
 
     def finish(self, session: int, _rest: bytes) -> bytes:
         del self.pins[session]
@@ -58,6 +89,9 @@ class Service:
         newest = self.newest.publication.header.version
         if publication.header.version <= newest:
             return b"\xe6" + u64(newest)
+        cause = self.guard.cause(publication) if self.guard else None
+        if cause is not None:
+            return b"\xe7" + u8(cause)
         try:
             self.newest = install(publication)
         except Fault as fault:

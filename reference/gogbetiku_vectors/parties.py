@@ -7,12 +7,13 @@ from dataclasses import replace
 
 from gogbetiku_reference import clients, servers
 from gogbetiku_reference.books import book_of
+from gogbetiku_reference.chains import Link, link_text, read_chain, write_chain
 from gogbetiku_reference.draws import grid
-from gogbetiku_reference.faults import Fault
-from gogbetiku_reference.frames import Service, bodies_of, framed
+from gogbetiku_reference.faults import Fault, Refused
+from gogbetiku_reference.frames import Guard, Service, bodies_of, framed
 from gogbetiku_reference.headers import METHODS
 from gogbetiku_reference.lines import accepted_line, route_line, within_line
-from gogbetiku_reference.lms import key_of
+from gogbetiku_reference.lms import KINDS, key_of
 from gogbetiku_reference.maps import Map, Parts, map_of
 from gogbetiku_reference.octets import Malformed, Reader, u8, u32, u64
 from gogbetiku_reference.orders import ORDERS, order_of
@@ -657,6 +658,84 @@ SERVICES = Family(
 )
 
 
+def run_guarded(given: Fields) -> Fields:
+    guard = Guard(octets(given["public"]), read_chain(octets(given["chain"])))
+    held = held_in(given)
+    try:
+        clients.test_header(guard.public, guard.chain, held.publication.header, held.publication.signature, 0)
+    except Refused as refused:
+        return {"line": refused.line()}
+    service = Service(held, guard)
+    bodies, _ = bodies_of(octets(given["input"]))
+    return {"output": b"".join(framed(service.step(body)) for body in bodies).hex()}
+
+
+def make_guarded() -> Iterator[Case]:
+    later = key_of(KINDS["h5"], bytes([1]) * 48)
+    chain = (Link(later.public, owner().sign(31, link_text(later.public))),)
+    turned_chain = (replace(chain[0], signature=turned(chain[0].signature, 800)),)
+    first = published(STREETS, settings_of("dij", version=1)).publication
+    signed = [
+        published(parts, settings_of("ldm", version=version), slot, key).publication
+        for parts, version, slot, key in ((SIX, 2, 0, owner()), (LINE, 3, 4, later))
+    ]
+    newer, newest = (b"\x04" + publication.octets() for publication in signed)
+
+    def near(session: int, start: int, radius: int) -> bytes:
+        return bytes([5, session]) + u32(start) + u64(radius)
+
+    def put_in(publication: Publication) -> bytes:
+        return b"\x04" + publication.octets()
+
+    turned_one = replace(signed[0], signature=turned(signed[0].signature, 900))
+    wrong_header = put(signed[0].octets(), 30, u8(signed[0].octets()[30] ^ 1))
+    runs = [
+        ("queries on a radius", [b"\x01\x00", near(0, 1, 0), near(0, 1, 7), near(0, 5, GREATEST), b"\x02\x00" + u32(1) + u32(3)]),
+        ("a start that is no node", [b"\x01\x00", near(0, 9, 7)]),
+        ("a query on a radius without a begin, and of session 16", [near(0, 1, 7), near(16, 1, 7)]),
+        ("queries on a radius of a wrong length", [b"\x01\x00", b"\x05", b"\x05\x00", near(0, 1, 7)[:-1], near(0, 1, 7) + b"\x00"]),
+        ("signed installs", [newer, b"\x01\x00", newest, b"\x01\x01", near(0, 5, 5), near(1, 1, 20)]),
+        ("an install with another signature", [put_in(turned_one), b"\x01\x00"]),
+        ("an install whose signature is none", [put_in(replace(signed[0], signature=b"")), put_in(replace(signed[0], signature=bytes(1292)))]),
+        ("an older version is told before its signature", [newer, put_in(replace(first, signature=b""))]),
+        ("a signature is told before a wrong header", [b"\x04" + wrong_header]),
+        ("and before a map that is none", [put_in(replace(turned_one, parts=Parts(SIX.nodes, ((1, 1, 1),))))]),
+        ("a map that is none, under its signature", [put_in(replace(signed[0], parts=Parts(SIX.nodes, ((1, 1, 1),))))]),
+    ]
+    rows = [(why, first, chain, bodies) for why, bodies in runs]
+    rows += [
+        ("without the chain the later key's map is not taken", first, (), [newest, newer]),
+        ("from the later key's map on", signed[1], chain, [b"\x01\x00", near(0, 1, 20), newer]),
+        ("a first publication with another signature", turned_one, chain, [b"\x01\x00"]),
+        ("a chain whose link is not signed", first, turned_chain, [b"\x01\x00"]),
+    ]
+    return answered(
+        run_guarded,
+        [
+            (
+                why,
+                {
+                    "publication": publication.octets().hex(),
+                    "public": owner().public.hex(),
+                    "chain": write_chain(links).hex(),
+                    "input": b"".join(framed(body) for body in bodies).hex(),
+                },
+            )
+            for why, publication, links, bodies in rows
+        ],
+    )
+
+
+GUARDED = Family(
+    "guarded_services",
+    "What a guarded service writes over frames of an input, or the line with which it takes none.",
+    record({"publication": HEX, "public": HEX, "chain": HEX, "input": HEX}),
+    record({}, {"output": HEX, "line": TEXT}),
+    run_guarded,
+    make_guarded,
+)
+
+
 def run_survey(given: Fields) -> Fields:
     try:
         return {"line": survey(given["width"], int(given["seed"]), METHODS[given["method"]], given["queries"])}
@@ -695,4 +774,4 @@ SURVEYS = Family(
     make_surveys,
 )
 
-FAMILIES = [ORDERS_FAMILY, PUBLICATIONS, INSTALLS, REPLIES, RADII, ROUTES, SERVICES, SURVEYS]
+FAMILIES = [ORDERS_FAMILY, PUBLICATIONS, INSTALLS, REPLIES, RADII, ROUTES, SERVICES, GUARDED, SURVEYS]

@@ -4,10 +4,10 @@ use crate::asserts::{assert_octets, assert_same};
 use book_model::Settings;
 use mem_io::{MemSink, MemSource};
 use octet_frame::next_frame;
-use octet_text::{NoMemory, Octets, Sha, put_i32, put_octets, put_u32, put_u64};
+use octet_text::{List, NoMemory, Octets, Sha, put_i32, put_octets, put_u32, put_u64};
 use proof_octets::{Header, Publication};
 use route_server::Held;
-use route_service::Service;
+use route_service::{Guard, Service};
 use route_serving::{ServeError, serve};
 use std::alloc::Global;
 use std::process::Abort;
@@ -26,8 +26,8 @@ fn header(alloc: Global, version: u64) -> Result<Header, Fail> {
     Ok(book.header())
 }
 
-// The service over the five nodes in version 1.
-fn first_service(alloc: Global) -> Result<Service<Sha>, Fail> {
+// The service over the five nodes in version 1, without a signature, under a guard.
+fn first_service(alloc: Global, guard: Guard) -> Result<Service<Sha>, Fail> {
     let publication = Publication {
         header: header(alloc, 1)?,
         signature: Octets::from_vec(Vec::new(alloc)),
@@ -35,7 +35,7 @@ fn first_service(alloc: Global) -> Result<Service<Sha>, Fail> {
         parts: parts_of(alloc, &NODES, &ROADS)?,
     };
     let held = Held::install(alloc, publication)?;
-    Ok(Service::new(alloc, held)?)
+    Ok(Service::new(alloc, guard, held)?)
 }
 
 // The body that installs the five nodes in this version, without a signature.
@@ -77,7 +77,7 @@ fn serve_octets(
     source: &mut MemSource,
     sink: &mut MemSink,
 ) -> Result<Result<(), ServeError>, Fail> {
-    let mut service = first_service(alloc)?;
+    let mut service = first_service(alloc, Guard::Open)?;
     Ok(serve(alloc, &mut service, source, sink, MOST_OCTETS, MOST_FRAMES))
 }
 
@@ -237,5 +237,45 @@ fn each_session_keeps_its_version(rt: HostRuntime) -> Result<(), Fail> {
     let input = sessions(rt.alloc())?;
     let octets = served(&rt, rt.alloc(), input, None, Ok(()))?;
     assert_sessions(&rt, rt.alloc(), octets);
+    Ok(())
+}
+
+// The reply to a body, which is short enough for a frame.
+fn reply_to(rt: &impl Abort, service: &mut Service<Sha>, body: &[u8]) -> Result<Vec<u8>, Fail> {
+    assert!(rt; body.len() <= MOST_OCTETS as usize);
+    Ok(service.step(body)?)
+}
+
+#[test]
+fn a_guarded_service_answers_on_a_radius(rt: HostRuntime) -> Result<(), Fail> {
+    let alloc = rt.alloc();
+    let guard = Guard::Signed {
+        key: [0; 56],
+        links: List::new(alloc),
+    };
+    let mut service = first_service(alloc, guard)?;
+    let reply = reply_to(
+        &rt,
+        &mut service,
+        b"\x05\x00\x00\x00\x00\x01\x00\x00\x00\x00\x00\x00\x00\x05",
+    )?;
+    assert_octets(&rt, &reply, b"\xe4\x00");
+    let reply = reply_to(&rt, &mut service, b"\x01\x00")?;
+    assert_octets(&rt, &reply, b"\x81\x00\x00\x00\x00\x00\x00\x00\x00\x01");
+    let reply = reply_to(
+        &rt,
+        &mut service,
+        b"\x05\x00\x00\x00\x00\x01\x00\x00\x00\x00\x00\x00\x00\x05",
+    )?;
+    assert!(rt; matches!(reply.as_slice(), [0x85, 0, b'R', b'P', b'N', b'1', ..]));
+    let reply = reply_to(
+        &rt,
+        &mut service,
+        b"\x05\x00\x00\x00\x00\x09\x00\x00\x00\x00\x00\x00\x00\x05",
+    )?;
+    assert_octets(&rt, &reply, b"\x85\x00\x01");
+    let second = install(alloc, 2)?;
+    let reply = reply_to(&rt, &mut service, &second)?;
+    assert_octets(&rt, &reply, b"\xe7\x01");
     Ok(())
 }

@@ -33,7 +33,7 @@ fn told_of(alloc: Global, words: &Words) -> Result<String, Fail> {
     }
 }
 
-static WRONG: [(&str, &str); 11] = [
+static WRONG: [(&str, &str); 12] = [
     (
         "rout map.roads 1 3",
         "road_proof: rout: There is no such command. `road_proof help` lists them.",
@@ -45,6 +45,10 @@ static WRONG: [(&str, &str); 11] = [
     (
         "desk owner.desk",
         "road_proof: desk: It takes 0 words behind it, and here are 1.",
+    ),
+    (
+        "serve",
+        "road_proof: serve: It takes 1 words behind it, or up to two more, and here are 0.",
     ),
     (
         "route map.roads -1 3",
@@ -119,9 +123,9 @@ static ASKED: [(&str, Option<&str>); 10] = [
     ("--help", Some("road_proof 0.1.0, for ")),
     ("-h", Some("road_proof 0.1.0, for ")),
     ("--version", Some("road_proof 0.1.0, for ")),
-    ("help serve", Some("  serve PUB\n")),
-    ("serve --help", Some("  serve PUB\n")),
-    ("serve -h", Some("  serve PUB\n")),
+    ("help serve", Some("  serve PUB [PUBKEY [CHAIN]]\n")),
+    ("serve --help", Some("  serve PUB [PUBKEY [CHAIN]]\n")),
+    ("serve -h", Some("  serve PUB [PUBKEY [CHAIN]]\n")),
     ("help rout", None),
     ("rout --help", None),
     ("serve help", None),

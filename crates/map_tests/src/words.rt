@@ -102,7 +102,7 @@ fn command_lines_of_owners_are_read(rt: HostRuntime) -> Result<(), Fail> {
     Ok(())
 }
 
-const OF_OTHERS: [(&str, Command<'static>); 8] = [
+const OF_OTHERS: [(&str, Command<'static>); 10] = [
     (
         "prove a.pub 1 3",
         Command::Prove {
@@ -114,6 +114,22 @@ const OF_OTHERS: [(&str, Command<'static>); 8] = [
         "serve a.pub",
         Command::Serve {
             publication: "a.pub",
+        },
+    ),
+    (
+        "serve a.pub k.hex",
+        Command::ServeSigned {
+            publication: "a.pub",
+            key: "k.hex",
+            chain: None,
+        },
+    ),
+    (
+        "serve a.pub k.hex a.chain",
+        Command::ServeSigned {
+            publication: "a.pub",
+            key: "k.hex",
+            chain: Some("a.chain"),
         },
     ),
     (
@@ -200,7 +216,7 @@ static NO_COMMANDS: [&str; 24] = [
     "survey 2 0 dij 0",
     "survey 2 0 dij 1001",
     "serve",
-    "serve a.pub 1",
+    "serve a.pub k.hex a.chain 1",
     "reach a.pub 1",
     "reach a.pub 1 18446744073709551616",
     "check-reach k r 1 3",

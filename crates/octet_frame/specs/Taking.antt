@@ -1,7 +1,7 @@
 -- What taking the next frame takes, and what the buffer then holds.
-use Rattle.std.specs.Prelude.{ℕ, ◌+◌, ◌<◌, ◌≤◌, Bool, true, false, List, [], length, Option, Result, Ok, Err}
+use Rattle.std.specs.Prelude.{ℕ, ◌<◌, ◌≤◌, Bool, true, false, List, [], length, Option, Result, Ok, Err}
 use Rattle.std.specs.Io.KnownBytes.{Consumes, IsAtEnd}
-use Rattle.octet_frame.specs.Frames.{frame_of, IsPart, IsTooLong}
+use Rattle.octet_frame.specs.Frames.{frame_of, IsPart, IsTooLong, IsHead}
 use Rattle.octet_frame.specs.declared.reading.FrameError.{FrameError}
 use Rattle.octet_frame.specs.declared.reading.FrameError.TheVariants.{TooLong, Truncated, Source, Memory}
 
@@ -15,5 +15,5 @@ TakesFrame most left rest body (Err Truncated) = (octets : List ℕ) × (0 < len
     IsPart most octets × Consumes left rest octets × IsAtEnd rest
 TakesFrame most left rest body (Err Source) = (octets : List ℕ) × IsPart most octets ×
     Consumes left rest octets
-TakesFrame most left rest body (Err Memory) = (octets : List ℕ) × (length octets ≤ 4 + most) ×
+TakesFrame most left rest body (Err Memory) = (octets : List ℕ) × IsHead most octets ×
     Consumes left rest octets

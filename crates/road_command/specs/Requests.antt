@@ -19,6 +19,7 @@ pub data Request : Type 0 where
   Publish : List ℕ → Settings → Request
   Prove : List ℕ → Query → Request
   Serve : List ℕ → Request
+  ServeSigned : List ℕ → List ℕ → Option (List ℕ) → Request
   Check : List ℕ → List ℕ → Query → ℕ → Option (List ℕ) → Request
   Audit : List ℕ → List ℕ → List ℕ → Query → Option (List ℕ) → Request
   Survey : ℕ → ℕ → ℕ → ℕ → Request
@@ -188,9 +189,12 @@ prove_words (publication ∷ from ∷ to ∷ []) = do
   Some (Prove publication query)
 prove_words _ = None
 
--- a publication file's name
+-- a publication file's name; and where its signature is to be tested, and that of each that follows,
+-- the names of files of a public key, and of a chain, where one is given
 abbrev pub serve_words : List (List ℕ) → Option Request
 serve_words (publication ∷ []) = Some (Serve publication)
+serve_words (publication ∷ key ∷ []) = Some (ServeSigned publication key None)
+serve_words (publication ∷ key ∷ chain ∷ []) = Some (ServeSigned publication key (Some chain))
 serve_words _ = None
 
 -- the names of files of a public key and of a reply, the ids of both ends, and the least version

@@ -28,6 +28,8 @@ shown command.Desk = request.Desk
 shown (command.Publish roads settings) = request.Publish roads.now settings
 shown (command.Prove publication query) = request.Prove publication.now query
 shown (command.Serve publication) = request.Serve publication.now
+shown (command.ServeSigned publication key chain) = request.ServeSigned publication.now key.now
+    (option_map (λ word. word.now) chain)
 shown (command.Check key reply query least chain) = request.Check key.now reply.now query least
     (option_map (λ word. word.now) chain)
 shown (command.Audit key publication reply query chain) = request.Audit key.now publication.now

@@ -2,7 +2,7 @@
 
 ghost use Rattle.std.specs.Prelude.{◌≡◌, ◌<◌, ◌≤◌, length, drop, IfSome};
 ghost use Rattle.std.specs.Option.{option_map};
-ghost use Rattle.road_command.specs.Requests.{request_of, route_words, root_words, dimacs_words, key_words, succeed_words, links_words, desk_words, publish_words, prove_words, serve_words, check_words, check_of, audit_words, audit_of, survey_words, reach_words, check_reach_words, check_reach_of, audit_reach_words, audit_reach_of, word_at, reduce_words};
+ghost use Rattle.road_command.specs.Requests.{ServeSigned, request_of, route_words, root_words, dimacs_words, key_words, succeed_words, links_words, desk_words, publish_words, prove_words, serve_words, check_words, check_of, audit_words, audit_of, survey_words, reach_words, check_reach_words, check_reach_of, audit_reach_words, audit_reach_of, word_at, reduce_words};
 ghost use Rattle.road_command.specs.View.{shown, HasFan};
 
 use crate::asked::Survey;
@@ -59,6 +59,13 @@ pub enum Command<'a> {
     /// Answer frames over a publication, and those that are installed after it, and write the replies.
     Serve {
         publication: &'a str,
+    },
+    /// Answer frames over a publication that is signed under a public key, or along a chain file where
+    /// one is named, and over those that are installed after it, which must be signed likewise.
+    ServeSigned {
+        publication: &'a str,
+        key: &'a str,
+        chain: Option<&'a str>,
     },
     /// Check a reply to a query with a public key, a least version that is taken, and a chain file where
     /// one is named, and write the verdict.
@@ -282,12 +289,27 @@ fn serve_of(words: &Words) -> Option<Command<'_>>
     ensures is { option_map shown result ≡ serve_words (drop 1 words.now) }
     ensures fan { IfSome result HasFan }
 {
-    if words.count() != 2 {
-        return None;
+    match words.count() {
+        2 => Some(Command::Serve {
+            publication: words.word(1),
+        }),
+        3 => Some(serve_signed(words, None)),
+        4 => Some(serve_signed(words, Some(words.word(3)))),
+        _ => None,
     }
-    Some(Command::Serve {
+}
+
+fn serve_signed<'a>(words: &'a Words, chain: Option<&'a str>) -> Command<'a>
+    requires { 3 ≤ length words.now }
+    ensures is { shown result ≡ ServeSigned (word_at words.now 1) (word_at words.now 2)
+        (option_map (λ word. word.now) chain.entry) }
+    ensures fan { HasFan result }
+{
+    Command::ServeSigned {
         publication: words.word(1),
-    })
+        key: words.word(2),
+        chain,
+    }
 }
 
 fn check_of(words: &Words) -> Option<Command<'_>>

@@ -15,7 +15,7 @@ use Rattle.proof_octets.specs.declared.publication.Publication.{Publication}
 use Rattle.proof_octets.specs.Publications.{publication_text}
 use Rattle.mirror_out.specs.Mirrors.{PromisedLess, Mirrors}
 use Rattle.publication_out.specs.Sent.{pieces_in}
-use Rattle.road_command.specs.Requests.{Request, Route, Root, Dimacs, Key, Succeed, Links, Desk, Publish, Prove, Serve, Check, Audit, Survey, Reach, CheckReach, AuditReach, Reduce}
+use Rattle.road_command.specs.Requests.{Request, Route, Root, Dimacs, Key, Succeed, Links, Desk, Publish, Prove, Serve, ServeSigned, Check, Audit, Survey, Reach, CheckReach, AuditReach, Reduce}
 use Rattle.command_books.specs.Installing.{IsInstallable}
 use Rattle.command_books.proofs.OneBuilding.{OneMaking}
 use Rattle.command_files.specs.Reading.{publication_at}
@@ -116,7 +116,7 @@ module _ {D M : Type 0} (g : Ghosts D) (octets : M → Option (List ℕ)) (label
   pub complete_run : (asked : Option Request) → RunPromises g old new asked files l l' taken_before taken_now k k' o → RunTakes asked files left rest s s' taken_before taken_now o
       → OnMirrors octets label handed puts room g old new asked taken_before taken_now mirrors kept o
       → (NoneFailed l l' k k' (g.faults old) (g.faults new) → IfSome asked (λ request. IfSome files (λ folder. IsTold request (still_told g old new) → IsExact (Ends (still_told g old new) request folder) (but_for_mirrors o))))
-      → (¬ Rose s s' → NoneFailed l l' k k' (g.faults old) (g.faults new) → IfServe asked (λ file. IsExactServing file files left o))
+      → (¬ Rose s s' → NoneFailed l l' k k' (g.faults old) (g.faults new) → IfServe asked (λ named. IsExactServing named files left o))
       → ¬ Rose s s' → NoneFailed l l' k k' (g.faults old) (g.faults new)
       → IfSome asked (λ request. IfSome files (λ folder. AreTold (still_told g old new) left request → IsComplete (CallsFor (still_told g old new) left request folder) (PromisedEnough puts room taken_before taken_now mirrors) o))
   complete_run asked r t m exact serving still n = by asked files left r.command t.source m (exact n) (serving still n)
@@ -137,12 +137,15 @@ module _ {D M : Type 0} (g : Ghosts D) (octets : M → Option (List ℕ)) (label
 
       by : (asked : Option Request) (files : Option Folder) (left : Option (List ℕ)) → IfSome asked (Command files) → (o ≡ Err Source → Rose s s') → OnMirrors octets label handed puts room g old new asked taken_before taken_now mirrors kept o
           → IfSome asked (λ request. IfSome files (λ folder. IsTold request (still_told g old new) → IsExact (Ends (still_told g old new) request folder) (but_for_mirrors o)))
-          → IfServe asked (λ file. IsExactServing file files left o)
+          → IfServe asked (λ named. IsExactServing named files left o)
           → IfSome asked (λ request. IfSome files (λ folder. AreTold (still_told g old new) left request → Complete left request folder))
       by None files left p source m exact serving = tt
       by (Some request) None left p source m exact serving = tt
       by (Some (Serve file)) (Some folder) None p source m exact serving = λ told. absurd (told refl)
       by (Some (Serve file)) (Some folder) (Some text) p source m exact serving = λ told free enough.
+          answers _ free o serving.called_for p.words (λ e. n.library_stays (p.library e)) (λ e. still (source e)) (λ e. n.sink_stays (p.sink e)) (λ e. n.disk_stays (p.disk e)) (λ e. p.mirror e)
+      by (Some (ServeSigned file key chain)) (Some folder) None p source m exact serving = λ told. absurd (told refl)
+      by (Some (ServeSigned file key chain)) (Some folder) (Some text) p source m exact serving = λ told free enough.
           answers _ free o serving.called_for p.words (λ e. n.library_stays (p.library e)) (λ e. still (source e)) (λ e. n.sink_stays (p.sink e)) (λ e. n.disk_stays (p.disk e)) (λ e. p.mirror e)
       by (Some (Route roads from to)) (Some folder) left p source m exact serving = λ told. plain (Route roads from to) folder p source (λ enough e. p.mirror e) (exact told)
       by (Some (Root roads fan)) (Some folder) left p source m exact serving = λ told. plain (Root roads fan) folder p source (λ enough e. p.mirror e) (exact told)
@@ -187,6 +190,7 @@ proves_run makings laws told g old new asked files l l' taken_before taken_now k
     by (Some (Prove file q)) (Some folder) p = λ b read has known. proves makings laws told folder file q b read has known taken_before taken_now o p.answered (λ e. p.mirror e)
     by (Some (Prove file q)) None p = tt
     by (Some (Serve publication)) files p = tt
+    by (Some (ServeSigned publication key chain)) files p = tt
     by (Some (Route roads from to)) files p = tt
     by (Some (Root roads fan)) files p = tt
     by (Some (Dimacs graph places)) files p = tt

@@ -13,7 +13,7 @@ use Rattle.route_client.specs.Truth.{HoldsIn}
 use Rattle.route_client.specs.declared.errors.CheckError.{CheckError}
 use Rattle.route_client.specs.Verdicts.{IsVerdict}
 use Rattle.route_laws.specs.Honest.{AnswersAreAccepted, AreAccepted}
-use Rattle.road_command.specs.Requests.{Request, Route, Root, Dimacs, Key, Succeed, Links, Desk, Publish, Prove, Serve, Check, Audit, Survey, Reach, CheckReach, AuditReach, Reduce}
+use Rattle.road_command.specs.Requests.{Request, Route, Root, Dimacs, Key, Succeed, Links, Desk, Publish, Prove, Serve, ServeSigned, Check, Audit, Survey, Reach, CheckReach, AuditReach, Reduce}
 use Rattle.command_files.specs.Endings.{Ending, Answered}
 use Rattle.client_commands.specs.Checking.{EndsCheck, ends_check}
 use Rattle.road_run.specs.Commands.{Ends, TellsClient}
@@ -140,6 +140,7 @@ accepts_honest verdicts laws Desk files content old new o a lost = tt
 accepts_honest verdicts laws (Publish roads settings) files content old new o a lost = tt
 accepts_honest verdicts laws (Prove publication q) files content old new o a lost = tt
 accepts_honest verdicts laws (Serve publication) files content old new o a lost = tt
+accepts_honest verdicts laws (ServeSigned publication key chain) files content old new o a lost = tt
 accepts_honest verdicts laws (Audit key publication reply q chain) files content old new o a lost = tt
 accepts_honest verdicts laws (Survey width seed method queries) files content old new o a lost = tt
 accepts_honest verdicts laws (Reach publication q) files content old new o a lost = tt

@@ -1,5 +1,5 @@
 -- `audit` and `audit-reach` find that honest replies are right.
-use Rattle.std.proofs.Common.{◌≡◌, inl, inr, ℕ, List, [], refl, sym, subst, IfSome}
+use Rattle.std.proofs.Common.{◌≡◌, inl, inr, ℕ, List, refl, sym, subst, IfSome}
 use Rattle.std.specs.declared.option.Option.{Option}
 use Rattle.std.specs.declared.option.Option.TheVariants.{None, Some}
 use Rattle.std.specs.declared.result.Result.{Result}
@@ -26,7 +26,7 @@ use Rattle.near_line.specs.WithinLine.{refused_near_line}
 use Rattle.near_proof.specs.Right.{AreRight, HonestRepliesAreRight, HonestReachesAreRight}
 use Rattle.road_line.specs.EvidenceLine.{right_line}
 use Rattle.road_line.specs.VerdictLine.{refused_line}
-use Rattle.road_command.specs.Requests.{Request, Route, Root, Dimacs, Key, Succeed, Links, Desk, Publish, Prove, Serve, Check, Audit, Survey, Reach, CheckReach, AuditReach, Reduce}
+use Rattle.road_command.specs.Requests.{Request, Route, Root, Dimacs, Key, Succeed, Links, Desk, Publish, Prove, Serve, ServeSigned, Check, Audit, Survey, Reach, CheckReach, AuditReach, Reduce}
 use Rattle.command_files.specs.Endings.{Ending, EndsReading, Answered, Promises}
 use Rattle.command_files.specs.Reading.{octets_at, publication_at, chain_at}
 use Rattle.command_files.specs.HexFiles.{public_key_at}
@@ -37,7 +37,7 @@ use Rattle.command_files.specs.declared.ended.Conclusion.TheVariants.{Done, Refu
 use Rattle.command_files.proofs.OneEnd.{HasOneEnd}
 use Rattle.command_files.proofs.Written.{reads, read_as}
 use Rattle.command_books.proofs.OneBuilding.{OneMaking}
-use Rattle.audit_commands.specs.Auditing.{EndsOwnersKey, EndsClient, EndsSigned, EndsSameHeader, EndsComparing, EndsAudit, ends_audit}
+use Rattle.audit_commands.specs.Auditing.{EndsOwnersKey, EndsSigned, EndsSameHeader, EndsComparing, EndsAudit, ends_audit}
 use Rattle.audit_commands.specs.Owners.{IsOwnersKey, look_in}
 use Rattle.audit_commands.proofs.AuditLemmas.{Behind}
 use Rattle.audit_commands.proofs.OneAudit.{only_audit}
@@ -180,6 +180,7 @@ finds_honest makings verdicts answers reaches Desk files content old new o a los
 finds_honest makings verdicts answers reaches (Publish roads settings) files content old new o a lost = tt
 finds_honest makings verdicts answers reaches (Prove publication q) files content old new o a lost = tt
 finds_honest makings verdicts answers reaches (Serve publication) files content old new o a lost = tt
+finds_honest makings verdicts answers reaches (ServeSigned publication key chain) files content old new o a lost = tt
 finds_honest makings verdicts answers reaches (Check key reply q least chain) files content old new o a lost = tt
 finds_honest makings verdicts answers reaches (Survey width seed method queries) files content old new o a lost = tt
 finds_honest makings verdicts answers reaches (Reach publication q) files content old new o a lost = tt

@@ -1,5 +1,5 @@
 -- What each command promises, joined to what a run promises.
-use Rattle.std.proofs.Common.{◌≡◌, ℕ, ◌≤◌, List, [], ◌++◌, refl, sym, subst, append-nil, arith, IfSome, OnOk}
+use Rattle.std.proofs.Common.{◌≡◌, ℕ, List, [], refl, sym, subst, append-nil, arith, IfSome, OnOk}
 use Rattle.std.specs.declared.option.Option.{Option}
 use Rattle.std.specs.declared.option.Option.TheVariants.{None, Some}
 use Rattle.std.specs.declared.result.Result.{Result}
@@ -14,7 +14,7 @@ use Rattle.road_map.specs.Laws.{ArcLaws}
 use Rattle.road_map.specs.declared.parts.Parts.{Parts}
 use Rattle.key_desk.specs.Stands.{KeepsStanding}
 use Rattle.key_desk.proofs.Standing.{standing_same}
-use Rattle.road_command.specs.Requests.{Request, Route, Root, Dimacs, Key, Succeed, Links, Desk, Publish, Prove, Serve, Check, Audit, Survey, Reach, CheckReach, AuditReach, Reduce}
+use Rattle.road_command.specs.Requests.{Request, Route, Root, Dimacs, Key, Succeed, Links, Desk, Publish, Prove, Serve, ServeSigned, Check, Audit, Survey, Reach, CheckReach, AuditReach, Reduce}
 use Rattle.command_files.specs.Endings.{Answered, Ending, NoDisk, Promises}
 use Rattle.command_files.specs.Asking.{AsksFront}
 use Rattle.command_files.specs.Exact.{NoneFailed, IsExact}
@@ -31,6 +31,7 @@ use Rattle.client_commands.proofs.OneCheck.{only_check}
 use Rattle.map_commands.proofs.OneMapEnd.{only_route, only_root, only_dimacs}
 use Rattle.server_commands.proofs.OneProve.{only_prove}
 use Rattle.server_commands.proofs.OneServe.{exact_serve}
+use Rattle.server_commands.specs.Guarding.{ServeFiles, guarded, unguarded}
 use Rattle.server_commands.specs.Serving.{ServesFrames}
 use Rattle.owner_commands.proofs.OneOwner.{only_key, only_desk, only_publish}
 use Rattle.owner_commands.proofs.SuccessionLemmas.{only_succession, only_links}
@@ -108,6 +109,7 @@ one_end faults arcs makings verdicts (Some content) (Publish roads settings) tol
 one_end faults arcs makings verdicts None (Publish roads settings) told folder o p s t = absurd (told refl)
 one_end faults arcs makings verdicts content (Prove file q) told folder o p s t = only_prove makings file q folder o p s t
 one_end faults arcs makings verdicts content (Serve publication) told folder o p s t = absurd told
+one_end faults arcs makings verdicts content (ServeSigned publication key chain) told folder o p s t = absurd told
 one_end faults arcs makings verdicts content (Check key reply q least chain) told folder o p s t = only_check verdicts.one key reply q least chain folder o p s t
 one_end faults arcs makings verdicts (Some content) (Audit key publication reply q chain) told folder o p s t = only_audit routes refused_line (route.are_replies verdicts.one verdicts.accepted) makings content key publication reply q chain folder o p s t
 one_end faults arcs makings verdicts None (Audit key publication reply q chain) told folder o p s t = absurd (told refl)
@@ -166,14 +168,14 @@ module _ {D : Type 0} (g : Ghosts D) (old new : D) (asked : Option Request) (fil
 
 -- what is taken for a request is taken for the words that ask for it
 pub run_takes : (asked : Option Request) (files : Option Folder) (left rest : Option (List ℕ)) (s s' : ℕ) (taken_before taken_now : Option (List ℕ)) (o : Result Conclusion Fault) (request : Request) → Some request ≡ asked
-    → IfServe (Some request) (λ file. ServesFrames file files left rest s s' taken_before taken_now o) → UnlessServe (Some request) (rest ≡ left) → (o ≡ Err Source → Rose s s')
+    → IfServe (Some request) (λ named. ServesFrames named files left rest s s' taken_before taken_now o) → UnlessServe (Some request) (rest ≡ left) → (o ≡ Err Source → Rose s s')
     → RunTakes asked files left rest s s' taken_before taken_now o
 run_takes asked files left rest s s' taken_before taken_now o request is serves kept source =
     subst (λ (a : Option Request). RunTakes a files left rest s s' taken_before taken_now o) is (record { serves = serves; kept = kept; source = source })
 
 -- what the source of a request gave is what that of the words gave that ask for it
 pub run_gave : (asked : Option Request) (files : Option Folder) (given given' : List ℕ) (Ended : Type 0) (s s' : ℕ) (taken_before taken_now : Option (List ℕ)) (o : Result Conclusion Fault) (request : Request) → Some request ≡ asked
-    → IfServe (Some request) (λ file. Gave given given' (λ octets. ServesFrames file files (Some octets) (Some []) s s' taken_before taken_now o)) → IfServe (Some request) (λ file. HasEnded o Ended) → UnlessServe (Some request) (given' ≡ given)
+    → IfServe (Some request) (λ named. Gave given given' (λ octets. ServesFrames named files (Some octets) (Some []) s s' taken_before taken_now o)) → IfServe (Some request) (λ named. HasEnded named o Ended) → UnlessServe (Some request) (given' ≡ given)
     → RunGave asked files given given' Ended s s' taken_before taken_now o
 run_gave asked files given given' Ended s s' taken_before taken_now o request is serves ended nothing =
     subst (λ (a : Option Request). RunGave a files given given' Ended s s' taken_before taken_now o) is (record { serves = serves; ended = ended; nothing = nothing })
@@ -184,10 +186,18 @@ run_gave_nothing asked files given Ended s taken_before taken_now is =
     subst (λ (a : Option Request). RunGave a files given given Ended s s taken_before taken_now (Err Words)) is (record { serves = tt; ended = tt; nothing = refl })
 
 -- a regular end and a cut come where the source gave nothing more
-pub has_ended : (o : Result Conclusion Fault) (Ended : Type 0) → OnOk o Ended → (o ≡ Err TruncatedFrame → Ended) → HasEnded o Ended
-has_ended (Ok conclusion) Ended whole cut = whole
-has_ended (Err TruncatedFrame) Ended whole cut = cut refl
-has_ended (Err fault) Ended whole cut = tt
+pub has_ended : (file : List ℕ) (o : Result Conclusion Fault) (Ended : Type 0) → OnOk o Ended → (o ≡ Err TruncatedFrame → Ended) → HasEnded (unguarded file) o Ended
+has_ended file (Ok Done) Ended whole cut = whole
+has_ended file (Ok conclusion) Ended whole cut = whole
+has_ended file (Err TruncatedFrame) Ended whole cut = cut refl
+has_ended file (Err fault) Ended whole cut = tt
+
+-- the same where a guard may refuse the first publication
+pub has_ended_signed : (file key : List ℕ) (chain : Option (List ℕ)) (o : Result Conclusion Fault) (Ended : Type 0) → (o ≡ Ok Done → Ended) → (o ≡ Err TruncatedFrame → Ended) → HasEnded (guarded file key chain) o Ended
+has_ended_signed file key chain (Ok Done) Ended whole cut = whole refl
+has_ended_signed file key chain (Ok conclusion) Ended whole cut = tt
+has_ended_signed file key chain (Err TruncatedFrame) Ended whole cut = cut refl
+has_ended_signed file key chain (Err fault) Ended whole cut = tt
 
 -- what a request has no use for, words have none for that ask for it
 pub unused : (asked : Option Request) (library source sink disk : Type 0) (request : Request) → Some request ≡ asked → LeavesUnused (Some request) library source sink disk → LeavesUnused asked library source sink disk
@@ -202,9 +212,18 @@ pub run_takes_nothing : (asked : Option Request) (files : Option Folder) (left :
 run_takes_nothing asked files left s taken_before taken_now is =
     subst (λ (a : Option Request). RunTakes a files left left s s taken_before taken_now (Err Words)) is (record { serves = tt; kept = refl; source = λ e. absurd (cc) })
 
+-- the words that ask for serving over files of these names
+abbrev serve_request : ServeFiles → Request
+serve_request named = by named.guard
+  where
+    by : Option (List ℕ × Option (List ℕ)) → Request
+    by None = Serve named.publication
+    by (Some guard) = ServeSigned named.publication guard.0 guard.1
+
 -- what follows where words ask for serving
-serve_then : (asked : Option Request) (P Q : List ℕ → Type 0) → ((file : List ℕ) → asked ≡ Some (Serve file) → P file → Q file) → IfServe asked P → IfServe asked Q
-serve_then (Some (Serve file)) P Q step h = step file refl h
+serve_then : (asked : Option Request) (P Q : ServeFiles → Type 0) → ((named : ServeFiles) → asked ≡ Some (serve_request named) → P named → Q named) → IfServe asked P → IfServe asked Q
+serve_then (Some (Serve file)) P Q step h = step (unguarded file) refl h
+serve_then (Some (ServeSigned file key chain)) P Q step h = step (guarded file key chain) refl h
 serve_then (Some (Route roads from to)) P Q step h = tt
 serve_then (Some (Root roads fan)) P Q step h = tt
 serve_then (Some (Dimacs graph places)) P Q step h = tt
@@ -224,29 +243,29 @@ serve_then (Some (Reduce key text signature)) P Q step h = tt
 serve_then None P Q step h = tt
 
 module _ {D : Type 0} (g : Ghosts D) (old new : D) (makings : OneMaking) (asked : Option Request) (files : Option Folder) (l l' s s' : ℕ) (taken_before taken_now : Option (List ℕ)) (k k' : ℕ) (o : Result Conclusion Fault) where
-  abbrev Served : Option (List ℕ) → Option (List ℕ) → List ℕ → Type 0
-  Served left rest file = ServesFrames file files left rest s s' taken_before taken_now o
+  abbrev Served : Option (List ℕ) → Option (List ℕ) → ServeFiles → Type 0
+  Served left rest named = ServesFrames named files left rest s s' taken_before taken_now o
 
   abbrev Command : Request → Type 0
   Command request = Promises (Ends (still_told g old new) request) (TellsClient request) (Rose (g.faults old) (g.faults new)) files l l' taken_before taken_now k k' o
 
-  exact_at : (left rest : Option (List ℕ)) → IfSome asked Command → ¬ Rose s s' → NoneFailed l l' k k' (g.faults old) (g.faults new) → (file : List ℕ) → asked ≡ Some (Serve file) → Served left rest file → IsExactServing file files left o
-  exact_at left rest commands none n file is served =
-      let p : Command (Serve file) = subst (λ (a : Option Request). IfSome a Command) is commands in
-      exact_serve makings file files left rest taken_before taken_now o l l' s s' k k' (g.faults old) (g.faults new) served p.library p.sink none n
+  exact_at : (left rest : Option (List ℕ)) → IfSome asked Command → ¬ Rose s s' → NoneFailed l l' k k' (g.faults old) (g.faults new) → (named : ServeFiles) → asked ≡ Some (serve_request named) → Served left rest named → IsExactServing named files left o
+  exact_at left rest commands none n named is served =
+      let p : Command (serve_request named) = subst (λ (a : Option Request). IfSome a Command) is commands in
+      exact_serve makings named files left rest taken_before taken_now o l l' s s' k k' (g.faults old) (g.faults new) served p.library p.sink none n
 
   -- what was served is exact where no object outside failed
   pub exact_serving : (left rest : Option (List ℕ)) → RunPromises g old new asked files l l' taken_before taken_now k k' o → RunTakes asked files left rest s s' taken_before taken_now o
-      → ¬ Rose s s' → NoneFailed l l' k k' (g.faults old) (g.faults new) → IfServe asked (λ file. IsExactServing file files left o)
+      → ¬ Rose s s' → NoneFailed l l' k k' (g.faults old) (g.faults new) → IfServe asked (λ named. IsExactServing named files left o)
   exact_serving left rest r t none n =
-      serve_then asked (Served left rest) (λ file. IsExactServing file files left o) (exact_at left rest r.command none n) t.serves
+      serve_then asked (Served left rest) (λ named. IsExactServing named files left o) (exact_at left rest r.command none n) t.serves
 
   -- and so it is of the octets that the source gave
   pub exact_given : (given given' : List ℕ) (Ended : Type 0) → RunPromises g old new asked files l l' taken_before taken_now k k' o → RunGave asked files given given' Ended s s' taken_before taken_now o
-      → ¬ Rose s s' → NoneFailed l l' k k' (g.faults old) (g.faults new) → IfServe asked (λ file. Gave given given' (λ octets. IsExactServing file files (Some octets) o))
+      → ¬ Rose s s' → NoneFailed l l' k k' (g.faults old) (g.faults new) → IfServe asked (λ named. Gave given given' (λ octets. IsExactServing named files (Some octets) o))
   exact_given given given' Ended r t none n =
-      serve_then asked (λ file. Gave given given' (λ octets. Served (Some octets) (Some []) file)) (λ file. Gave given given' (λ octets. IsExactServing file files (Some octets) o))
-      (λ file is gave. record { octets = gave.octets; gave = gave.gave; is = exact_at (Some gave.octets) (Some []) r.command none n file is gave.is }) t.serves
+      serve_then asked (λ named. Gave given given' (λ octets. Served (Some octets) (Some []) named)) (λ named. Gave given given' (λ octets. IsExactServing named files (Some octets) o))
+      (λ named is gave. record { octets = gave.octets; gave = gave.gave; is = exact_at (Some gave.octets) (Some []) r.command none n named is gave.is }) t.serves
 
 -- words that ask for this ask for a front of its names
 pub asks : (asked : Option Request) (request : Request) (before now : List (List ℕ)) → Some request ≡ asked → AsksFront (files_named (Some request)) before now → AsksFront (files_named asked) before now

@@ -11,9 +11,8 @@ use Rattle.road_io.specs.Causes.{Rose}
 use Rattle.road_io.specs.Contents.{Folder}
 use Rattle.book_model.specs.declared.items.Query.{Query}
 use Rattle.proof_octets.specs.declared.publication.Publication.{Publication}
-use Rattle.route_service.specs.Forms.{form_of}
 use Rattle.route_service.specs.Machine.{State, after, MayReply}
-use Rattle.route_service.specs.Isolation.{is_form_of, is_kept, IsIsolated}
+use Rattle.route_service.specs.Isolation.{is_form_of, form_in, is_kept, IsIsolated}
 use Rattle.road_command.specs.Requests.{Route, Key, Links, Serve, Survey}
 use Rattle.command_files.specs.declared.fault.Fault.{Fault}
 use Rattle.command_files.specs.declared.fault.Fault.TheVariants.{Source, UnknownNode}
@@ -58,7 +57,7 @@ module _ (p : Publication) (q : Query) (octets : List ℕ) where
 
 -- ---- sessions
 
-module _ (hash sha : List ℕ → List ℕ) (first : State) (i : ℕ) (mine told reply : List ℕ) (own : is_form_of i (form_of mine) ≡ true) where
+module _ (hash sha : List ℕ → List ℕ) (first : State) (i : ℕ) (mine told reply : List ℕ) (own : is_form_of i (form_in first mine) ≡ true) where
   -- the reply to a session's first body is one that the first state may give
   alone : IsIsolated hash sha first (mine ∷ []) (reply ∷ []) → MayReply hash sha first mine reply
   alone h = h i [] [] mine [] reply [] refl refl refl own

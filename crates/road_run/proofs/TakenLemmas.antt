@@ -14,7 +14,7 @@ use Rattle.proof_octets.specs.declared.publication.Publication.{Publication}
 use Rattle.route_server.specs.declared.errors.BuildError.{BuildError}
 use Rattle.route_server.specs.declared.errors.BuildError.TheVariants as build
 use Rattle.route_laws.specs.Honest.{UnknownNodesAreTold}
-use Rattle.road_command.specs.Requests.{Request, Route, Root, Dimacs, Key, Succeed, Links, Desk, Publish, Prove, Serve, Check, Audit, Survey, Reach, CheckReach, AuditReach, Reduce}
+use Rattle.road_command.specs.Requests.{Request, Route, Root, Dimacs, Key, Succeed, Links, Desk, Publish, Prove, Serve, ServeSigned, Check, Audit, Survey, Reach, CheckReach, AuditReach, Reduce}
 use Rattle.command_files.specs.Reading.{publication_at}
 use Rattle.command_files.specs.TwoEnds.{IsFirstUnknown}
 use Rattle.command_files.specs.Endings.{Ending, Answered}
@@ -105,6 +105,7 @@ replies_taken laws told Links files content old new o a = tt
 replies_taken laws told Desk files content old new o a = tt
 replies_taken laws told (Publish roads settings) files content old new o a = tt
 replies_taken laws told (Serve publication) files content old new o a = tt
+replies_taken laws told (ServeSigned publication key chain) files content old new o a = tt
 replies_taken laws told (Check key reply q least chain) files content old new o a = tt
 replies_taken laws told (Audit key publication reply q chain) files content old new o a = tt
 replies_taken laws told (Survey width seed method queries) files content old new o a = tt

@@ -11,7 +11,7 @@ use Rattle.road_io.specs.Contents.{Folder}
 use Rattle.road_io.specs.Disk.{Stays}
 use Rattle.road_io.specs.Moments.{AtEachMoment, still_told}
 use Rattle.key_desk.specs.Stands.{KeepsStanding}
-use Rattle.road_command.specs.Requests.{Request, Route, Root, Dimacs, Key, Succeed, Links, Desk, Publish, Prove, Serve, Check, Audit, Survey, Reach, CheckReach, AuditReach, Reduce}
+use Rattle.road_command.specs.Requests.{Request, Route, Root, Dimacs, Key, Succeed, Links, Desk, Publish, Prove, Serve, ServeSigned, Check, Audit, Survey, Reach, CheckReach, AuditReach, Reduce}
 use Rattle.command_files.specs.Endings.{Ending, Promises, TellsNone}
 use Rattle.command_files.specs.declared.fault.Fault.{Fault}
 use Rattle.command_files.specs.declared.fault.Fault.TheVariants.{Words, MirrorLost}
@@ -22,6 +22,7 @@ use Rattle.map_commands.specs.RouteLine.{ends_route}
 use Rattle.map_commands.specs.RootLine.{ends_root}
 use Rattle.map_commands.specs.DimacsFiles.{ends_dimacs}
 use Rattle.server_commands.specs.Proving.{TellsEnds, ends_prove}
+use Rattle.server_commands.specs.Guarding.{guarded, unguarded}
 use Rattle.server_commands.specs.Serving.{TellsFrames, ends_serve}
 use Rattle.owner_commands.specs.OwnerKey.{KeepsKey, ends_key}
 use Rattle.owner_commands.specs.NextKey.{AddsKey, ends_succession}
@@ -54,7 +55,9 @@ Ends content Links folder = EndsLinks content
 Ends content Desk folder = EndsDesk content
 Ends content (Publish roads settings) folder = ends_publish content roads settings folder
 Ends content (Prove publication q) folder = ends_prove publication q folder
-Ends content (Serve publication) folder = ends_serve publication folder
+Ends content (Serve publication) folder = ends_serve (unguarded publication) folder
+Ends content (ServeSigned publication key chain) folder =
+    ends_serve (guarded publication key chain) folder
 Ends content (Check key reply q least chain) folder = ends_check key reply q least chain folder
 Ends content (Audit key publication reply q chain) folder =
     ends_audit routes refused_line content key publication reply q chain folder
@@ -70,6 +73,7 @@ Ends content (Reduce key text signature) folder = ends_reduce content key text s
 abbrev pub TellsClient : Request → Fault → Type 0
 TellsClient (Prove publication q) = TellsEnds
 TellsClient (Serve publication) = TellsFrames
+TellsClient (ServeSigned publication key chain) = TellsFrames
 TellsClient (Publish roads settings) = TellsLost
 TellsClient request = TellsNone
 
@@ -133,6 +137,7 @@ LeavesUnused (Some Desk) library source sink disk = library × source
 LeavesUnused (Some (Survey width seed method queries)) library source sink disk =
     library × source × disk
 LeavesUnused (Some (Serve publication)) library source sink disk = disk
+LeavesUnused (Some (ServeSigned publication key chain)) library source sink disk = disk
 LeavesUnused (Some (Key secret kind)) library source sink disk = source
 LeavesUnused (Some (Succeed secret kind)) library source sink disk = source
 LeavesUnused (Some (Publish roads settings)) library source sink disk = source
@@ -174,6 +179,7 @@ IsTold (Audit key publication reply q chain) content = content ≢ None
 IsTold (AuditReach key publication reply q chain) content = content ≢ None
 IsTold (Reduce key text signature) content = content ≢ None
 IsTold (Serve publication) content = ⊥
+IsTold (ServeSigned publication key chain) content = ⊥
 IsTold request content = Unit {0}
 
 -- How the work ended, whatever became of the mirrors: it was done also where one was lost.

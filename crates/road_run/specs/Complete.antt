@@ -11,7 +11,7 @@ use Rattle.mirror_out.specs.Mirrors.{PromisedLess}
 use Rattle.publication_out.specs.Sent.{pieces_in}
 use Rattle.proof_octets.specs.declared.publication.Publication.{Publication}
 use Rattle.route_serving.specs.Inputs.{split}
-use Rattle.road_command.specs.Requests.{Request, Prove, Serve}
+use Rattle.road_command.specs.Requests.{Request, Prove, Serve, ServeSigned}
 use Rattle.command_books.specs.Installing.{IsInstallable}
 use Rattle.command_files.specs.Reading.{publication_at}
 use Rattle.route_laws.specs.Honest.{AreKnown}
@@ -19,24 +19,28 @@ use Rattle.command_files.specs.Endings.{Ending, NoEnd}
 use Rattle.command_files.specs.Outcomes.{status_of}
 use Rattle.command_files.specs.declared.fault.Fault.{Fault}
 use Rattle.command_files.specs.declared.ended.Conclusion.{Conclusion}
+use Rattle.server_commands.specs.Guarding.{ServeFiles, guarded, unguarded}
 use Rattle.server_commands.specs.Serving.{ends_serving, most_octets, most_frames}
 use Rattle.road_run.specs.Commands.{Ends, IsTold}
 use Rattle.road_run.specs.Accepting.{IsTaken, WritesAccepted}
 
--- with which outcome a publication's file and what is left in the source call for an end of `serve`
-abbrev pub ServesLeft : Option (List ℕ) → List ℕ → Folder → Ending
-ServesLeft (Some text) file folder = ends_serving file (split most_octets most_frames text) folder
-ServesLeft None file folder = NoEnd
+-- with which outcome the files of a service and what is left in the source call for an end of `serve`
+abbrev pub ServesLeft : Option (List ℕ) → ServeFiles → Folder → Ending
+ServesLeft (Some text) named folder = ends_serving named (split most_octets most_frames text) folder
+ServesLeft None named folder = NoEnd
 
 -- with which outcome the files, the disk and what is left in the source call for an end
 abbrev pub CallsFor : Option (List ℕ) → Option (List ℕ) → Request → Folder → Ending
-CallsFor content left (Serve file) folder = ServesLeft left file folder
+CallsFor content left (Serve file) folder = ServesLeft left (unguarded file) folder
+CallsFor content left (ServeSigned file key chain) folder = ServesLeft left (guarded file key chain)
+    folder
 CallsFor content left request folder = Ends content request folder
 
 -- what an end rests on is told: what is left in the source under `serve`, and under other commands
 -- the disk's content where they use it
 abbrev pub AreTold : Option (List ℕ) → Option (List ℕ) → Request → Type 0
 AreTold content left (Serve file) = left ≢ None
+AreTold content left (ServeSigned file key chain) = left ≢ None
 AreTold content left request = IsTold request content
 
 -- a status that tells of what hinders the work: a file (3), one-time keys that are all used (8), a

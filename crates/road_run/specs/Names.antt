@@ -2,7 +2,7 @@
 use Rattle.std.specs.Prelude.{ℕ, List, [], ◌∷◌}
 use Rattle.std.specs.declared.option.Option.{Option}
 use Rattle.std.specs.declared.option.Option.TheVariants.{Some}
-use Rattle.road_command.specs.Requests.{Request, Route, Root, Dimacs, Key, Succeed, Publish, Prove, Serve, Check, Audit, Reach, CheckReach, AuditReach, Reduce}
+use Rattle.road_command.specs.Requests.{Request, Route, Root, Dimacs, Key, Succeed, Publish, Prove, Serve, ServeSigned, Check, Audit, Reach, CheckReach, AuditReach, Reduce}
 use Rattle.command_files.specs.Asking.{if_named}
 
 -- the names of files that words hold, in their order, the owner's disk not among them
@@ -15,6 +15,7 @@ files_named (Some (Succeed secret kind)) = secret ∷ []
 files_named (Some (Publish roads settings)) = roads ∷ []
 files_named (Some (Prove publication q)) = publication ∷ []
 files_named (Some (Serve publication)) = publication ∷ []
+files_named (Some (ServeSigned publication key chain)) = publication ∷ key ∷ if_named chain
 files_named (Some (Check key reply q least chain)) = key ∷ reply ∷ if_named chain
 files_named (Some (Audit key publication reply q chain)) =
     key ∷ publication ∷ reply ∷ if_named chain

@@ -56,11 +56,11 @@ module _ {L S K D M : Type 0} (library : LibraryView L) (source : SourceView S) 
         IsExact (Ends (still_told disk d d') request folder) (but_for_mirrors o)))
     pub serve_exact : ¬ Rose (source.faults s) (source.faults s') → NoneFailed (library.faults l)
         (library.faults l') (sink.faults k) (sink.faults k') (disk.faults d) (disk.faults d') →
-        IfServe asked (λ file. IsExactServing file (library.files l') (source.left s) o)
+        IfServe asked (λ named. IsExactServing named (library.files l') (source.left s) o)
     pub given_exact : ¬ Rose (source.faults s) (source.faults s') → NoneFailed (library.faults l)
         (library.faults l') (sink.faults k) (sink.faults k') (disk.faults d) (disk.faults d') →
-        IfServe asked (λ file. Gave (source.given s) (source.given s') (λ octets.
-        IsExactServing file (library.files l') (Some octets) o))
+        IfServe asked (λ named. Gave (source.given s) (source.given s') (λ octets.
+        IsExactServing named (library.files l') (Some octets) o))
     pub honest : IfSome asked (λ request. AcceptsHonest request (library.files l') (sink.taken k)
         (sink.taken k') o)
     pub right : IfSome asked (λ request. FindsHonest request (library.files l') (still_told disk d d')

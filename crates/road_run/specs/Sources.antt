@@ -1,5 +1,5 @@
 -- What a run does with its source.
-use Rattle.std.specs.Prelude.{◌≡◌, ℕ, List, [], IfSome}
+use Rattle.std.specs.Prelude.{IfNone, ◌≡◌, ℕ, List, [], IfSome}
 use Rattle.std.specs.declared.option.Option.{Option}
 use Rattle.std.specs.declared.option.Option.TheVariants.{Some}
 use Rattle.std.specs.declared.result.Result.{Result}
@@ -7,55 +7,61 @@ use Rattle.std.specs.declared.result.Result.TheVariants.{Ok, Err}
 use Rattle.road_io.specs.Causes.{Rose}
 use Rattle.road_io.specs.Contents.{Folder}
 use Rattle.road_io.specs.Given.{Gave}
-use Rattle.road_command.specs.Requests.{Request, Serve}
+use Rattle.road_command.specs.Requests.{Request, Serve, ServeSigned}
 use Rattle.route_serving.specs.Inputs.{split}
 use Rattle.command_files.specs.Exact.{IsExact}
 use Rattle.command_files.specs.declared.fault.Fault.{Fault}
 use Rattle.command_files.specs.declared.fault.Fault.TheVariants.{TruncatedFrame, Source}
 use Rattle.command_files.specs.declared.ended.Conclusion.{Conclusion}
+use Rattle.command_files.specs.declared.ended.Conclusion.TheVariants.{Done}
+use Rattle.server_commands.specs.Guarding.{ServeFiles, guarded, unguarded}
 use Rattle.server_commands.specs.Serving.{ServesFrames, ends_serving, most_octets, most_frames}
 
--- this holds of the publication's file, if words ask for serving
-abbrev pub IfServe : Option Request → (List ℕ → Type 0) → Type 0
-IfServe (Some (Serve file)) P = P file
+-- this holds of a service's files, if words ask for serving
+abbrev pub IfServe : Option Request → (ServeFiles → Type 0) → Type 0
+IfServe (Some (Serve file)) P = P (unguarded file)
+IfServe (Some (ServeSigned file key chain)) P = P (guarded file key chain)
 IfServe asked P = Unit {0}
 
 -- this holds, unless words ask for serving
 abbrev pub UnlessServe : Option Request → Type 0 → Type 0
 UnlessServe (Some (Serve file)) P = Unit {0}
+UnlessServe (Some (ServeSigned file key chain)) P = Unit {0}
 UnlessServe asked P = P
 
 -- what a run takes from its source, by what its words ask for: `serve` alone takes anything
 pub record RunTakes (asked : Option Request) (files : Option Folder)
     (left_before left_now : Option (List ℕ)) (source_before source_now : ℕ)
     (taken_before taken_now : Option (List ℕ)) (outcome : Result Conclusion Fault) : Type 0 where
-  pub serves : IfServe asked (λ file.
-      ServesFrames file files left_before left_now source_before source_now taken_before taken_now
+  pub serves : IfServe asked (λ named.
+      ServesFrames named files left_before left_now source_before source_now taken_before taken_now
       outcome)
   pub kept : UnlessServe asked (left_now ≡ left_before)
   pub source : outcome ≡ Err Source → Rose source_before source_now
 
--- a run that went through all of its source, or found a frame cut short, found the source at its end
-abbrev pub HasEnded : Result Conclusion Fault → Type 0 → Type 0
-HasEnded (Ok conclusion) Ended = Ended
-HasEnded (Err TruncatedFrame) Ended = Ended
-HasEnded outcome Ended = Unit {0}
+-- A run that went through all of its source, or found a frame cut short, found the source at its
+-- end. Where a guard refuses the first publication nothing is taken.
+abbrev pub HasEnded : ServeFiles → Result Conclusion Fault → Type 0 → Type 0
+HasEnded named (Ok Done) Ended = Ended
+HasEnded named (Ok conclusion) Ended = IfNone named.guard Ended
+HasEnded named (Err TruncatedFrame) Ended = Ended
+HasEnded named outcome Ended = Unit {0}
 
 -- What the source of a run gave, by what its words ask for: `serve` alone took anything, and answered the
 -- frames of exactly these octets.
 pub record RunGave (asked : Option Request) (files : Option Folder) (given_before given_now : List ℕ)
     (Ended : Type 0) (source_before source_now : ℕ) (taken_before taken_now : Option (List ℕ))
     (outcome : Result Conclusion Fault) : Type 0 where
-  pub serves : IfServe asked (λ file. Gave given_before given_now (λ octets.
-      ServesFrames file files (Some octets) (Some []) source_before source_now taken_before
+  pub serves : IfServe asked (λ named. Gave given_before given_now (λ octets.
+      ServesFrames named files (Some octets) (Some []) source_before source_now taken_before
       taken_now outcome))
-  pub ended : IfServe asked (λ file. HasEnded outcome Ended)
+  pub ended : IfServe asked (λ named. HasEnded named outcome Ended)
   pub nothing : UnlessServe asked (given_now ≡ given_before)
 
 -- the end of `serve` is the one that its file and what is left in its source call for, where both
 -- are told
-abbrev pub IsExactServing : List ℕ → Option Folder → Option (List ℕ) → Result Conclusion Fault →
+abbrev pub IsExactServing : ServeFiles → Option Folder → Option (List ℕ) → Result Conclusion Fault →
     Type 0
-IsExactServing file files left outcome =
+IsExactServing named files left outcome =
     IfSome files (λ folder. IfSome left
-    (λ text. IsExact (ends_serving file (split most_octets most_frames text) folder) outcome))
+    (λ text. IsExact (ends_serving named (split most_octets most_frames text) folder) outcome))

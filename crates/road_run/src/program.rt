@@ -31,7 +31,7 @@ use road_map::map_laws;
 use route_client::verdict_laws;
 use route_laws::honest_laws;
 use route_server::server_laws;
-use server_commands::{prove, reach, serve};
+use server_commands::{prove, reach, serve, serve_signed};
 use std::alloc::Global;
 use survey_commands::survey;
 
@@ -87,13 +87,13 @@ pub fn run<L: Library, S: Source, K: Sink, D: Disk, M: Mirror>(
     ensures serve_exact { ¬ Rose (S.faults source.old) (S.faults source.new) →
         NoneFailed (L.faults library.old) (L.faults library.new) (K.faults sink.old)
         (K.faults sink.new) (D.faults disk.old) (D.faults disk.new) →
-        IfServe (request_of words.now) (λ file.
-        IsExactServing file (L.files library.new) (S.left source.old) (outcome_of result)) }
+        IfServe (request_of words.now) (λ named.
+        IsExactServing named (L.files library.new) (S.left source.old) (outcome_of result)) }
     ensures given_exact { ¬ Rose (S.faults source.old) (S.faults source.new) →
         NoneFailed (L.faults library.old) (L.faults library.new) (K.faults sink.old)
         (K.faults sink.new) (D.faults disk.old) (D.faults disk.new) →
-        IfServe (request_of words.now) (λ file. Gave (S.given source.old) (S.given source.new)
-        (λ octets. IsExactServing file (L.files library.new) (Some octets)
+        IfServe (request_of words.now) (λ named. Gave (S.given source.old) (S.given source.new)
+        (λ octets. IsExactServing named (L.files library.new) (Some octets)
         (outcome_of result))) }
     ensures honest { IfSome (request_of words.now) (λ request.
         AcceptsHonest request (L.files library.new) (K.taken sink.old) (K.taken sink.new)
@@ -179,6 +179,13 @@ fn work<L: Library, S: Source, K: Sink, D: Disk, M: Mirror>(
             prove(alloc, library, sink, publication, query)
         }
         Some(Command::Serve { publication }) => serve(alloc, library, source, sink, publication),
+        Some(
+            Command::ServeSigned {
+                publication: file,
+                key,
+                chain,
+            },
+        ) => serve_signed(alloc, library, source, sink, file, key, chain),
         Some(
             Command::Check {
                 key,

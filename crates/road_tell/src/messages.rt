@@ -94,6 +94,15 @@ impl<'a> Message<'a> {
         if let Some(Command::Reduce { signature, .. }) = self.command {
             return self.reduced(f, signature);
         }
+        if let (1, Some(Command::ServeSigned { publication, .. })) = (
+            self.ended.status,
+            self.command,
+        ) {
+            return write!(
+                f,
+                "road_proof: {publication}: It is not served, since it or a link of the chain is not signed, as the line that was written says."
+            );
+        }
         let reply = reply_of(self.command);
         match (self.ended.status, self.facts.refusal) {
             (0, _) => match self.facts.apart {
@@ -300,6 +309,7 @@ impl<'a> Message<'a> {
             Some(
                 Command::Prove { .. }
                 | Command::Serve { .. }
+                | Command::ServeSigned { .. }
                 | Command::Audit { .. }
                 | Command::Reach { .. }
                 | Command::AuditReach { .. },
@@ -436,6 +446,7 @@ fn key_of(command: Option<Command<'_>>) -> &str {
             | Command::Audit { key, .. }
             | Command::CheckReach { key, .. }
             | Command::AuditReach { key, .. }
+            | Command::ServeSigned { key, .. }
             | Command::Reduce { key, .. },
         ) => key,
         _ => "key",
@@ -449,7 +460,8 @@ fn chain_of(command: Option<Command<'_>>) -> Option<&str> {
             Command::Check { chain, .. }
             | Command::Audit { chain, .. }
             | Command::CheckReach { chain, .. }
-            | Command::AuditReach { chain, .. },
+            | Command::AuditReach { chain, .. }
+            | Command::ServeSigned { chain, .. },
         ) => chain,
         _ => None,
     }
@@ -466,6 +478,7 @@ fn map_of(command: Option<Command<'_>>) -> &str {
         Some(
             Command::Prove { publication, .. }
             | Command::Serve { publication }
+            | Command::ServeSigned { publication, .. }
             | Command::Audit { publication, .. }
             | Command::Reach { publication, .. }
             | Command::AuditReach { publication, .. },

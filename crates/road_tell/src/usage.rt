@@ -56,8 +56,8 @@ pub const USAGES: [Usage; 17] = [
         does: "writes a reply that shows a shortest route from S to T, or that there is none",
     },
     Usage {
-        words: "serve PUB",
-        does: "answers the frames of standard input over a publication, and over those that\n      are installed after it, for up to 16 sessions",
+        words: "serve PUB [PUBKEY [CHAIN]]",
+        does: "answers the frames of standard input over a publication, and over those that\n      are installed after it, for up to 16 sessions; with PUBKEY only over those that\n      are signed under it or along CHAIN, and on a radius too",
     },
     Usage {
         words: "check PUBKEY REPLY S T LEAST [CHAIN]",
@@ -96,9 +96,12 @@ impl Display for Usage {
 }
 
 impl Usage {
-    /// Whether the last word may be left out.
-    pub fn has_optional(&self) -> bool {
-        self.words.ends_with(']')
+    /// How many of the last words may be left out.
+    pub fn optional(&self) -> usize {
+        self.words
+            .split(' ')
+            .filter(|word| word.starts_with('['))
+            .count()
     }
 }
 

@@ -44,11 +44,7 @@ pub fn wrong_words(words: &Words) -> Option<WrongWords<'_>> {
 /// The first word that can't stand in its place, where their count is right.
 fn wrong_place<'a>(usage: &'static Usage, words: &'a Words) -> Option<WrongWords<'a>> {
     let most = usage.words.split(' ').count();
-    let wanted = if usage.has_optional() {
-        most.saturating_sub(1)
-    } else {
-        most
-    };
+    let wanted = most.saturating_sub(usage.optional());
     let found = words.count() as usize;
     if found < wanted || most < found {
         return Some(WrongWords::Count {
@@ -115,10 +111,10 @@ impl Display for WrongWords<'_> {
                 found,
             } => {
                 let name = usage.words.split(' ').next().unwrap_or("");
-                let more = if usage.has_optional() {
-                    ", or one more"
-                } else {
-                    ""
+                let more = match usage.optional() {
+                    0 => "",
+                    1 => ", or one more",
+                    _ => ", or up to two more",
                 };
                 write!(
                     f,

@@ -6,15 +6,15 @@ use Rattle.lms_tree.specs.declared.links.Link.{Link}
 use Rattle.proof_octets.specs.declared.publication.Publication.{Publication}
 use Rattle.route_client.specs.declared.errors.CheckError.TheVariants.{NotAnswer}
 use Rattle.route_client.specs.Verdicts.{IsVerdict}
-use Rattle.route_service.specs.Forms.{form_of}
 use Rattle.route_service.specs.Forms.Form.{Ask}
 use Rattle.route_service.specs.Machine.{State, Step}
+use Rattle.route_service.specs.Isolation.{form_in}
 use Rattle.route_laws.specs.Honest.{IsSigned, Leads, AreKnown, AreAccepted}
 
 -- a body that asks a query in a session that is begun, over the publication that it is pinned to
 pub record Asks (state : State) (body : List ℕ) (session : ℕ) (q : Query) (p : Publication) :
     Type 0 where
-  pub form : form_of body ≡ Ask session q.from q.to
+  pub form : form_in state body ≡ Ask session q.from q.to
   pub number : session ≤ 15
   pub pinned : state.pinned session ≡ Some p
 

@@ -1,3 +1,4 @@
+pub mod GuardLemmas
 pub mod Isolated
 pub mod PinLemmas
 pub mod RefusalLemmas

@@ -244,6 +244,14 @@ fn ends_over_real_files_are_told(rt: HostRuntime) -> Result<(), Fail> {
             "road_proof: standard output: It was not written whole: broken pipe. One one-time key was used for it.",
         ),
         (
+            "serve r k c",
+            1,
+            None,
+            ErrorKind::Other,
+            None,
+            "road_proof: r: It is not served, since it or a link of the chain is not signed, as the line that was written says.",
+        ),
+        (
             "serve r",
             5,
             Some(Fault::Source),

@@ -1,5 +1,6 @@
 pub mod ProveLemmas
 pub mod OneProve
+pub mod GuardFiles
 pub mod ServeCommand
 pub mod OneServe
 pub mod NearReachLemmas

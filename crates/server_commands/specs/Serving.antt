@@ -9,6 +9,9 @@ use Rattle.road_io.specs.Causes.{Rose}
 use Rattle.road_io.specs.Contents.{Folder, AppendsFront}
 use Rattle.octet_frame.specs.Frames.{framed}
 use Rattle.proof_octets.specs.declared.publication.Publication.{Publication}
+use Rattle.route_client.specs.declared.errors.CheckError.{CheckError}
+use Rattle.road_line.specs.VerdictLine.{refused_line}
+use Rattle.route_service.specs.declared.guard.Guard.{Guard}
 use Rattle.route_service.specs.Machine.{State, first_state, Run}
 use Rattle.route_service.specs.Isolation.{IsIsolated}
 use Rattle.route_serving.specs.Inputs.{Ending as InputEnding, Input, IsInput}
@@ -23,6 +26,7 @@ use Rattle.command_files.specs.declared.fault.Fault.TheVariants.{TruncatedFrame,
 use Rattle.command_files.specs.declared.ended.Conclusion.{Conclusion}
 use Rattle.command_files.specs.declared.ended.Conclusion.TheVariants.{Done}
 use Rattle.command_books.specs.Installing.{EndsInstalling}
+use Rattle.server_commands.specs.Guarding.{ServeFiles, IsAsNamed, guard_at, Holds, tested, EndsTesting}
 
 -- the most octets of a frame's body, and the most frames
 abbrev pub most_octets : ℕ
@@ -39,32 +43,39 @@ ended_at Truncated = Err TruncatedFrame
 ended_at TooMany = Err TooManyFrames
 
 -- over an installed publication and the frames of an input: the framed replies of a run of the
--- service, in which no session is told what depends on others
-pub record EndsFrames (input : Input) (p : Publication) (outcome : Result Conclusion Fault)
+-- service under this guard, in which no session is told what depends on others
+pub record EndsFrames (guard : Guard) (input : Input) (p : Publication) (outcome : Result Conclusion Fault)
     (text : List ℕ) : Type 0 where
   pub last : State
   pub replies : List (List ℕ)
-  pub run : Run sha256 sha256 (first_state p) input.frames replies last
-  pub isolated : IsIsolated sha256 sha256 (first_state p) input.frames replies
+  pub run : Run sha256 sha256 (first_state guard p) input.frames replies last
+  pub isolated : IsIsolated sha256 sha256 (first_state guard p) input.frames replies
   pub written : text ≡ framed replies
   pub end : outcome ≡ ended_at input.ending
 
--- `serve` over an input and a publication
-abbrev pub EndsServe : Input → Publication → Ending
-EndsServe input p = EndsInstalling p (EndsFrames input p)
-
--- the same over an input and the publication file of this name
-abbrev pub ends_serving : List ℕ → Input → Folder → Ending
-ends_serving file input folder = EndsReading (publication_at folder file) (EndsServe input)
+-- `serve` over an input and a publication, under a guard
+abbrev pub EndsServe : Guard → Input → Publication → Ending
+EndsServe guard input p = EndsInstalling p (EndsFrames guard input p)
 
 -- `serve` over a publication and some input, behind whose frames the source may fail
-abbrev pub EndsServeSome : Publication → Ending
-EndsServeSome p (Err Source) text = (input : Input) × EndsServe input p (Ok Done) text
-EndsServeSome p outcome text = (input : Input) × EndsServe input p outcome text
+abbrev pub EndsServeSome : Guard → Publication → Ending
+EndsServeSome guard p (Err Source) text = (input : Input) × EndsServe guard input p (Ok Done) text
+EndsServeSome guard p outcome text = (input : Input) × EndsServe guard input p outcome text
 
--- the same over the publication file of this name; of which input, `AnswersInput` says
-abbrev pub ends_serve : List ℕ → Folder → Ending
-ends_serve file folder = EndsReading (publication_at folder file) EndsServeSome
+-- what serving ends with over the files of these names: the publication's is read, then those of
+-- the guard, and the guard's tests of the publication are passed before its book is built
+abbrev pub EndsServing : ServeFiles → (Guard → Publication → Ending) → Folder → Ending
+EndsServing files Serves folder = EndsReading (publication_at folder files.publication)
+    (λ p. EndsReading (guard_at folder files.guard)
+    (λ guard. EndsTesting (tested guard p) (Serves guard p)))
+
+-- `serve` over an input and files
+abbrev pub ends_serving : ServeFiles → Input → Folder → Ending
+ends_serving files input = EndsServing files (λ guard p. EndsServe guard input p)
+
+-- `serve` over files and some input; of which, `AnswersInput` says
+abbrev pub ends_serve : ServeFiles → Folder → Ending
+ends_serve files = EndsServing files EndsServeSome
 
 -- its client is told where the taking of frames ends, for it has answered frames by then
 abbrev pub TellsFrames : Fault → Type 0
@@ -82,38 +93,39 @@ abbrev pub first_frames : ℕ → Input → Input
 first_frames n input = record { frames = take n input.frames; ending = Regular }
 
 -- the replies to the first n frames
-abbrev pub EndsFirst : List ℕ → Input → Folder → ℕ → List ℕ → Type 0
-EndsFirst file input folder n = ends_serving file (first_frames n input) folder (Ok Done)
+abbrev pub EndsFirst : ServeFiles → Input → Folder → ℕ → List ℕ → Type 0
+EndsFirst files input folder n = ends_serving files (first_frames n input) folder (Ok Done)
 
 -- What the sink has taken, by the end of `serve`: the replies to all frames of the input, or, where
--- the source or the sink failed or memory ran out, to the first of them; and nothing with any other
--- fault.
-abbrev pub AnswersFrames : List ℕ → Input → Folder → Option (List ℕ) → Option (List ℕ) →
+-- the source or the sink failed or memory ran out, to the first of them; or the line of a guard's
+-- test that is not passed; and nothing with any other fault.
+abbrev pub AnswersFrames : ServeFiles → Input → Folder → Option (List ℕ) → Option (List ℕ) →
     Result Conclusion Fault → Type 0
-AnswersFrames file input folder old new (Ok verdict) = (text : List ℕ) ×
-    ends_serving file input folder (Ok verdict) text × Appends old new text
-AnswersFrames file input folder old new (Err FrameTooLong) = (text : List ℕ) ×
-    ends_serving file input folder (Err FrameTooLong) text × Appends old new text
-AnswersFrames file input folder old new (Err TruncatedFrame) = (text : List ℕ) ×
-    ends_serving file input folder (Err TruncatedFrame) text × Appends old new text
-AnswersFrames file input folder old new (Err TooManyFrames) = (text : List ℕ) ×
-    ends_serving file input folder (Err TooManyFrames) text × Appends old new text
-AnswersFrames file input folder old new (Err Source) = (n : ℕ) × (text : List ℕ) ×
-    EndsFirst file input folder n text × Appends old new text
-AnswersFrames file input folder old new (Err Sink) = (n : ℕ) × (text : List ℕ) ×
-    EndsFirst file input folder n text × AppendsFront old new text
-AnswersFrames file input folder old new (Err Memory) =
-    Keeps old new ⊎ ((n : ℕ) × (text : List ℕ) × EndsFirst file input folder n text ×
+AnswersFrames files input folder old new (Ok verdict) = (text : List ℕ) ×
+    ends_serving files input folder (Ok verdict) text × Appends old new text
+AnswersFrames files input folder old new (Err FrameTooLong) = (text : List ℕ) ×
+    ends_serving files input folder (Err FrameTooLong) text × Appends old new text
+AnswersFrames files input folder old new (Err TruncatedFrame) = (text : List ℕ) ×
+    ends_serving files input folder (Err TruncatedFrame) text × Appends old new text
+AnswersFrames files input folder old new (Err TooManyFrames) = (text : List ℕ) ×
+    ends_serving files input folder (Err TooManyFrames) text × Appends old new text
+AnswersFrames files input folder old new (Err Source) = (n : ℕ) × (text : List ℕ) ×
+    EndsFirst files input folder n text × Appends old new text
+AnswersFrames files input folder old new (Err Sink) = (n : ℕ) × (verdict : Conclusion) ×
+    (text : List ℕ) × ends_serving files (first_frames n input) folder (Ok verdict) text ×
+    AppendsFront old new text
+AnswersFrames files input folder old new (Err Memory) =
+    Keeps old new ⊎ ((n : ℕ) × (text : List ℕ) × EndsFirst files input folder n text ×
     Appends old new text)
-AnswersFrames file input folder old new (Err Library) = Keeps old new
-AnswersFrames file input folder old new (Err fault) = ends_serving file input folder (Err fault) []
+AnswersFrames files input folder old new (Err Library) = Keeps old new
+AnswersFrames files input folder old new (Err fault) = ends_serving files input folder (Err fault) []
     × Keeps old new
 
 -- the frames are those of what is left in a source that tells it
-abbrev pub AnswersInput : List ℕ → Option (List ℕ) → Folder → Option (List ℕ) → Option (List ℕ) →
+abbrev pub AnswersInput : ServeFiles → Option (List ℕ) → Folder → Option (List ℕ) → Option (List ℕ) →
     Result Conclusion Fault → Type 0
-AnswersInput file left folder old new outcome = (input : Input) ×
-    IsInput most_octets most_frames left input × AnswersFrames file input folder old new outcome
+AnswersInput files left folder old new outcome = (input : Input) ×
+    IsInput most_octets most_frames left input × AnswersFrames files input folder old new outcome
 
 -- frames were taken from the source, and at most the octets of one frame more
 pub record TookFrames (left rest : Option (List ℕ)) : Type 0 where
@@ -125,7 +137,8 @@ pub record TookFrames (left rest : Option (List ℕ)) : Type 0 where
 -- What is left in the source, by the end of `serve`: what is behind the frames that it took, and all
 -- of it where it took none.
 abbrev pub LeavesInput : Option (List ℕ) → Option (List ℕ) → Result Conclusion Fault → Type 0
-LeavesInput left rest (Ok verdict) = TookFrames left rest
+LeavesInput left rest (Ok Done) = TookFrames left rest
+LeavesInput left rest (Ok verdict) = rest ≡ left
 LeavesInput left rest (Err FrameTooLong) = TookFrames left rest
 LeavesInput left rest (Err TruncatedFrame) = TookFrames left rest
 LeavesInput left rest (Err TooManyFrames) = TookFrames left rest
@@ -136,50 +149,71 @@ LeavesInput left rest (Err fault) = rest ≡ left
 
 -- ---- each frame that was taken, with its reply
 
--- Serving over the file's publication: which whole frames were taken, that the replies of a run over
--- exactly these are written, but for the last of them where the sink failed or memory ran out, and
--- what was taken behind them. Where no file is told, it is served over some publication.
-pub record ServedOver (file : List ℕ) (files : Option Folder) (left rest old new : Option (List ℕ))
-    (served : Result (Unit {0}) ServeError) : Type 0 where
+-- Serving over the first publication, which the guard's tests pass: which whole frames were taken,
+-- that the replies of a run over exactly these are written, but for the last of them where the sink
+-- failed or memory ran out, and what was taken behind them. Where no files are told, it is served over
+-- some publication, and under some guard where a public key is named.
+pub record ServedOver (named : ServeFiles) (files : Option Folder)
+    (left rest old new : Option (List ℕ)) (served : Result (Unit {0}) ServeError) : Type 0 where
   pub publication : Publication
-  pub of_file : IfSome files (λ folder. publication_at folder file ≡ Ok publication)
+  pub guard : Guard
+  pub guarding : IsAsNamed named.guard guard
+  pub of_files : IfSome files (Holds named guard publication)
+  pub passed : tested guard publication ≡ Ok tt
   pub last : State
-  pub serves : Serves sha256 sha256 (first_state publication) last most_octets most_frames left rest
-      old new served
+  pub serves : Serves sha256 sha256 (first_state guard publication) last most_octets most_frames left
+      rest old new served
 
 -- no octet was taken, and none written
 abbrev pub ServedNone : (left rest old new : Option (List ℕ)) → Type 0
 ServedNone left rest old new = (rest ≡ left) × Keeps old new
 
--- What was taken and written by the end of `serve`: nothing where it ended before its first frame.
--- Memory may run out before that or later.
-abbrev pub AnswersTaken : List ℕ → Option Folder → (left rest old new : Option (List ℕ)) →
+-- no octet was taken, for the guard's tests don't pass the first publication: the line that `check`
+-- would write of the first that doesn't pass was written so
+pub record RefusedFirst (named : ServeFiles) (files : Option Folder) (left rest : Option (List ℕ))
+    (Wrote : List ℕ → Type 0) : Type 0 where
+  pub publication : Publication
+  pub guard : Guard
+  pub guarding : IsAsNamed named.guard guard
+  pub of_files : IfSome files (Holds named guard publication)
+  pub why : CheckError
+  pub fails : tested guard publication ≡ Err why
+  pub untaken : rest ≡ left
+  pub wrote : Wrote (refused_line why)
+
+-- What was taken and written by the end of `serve`: nothing where it ended before its first frame,
+-- but for the line of a test that the first publication doesn't pass. Memory may run out before that
+-- or later, and the sink may fail at that line or at a reply.
+abbrev pub AnswersTaken : ServeFiles → Option Folder → (left rest old new : Option (List ℕ)) →
     Result Conclusion Fault → Type 0
-AnswersTaken file files left rest old new (Ok verdict) =
-    ServedOver file files left rest old new (Ok tt)
-AnswersTaken file files left rest old new (Err FrameTooLong) =
-    ServedOver file files left rest old new (Err serve.FrameTooLong)
-AnswersTaken file files left rest old new (Err TruncatedFrame) =
-    ServedOver file files left rest old new (Err serve.TruncatedFrame)
-AnswersTaken file files left rest old new (Err TooManyFrames) =
-    ServedOver file files left rest old new (Err serve.TooManyFrames)
-AnswersTaken file files left rest old new (Err Source) =
-    ServedOver file files left rest old new (Err serve.Source)
-AnswersTaken file files left rest old new (Err Sink) =
-    ServedOver file files left rest old new (Err serve.Sink)
-AnswersTaken file files left rest old new (Err Memory) = ServedNone left rest old new ⊎
-    ServedOver file files left rest old new (Err serve.Memory)
-AnswersTaken file files left rest old new (Err fault) = ServedNone left rest old new
+AnswersTaken named files left rest old new (Ok Done) =
+    ServedOver named files left rest old new (Ok tt)
+AnswersTaken named files left rest old new (Ok verdict) =
+    RefusedFirst named files left rest (Appends old new)
+AnswersTaken named files left rest old new (Err FrameTooLong) =
+    ServedOver named files left rest old new (Err serve.FrameTooLong)
+AnswersTaken named files left rest old new (Err TruncatedFrame) =
+    ServedOver named files left rest old new (Err serve.TruncatedFrame)
+AnswersTaken named files left rest old new (Err TooManyFrames) =
+    ServedOver named files left rest old new (Err serve.TooManyFrames)
+AnswersTaken named files left rest old new (Err Source) =
+    ServedOver named files left rest old new (Err serve.Source)
+AnswersTaken named files left rest old new (Err Sink) =
+    ServedOver named files left rest old new (Err serve.Sink) ⊎
+    RefusedFirst named files left rest (AppendsFront old new)
+AnswersTaken named files left rest old new (Err Memory) = ServedNone left rest old new ⊎
+    ServedOver named files left rest old new (Err serve.Memory)
+AnswersTaken named files left rest old new (Err fault) = ServedNone left rest old new
 
 -- What `serve` does with its source, beside what each command promises: the sink has taken the
 -- replies to the frames of what was left in it; each whole frame that was taken is answered; a
 -- source that is blamed has failed; what is left is behind the frames that were taken; and where the
 -- work was done, nothing is.
-pub record ServesFrames (file : List ℕ) (files : Option Folder)
+pub record ServesFrames (named : ServeFiles) (files : Option Folder)
     (left_before left_now : Option (List ℕ)) (source_before source_now : ℕ)
     (old new : Option (List ℕ)) (outcome : Result Conclusion Fault) : Type 0 where
-  pub served : IfSome files (λ folder. AnswersInput file left_before folder old new outcome)
-  pub taken : AnswersTaken file files left_before left_now old new outcome
+  pub served : IfSome files (λ folder. AnswersInput named left_before folder old new outcome)
+  pub taken : AnswersTaken named files left_before left_now old new outcome
   pub source : outcome ≡ Err Source → Rose source_before source_now
   pub left : LeavesInput left_before left_now outcome
   pub drained : outcome ≡ Ok Done → IsAtEnd left_now

@@ -4,7 +4,7 @@
 
 pub use proving::prove;
 pub use reaching::reach;
-pub use serving::serve;
+pub use serving::{serve, serve_signed};
 
 mod proving;
 mod reaching;

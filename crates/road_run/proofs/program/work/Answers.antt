@@ -1,6 +1,6 @@
-use Rattle.road_run.proofs.RunLemmas.{run_promises, run_stays, run_without_disk, run_nothing, run_takes, run_takes_nothing, run_gave, run_gave_nothing, has_ended, unused, nothing_used, asks, asks_none}
+use Rattle.road_run.proofs.RunLemmas.{run_promises, run_stays, run_without_disk, run_nothing, run_takes, run_takes_nothing, run_gave, run_gave_nothing, has_ended, has_ended_signed, unused, nothing_used, asks, asks_none}
 use Rattle.command_files.proofs.Asked.{asks_all}
-use Rattle.std.proofs.Common.{refl}
+use Rattle.std.proofs.Common.{refl, option_map}
 use Rattle.std.specs.declared.option.Option.TheVariants.{None}
 use Rattle.road_run.proofs.program.work.Goals as goal
 
@@ -55,12 +55,19 @@ returns-in-Some-Audit-clause-promised g c =
 pub returns-in-Some-Serve-clause-promised : goal.returns-in-Some-Serve-clause-promised
 returns-in-Some-Serve-clause-promised g c = run_without_disk g.D.Disk c.args.disk.now _ _ _ _ _ _ _ _ _ _ (rw c.in-Some-Serve.field-0-is at c.in-Some-Serve.ensures.is) (λ h. h) c.serve.ensures.promised
 
+pub returns-in-Some-ServeSigned-clause-promised : goal.returns-in-Some-ServeSigned-clause-promised
+returns-in-Some-ServeSigned-clause-promised g c = run_without_disk g.D.Disk c.args.disk.now _ _ _ _ _ _ _ _ _ _ (rw c.in-Some-ServeSigned.field-0-is at c.in-Some-ServeSigned.ensures.is) (λ h. h) c.serve_signed.ensures.promised
+
 pub returns-in-None-clause-takes : goal.returns-in-None-clause-takes
 returns-in-None-clause-takes g c = run_takes_nothing _ _ _ _ _ _ c.in-None.ensures.is
 
 pub returns-in-Some-Serve-clause-takes : goal.returns-in-Some-Serve-clause-takes
 returns-in-Some-Serve-clause-takes g c =
     run_takes _ _ _ _ _ _ _ _ _ _ (rw c.in-Some-Serve.field-0-is at c.in-Some-Serve.ensures.is) c.serve.ensures.serves tt c.serve.ensures.serves.source
+
+pub returns-in-Some-ServeSigned-clause-takes : goal.returns-in-Some-ServeSigned-clause-takes
+returns-in-Some-ServeSigned-clause-takes g c =
+    run_takes _ _ _ _ _ _ _ _ _ _ (rw c.in-Some-ServeSigned.field-0-is at c.in-Some-ServeSigned.ensures.is) c.serve_signed.ensures.serves tt c.serve_signed.ensures.serves.source
 
 pub returns-in-Some-Route-clause-takes : goal.returns-in-Some-Route-clause-takes
 returns-in-Some-Route-clause-takes g c =
@@ -194,6 +201,9 @@ returns-in-Some-Prove-clause-unused g c = unused _ _ _ _ _ _ (rw c.in-Some-Prove
 pub returns-in-Some-Serve-clause-unused : goal.returns-in-Some-Serve-clause-unused
 returns-in-Some-Serve-clause-unused g c = unused _ _ _ _ _ _ (rw c.in-Some-Serve.field-0-is at c.in-Some-Serve.ensures.is) refl
 
+pub returns-in-Some-ServeSigned-clause-unused : goal.returns-in-Some-ServeSigned-clause-unused
+returns-in-Some-ServeSigned-clause-unused g c = unused _ _ _ _ _ _ (rw c.in-Some-ServeSigned.field-0-is at c.in-Some-ServeSigned.ensures.is) refl
+
 pub returns-in-Some-Check-clause-unused : goal.returns-in-Some-Check-clause-unused
 returns-in-Some-Check-clause-unused g c = unused _ _ _ _ _ _ (rw c.in-Some-Check.field-0-is at c.in-Some-Check.ensures.is) (refl, refl)
 
@@ -220,7 +230,11 @@ returns-in-None-clause-gave g c = run_gave_nothing _ _ _ _ _ _ _ c.in-None.ensur
 
 pub returns-in-Some-Serve-clause-gave : goal.returns-in-Some-Serve-clause-gave
 returns-in-Some-Serve-clause-gave g c =
-    run_gave _ _ _ _ _ _ _ _ _ _ _ (rw c.in-Some-Serve.field-0-is at c.in-Some-Serve.ensures.is) c.serve.ensures.gave (has_ended _ _ c.serve.ensures.ended c.serve.ensures.cut) tt
+    run_gave _ _ _ _ _ _ _ _ _ _ _ (rw c.in-Some-Serve.field-0-is at c.in-Some-Serve.ensures.is) c.serve.ensures.gave (has_ended c.in-Some-Serve.publication.now _ _ c.serve.ensures.ended c.serve.ensures.cut) tt
+
+pub returns-in-Some-ServeSigned-clause-gave : goal.returns-in-Some-ServeSigned-clause-gave
+returns-in-Some-ServeSigned-clause-gave g c =
+    run_gave _ _ _ _ _ _ _ _ _ _ _ (rw c.in-Some-ServeSigned.field-0-is at c.in-Some-ServeSigned.ensures.is) c.serve_signed.ensures.gave (has_ended_signed c.in-Some-ServeSigned.file.now c.in-Some-ServeSigned.key.now (option_map (λ name. name.now) c.in-Some-ServeSigned.chain) _ _ c.serve_signed.ensures.ended c.serve_signed.ensures.cut) tt
 
 pub returns-in-Some-Route-clause-gave : goal.returns-in-Some-Route-clause-gave
 returns-in-Some-Route-clause-gave g c =
@@ -318,6 +332,9 @@ returns-in-Some-Prove-clause-asked g c = asks _ _ _ _ (rw c.in-Some-Prove.field-
 
 pub returns-in-Some-Serve-clause-asked : goal.returns-in-Some-Serve-clause-asked
 returns-in-Some-Serve-clause-asked g c = asks _ _ _ _ (rw c.in-Some-Serve.field-0-is at c.in-Some-Serve.ensures.is) (asks_all _ _ _ c.serve.ensures.asked)
+
+pub returns-in-Some-ServeSigned-clause-asked : goal.returns-in-Some-ServeSigned-clause-asked
+returns-in-Some-ServeSigned-clause-asked g c = asks _ _ _ _ (rw c.in-Some-ServeSigned.field-0-is at c.in-Some-ServeSigned.ensures.is) c.serve_signed.ensures.asked
 
 pub returns-in-Some-Reach-clause-asked : goal.returns-in-Some-Reach-clause-asked
 returns-in-Some-Reach-clause-asked g c = asks _ _ _ _ (rw c.in-Some-Reach.field-0-is at c.in-Some-Reach.ensures.is) (asks_all _ _ _ c.reach.ensures.asked)

@@ -1,70 +1,38 @@
-use Rattle.std.proofs.Common.{sym, ap, [], append-nil, ◌∙◌, arith}
-use Rattle.std.specs.declared.option.Option.TheVariants.{Some}
+use Rattle.std.proofs.Common.{sym, refl, [], append-nil}
 use Rattle.std.proofs.lemmas.Result.{err_from_is_err_and}
-use Rattle.route_serving.proofs.Splits.{serves_input}
-use Rattle.server_commands.specs.Serving.{most_octets, most_frames}
-use Rattle.server_commands.specs.ServingEnds.{ended_serving}
-use Rattle.server_commands.proofs.ServeCommand.{unread_serves, serve_refused, refused_serves, serve_ends, serves_frames}
+use Rattle.command_files.specs.Reading.{publication_at}
+use Rattle.server_commands.specs.Guarding.{unguarded}
+use Rattle.server_commands.specs.Serving.{EndsServe}
+use Rattle.server_commands.proofs.ServeCommand.{unread_serves, no_publication, open_holds, ended_done}
 use Rattle.server_commands.proofs.serving.serve.Goals as goal
 
 pub returns-in_err-publication-clause-serves : goal.returns-in_err-publication-clause-serves
 returns-in_err-publication-clause-serves g c =
     let p = err_from_is_err_and c.from_residual.result c.from_residual.ensures.1 in
     let loads = c.in_err-publication.ensures.loads in
-    rw (p.1, p.2) (unread_serves _ _ _ _ _ _ _ loads.others loads.read)
-
-pub returns-in_err-service-clause-promised : goal.returns-in_err-service-clause-promised
-returns-in_err-service-clause-promised g c =
-    let p = err_from_is_err_and c.from_residual-in_err-service.result c.from_residual-in_err-service.ensures.1 in
-    rw (p.1, p.2) (serve_refused _ _ _ _ _ _ _ c.in_ok-publication.ensures.loads.read _ _ c.in_err-service.ensures.refused)
-
-pub returns-in_err-service-clause-serves : goal.returns-in_err-service-clause-serves
-returns-in_err-service-clause-serves g c =
-    let p = err_from_is_err_and c.from_residual-in_err-service.result c.from_residual-in_err-service.ensures.1 in
-    rw (p.1, p.2) (refused_serves _ _ _ (g.L.Library.faults c.args.library.now) (g.L.Library.faults c.args.library.now) (g.K.Sink.faults c.args.sink.now) (g.K.Sink.faults c.args.sink.now)
-    c.in_ok-publication.ensures.loads.read _ _ _ _ _ c.in_err-service.ensures.refused)
-
-pub returns-clause-promised : goal.returns-clause-promised
-returns-clause-promised g c =
-    rw c.ended_serving.ensures (serve_ends _ _ _ _ _ _ _ c.in_ok-publication.ensures.loads.read c.in_ok-service.ensures.installable _ _ _ c.serve-served.result _
-    c.in_ok-service.ensures.starts c.serve-served.ensures.input c.serve-served.ensures.sink)
-
-pub returns-clause-serves : goal.returns-clause-serves
-returns-clause-serves g c =
-    rw c.ended_serving.ensures (serves_frames _ _ _ (g.L.Library.faults c.args.library.now) (g.L.Library.faults c.args.library.now) (g.K.Sink.faults c.args.sink.now) (g.K.Sink.faults c.args.sink.now)
-    c.in_ok-publication.ensures.loads.read c.in_ok-service.ensures.installable _ _ _ _ _ _ c.serve-served.result _ _
-    c.in_ok-service.ensures.starts c.serve-served.ensures.input c.serve-served.ensures.serves c.serve-served.ensures.source)
-
-pub returns-clause-source : goal.returns-clause-source
-returns-clause-source g c other = c.serve-served.ensures.source_kept (λ is. other (c.ended_serving.ensures ∙ ap ended_serving is))
-
-pub returns-clause-sink : goal.returns-clause-sink
-returns-clause-sink g c other = c.serve-served.ensures.sink_kept (λ is. other (c.ended_serving.ensures ∙ ap ended_serving is))
+    rw (p.1, p.2) (unread_serves (λ folder. publication_at folder c.args.publication.now) _ (unguarded c.args.publication.now) _ _ _ _ _ loads.others (λ folder input f is. no_publication (λ g q. EndsServe g input q) (unguarded c.args.publication.now) folder f is) loads.read)
 
 pub returns-in_err-publication-clause-gave : goal.returns-in_err-publication-clause-gave
 returns-in_err-publication-clause-gave g c =
     let p = err_from_is_err_and c.from_residual.result c.from_residual.ensures.1 in
     let loads = c.in_err-publication.ensures.loads in
-    record { octets = []; gave = sym (append-nil _); is = rw (p.1, p.2) (unread_serves _ _ _ _ _ _ _ loads.others loads.read) }
-
-pub returns-in_err-service-clause-gave : goal.returns-in_err-service-clause-gave
-returns-in_err-service-clause-gave g c =
-    let p = err_from_is_err_and c.from_residual-in_err-service.result c.from_residual-in_err-service.ensures.1 in
     record {
       octets = [];
       gave = sym (append-nil _);
-      is = rw (p.1, p.2) (refused_serves _ _ _ (g.L.Library.faults c.args.library.now) (g.L.Library.faults c.args.library.now) (g.K.Sink.faults c.args.sink.now) (g.K.Sink.faults c.args.sink.now)
-          c.in_ok-publication.ensures.loads.read _ _ _ _ _ c.in_err-service.ensures.refused);
+      is = rw (p.1, p.2) (unread_serves (λ folder. publication_at folder c.args.publication.now) _ (unguarded c.args.publication.now) _ _ _ _ _ loads.others (λ folder input f is. no_publication (λ g q. EndsServe g input q) (unguarded c.args.publication.now) folder f is) loads.read);
     }
 
+pub returns-clause-promised : goal.returns-clause-promised
+returns-clause-promised g c = c.serve_tested.ensures.promised _ (unguarded c.args.publication.now) refl (open_holds _ _ _ c.in_ok-publication.ensures.loads.read) _ _
+
+pub returns-clause-library : goal.returns-clause-library
+returns-clause-library g c = λ free. c.in_ok-publication.ensures.loads.kept
+
+pub returns-clause-serves : goal.returns-clause-serves
+returns-clause-serves g c = c.serve_tested.ensures.serves _ (unguarded c.args.publication.now) refl (open_holds _ _ _ c.in_ok-publication.ensures.loads.read)
+
 pub returns-clause-gave : goal.returns-clause-gave
-returns-clause-gave g c =
-    let t = c.serve-served.ensures.gave in
-    let input = serves_input _ _ _ _ most_octets most_frames (Some t.octets) (Some []) _ _ _ (omega arith) t.is in
-    record {
-      octets = t.octets;
-      gave = t.gave;
-      is = rw c.ended_serving.ensures (serves_frames _ _ _ (g.L.Library.faults c.args.library.now) (g.L.Library.faults c.args.library.now) (g.K.Sink.faults c.args.sink.now) (g.K.Sink.faults c.args.sink.now)
-          c.in_ok-publication.ensures.loads.read c.in_ok-service.ensures.installable (Some t.octets) (Some []) _ _ _ _ c.serve-served.result _ _
-          c.in_ok-service.ensures.starts input t.is c.serve-served.ensures.source);
-    }
+returns-clause-gave g c = c.serve_tested.ensures.gave _ (unguarded c.args.publication.now) refl (open_holds _ _ _ c.in_ok-publication.ensures.loads.read)
+
+pub returns-clause-ended : goal.returns-clause-ended
+returns-clause-ended g c = ended_done _ _ (c.serve_tested.ensures.done refl) c.serve_tested.ensures.ended

@@ -1,0 +1,304 @@
+#!/usr/bin/python3
+"""Measures the gateway and its replicas, by hand: checks/web/measure.py PROGRAM speed | killed | old | roll | lies | alone
+
+speed    answers a second, the median and the 99th of a hundred: through the cache beside past it, with 1, 2 and 3
+         replicas, over streets of 5,000 nodes and the grid of 65,536, under a skewed mix of asks
+killed   10,000 asks of 50 clients, while a gateway, a `serve` and nginx are killed twenty times each
+old      a replica is left at an older publication
+roll     a publication is rolled through three replicas, one by one, under load
+lies     one replica of three lies in one answer of ten, which the cache then keeps
+alone    one gateway: slow and hostile clients for an hour (--minutes), with its memory and its open files
+
+Each reply is compared octet for octet with those of `prove` and `reach`. Prints lines for docs/BENCHMARKS.md, and ends with
+status 1 where anything is wrong. It ends no process but those that it starts. No client trusts this file.
+"""
+
+import argparse
+import concurrent.futures
+import http.client
+import multiprocessing
+import os
+import random
+import signal
+import socket
+import sys
+import threading
+import time
+
+from parties import GRID, STREETS, Client, Gateway, Many, Owner, Place, replace, roads, serves_of
+from play import LIAR, newest_of, until
+
+LOADERS, CONNECTIONS = 3, 6
+METHOD = "ldm"
+
+
+def mix(count, draw):
+    """Places of asks, of which the first are asked most: the k-th as often as 1/k."""
+    return draw.choices(range(count), [1 / (place + 1) for place in range(count)], k=100_000)
+
+
+def pairs(owner, count, draw, near=None):
+    """Queries, and the replies of `prove` to them."""
+    found = []
+    while len(found) < count:
+        start = draw.choice(owner.ids)
+        end = draw.choice(owner.ids) if near is None else start + draw.randrange(1, near)
+        if end in owner.known:
+            found.append((start, end))
+    return found
+
+
+def ask_all(addresses, name, asked, wanted, order, seconds, results):
+    """Asks over so many connections, and puts the times and the count of what is wrong."""
+    times, wrong, lock, end = [], [], threading.Lock(), time.monotonic() + seconds
+
+    def one(number):
+        place, mine = Place(addresses[number % len(addresses)]), []
+        for at in order[number::CONNECTIONS]:
+            if time.monotonic() > end:
+                break
+            start, to = asked[at]
+            began = time.monotonic()
+            status, _, octets = place.ask(f"/v1/p/{name}/route?from={start}&to={to}")
+            mine.append(time.monotonic() - began)
+            if (status, octets) != (200, wanted[at]):
+                wrong.append((status, start, to))
+        with lock:
+            times.extend(mine)
+
+    threads = [threading.Thread(target=one, args=(number,)) for number in range(CONNECTIONS)]
+    for thread in threads:
+        thread.start()
+    for thread in threads:
+        thread.join()
+    results.put((times, len(wrong)))
+
+
+def loaded(addresses, name, asked, wanted, seconds, seed):
+    """Answers a second, the median and the 99th of a hundred in milliseconds, and how many were wrong."""
+    results, loaders = multiprocessing.Queue(), []
+    for number in range(LOADERS):
+        order = mix(len(asked), random.Random(seed + number))
+        loaders.append(multiprocessing.Process(target=ask_all, args=(addresses, name, asked, wanted, order, seconds, results)))
+    for loader in loaders:
+        loader.start()
+    told = [results.get() for _ in loaders]
+    for loader in loaders:
+        loader.join()
+    times = sorted(it for found, _ in told for it in found)
+    return len(times) / seconds, 1000 * times[len(times) // 2], 1000 * times[len(times) * 99 // 100], sum(wrong for _, wrong in told)
+
+
+def prepared(program, text, versions=(3,), method=METHOD):
+    owner = Owner(program, text)
+    owner.known = set(owner.ids)
+    return owner, [owner.publish(version, method) for version in versions]
+
+
+def speed(program, given):
+    bad = 0
+    print("| map | replicas | way | answers a second | median | 99th of 100 | octets of a reply |")
+    print("|---|---|---|---|---|---|---|")
+    for title, text, near in (("streets, 5,000 nodes", roads(STREETS, 5000), None), ("grid, 65,536 nodes", roads(GRID, 256), 40)):
+        owner, (name,) = prepared(program, text)
+        draw = random.Random(1)
+        asked = pairs(owner, given.asks, draw, near)
+        with concurrent.futures.ThreadPoolExecutor(3) as pool:
+            wanted = list(pool.map(lambda ends, owner=owner, name=name: owner.prove(name, *ends), asked))
+        for replicas in (1, 2, 3):
+            started = Many(owner, name, "--replicas", replicas, "--haproxy")
+            here = newest_of(started.gateways[0])
+            for way, addresses in (("past the cache", started.gateways), ("through the cache", [started.address])):
+                if way == "through the cache":
+                    for start, end in asked:
+                        Place(started.address).ask(f"/v1/p/{here}/route?from={start}&to={end}")
+                rate, median, late, wrong = loaded(addresses, here, asked, wanted, given.seconds, replicas)
+                bad += wrong
+                size = sum(map(len, wanted)) // len(wanted)
+                print(f"| {title} | {replicas} | {way} | {rate:.0f} | {median:.1f} ms | {late:.1f} ms | {size:,} |", flush=True)
+            started.end()
+    return bad
+
+
+def asks_of_clients(owner, address, asked, wanted, clients, stop):
+    """What clients meet, each asking in turn: how many were wrong, lost, and asked again."""
+    counts, lock = {"asks": 0, "wrong": 0, "lost": 0}, threading.Lock()
+
+    def one(number):
+        client, draw = Client(owner, address, checks=False), random.Random(number)
+        while not stop(counts):
+            at = draw.randrange(len(asked))
+            try:
+                reply = patient(client, "from={}&to={}".format(*asked[at]))
+                wrong, lost = reply not in wanted[at], False
+            except (OSError, AssertionError, http.client.HTTPException):
+                wrong, lost = False, True
+            with lock:
+                counts["asks"] += 1
+                counts["wrong"] += wrong
+                counts["lost"] += lost
+
+    with concurrent.futures.ThreadPoolExecutor(clients) as pool:
+        for found in [pool.submit(one, number) for number in range(clients)]:
+            found.result()
+    return counts
+
+
+def patient(client, words):
+    """A reply, where nothing listens for up to five seconds."""
+    end = time.monotonic() + 5
+    while True:
+        try:
+            return client.reply(words)
+        except ConnectionRefusedError:
+            if time.monotonic() > end:
+                raise
+            time.sleep(0.1)
+
+
+def killed(program, given):
+    owner, (name,) = prepared(program, roads(STREETS, 5000))
+    asked = pairs(owner, given.asks, random.Random(2))
+    wanted = [(owner.prove(name, *ends),) for ends in asked]
+    started = Many(owner, name, "--replicas", 3, "--haproxy")
+    done, kills = threading.Event(), []
+
+    def kill():
+        for turn in range(20):
+            for what in ("gateway", "serve", "nginx"):
+                number = started.number_of("nginx" if what == "nginx" else f"gateway-{turn % 3}")
+                try:
+                    for pid in serves_of(number) if what == "serve" else [number]:
+                        os.kill(pid, signal.SIGKILL)
+                        kills.append(what)
+                except OSError:
+                    pass
+                time.sleep(1.0)
+        done.set()
+
+    thread = threading.Thread(target=kill)
+    thread.start()
+    counts = asks_of_clients(owner, started.address, asked, wanted, 50, lambda counts: counts["asks"] >= 10_000 and done.is_set())
+    thread.join()
+    started.end()
+    print(f"killed: {counts}, {({what: kills.count(what) for what in set(kills)})}")
+    return counts["wrong"] + counts["lost"]
+
+
+def old(program, given):
+    owner, names = prepared(program, roads(STREETS, 5000), (3, 4))
+    asked = pairs(owner, given.asks, random.Random(3))
+    wanted = [tuple(owner.prove(name, *ends) for name in names) for ends in asked]
+    started = Many(owner, names[0], "--replicas", 3)
+    for number in (0, 1):
+        replace(started.replica(number) / "map.pub", owner.path(names[1]).read_bytes())
+        until("rolled", lambda number=number: newest_of(started.gateways[number]) != newest_of(started.gateways[2]))
+    end = time.monotonic() + given.seconds
+    counts = asks_of_clients(owner, started.address, asked, wanted, 20, lambda _: time.monotonic() > end)
+    ids = [newest_of(started.gateways[0]), newest_of(started.gateways[2])]
+    wrong = sum(
+        Place(started.address).ask("/v1/p/{}/route?from={}&to={}".format(ids[1 - version], *asked[at]))[::2] != (200, wanted[at][version])
+        for at in range(min(100, len(asked))) for version in (0, 1)
+    )
+    client = Client(owner, started.address, least=4)
+    back = sum(client.reply("from={}&to={}".format(*ends)) not in both[1:] for ends, both in zip(asked, wanted))
+    started.end()
+    print(f"old: {counts}; by ID {wrong} wrong; {back} below the least version")
+    return counts["wrong"] + counts["lost"] + wrong + back
+
+
+def roll(program, given):
+    owner, names = prepared(program, roads(STREETS, 5000), (3, 4))
+    asked = pairs(owner, given.asks, random.Random(4))
+    wanted = [tuple(owner.prove(name, *ends) for name in names) for ends in asked]
+    started, turned, back = Many(owner, names[0], "--replicas", 3, "--haproxy"), threading.Event(), []
+
+    def turn():
+        for number in range(3):
+            time.sleep(2)
+            replace(started.replica(number) / "map.pub", owner.path(names[1]).read_bytes())
+        time.sleep(8)
+        turned.set()
+
+    def follows():
+        client = Client(owner, started.address, checks=False)
+        while not turned.is_set():
+            version = int.from_bytes(client.reply("from={}&to={}".format(*asked[0]))[9:17], "big")
+            if version < client.least:
+                back.append(version)
+            client.least = max(client.least, version)
+
+    threads = [threading.Thread(target=turn), *(threading.Thread(target=follows) for _ in range(5))]
+    for thread in threads:
+        thread.start()
+    counts = asks_of_clients(owner, started.address, asked, wanted, 20, lambda _: turned.is_set())
+    for thread in threads:
+        thread.join()
+    started.end()
+    print(f"roll: {counts}; {len(back)} went back")
+    return counts["wrong"] + counts["lost"] + len(back)
+
+
+def lies(program, given):
+    owner, (name,) = prepared(program, roads(STREETS, 900), method="dij")
+    liar = owner.path("liar")
+    liar.write_text(LIAR.format(program=owner.program, each=10))
+    liar.chmod(0o755)
+    started, draw = Many(owner, name, "--replicas", 3, "--haproxy", program=liar), random.Random(5)
+    client, counts = Client(owner, started.address), {"accepted": 0, "after more asks": 0, "disagree": 0, "wrong": 0}
+    for start, end in pairs(owner, 10 * given.asks, draw):
+        before, line = client.asked, client.route(start, end)
+        right = owner.verdict(owner.prove(name, start, end), start, end, 3)
+        counts["accepted"] += line == right
+        counts["after more asks"] += line == right and client.asked > before + 1
+        counts["disagree"] += line == "servers disagree"
+        counts["wrong"] += line not in (right, "servers disagree")
+    started.end()
+    print(f"lies: {counts}")
+    return counts["wrong"]
+
+
+def alone(program, given):
+    owner, (name,) = prepared(program, roads(STREETS, 5000), method="dij")
+    gateway = Gateway(owner, name, "--reply-seconds", 20, "--request-seconds", 10)
+    here, ends = gateway.newest(), (owner.ids[0], owner.ids[-1])
+    wanted, end, worst, seen = owner.prove(name, *ends), time.monotonic() + 60 * given.minutes, 0.0, []
+    line = "GET /v1/p/{}/route?from={}&to={} HTTP/1.1\r\nHost: a\r\n\r\n".format(here, *ends).encode()
+    held = [socket.create_connection((gateway.place.host, gateway.place.port)) for _ in range(200)]
+    bad, turn = 0, 0
+    while time.monotonic() < end:
+        turn += 1
+        for number, one in enumerate(held):
+            try:
+                one.setblocking(False)
+                one.send(line[turn % len(line) : turn % len(line) + 1] if number % 2 else line)
+            except OSError:
+                one.close()
+                held[number] = socket.create_connection((gateway.place.host, gateway.place.port))
+        began = time.monotonic()
+        bad += Place(gateway.address).ask("/v1/p/{}/route?from={}&to={}".format(here, *ends))[::2] != (200, wanted)
+        worst = max(worst, time.monotonic() - began)
+        if turn % 30 == 0:
+            seen.append((time.monotonic(), *gateway.memory()))
+        time.sleep(0.5)
+    for one in held:
+        one.close()
+    late = [it for it in seen if it[0] > seen[0][0] + 600] or seen[-1:]
+    grown = max(it[1] for it in late) - late[0][1]
+    print(f"alone: {turn} asks beside 200 connections, {bad} wrong, {worst:.2f} s at worst; after ten minutes {grown:.1f} MB more, {min(it[2] for it in late)} to {max(it[2] for it in late)} open files; status {gateway.end()}")
+    return bad + (grown > 5) + (worst > 1)
+
+
+def main(words):
+    parser = argparse.ArgumentParser(description=__doc__.splitlines()[0])
+    parser.add_argument("program")
+    parser.add_argument("what", choices=("speed", "killed", "old", "roll", "lies", "alone"))
+    parser.add_argument("--seconds", type=float, default=20)
+    parser.add_argument("--asks", type=int, default=200)
+    parser.add_argument("--minutes", type=float, default=60)
+    given = parser.parse_args(words)
+    return 1 if globals()[given.what](given.program, given) else 0
+
+
+if __name__ == "__main__":
+    sys.exit(main(sys.argv[1:]))

@@ -1,0 +1,260 @@
+"""An owner, gateways and clients, for the scripts beside this one. Nothing here is proved, and no client trusts it."""
+
+import http.client
+import json
+import os
+import pathlib
+import shutil
+import signal
+import socket
+import subprocess
+import sys
+import tempfile
+import time
+import urllib.parse
+
+TOP = pathlib.Path(__file__).resolve().parents[2]
+PYTHON = "/usr/bin/python3"
+STREETS, GRID = TOP / "checks/speed/streets.py", TOP / "checks/speed/grid.py"
+METHODS = {"dij": "hilbert 0 2 0 0 0", "full": "kd 0 2 0 0 0", "ldm": "hilbert 0 2 16 12 0", "hyp": "hilbert 0 2 4 4 0"}
+
+
+class Owner:
+    """A folder with a desk, and publications of one map."""
+
+    def __init__(self, program, roads):
+        """`roads` is the text of a road file."""
+        self.program = os.path.abspath(program)
+        self.held = tempfile.TemporaryDirectory(prefix="web_play.")
+        self.folder = pathlib.Path(self.held.name)
+        self.folder.chmod(0o711)
+        self.keep("map.roads", roads)
+        self.ids = [int(line.split()[1]) for line in roads.decode().splitlines() if line.startswith("node ")]
+        self.keep("secret.hex", b"00" * 48)
+        self.keep("next.hex", b"01" * 48)
+        self.keep("owner.key", self.run("key secret.hex h5"))
+        self.keep("owner.chain", b"")
+
+    def keep(self, name, octets):
+        (self.folder / name).write_bytes(octets)
+
+    def path(self, name):
+        return self.folder / name
+
+    def run(self, words, wanted=0):
+        """What a command writes."""
+        status, octets = self.ended(words)
+        if status != wanted:
+            sys.exit(f"{words}: status {status}")
+        return octets
+
+    def ended(self, words):
+        done = subprocess.run([self.program, *words.split()], cwd=self.folder, stdout=subprocess.PIPE, stderr=subprocess.DEVNULL, check=False)
+        return done.returncode, done.stdout
+
+    def publish(self, version, method="dij"):
+        """The name of a publication."""
+        name = f"{method}-{version}.pub"
+        self.keep(name, self.run(f"publish map.roads {method} {version} {METHODS[method]}"))
+        return name
+
+    def succeed(self):
+        self.run("succeed next.hex h5")
+        self.keep("owner.chain", self.run("links"))
+
+    def prove(self, name, start, end):
+        return self.ended(f"prove {name} {start} {end}")[1]
+
+    def reach(self, name, start, radius):
+        return self.ended(f"reach {name} {start} {radius}")[1]
+
+    def verdict(self, reply, start, end, least, chain=True):
+        """What the command line says of a reply on a route."""
+        name = f"{os.getpid()}-{time.monotonic_ns()}.reply"
+        self.keep(name, reply)
+        words = f"check owner.key {name} {start} {end} {least}" + (" owner.chain" if chain else "")
+        line = self.ended(words)[1].decode()
+        self.path(name).unlink()
+        return line
+
+
+def roads(script, size):
+    return subprocess.run([sys.executable, script, str(size)], capture_output=True, check=True).stdout
+
+
+def replace(file, octets):
+    """A file in another's place, at once."""
+    fresh = pathlib.Path(f"{file}.fresh")
+    fresh.write_bytes(octets)
+    fresh.rename(file)
+
+
+def free_port():
+    with socket.socket() as one:
+        one.bind(("127.0.0.1", 0))
+        return one.getsockname()[1]
+
+
+class Place:
+    """An address of HTTP, asked over one connection."""
+
+    def __init__(self, address, seconds=30, headers=None):
+        parts = urllib.parse.urlsplit(address)
+        self.host, self.port, self.seconds, self.headers = parts.hostname, parts.port, seconds, headers or {}
+        self.connection = None
+
+    def ask(self, path, method="GET", **headers):
+        """Status, headers and octets. A connection that is gone is opened anew, and an answer that ends early asked once more."""
+        for trial in (1, 2):
+            if self.connection is None:
+                self.connection = http.client.HTTPConnection(self.host, self.port, timeout=self.seconds)
+            try:
+                self.connection.request(method, path, headers={**self.headers, **{name.replace("_", "-"): value for name, value in headers.items()}})
+                found = self.connection.getresponse()
+                return found.status, found.headers, found.read()
+            except (OSError, http.client.HTTPException):
+                self.close()
+                if trial == 2:
+                    raise
+        return None
+
+    def close(self):
+        if self.connection is not None:
+            self.connection.close()
+            self.connection = None
+
+
+class Client:
+    """A client as it should be: it carries its least version, checks each reply, and asks past caches where one is refused."""
+
+    def __init__(self, owner, address, least=0, checks=True):
+        self.owner, self.place, self.least, self.checks = owner, Place(address), least, checks
+        self.asked = 0
+
+    def route(self, start, end):
+        """The line of an accepted reply, or `servers disagree`."""
+        refused = []
+        for trial in range(3):
+            reply = self.reply(f"from={start}&to={end}", past_caches=trial > 0)
+            line = self.owner.verdict(reply, start, end, self.least)
+            if line.startswith("accepted"):
+                self.least = max(self.least, int.from_bytes(reply[9:17], "big"))
+                return line
+            refused.append(line)
+        return "servers disagree"
+
+    def reply(self, words, past_caches=False, kind="route"):
+        """The octets over the newest publication, which is no older than the least version."""
+        more = {"Cache_Control": "no-cache"} if past_caches else {}
+        for _ in range(20):
+            self.asked += 1
+            status, headers, octets = self.place.ask(f"/v1/{kind}?{words}" + f"&least={self.least}")
+            if status == 307:
+                status, headers, octets = self.place.ask(headers["Location"], **more)
+            if status == 200:
+                return octets
+            if status not in (410, 429, 502, 503, 504):
+                raise AssertionError(f"status {status}: {octets[:200]!r}")
+            time.sleep(min(0.2, float(headers.get("Retry-After", 0.2))))
+        raise AssertionError(f"no answer: status {status}")
+
+
+class Started:
+    """A process that is ended with the script."""
+
+    def __init__(self, words, cwd, log):
+        with open(log, "ab") as it:
+            self.process = subprocess.Popen(list(map(str, words)), cwd=cwd, stdin=subprocess.DEVNULL, stdout=subprocess.PIPE, stderr=it)
+
+    def end(self, number=signal.SIGTERM, seconds=20):
+        if self.process.poll() is None:
+            self.process.send_signal(number)
+        try:
+            return self.process.wait(seconds)
+        except subprocess.TimeoutExpired:
+            self.process.kill()
+            return self.process.wait()
+
+
+class Gateway(Started):
+    """A gateway over files of its own in an owner's folder."""
+
+    def __init__(self, owner, name, *more, program=None, wait=True):
+        self.folder = owner.folder / f"gateway-{free_port()}"
+        self.folder.mkdir()
+        for file, held in (("map.pub", name), ("owner.key", "owner.key"), ("owner.chain", "owner.chain")):
+            shutil.copy(owner.path(held), self.folder / file)
+        self.address = f"http://127.0.0.1:{free_port()}"
+        listen = self.address.removeprefix("http://")
+        words = [PYTHON, TOP / "web/gateway.py", program or owner.program, "map.pub", "owner.key", "owner.chain", "--listen", listen, *more]
+        self.log = self.folder / "log"
+        super().__init__(words, self.folder, self.log)
+        self.place = Place(self.address)
+        if wait:
+            self.wait()
+
+    def wait(self, seconds=60):
+        """Until it is ready."""
+        until = time.monotonic() + seconds
+        while time.monotonic() < until:
+            try:
+                if Place(self.address).ask("/v1/ready")[0] == 200:
+                    return
+            except (OSError, http.client.HTTPException):
+                pass
+            if self.process.poll() is not None:
+                break
+            time.sleep(0.05)
+        sys.exit(f"the gateway does not start: {self.log.read_text()}")
+
+    def info(self):
+        return json.loads(self.place.ask("/v1/info")[2])["publications"]
+
+    def newest(self):
+        return self.info()[0]["id"]
+
+    def serves(self):
+        """The processes of `serve`."""
+        return serves_of(self.process.pid)
+
+    def memory(self):
+        """Its memory in MB, and how many files it has open."""
+        lines = pathlib.Path(f"/proc/{self.process.pid}/status").read_text().splitlines()
+        held = next(int(line.split()[1]) for line in lines if line.startswith("VmRSS"))
+        return held / 1024, len(os.listdir(f"/proc/{self.process.pid}/fd"))
+
+
+def serves_of(gateway):
+    """The processes of `serve` that a gateway has started."""
+    found = []
+    for task in pathlib.Path(f"/proc/{gateway}/task").iterdir():
+        found += read(task / "children").split()
+    return sorted({int(pid) for pid in found if b"serve" in read(f"/proc/{int(pid)}/cmdline")})
+
+
+def read(file):
+    try:
+        return pathlib.Path(file).read_bytes()
+    except OSError:
+        return b""
+
+
+class Many(Started):
+    """web/many over a publication."""
+
+    def __init__(self, owner, name, *more, program=None):
+        command = [TOP / "web/many", program or owner.program, owner.path(name), owner.path("owner.key"), owner.path("owner.chain"), *more]
+        self.log = owner.folder / f"many-{free_port()}.log"
+        super().__init__(command, owner.folder, self.log)
+        line = self.process.stdout.readline()
+        if not line:
+            sys.exit(f"web/many does not start: {self.log.read_text()}")
+        self.said = json.loads(line)
+        self.address, self.gateways, self.folder = self.said["service"], self.said["gateways"], pathlib.Path(self.said["folder"])
+
+    def replica(self, number):
+        return self.folder / f"replica-{number}"
+
+    def number_of(self, name):
+        """The number of the process that goes by this name now."""
+        return json.loads((self.folder / "processes.json").read_text())[name]

@@ -1,8 +1,11 @@
 import type { ClientOptions, NoRoute, Octets, Route, Whole, Within } from "./route_check.js";
 
-/** Checks replies in a worker. A check that takes longer than `seconds` (30) ends it, and is an error. */
+/**
+ * Checks replies in a worker. A check that takes longer than `seconds` (30) ends it, and is an error. `place` is the
+ * address of the worker's own script.
+ */
 export declare class WorkerClient {
-    static start(key: Octets | string, options?: ClientOptions & { seconds?: number }): Promise<WorkerClient>;
+    static start(key: Octets | string, options?: ClientOptions & { seconds?: number; place?: string | URL }): Promise<WorkerClient>;
     /** Rejects with `Refused`. */
     checkRoute(reply: Octets, from: number, to: number, least: Whole, options?: { simple?: boolean }): Promise<Route | NoRoute>;
     /** Rejects with `Refused`. */

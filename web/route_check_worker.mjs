@@ -5,10 +5,13 @@
  *     const client = await WorkerClient.start(key, { chain });
  *     const found = await client.checkRoute(reply, from, to, least);
  *     client.end();
+ *
+ * `place` is the address of the worker's own script, this module's where nothing is said: a page that takes the
+ * script by its hash gives the address of those octets.
  */
 import { Client, Refused, load } from "./route_check.mjs";
 
-const NODE = globalThis.process?.versions?.node ? await import("node:worker_threads") : undefined;
+const THREADS = globalThis.process?.versions?.node ? await import("node:worker_threads") : undefined;
 
 export class WorkerClient {
     #worker;
@@ -16,15 +19,14 @@ export class WorkerClient {
     #asked = new Map();
     #count = 0;
 
-    /** `options` are those of `Client`, and `seconds`. */
-    static async start(key, { seconds = 30, ...options } = {}) {
+    /** `options` are those of `Client`, `seconds` and `place`. */
+    static async start(key, { seconds = 30, place = new URL(import.meta.url), ...options } = {}) {
         const client = new WorkerClient();
         client.#seconds = seconds;
-        const place = new URL(import.meta.url);
-        client.#worker = NODE ? new NODE.Worker(place) : new Worker(place, { type: "module" });
-        const take = (event) => client.#take(NODE ? event : event.data);
-        NODE ? client.#worker.on("message", take) : client.#worker.addEventListener("message", take);
-        NODE ? client.#worker.on("error", (error) => client.#fail(error)) : client.#worker.addEventListener("error", (event) => client.#fail(new Error(event.message)));
+        client.#worker = THREADS ? new THREADS.Worker(place) : new Worker(place, { type: "module" });
+        const take = (event) => client.#take(THREADS ? event : event.data);
+        THREADS ? client.#worker.on("message", take) : client.#worker.addEventListener("message", take);
+        THREADS ? client.#worker.on("error", (error) => client.#fail(error)) : client.#worker.addEventListener("error", (event) => client.#fail(new Error(event.message)));
         await client.#ask("start", [key, options]);
         return client;
     }
@@ -88,8 +90,8 @@ function answering(post) {
     };
 }
 
-if (NODE && !NODE.isMainThread) {
-    NODE.parentPort?.on("message", answering((said) => NODE.parentPort.postMessage(said)));
+if (THREADS && !THREADS.isMainThread) {
+    THREADS.parentPort?.on("message", answering((said) => THREADS.parentPort.postMessage(said)));
 } else if (typeof WorkerGlobalScope !== "undefined" && self instanceof WorkerGlobalScope) {
     const answer = answering((said) => postMessage(said));
     addEventListener("message", (event) => answer(event.data));

@@ -389,7 +389,7 @@ def play_pictures(town: Town) -> None:
     town.keep("page.pub", "publish town.roads ldm 1 hilbert 0 2 16 12 0")
     town.keep("page.reply", "prove page.pub 346 18")
     text = run("draw.py", "page.pub", "page.reply", "--check", "owner.key", 346, 18, 1, "--library", LIBRARY, at=town.at)[1]
-    same("README's picture", text, (TOP / "docs/pictures/town.svg").read_text(encoding="utf-8"))
+    same("the picture of docs/MAPS.md", text, (TOP / "docs/pictures/town.svg").read_text(encoding="utf-8"))
     same("an unlike map", run("draw.py", "near.roads", "route.reply", at=town.at)[:2], (1, ""))
     status, text, told = run("draw.py", "hyp.pub", "route.reply", "--check", "owner.key", town.start, town.island, 4, "--library", LIBRARY, at=town.at)
     same("no picture of a refused reply", (status, text, "refused" in told), (1, "", True))

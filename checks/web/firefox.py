@@ -1,0 +1,152 @@
+#!/usr/bin/python3
+"""Plays the owner's page in Firefox, by hand: checks/web/firefox.py PROGRAM [PICTURE]
+
+Debian has no driver for Firefox, so this speaks its Marionette protocol. A route under each of the four methods and each
+lie about it, an island, a radius, the picture saved as PICTURE, and a changed module and a changed import that the page
+does not take. What is expected of a verdict is what web/page/play.py expects. No client trusts this file."""
+
+import base64
+import json
+import os
+import pathlib
+import shutil
+import socket
+import subprocess
+import sys
+import tempfile
+import time
+
+TOP = pathlib.Path(__file__).resolve().parents[2]
+sys.path.insert(0, str(TOP / "web/page"))
+from play import END, ISLAND, KINDS, RADIUS, SECRETS, START, Town  # noqa: E402
+from scene import METHODS, Scene, free_port  # noqa: E402
+
+SECONDS = 120
+ASK = """
+const [ask, from, end, map] = arguments;
+document.querySelector(`[name=ask][value=${ask}]`).click();
+const fields = document.getElementById("question").elements;
+[fields.from.value, fields[ask === "route" ? "to" : "radius"].value, fields.map.value] = [from, end, map];
+document.getElementById("question").requestSubmit();"""
+LIE = "document.querySelector('[name=lie]').value = arguments[0]; document.getElementById('lie').requestSubmit();"
+SAID = "const it = document.getElementById('verdict'); return [it.getAttribute('aria-busy'), it.dataset.state, it.innerText, it.querySelector('code')?.innerText ?? ''];"
+
+
+class Firefox:
+    """A Firefox without a window."""
+
+    def __init__(self, folder):
+        port = free_port()
+        (folder / "user.js").write_text(f'user_pref("marionette.port", {port});\n')
+        words = ["firefox-esr", "--headless", "--marionette", "--no-remote", "--profile", folder]
+        self.process = subprocess.Popen(words, stdout=subprocess.DEVNULL, stderr=subprocess.DEVNULL, env={**os.environ, "HOME": str(folder)})
+        self.line = self.connected(port)
+        self.file, self.count = self.line.makefile("rb"), 0
+        self.read()
+        self.told("WebDriver:NewSession", capabilities={"alwaysMatch": {}})
+        self.told("WebDriver:SetWindowRect", width=1280, height=1100)
+
+    def connected(self, port):
+        until = time.monotonic() + SECONDS
+        while True:
+            try:
+                return socket.create_connection(("127.0.0.1", port), SECONDS)
+            except OSError:
+                if time.monotonic() > until:
+                    raise
+                time.sleep(0.2)
+
+    def read(self):
+        length = b""
+        while not length.endswith(b":"):
+            length += self.file.read(1)
+        return json.loads(self.file.read(int(length[:-1])))
+
+    def told(self, command, **words):
+        """What a command answers."""
+        self.count += 1
+        text = json.dumps([0, self.count, command, words]).encode()
+        self.line.sendall(b"%d:%b" % (len(text), text))
+        _, _, error, result = self.read()
+        if error:
+            sys.exit(f"{command}: {error['message']}")
+        return result
+
+    def run(self, script, *words):
+        return self.told("WebDriver:ExecuteScript", script=script, args=list(words))["value"]
+
+    def open(self, address):
+        self.told("WebDriver:Navigate", url=address)
+
+    def until(self, test):
+        end = time.monotonic() + SECONDS
+        while not test():
+            if time.monotonic() > end:
+                sys.exit(f"Firefox: not yet: {self.run(SAID)}")
+            time.sleep(0.1)
+
+    def settled(self):
+        self.until(lambda: self.run(SAID)[0] == "false")
+        return self.run(SAID)[1:]
+
+    def end(self):
+        self.process.terminate()
+        self.process.wait(30)
+
+
+def played(firefox, scene, picture):
+    """How many verdicts were not as expected."""
+    far, place, faults = Town(scene.owner).distances(START), scene.page.place, 0
+
+    def same(what, seen, wanted):
+        nonlocal faults
+        faults += seen != wanted
+        print(f"{what}: {seen}" if seen == wanted else f"DIFFERS {what}: {seen}, and not {wanted}")
+
+    firefox.open(scene.page.origin)
+    firefox.until(lambda: firefox.run("return document.querySelectorAll('[name=map] option').length") == 5)
+    maps = firefox.run("return [...document.querySelectorAll('[name=map] option')].map((it) => it.value)")
+    for version, method in enumerate(METHODS, 1):
+        firefox.run(ASK, "route", START, END, maps[5 - version])
+        state, text, _ = firefox.settled()
+        same(method, (state, f" {far[END]:,} decimetres long" in text, f"in version {version} " in text), ("accepted", True, True))
+        for name, kind in KINDS.items():
+            firefox.run(LIE, name)
+            state, text, line = firefox.settled()
+            kind = kind if isinstance(kind, str) else kind.get(method)
+            if "no room for that lie" not in text:
+                same(f"{method}, {name}", (state, line.split()[1]), ("refused", kind or line.split()[1]))
+    firefox.run(ASK, "route", START, ISLAND, "")
+    same("no route", (firefox.settled()[0], "no road leads" in firefox.run(SAID)[2]), ("accepted", ISLAND not in far))
+    firefox.run(ASK, "reach", START, RADIUS, "")
+    count = sum(one <= RADIUS for one in far.values())
+    same("a radius", (firefox.settled()[0], f"{count} nodes, and no other" in firefox.run(SAID)[2]), ("accepted", True))
+    if picture:
+        picture.write_bytes(base64.b64decode(firefox.told("WebDriver:TakeScreenshot", full=False)["value"]))
+    for name, state in (("route_check.wasm", "failed"), ("formats.mjs", "waiting")):
+        held = place.files[f"/{name}"]
+        place.files[f"/{name}"] = (held[0], held[1] + b"\0\1\0" if name.endswith("m") else b"//\n" + held[1], b"")
+        firefox.open(f"{scene.page.origin}/?{name}")
+        time.sleep(3)
+        same(f"another {name}", firefox.run(SAID)[1], state)
+        print(f"  {firefox.run(SAID)[2]}")
+        place.files[f"/{name}"] = held
+    return faults
+
+
+def main(program, picture=None):
+    if not shutil.which("firefox-esr"):
+        sys.exit("this machine has no firefox-esr")
+    with tempfile.TemporaryDirectory() as folder:
+        scene, firefox = Scene(program, SECRETS[0]), None
+        try:
+            firefox = Firefox(pathlib.Path(folder))
+            return 1 if played(firefox, scene, pathlib.Path(picture) if picture else None) else 0
+        finally:
+            if firefox:
+                firefox.end()
+            scene.end()
+
+
+if __name__ == "__main__":
+    sys.exit(main(*sys.argv[1:]))

@@ -1,0 +1,120 @@
+/**
+ * What a server could send in place of an accepted reply: the page makes these lies itself, of honest replies, to
+ * show that the client refuses them. Nobody trusts this file.
+ */
+import { octetsOf, partsOf } from "./formats.mjs";
+import { Tree } from "./tree.mjs";
+
+/** Over more leaves the page looks for no way, since it would stand still meanwhile. */
+const MOST_LEAVES = 4_096;
+
+/** Octets with a number changed at a place, by a method of DataView. */
+function edited(octets, at, size, change) {
+    const lie = octets.slice();
+    const view = new DataView(lie.buffer);
+    view[`set${size}`](at, change(view[`get${size}`](at)));
+    return lie;
+}
+
+/** Where a header's version stands in a reply. */
+function versionAt({ kind }) {
+    return (kind === "within" ? 4 : 1) + 8;
+}
+
+/** Each node that arcs between leaves lead to, by rising distance, with the node before it; no hop of `barred` is gone. */
+function reached(leaves, start, barred = []) {
+    const arcs = new Map(leaves.map((leaf) => [leaf.id, leaf.arcs]));
+    const open = new Map([[start, { distance: 0, before: null }]]);
+    const settled = new Map();
+    while (open.size > 0) {
+        const [here, label] = [...open].reduce((one, two) => (two[1].distance < one[1].distance ? two : one));
+        open.delete(here);
+        settled.set(here, label);
+        for (const { to, length } of arcs.get(here) ?? []) {
+            if (settled.has(to) || !arcs.has(to) || (barred[0] === here && barred[1] === to)) continue;
+            const distance = label.distance + length;
+            if (distance < (open.get(to)?.distance ?? Infinity)) open.set(to, { distance, before: here });
+        }
+    }
+    return settled;
+}
+
+/** A longer way than the route over these leaves: the least one that misses a hop, or else there and back at first. */
+function detour({ route }, leaves) {
+    const goal = route.at(-1);
+    const least = reached(leaves, route[0]).get(goal).distance;
+    let best = null;
+    for (let hop = 0; hop + 1 < route.length; hop++) {
+        const ways = reached(leaves, route[0], route.slice(hop, hop + 2));
+        const far = ways.get(goal)?.distance ?? 0;
+        if (far > least && far < (best?.far ?? 2 * least)) best = { far, ways };
+    }
+    if (!best) {
+        const beside = leaves.find(({ id }) => id === route[0]).arcs.find(({ to, length }) => length > 0 && leaves.some(({ id }) => id === to));
+        return beside ? [route[0], beside.to, ...route] : null;
+    }
+    const way = [goal];
+    while (way[0] !== route[0]) way.unshift(best.ways.get(way[0]).before);
+    return way;
+}
+
+/** The parts with other leaves and pairs, which the parts themselves or more replies brought, and good covers of them. */
+function withItems(parts, { leaves = parts.leaves, pairs = parts.pairs, more = [] }) {
+    const { head } = parts;
+    const [nodes, distances] = [new Tree(head.nodes, head.fan), new Tree(Math.max(1, head.pairs), head.fan)];
+    for (const reply of [parts, ...more]) nodes.learn(reply.leaves, reply.nodeCover);
+    distances.learn(parts.pairs, parts.pairCover);
+    return { ...parts, leaves, pairs, nodeCover: nodes.cover(leaves), pairCover: distances.cover(pairs) };
+}
+
+/** A leaf that the proof needs: beside the route where the method asks for it, else on it. */
+function needed({ kind, head, route, leaves }, { from, end }) {
+    const find = (wanted) => leaves.find(({ id }) => id === wanted);
+    if (kind === "no route") return find(end);
+    if (leaves.length > MOST_LEAVES) return find(from);
+    const near = [...reached(leaves, from).keys()];
+    if (kind === "within") return find(near.at(-1));
+    const beside = near.find((id) => !route.includes(id));
+    if (head.method === "DIJ" && beside !== undefined && near.indexOf(beside) < near.indexOf(end)) return find(beside);
+    return find(route.length > 2 ? route[1] : from);
+}
+
+/**
+ * The lies by name: what the server does, and the octets that it then sends for a question, or null where its honest
+ * reply gives no room. `server` and `id` ask for more honest replies over the same publication, `older` for one of an
+ * older map.
+ */
+export const LIES = {
+    unknown: ["say that there is no such node", ({ parts }) => (parts.kind === "within" ? null : Uint8Array.of(1))],
+    cut: ["lose the last octet", ({ octets }) => octets.slice(0, -1)],
+    old: ["answer from an older map", async ({ octets, parts, older }) => (await older()) ?? edited(octets, versionAt(parts), "BigUint64", (version) => version - 1n)],
+    new: ["claim a newer map", ({ octets, parts }) => edited(octets, versionAt(parts), "BigUint64", (version) => version + 1n)],
+    road: ["make a road shorter", ({ parts }) => {
+        const leaf = parts.leaves.find(({ arcs }) => arcs.some(({ length }) => length > 0));
+        if (!leaf) return null;
+        const text = edited(leaf.text, leaf.arcs.find(({ length }) => length > 0).at, "Uint32", (length) => length - 1);
+        return octetsOf({ ...parts, leaves: parts.leaves.map((one) => (one === leaf ? { ...one, text } : one)) });
+    }],
+    hop: ["lead where no road is", ({ parts, asked }) => {
+        if (parts.kind === "within" || asked.from === asked.end) return null;
+        const joins = (a, b) => parts.leaves.find(({ id }) => id === a)?.arcs.some(({ to }) => to === b);
+        const at = parts.route.findIndex((id, place) => place > 0 && place + 1 < parts.route.length && !joins(parts.route[place - 1], parts.route[place + 1]));
+        if (parts.kind === "route" && at < 0) return null;
+        return octetsOf({ ...parts, kind: "route", route: at < 0 ? [asked.from, asked.end] : parts.route.toSpliced(at, 1) });
+    }],
+    hide: ["hide a crossing", ({ parts, asked }) => {
+        const leaf = needed(parts, asked);
+        return octetsOf(withItems(parts, { leaves: parts.leaves.filter((one) => one !== leaf) }));
+    }],
+    pair: ["hide a signed distance", ({ parts }) => (parts.pairs.length === 0 ? null : octetsOf(withItems(parts, { pairs: parts.pairs.slice(1) })))],
+    round: ["lead the long way round", async ({ parts, asked, server, id }) => {
+        if (parts.kind !== "route" || parts.route.length < 2 || parts.leaves.length > MOST_LEAVES) return null;
+        const radius = BigInt(2 * reached(parts.leaves, asked.from).get(asked.end).distance);
+        const more = partsOf(await server.reply({ ask: "reach", from: asked.from, end: radius }, { id }));
+        const own = new Set(parts.leaves.map(({ index }) => index));
+        const leaves = [...parts.leaves, ...more.leaves.filter(({ index }) => !own.has(index))].sort((a, b) => a.index - b.index);
+        const way = detour(parts, leaves);
+        return way && octetsOf({ ...withItems(parts, { leaves, more: [more] }), route: way });
+    }],
+    none: ["say that no road leads there", ({ parts }) => (parts.kind === "route" ? octetsOf({ ...parts, kind: "no route" }) : null)],
+};

@@ -1,0 +1,62 @@
+/**
+ * What is known of a signed tree (docs/SPEC.md, "Trees" and "Covers and folds"), so that the page's lies can bring
+ * any leaves that honest replies brought, with a good cover. Nobody trusts this file: the proved client folds.
+ */
+import { joined, sha256 } from "./sha256.mjs";
+
+export class Tree {
+    #fan;
+    /** How many places each level has, from the leaves up. */
+    #counts;
+    #digests = new Map();
+
+    constructor(leaves, fan) {
+        this.#fan = fan;
+        this.#counts = [leaves];
+        while (this.#counts.at(-1) > 1) this.#counts.push(Math.ceil(this.#counts.at(-1) / fan));
+    }
+
+    /** Takes over what the items and the cover of a reply say of the tree. */
+    learn(items, cover) {
+        const left = [...cover];
+        for (const { level, place, isChosen } of this.#spots(items)) {
+            if (!isChosen) this.#digests.set(`${level} ${place}`, left.shift());
+        }
+        for (const { index, text } of items) this.#digests.set(`0 ${index}`, sha256([0], text));
+    }
+
+    /** The cover of some items among those that it learnt of; a tree without items has an empty one. */
+    cover(items) {
+        return [...this.#spots(items)].filter(({ isChosen }) => !isChosen).map(({ level, place }) => this.#digest(level, place));
+    }
+
+    /** From the top, each place that a fold of these items comes to, and whether an item is at or below it. */
+    *#spots(items) {
+        if (items.length === 0) return;
+        const chosen = [new Set(items.map(({ index }) => index))];
+        for (const _ of this.#counts.slice(1)) chosen.push(new Set([...chosen.at(-1)].map((place) => Math.floor(place / this.#fan))));
+        const open = [[this.#counts.length - 1, 0]];
+        while (open.length > 0) {
+            const [level, place] = open.pop();
+            const isChosen = chosen[level].has(place);
+            yield { level, place, isChosen };
+            if (isChosen) open.push(...this.#below(level, place).reverse());
+        }
+    }
+
+    #below(level, place) {
+        if (level === 0) return [];
+        const end = Math.min((place + 1) * this.#fan, this.#counts[level - 1]);
+        return Array.from({ length: end - place * this.#fan }, (_, child) => [level - 1, place * this.#fan + child]);
+    }
+
+    #digest(level, place) {
+        const known = this.#digests.get(`${level} ${place}`);
+        if (known) return known;
+        const below = this.#below(level, place).map((child) => this.#digest(...child));
+        if (below.length === 0) throw new Error("a leaf that no reply brought");
+        const made = sha256([1], joined(...below));
+        this.#digests.set(`${level} ${place}`, made);
+        return made;
+    }
+}

@@ -52,7 +52,8 @@ def program_page(commands):
 
 
 def arguments(words):
-    return "".join(f" Op Ar {word[1:-1]}" if word[0] == "[" else f" Ar {word}" for word in words)
+    """Words of a line; what may be left out has brackets, which mdoc closes at the line's end."""
+    return "".join(f" Op Ar {word.strip('[]')}" if word[0] == "[" else f" Ar {word}" for word in words)
 
 
 def library_page():

@@ -44,6 +44,10 @@ Keeps rows places chain = (i j p q : ℕ) (o : Option ℕ) → slice_get places 
     slice_get places j ≡ Some q → IsLeastPassing (net_ways chain) i too_long j o →
     IsLeastPassing (net_ways rows) p too_long q o
 
+-- the first places are the first of the others
+abbrev pub Begins : List ℕ → List ℕ → Type 0
+Begins places others = (i p : ℕ) → slice_get places i ≡ Some p → slice_get others i ≡ Some p
+
 -- a search from the station of one id finds its distance at the station of another
 pub record Measured (dist : ℕ → ℕ → Option ℕ) (w : Ways) (chosen stations : List ℕ) : Type 0 where
   pub long : length stations ≡ length chosen

@@ -6,9 +6,10 @@ ghost use Rattle.road_search.specs.Labelling.{length_in};
 ghost use Rattle.road_search.specs.Passing.{IsLeastPassing};
 ghost use Rattle.pair_dist.specs.Chains.{AreWalls, IsLink, IsLinkBelow, IsChain, walled_ways, too_long};
 
+use crate::rows::Rows;
 use crate::walled::Walled;
 use octet_text::NoMemory;
-use road_map::{Arc, Arcs, Net};
+use road_map::{Arc, Arcs};
 use road_search::{Ground, Marks, Numbered, search_in};
 use std::alloc::{AllocError, Global};
 use std::marker::Model;
@@ -37,6 +38,14 @@ impl Chain {
             None => None,
             Some(arcs) => Some(arcs.as_slice()),
         }
+    }
+}
+
+impl Rows for Chain {
+    ghost rows = { λ c. c };
+
+    fn at(&self, number: u32) -> Option<&[Arc]> {
+        self.get(number)
     }
 }
 
@@ -79,9 +88,9 @@ pub fn length_of<T: Marks>(marks: &T, position: u32) -> Option<u64>
 }
 
 /// Adds the arc to one place more, where a walk leads there past no other. It answers no where that is too long.
-fn add_link<T: Marks>(
+fn add_link<T: Marks, R: Rows>(
     row: &mut Vec<Arc>,
-    walled: &Walled<'_>,
+    walled: &Walled<'_, R>,
     marks: &T,
     places: &[u32],
     own: usize,
@@ -90,11 +99,11 @@ fn add_link<T: Marks>(
     requires few { length places.now ≤ 65536 }
     requires within { number < length places.now }
     requires least { (v : ℕ) → IsLeastPassing
-        (walled_ways walled.now.net.now walled.now.walls.now walled.now.start) walled.now.start
+        (walled_ways (R.rows walled.now.rows.now) walled.now.walls.now walled.now.start) walled.now.start
         too_long v (length_in (T.mark marks.now) v) }
-    requires below { IsLinkBelow walled.now.net.now walled.now.walls.now places.now own
+    requires below { IsLinkBelow (R.rows walled.now.rows.now) walled.now.walls.now places.now own
         walled.now.start number row.old.items }
-    ensures { IfOk result (λ fits. fits ≡ true → IsLinkBelow walled.now.net.now
+    ensures { IfOk result (λ fits. fits ≡ true → IsLinkBelow (R.rows walled.now.rows.now)
         walled.now.walls.now places.now own walled.now.start (number + 1) row.new.items) }
 {
     if number == own {
@@ -114,18 +123,18 @@ fn add_link<T: Marks>(
 }
 
 /// The arcs from one of the places to others, as a search has found them, unless one is too long.
-fn link<T: Marks>(
+fn link<T: Marks, R: Rows>(
     alloc: Global,
-    walled: &Walled<'_>,
+    walled: &Walled<'_, R>,
     marks: &T,
     places: &[u32],
     own: usize,
 ) -> Result<Option<Arcs>, AllocError>
     requires few { length places.now ≤ 65536 }
     requires least { (v : ℕ) → IsLeastPassing
-        (walled_ways walled.now.net.now walled.now.walls.now walled.now.start) walled.now.start
+        (walled_ways (R.rows walled.now.rows.now) walled.now.walls.now walled.now.start) walled.now.start
         too_long v (length_in (T.mark marks.now) v) }
-    ensures { IfOk result (λ found. IfSome found (IsLink walled.now.net.now walled.now.walls.now
+    ensures { IfOk result (λ found. IfSome found (IsLink (R.rows walled.now.rows.now) walled.now.walls.now
         places.now own walled.now.start)) }
 {
     let mut row = Vec::new(alloc);
@@ -138,30 +147,37 @@ fn link<T: Marks>(
 }
 
 /// The chain of some places, by a search from each that goes on from no other, unless an arc of it
-/// is too long.
-pub fn chain_of(
+/// is too long or there are more than so many.
+pub fn chain_of<R: Rows>(
     alloc: Global,
-    net: &Net,
+    rows: &R,
     walls: &[bool],
     places: &[u32],
+    most: usize,
 ) -> Result<Option<Chain>, NoMemory>
     requires few { length places.now ≤ 65536 }
-    ensures { IfOk result (λ found. IfSome found (IsChain net.now walls.now places.now)) }
+    ensures { IfOk result (λ found. IfSome found (IsChain (R.rows rows.now) walls.now places.now)) }
 {
-    let mut rows = Vec::new(alloc);
+    let mut chain = Vec::new(alloc);
     let mut marks = Numbered::new(alloc);
+    let mut room = most;
     for (own, start) in places.iter().enumerate() {
         let walled = Walled {
-            net,
+            rows,
             walls,
             start: *start,
         };
         marks.clear();
         search_in(alloc, &walled, &mut marks, *start, u64::MAX)?;
-        match link(alloc, &walled, &marks, places, own)? {
-            None => return Ok(None),
-            Some(row) => rows.push(row)?,
+        let Some(row) = link(alloc, &walled, &marks, places, own)? else {
+            return Ok(None);
+        };
+        let count = row.as_slice().len();
+        if count > room {
+            return Ok(None);
         }
+        room -= count;
+        chain.push(row)?;
     }
-    Ok(Some(Chain { rows }))
+    Ok(Some(Chain { rows: chain }))
 }

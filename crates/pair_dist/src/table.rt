@@ -5,11 +5,13 @@ ghost use Rattle.road_map.specs.Walks.{Knows, distance};
 ghost use Rattle.road_search.specs.Labelling.{length_in};
 ghost use Rattle.book_model.specs.Pairs.{pair_leaf, pairs_of, said};
 ghost use Rattle.pair_dist.specs.Placing.{ArePlaces};
-ghost use Rattle.pair_dist.specs.Chains.{Keeps, Measured, Finds};
+ghost use Rattle.pair_dist.specs.Chains.{Begins, Keeps, Measured, Finds};
 ghost use Rattle.pair_dist.specs.declared.error.PairError.TheVariants as pair_error;
 
 use crate::chain::{Chain, chain_of, length_of, walls_at};
 use crate::error::PairError;
+use crate::finer::finer_places;
+use crate::rows::Rows;
 use crate::thin::thinned;
 use book_model::PairLeaves;
 use octet_text::NoMemory;
@@ -98,20 +100,65 @@ fn leaves_over<G: Ground>(
     Ok(leaves)
 }
 
-/// A chain of some places, among so many positions, that keeps their distances, unless an arc of it is too long
-/// or the places are all that there are.
-fn chain_at(alloc: Global, net: &Net, count: u32, places: &[u32]) -> Result<Option<Chain>, NoMemory>
+/// A chain of some places, among so many numbers of rows, that keeps their distances, unless an arc of
+/// it is too long or there are more than so many.
+fn chain_over<R: Rows>(
+    alloc: Global,
+    rows: &R,
+    count: u32,
+    places: &[u32],
+    most: usize,
+) -> Result<Option<Chain>, NoMemory>
     requires within { (i p : ℕ) → slice_get places.now i ≡ Some p → p < count }
     requires few { length places.now ≤ 65536 }
+    ensures { IfOk result (λ found. IfSome found (Keeps (R.rows rows.now) places.now)) }
+{
+    let walls = walls_at(alloc, count, places)?;
+    match chain_of(alloc, rows, walls.as_slice(), places, most)? {
+        None => Ok(None),
+        Some(chain) => Ok(Some(thinned(alloc, chain)?)),
+    }
+}
+
+/// A chain of some places over the chain of finer ones, of which they are the first, or over the net where
+/// the finer chain would have more arcs than the places have pairs.
+fn chain_by_steps(
+    alloc: Global,
+    net: &Net,
+    count: u32,
+    finer: &[u32],
+    places: &[u32],
+) -> Result<Option<Chain>, NoMemory>
+    requires within { (i p : ℕ) → slice_get finer.now i ≡ Some p → p < count }
+    requires few { length finer.now ≤ 65536 }
+    requires front { Begins places.now finer.now }
+    requires pairs { length places.now ≤ 2048 }
     ensures { IfOk result (λ found. IfSome found (Keeps net.now places.now)) }
 {
+    let most = places.len() * places.len();
+    match chain_over(alloc, net, count, finer, most)? {
+        None => chain_over(alloc, net, count, places, most),
+        Some(fine) => {
+            let own = numbers(alloc, places.len() as u32)?;
+            chain_over(alloc, &fine, finer.len() as u32, own.as_slice(), most)
+        }
+    }
+}
+
+/// A chain of some places that keeps their distances, unless an arc of it is too long or the places are
+/// all that there are.
+fn chain_at(alloc: Global, map: &Map, net: &Net, places: &[u32]) -> Result<Option<Chain>, NoMemory>
+    requires within { (i p : ℕ) → slice_get places.now i ≡ Some p → p < length map.now.order }
+    requires few { length places.now ≤ 2048 }
+    ensures { IfOk result (λ found. IfSome found (Keeps net.now places.now)) }
+{
+    let count = map.count();
     if places.len() == count as usize {
         return Ok(None);
     }
-    let walls = walls_at(alloc, count, places)?;
-    match chain_of(alloc, net, walls.as_slice(), places)? {
-        None => Ok(None),
-        Some(chain) => Ok(Some(thinned(alloc, chain)?)),
+    match finer_places(alloc, map, net, places)? {
+        None => chain_over(alloc, net, count, places, places.len() * places.len()),
+        Some(finer) => chain_by_steps(alloc, net, count, finer.as_slice(), places),
     }
 }
 
@@ -130,7 +177,7 @@ fn leaves_at(
     map_laws();
     let _parts = map.parts();
     let net = map.net();
-    match chain_at(alloc, net, map.count(), places)? {
+    match chain_at(alloc, map, net, places)? {
         None => leaves_over(alloc, net, map, chosen, places),
         Some(chain) => {
             let stations = numbers(alloc, places.len() as u32)?;
@@ -142,7 +189,8 @@ fn leaves_at(
 /// The leaves of all pairs of some nodes: each id with each that stands after it, and their distance.
 ///
 /// One search for each id that goes on from no other of them, and one over the lengths that these have
-/// found. `TooMany` comes before any search, exactly where more than 2,048 nodes are chosen.
+/// found. Where a large map has many of them, the first go over lengths that searches between more
+/// places have found. `TooMany` comes before any search, exactly where more than 2,048 nodes are chosen.
 pub fn pair_leaves(alloc: Global, map: &Map, chosen: &[u32]) -> Result<PairLeaves, PairError>
     requires { (id : ℕ) → Contains chosen.now id → Knows map.now.parts id }
     ensures leaves { IfOk result (λ leaves. leaves ≡ pairs_of (distance map.now.parts) chosen.now) }

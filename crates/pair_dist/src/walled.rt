@@ -3,35 +3,36 @@
 ghost use Rattle.std.specs.Prelude.{◌≡◌, false, slice_get};
 ghost use Rattle.std.specs.Option.{unwrap_or};
 
-use road_map::{Arc, Net};
+use crate::rows::Rows;
+use road_map::Arc;
 use road_search::Ground;
 
-/// Whether a wall stands at a position.
-fn is_wall(walls: &[bool], position: u32) -> bool
-    ensures { result ≡ unwrap_or (slice_get walls.now position) false }
+/// Whether a wall stands at a number.
+pub fn is_wall(walls: &[bool], number: u32) -> bool
+    ensures { result ≡ unwrap_or (slice_get walls.now number) false }
 {
-    match walls.get(position as usize) {
+    match walls.get(number as usize) {
         None => false,
         Some(wall) => *wall,
     }
 }
 
-/// A map's arcs by position, with walls at some: from a wall no walk goes on, unless it starts there.
-#[derive(Clone, Copy)]
-pub struct Walled<'a> {
-    pub net: &'a Net,
+/// Rows of arcs, with walls at some numbers: from a wall no walk goes on, unless it starts there.
+#[derive(Drop)]
+pub struct Walled<'a, R: Rows> {
+    pub rows: &'a R,
     pub walls: &'a [bool],
     pub start: u32,
 }
 
-impl Ground for Walled<'_> {
+impl<R: Rows> Ground for Walled<'_, R> {
     ghost use Rattle.pair_dist.specs.Chains.{walled_ways};
 
-    ghost ways = { λ w. walled_ways w.net.now w.walls.now w.start };
+    ghost ways = { λ w. walled_ways (R.rows w.rows.now) w.walls.now w.start };
 
     fn arcs(&self, id: u32) -> Option<&[Arc]> {
-        let net = self.net;
-        net.get(id)
+        let rows = self.rows;
+        rows.at(id)
     }
 
     fn lets(&self, id: u32, _length: u64) -> bool {

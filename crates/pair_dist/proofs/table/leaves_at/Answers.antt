@@ -5,7 +5,7 @@ use Rattle.pair_dist.proofs.MeasureLaws.{by_places, by_chain}
 use Rattle.pair_dist.proofs.table.leaves_at.Goals as goal
 
 pub chain_at-requires-clause-within : goal.chain_at-requires-clause-within
-chain_at-requires-clause-within c = λ i p at. rw c.count.ensures (place_within c.args.map.now.order c.args.chosen.now c.args.places.now i p c.requires.places at)
+chain_at-requires-clause-within c = λ i p at. place_within c.args.map.now.order c.args.chosen.now c.args.places.now i p c.requires.places at
 
 pub leaves_over-requires : goal.leaves_over-requires
 leaves_over-requires c =

@@ -1,0 +1,126 @@
+//! More places than were chosen, along the lines of a grid.
+//!
+//! A search that goes on from no other chosen place still covers all that these shut off. Over a large
+//! map searches between places along finer lines cover less, and over their links the chosen ones are
+//! a few steps apart. Which places these are changes no distance.
+
+ghost use Rattle.std.specs.Prelude.{◌≡◌, ℕ, ◌<◌, ◌≤◌, ◌+◌, ◌*◌, ◌^◌, Some, IfOk, IfSome, length, slice_get};
+ghost use Rattle.std.specs.Option.{unwrap_or};
+ghost use Rattle.book_model.specs.Frames.{InFrame};
+ghost use Rattle.book_model.specs.Orders.{slot};
+ghost use Rattle.pair_dist.specs.Chains.{Begins};
+
+use crate::chain::walls_at;
+use crate::walled::is_wall;
+use book_model::{Frame, frame_of, slot};
+use road_map::{Map, Net, Node};
+use std::alloc::{AllocError, Global};
+
+/// The cell of a node, in a grid of as many columns as rows over a frame.
+fn cell_of(frame: &Frame, columns: u32, node: Node) -> u32
+    requires inside { InFrame frame.now node }
+    requires some { 0 < columns }
+    requires few { columns ≤ 65535 }
+    ensures { result ≡ slot frame.now.low_y frame.now.high_y columns node.y * columns +
+        slot frame.now.low_x frame.now.high_x columns node.x }
+{
+    let row = slot(frame.low_y, frame.high_y, columns, node.y);
+    let column = slot(frame.low_x, frame.high_x, columns, node.x);
+    row * columns + column
+}
+
+/// The cells of all nodes, by position.
+fn cells_of(alloc: Global, map: &Map, columns: u32) -> Result<Vec<u32>, AllocError>
+    requires some { 0 < columns }
+    requires few { columns ≤ 65535 }
+    ensures { IfOk result (λ cells. length cells.items ≡ length map.now.order) }
+{
+    let parts = map.parts();
+    let frame = frame_of(parts.nodes.as_slice());
+    let count = map.count();
+    let mut cells = Vec::with_capacity(alloc, count as usize)?;
+    for position in 0..count {
+        let node = map.node(position);
+        cells.push(cell_of(&frame, columns, node))?;
+    }
+    Ok(cells)
+}
+
+/// The cell at a position, or 0.
+fn cell_at(cells: &[u32], position: u32) -> u32
+    ensures { result ≡ unwrap_or (slice_get cells.now position) 0 }
+{
+    match cells.get(position as usize) {
+        None => 0,
+        Some(cell) => *cell,
+    }
+}
+
+/// Whether an arc leads from a position into a cell with a greater number.
+fn crosses(net: &Net, cells: &[u32], position: u32) -> bool {
+    let Some(arcs) = net.get(position) else {
+        return false;
+    };
+    let own = cell_at(cells, position);
+    for arc in arcs {
+        if cell_at(cells, arc.to) > own {
+            return true;
+        }
+    }
+    false
+}
+
+/// Some places, and behind them the other positions from where an arc crosses a line.
+fn places_along(
+    alloc: Global,
+    net: &Net,
+    cells: &[u32],
+    places: &[u32],
+) -> Result<Vec<u32>, AllocError>
+    requires few { length cells.now < 2 ^ 32 }
+    requires within { (i p : ℕ) → slice_get places.now i ≡ Some p → p < length cells.now }
+    ensures front { IfOk result (λ finer. Begins places.now finer.items) }
+    ensures within { IfOk result (λ finer. (i p : ℕ) → slice_get finer.items i ≡ Some p →
+        p < length cells.now) }
+{
+    let count = cells.len() as u32;
+    let walls = walls_at(alloc, count, places)?;
+    let mut finer = places.to_vec(alloc)?;
+    for position in 0..count {
+        if !is_wall(walls.as_slice(), position) && crosses(net, cells, position) {
+            finer.push(position)?;
+        }
+    }
+    Ok(finer)
+}
+
+/// Some places of a large map, and behind them others along the lines of a grid whose cells would
+/// have 1,024 nodes each, where searches from these pay.
+///
+/// They do where so large a map has so many places that a search from each covers much of it. The
+/// links of the finer places are some ten for each node of the map, so the places have more pairs.
+pub fn finer_places(
+    alloc: Global,
+    map: &Map,
+    net: &Net,
+    places: &[u32],
+) -> Result<Option<Vec<u32>>, AllocError>
+    requires within { (i p : ℕ) → slice_get places.now i ≡ Some p → p < length map.now.order }
+    requires few { length places.now ≤ 2048 }
+    ensures few { IfOk result (λ found. IfSome found (λ finer. length finer.items ≤ 65536)) }
+    ensures front { IfOk result (λ found. IfSome found (λ finer. Begins places.now finer.items)) }
+    ensures within { IfOk result (λ found. IfSome found (λ finer. (i p : ℕ) →
+        slice_get finer.items i ≡ Some p → p < length map.now.order)) }
+{
+    let _parts = map.parts();
+    let columns = (map.count() / 1024).isqrt();
+    if columns < 4 || places.len() * places.len() < 12 * map.count() as usize {
+        return Ok(None);
+    }
+    let cells = cells_of(alloc, map, columns)?;
+    let finer = places_along(alloc, net, cells.as_slice(), places)?;
+    if finer.len() > 8 * places.len() {
+        return Ok(None);
+    }
+    Ok(Some(finer))
+}

@@ -88,6 +88,7 @@ impl MethodBook for HypBook {
         self.pairs.as_slice()
     }
 
+    #[tactic(auto, using(proof_method::proofs::EndLaws::none_first))]
     fn gather(&self, alloc: Global, query: Query) -> Result<Found, GatherError> {
         let _parts = self.map.parts();
         let reached = reach(alloc, &self.map, query)?;

@@ -1,6 +1,6 @@
 //! Codes of distances.
 
-ghost use Rattle.std.specs.Prelude.{◌≡◌, ℕ, ◌^◌, ◌/◌, ◌<◌, ◌≤◌, ◌⊎◌, Option, Some, List, Err, IfOk, OnOk, IfSome, Contains, map, length, nat_eq, slice_get};
+ghost use Rattle.std.specs.Prelude.{◌≡◌, ◌↔◌, ℕ, ◌^◌, ◌/◌, ◌<◌, ◌≤◌, ◌⊎◌, Option, Some, List, Err, IfOk, OnOk, IfSome, Contains, map, length, nat_eq, slice_get};
 ghost use Rattle.std.specs.HashMap.{get};
 ghost use Rattle.std.specs.Map.{lookup};
 ghost use Rattle.road_map.specs.Walks.{Knows, distance};
@@ -151,12 +151,12 @@ fn rows_from(alloc: Global, map: &Map, chosen: &[u32]) -> Result<Vec<Lengths>, N
 
 /// The codes of all nodes for these landmarks. A search from each landmark finds the distances.
 ///
-/// `Bits` exactly where the bits are not 1 to 16.
+/// `Bits` exactly where the bits are not 1 to 16, whatever memory there is.
 pub fn codes(alloc: Global, map: &Map, chosen: &[u32], bits: u8) -> Result<CodeTable, CodeError>
     requires { (id : ℕ) → Contains chosen.now id → Knows map.now.parts id }
     ensures table { IfOk result (IsTable map.now.parts chosen.now bits) }
     ensures good { OnOk result ((1 ≤ bits) × (bits ≤ 16)) }
-    ensures refused { result ≡ Err CodeError.Bits → (bits ≡ 0) ⊎ (16 < bits) }
+    ensures refused { (result ≡ Err CodeError.Bits) ↔ ((bits ≡ 0) ⊎ (16 < bits)) }
 {
     if bits == 0 || bits > 16 {
         return Err(CodeError::Bits);

@@ -1,6 +1,6 @@
 //! Picking landmarks.
 
-ghost use Rattle.std.specs.Prelude.{◌≡◌, ℕ, ◌≤◌, ◌<◌, ◌⊎◌, Option, IfOk, OnOk, IfSome, IsSomeAnd, Err, map, Contains, length, ◌++◌};
+ghost use Rattle.std.specs.Prelude.{◌≡◌, ◌↔◌, ℕ, ◌≤◌, ◌<◌, ◌⊎◌, Option, IfOk, OnOk, IfSome, IsSomeAnd, Err, map, Contains, length, ◌++◌};
 ghost use Rattle.std.specs.Option.{option_map, option_to_list};
 ghost use Rattle.road_map.specs.Walks.{distance};
 ghost use Rattle.book_model.specs.Orders.{by_id};
@@ -151,13 +151,13 @@ pub fn picks(alloc: Global, map: &Map, ids: &[u32], count: u32) -> Result<Picked
 /// That many landmarks: the node of least id, and then each time the node that is farthest from all
 /// landmarks so far, where a node that no walk leads to is farthest of all and ties go to the least id.
 ///
-/// `Count` exactly where the count is 0, above 64, or above the number of nodes.
+/// `Count` exactly where the count is 0, above 64, or above the number of nodes, whatever memory there is.
 pub fn pick(alloc: Global, map: &Map, count: u32) -> Result<Vec<u32>, PickError>
     ensures picked { IfOk result (λ chosen. chosen.items ≡ landmarks map.now.parts count) }
     ensures count { IfOk result (λ chosen. length chosen.items ≡ count) }
     ensures good { OnOk result ((0 < count) × (count ≤ 64) × (count ≤ length map.now.parts.nodes)) }
-    ensures refused { result ≡ Err PickError.Count → (count ≡ 0) ⊎ (64 < count) ⊎
-        (length map.now.parts.nodes < count) }
+    ensures refused { (result ≡ Err PickError.Count) ↔ ((count ≡ 0) ⊎ (64 < count) ⊎
+        (length map.now.parts.nodes < count)) }
 {
     landmark_laws();
     let nodes = map.parts().nodes.as_slice().len();

@@ -80,6 +80,7 @@ impl MethodBook for LdmBook {
         &[]
     }
 
+    #[tactic(auto, using(proof_method::proofs::EndLaws::none_first))]
     fn gather(&self, alloc: Global, query: Query) -> Result<Found, GatherError> {
         map_laws();
         let _parts = self.map.parts();

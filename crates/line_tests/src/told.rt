@@ -302,10 +302,7 @@ static DIGITS: [(&str, Option<usize>, &str); 6] = [
 #[test]
 fn hex_is_told_by_its_digits(rt: HostRuntime) -> Result<(), AllocError> {
     for (text, wanted, message) in &DIGITS {
-        let wrong = WrongHex {
-            text: text.as_bytes(),
-            wanted: *wanted,
-        };
+        let wrong = WrongHex::of(text.as_bytes(), *wanted);
         assert_printed(&rt, rt.alloc(), wrong, *message)?;
     }
     Ok(())

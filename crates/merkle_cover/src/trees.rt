@@ -1,9 +1,10 @@
 //! Trees of digests over texts.
-ghost use Rattle.std.specs.Prelude.{◌≡◌, ◌≢◌, ℕ, ◌+◌, ◌-◌, ◌*◌, ◌^◌, ◌<◌, ◌≤◌, List, [], ◌∷◌, length, map, min, take, drop, slice_index, slice_index_or, IfOk, IfErr, OnOk, Option, Some, None, Ok};
+ghost use Rattle.std.specs.Prelude.{◌≡◌, ◌≢◌, ℕ, ◌+◌, ◌-◌, ◌*◌, ◌^◌, ◌<◌, ◌≤◌, List, [], ◌∷◌, length, map, min, take, drop, slice_index, slice_index_or, IfOk, IfErr, OnOk, Option, Some, None, Ok, Err};
 ghost use Rattle.std.specs.Int.{div_ceil};
 ghost use Rattle.std.specs.List.{range_with_len, flat_map};
 ghost use Rattle.merkle_cover.specs.Trees.{tree_of, level_over, leaf_count, root, IsShaped};
 ghost use Rattle.merkle_cover.specs.Covers.{cover_of, chosen_texts, fold_of, IsRising};
+ghost use Rattle.merkle_cover.specs.declared.trees.TreeError.{TreeError};
 ghost use Rattle.merkle_cover.specs.Refusals.{first_refusal};
 
 use crate::covers::{CoverWalk, cover_place};
@@ -146,13 +147,15 @@ impl<H: Hasher> Tree<H> {
     /// The tree over the leaves, which it hashes once each, as each place above them.
     ///
     /// The first that holds is refused: `Fan` where the fan-out is not 2 to 32, `Empty` where there
-    /// is no leaf, `TooMany` where there are more than 2,097,152.
+    /// is no leaf, `TooMany` where there are more than 2,097,152. Each is told whatever memory there is.
     pub fn build(alloc: Global, leaves: &Texts, fan: u8) -> Result<Tree<H>, TreeError>
         ensures ok { IfOk result (λ tree. tree ≡ tree_of H.hash leaves.now fan) }
         ensures fan { IfOk result (λ tree. tree.fan ≡ fan) }
         ensures good { OnOk result (first_refusal (length leaves.now) fan ≡ None) }
         ensures refused { IfErr result
             (λ e. e ≢ TreeError.Memory → first_refusal (length leaves.now) fan ≡ Some e) }
+        ensures told { (e : TreeError) → first_refusal (length leaves.now) fan ≡ Some e →
+            result ≡ Err e }
     {
         if fan < 2 || fan > 32 {
             return Err(TreeError::Fan);

@@ -1,7 +1,8 @@
 //! The check of a reply.
-ghost use Rattle.std.specs.Prelude.{◌≡◌, ◌<◌, ◌≤◌, ◌^◌, length, IfOk, Ok};
+ghost use Rattle.std.specs.Prelude.{◌≡◌, ◌<◌, ◌≤◌, ◌^◌, length, IfOk, Ok, Err};
 ghost use Rattle.octet_text.specs.Format.{whole};
-ghost use Rattle.near_model.specs.NearReplies.{near_reply, IsGoodNear};
+ghost use Rattle.near_model.specs.NearReplies.{near_reply, IsGoodNear, IsNamed};
+ghost use Rattle.near_client.specs.declared.errors.NearError.{NearError};
 ghost use Rattle.near_client.specs.declared.within.Within.{Within};
 ghost use Rattle.near_client.specs.NearVerdicts.{UnlessMemory, IsNearVerdict, NearAccepts, WalkedAfter, taken};
 
@@ -33,7 +34,8 @@ fn accept(alloc: Global, reply: NearReply, query: NearQuery) -> Result<CheckedRe
 /// over them that is no longer than the radius ends at an item. The first that fails is answered.
 ///
 /// An item that no such walk comes to is allowed, and not listed. No memory is reserved by a count
-/// that the octets don't bear out.
+/// that the octets don't bear out. Octets that don't begin with the name of such a reply are told so
+/// whatever memory there is.
 pub fn check_near_reply<H: Hasher>(
     alloc: Global,
     public: &[u8],
@@ -47,6 +49,7 @@ pub fn check_near_reply<H: Hasher>(
     ensures verdict { UnlessMemory
         (IsNearVerdict H.hash public.now chain.now reply.now query least) (taken result) }
     ensures spelled { IfOk result (λ checked. whole near_reply reply.now ≡ Ok checked.reply) }
+    ensures named { result ≡ Err NearError.Memory → IsNamed reply.now }
 {
     match pass::<H>(alloc, public, chain, reply, least) {
         Ok(reply) => accept(alloc, reply, query),
@@ -69,6 +72,7 @@ pub fn check_near<H: Hasher>(
         (IsNearVerdict H.hash public.now chain.now reply.now query least) result }
     ensures accepts { (x : Within) → NearAccepts H.hash public.now chain.now reply.now query least x
         → UnlessMemory (λ r. r ≡ Ok x) result }
+    ensures named { result ≡ Err NearError.Memory → IsNamed reply.now }
 {
     match check_near_reply::<H>(alloc, public, chain, reply, query, least) {
         Ok(checked) => Ok(checked.into_within()),

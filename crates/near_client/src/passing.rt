@@ -1,8 +1,9 @@
 // The tests before the items are walked. Those of the header and of the cover stand for routes too.
-ghost use Rattle.std.specs.Prelude.{◌≡◌, ◌<◌, ◌≤◌, ◌^◌, length, IfOk};
+ghost use Rattle.std.specs.Prelude.{◌≡◌, ◌<◌, ◌≤◌, ◌^◌, length, Err, IfOk};
 ghost use Rattle.octet_text.specs.Format.{whole};
 ghost use Rattle.route_client.specs.Verdicts.{Meets as MeetsTest};
-ghost use Rattle.near_model.specs.NearReplies.{near_reply, IsGoodNear};
+ghost use Rattle.near_model.specs.NearReplies.{near_reply, IsGoodNear, IsNamed};
+ghost use Rattle.near_client.specs.declared.errors.NearError.{NearError};
 ghost use Rattle.near_client.specs.NearVerdicts.{Meets, near_error, items_covered, header_and_cover, after_tests, spelled, near_passed};
 
 use crate::{NearError, reply_cuts};
@@ -19,6 +20,7 @@ fn read_reply(alloc: Global, octets: &[u8]) -> Result<NearReply, NearError>
     ensures is { Meets result (spelled (whole near_reply octets.now)) }
     ensures good { IfOk result IsGoodNear }
     ensures spelled { IfOk result (λ a. octets.now ≡ near_reply.spell a) }
+    ensures named { result ≡ Err NearError.Memory → IsNamed octets.now }
 {
     match NearReply::read(alloc, octets) {
         Ok(reply) => Ok(reply),
@@ -117,6 +119,7 @@ pub(crate) fn pass<H: Hasher>(
     requires few { length chain.now ≤ 7 }
     ensures is { Meets result (near_passed H.hash public.now chain.now octets.now least) }
     ensures good { IfOk result IsGoodNear }
+    ensures named { result ≡ Err NearError.Memory → IsNamed octets.now }
 {
     match read_reply(alloc, octets) {
         Ok(reply) => test::<H>(alloc, public, chain, octets, reply, least),

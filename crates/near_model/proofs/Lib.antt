@@ -1,3 +1,4 @@
 pub mod NearFormat
 pub mod MarkLaws
+pub mod Named
 mod Worked

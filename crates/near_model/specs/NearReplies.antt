@@ -1,5 +1,5 @@
 -- The format of the reply to a query for what lies within a radius, and which replies octets spell.
-use Rattle.std.specs.Prelude.{ℕ, ◌≤◌, List, [], ◌∷◌, length, All}
+use Rattle.std.specs.Prelude.{◌≡◌, ℕ, ◌≤◌, List, [], ◌∷◌, take, length, All}
 use Rattle.octet_text.specs.Format.{Format, behind, seq, mapped}
 use Rattle.road_leaf.specs.declared.leaf.NodeLeaf.{NodeLeaf}
 use Rattle.road_leaf.specs.Leaves.{node_leaf}
@@ -12,6 +12,10 @@ use Rattle.near_model.specs.declared.reply.NearReply.{NearReply}
 -- RPN1
 abbrev pub near_name : List ℕ
 near_name = 0x52 ∷ 0x50 ∷ 0x4e ∷ 0x31 ∷ []
+
+-- the octets begin with that name
+abbrev pub IsNamed : List ℕ → Type 0
+IsNamed octets = take 4 octets ≡ near_name
 
 abbrev pub NearParts : Type 0
 NearParts = Header × (List ℕ × ((List ℕ × List NodeLeaf) × List (List ℕ)))

@@ -1,8 +1,9 @@
 //! The reply to a query for what lies within a radius.
-ghost use Rattle.std.specs.Prelude.{◌≡◌, ◌<◌, ◌^◌, length, IfOk, OnOk};
+ghost use Rattle.std.specs.Prelude.{◌≡◌, ◌<◌, ◌^◌, length, Err, IfOk, OnOk};
 ghost use Rattle.octet_text.specs.Format.{Gives, Reads, IsFound, ReadsAll, whole};
 ghost use Rattle.octet_text.specs.Puts.{Puts};
-ghost use Rattle.near_model.specs.NearReplies.{near_reply};
+ghost use Rattle.octet_text.specs.declared.errors.ReadError.{ReadError};
+ghost use Rattle.near_model.specs.NearReplies.{near_reply, IsNamed};
 ghost use Rattle.near_model.specs.NearWriting.{near_text, CanWriteNear};
 
 use book_model::{NodeLeaves, Places};
@@ -27,9 +28,10 @@ pub struct NearReply {
     pub cover: Digests,
 }
 
-#[tactic(auto, unfolding(crate::specs::NearReplies::near_reply))]
+#[tactic(auto, unfolding(crate::specs::NearReplies::near_reply), using(crate::proofs::Named::begun))]
 fn read_near(alloc: Global, cursor: &mut Cursor<'_>) -> Result<NearReply, ReadError>
-    ensures { Gives (λ a. a) result cursor.new (near_reply.read cursor.old) }
+    ensures gives { Gives (λ a. a) result cursor.new (near_reply.read cursor.old) }
+    ensures named { result ≡ Err ReadError.Memory → IsNamed cursor.old.text }
 {
     cursor.name(b"RPN1")?;
     let header = read_header(cursor)?;
@@ -48,7 +50,8 @@ fn read_near(alloc: Global, cursor: &mut Cursor<'_>) -> Result<NearReply, ReadEr
 // The reply that octets spell, all of them.
 fn read_whole(alloc: Global, octets: &[u8]) -> Result<NearReply, ReadError>
     requires { length octets.now < 2 ^ 32 }
-    ensures { Reads (λ r. r) result (whole near_reply octets.now) }
+    ensures reads { Reads (λ r. r) result (whole near_reply octets.now) }
+    ensures named { result ≡ Err ReadError.Memory → IsNamed octets.now }
 {
     let mut cursor = Cursor::new(octets);
     let reply = read_near(alloc, &mut cursor)?;
@@ -74,12 +77,14 @@ fn put_near(alloc: Global, out: &mut Vec<u8>, reply: &NearReply) -> Result<(), N
 impl NearReply {
     /// The reply that octets spell, all of them, or the place of the first field that can't be read.
     ///
-    /// A count that the octets left can't hold reserves no memory.
+    /// A count that the octets left can't hold reserves no memory. Octets that don't begin with the name
+    /// of such a reply are refused whatever memory there is.
     pub fn read(alloc: Global, octets: &[u8]) -> Result<NearReply, ReadError>
         requires { length octets.now < 2 ^ 32 }
         ensures found { IsFound (λ r. r) near_reply octets.now result }
         ensures only { ReadsAll (λ r. r) near_reply octets.now result }
         ensures exact { Reads (λ r. r) result (whole near_reply octets.now) }
+        ensures named { result ≡ Err ReadError.Memory → IsNamed octets.now }
     {
         read_whole(alloc, octets)
     }

@@ -88,6 +88,7 @@ impl MethodBook for FullBook {
         self.pairs.as_slice()
     }
 
+    #[tactic(auto, using(proof_method::proofs::EndLaws::none_first))]
     fn gather(&self, alloc: Global, query: Query) -> Result<Found, GatherError> {
         let reached = reach(alloc, &self.map, query)?;
         let nodes = rising(alloc, &reached.route)?;

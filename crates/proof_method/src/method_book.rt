@@ -1,13 +1,13 @@
 //! The trait of books.
 
-ghost use Rattle.std.specs.Prelude.{◌≡◌, ℕ, ◌⊎◌, Option, None, Some, is_some, IfOk, OnOk, IfErr};
+ghost use Rattle.std.specs.Prelude.{◌≡◌, ℕ, ◌⊎◌, Option, None, Some, Err, is_some, IfOk, OnOk, IfErr};
 ghost use Rattle.road_map.specs.Walks.{Knows};
 ghost use Rattle.road_map.specs.Maps.{Charted};
 ghost use Rattle.book_model.specs.Books.{Kind, Book, leaf, IsBookOf};
 ghost use Rattle.book_model.specs.declared.settings.PlanError.TheVariants as plan_error;
 ghost use Rattle.proof_method.specs.Vectors.{HasVectors};
 ghost use Rattle.proof_method.specs.Planning.{own_fault};
-ghost use Rattle.proof_method.specs.Gathering.{IsOrderOf, IsFound, AreUnjoined, WhyNone};
+ghost use Rattle.proof_method.specs.Gathering.{IsOrderOf, IsFound, IsFirstUnknown, AreUnjoined, WhyNone};
 ghost use Rattle.proof_method.specs.Apart.{IsFoundApart};
 
 use crate::found::{Found, GatherError};
@@ -74,11 +74,13 @@ pub trait MethodBook: Drop + Sized {
         ensures { result.now ≡ (shown self.now).pairs };
 
     /// What shows a shortest route between two nodes. `UnknownNode` exactly where an end is not
-    /// known, and `NoRoute` exactly where both are and no walk joins them.
+    /// known, whatever memory there is, and `NoRoute` exactly where both are and no walk joins them.
     fn gather(&self, alloc: Global, query: Query) -> Result<Found, GatherError>
         ensures found { IfOk result
             (λ found. (d : ℕ) × IsFound (kind self.now) (shown self.now) query d found) }
-        ensures refused { IfErr result (WhyNone (shown self.now).parts query) };
+        ensures refused { IfErr result (WhyNone (shown self.now).parts query) }
+        ensures unknown { (id : ℕ) → IsFirstUnknown (shown self.now).parts query id
+            → result ≡ Err (GatherError.UnknownNode id) };
 
     /// What shows that no walk joins two known nodes. It has no route.
     fn gather_apart(&self, alloc: Global, query: Query) -> Result<Found, NoMemory>

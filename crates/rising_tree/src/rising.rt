@@ -1,7 +1,8 @@
 //! A tree's root and a cover of it, from texts that come one at a time.
-ghost use Rattle.std.specs.Prelude.{◌≡◌, ◌≢◌, ℕ, suc, ◌+◌, ◌-◌, ◌*◌, ◌/◌, ◌^◌, ◌<◌, ◌≤◌, List, [], ◌∷◌, ◌++◌, length, take, drop, slice_get, slice_index_or, IfOk, IfErr, OnOk, Some, None};
+ghost use Rattle.std.specs.Prelude.{◌≡◌, ◌≢◌, ℕ, suc, ◌+◌, ◌-◌, ◌*◌, ◌/◌, ◌^◌, ◌<◌, ◌≤◌, List, [], ◌∷◌, ◌++◌, length, take, drop, slice_get, slice_index_or, IfOk, IfErr, OnOk, Some, None, Err};
 ghost use Rattle.std.specs.List.{range_with_len, sum_by};
 ghost use Rattle.merkle_cover.specs.Covers.{IsRising, cover_of};
+ghost use Rattle.rising_tree.specs.declared.rising.RisingError.{RisingError};
 ghost use Rattle.rising_tree.specs.Rising.{Takes, count_waiting, first_rising_refusal};
 ghost use Rattle.rising_tree.specs.Raising.{CanRaise, IsRaised};
 ghost use Rattle.merkle_cover.specs.Shape.{top};
@@ -190,7 +191,8 @@ impl<H: Hasher> Rising<H> {
     ///
     /// The first that holds is refused: `Fan` where the fan-out is not 2 to 32, `Empty` where there
     /// is no leaf, `TooMany` where there are more than 2,097,152, `Place` with the first index whose
-    /// place is not below the leaf count or does not exceed the one before.
+    /// place is not below the leaf count or does not exceed the one before. Each is told whatever memory
+    /// there is.
     pub fn new(
         alloc: Global,
         leaves: u32,
@@ -205,6 +207,8 @@ impl<H: Hasher> Rising<H> {
         ensures good { OnOk result (first_rising_refusal leaves fan places.now ≡ None) }
         ensures refused { IfErr result
             (λ e. e ≢ RisingError.Memory → first_rising_refusal leaves fan places.now ≡ Some e) }
+        ensures told { (e : RisingError) → first_rising_refusal leaves fan places.now ≡ Some e →
+            result ≡ Err e }
     {
         if fan < 2 || fan > 32 {
             return Err(RisingError::Fan);

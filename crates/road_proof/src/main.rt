@@ -103,7 +103,7 @@ fn main(rt: HostRuntime) -> ExitCode {
     let again = look_again(alloc, &mut FileLibrary::new(rt), &words, ended, name);
     let facts = Facts {
         name,
-        text: &again.text,
+        file: &again.file,
         file_error: library.last_error(),
         source_error: source.last_error(),
         sink_error: sink.last_error(),

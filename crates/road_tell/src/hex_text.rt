@@ -1,24 +1,36 @@
 //! Files that are not exactly their hex digits.
 
+use road_command::Command;
 use std::fmt::{self, Display, Formatter};
 
-/// A text that does not spell as many hex digits as are wanted, or, where no number is, an even number of them.
-#[derive(Clone, Copy)]
-pub struct WrongHex<'a> {
-    /// What the file holds.
-    pub text: &'a [u8],
+/// How a text does not spell as many hex digits as are wanted, or, where no number is, an even number of them. It has
+/// counts and a place alone, and no octet of the text, which may be a secret.
+#[derive(Clone, Copy, Debug, PartialEq, Eq)]
+pub struct WrongHex {
+    /// How many octets stand before the line end.
+    found: usize,
+    /// The place of the first of them that is no hex digit.
+    place: Option<usize>,
     /// How many digits are wanted.
-    pub wanted: Option<usize>,
+    wanted: Option<usize>,
 }
 
-impl Display for WrongHex<'_> {
+impl WrongHex {
+    /// How this text does not spell so many hex digits.
+    pub fn of(text: &[u8], wanted: Option<usize>) -> WrongHex {
+        let line = without_line_end(text);
+        WrongHex {
+            found: line.len(),
+            place: line.iter().position(|octet| !octet.is_ascii_hexdigit()),
+            wanted,
+        }
+    }
+}
+
+impl Display for WrongHex {
     fn fmt<W: fmt::Write>(&self, f: &mut Formatter<W>) -> fmt::Result {
-        let line = without_line_end(self.text);
-        let found = line.len();
-        match (
-            line.iter().position(|octet| !octet.is_ascii_hexdigit()),
-            self.wanted,
-        ) {
+        let found = self.found;
+        match (self.place, self.wanted) {
             (Some(place), Some(wanted)) => write!(
                 f,
                 "The octet at place {place} is no hex digit, and the file must be {wanted} of them and at most one line end."
@@ -46,5 +58,14 @@ fn without_line_end(text: &[u8]) -> &[u8] {
         [line @ .., b'\r', b'\n'] => line,
         [line @ .., b'\n'] => line,
         _ => text,
+    }
+}
+
+/// How many hex digits a command's file of this name must have, unless any even number will do.
+pub fn digits_of(command: Option<Command<'_>>, name: &str) -> Option<usize> {
+    match command {
+        Some(Command::Key { .. } | Command::Succeed { .. }) => Some(96),
+        Some(Command::Reduce { key, .. }) if key != name => None,
+        _ => Some(112),
     }
 }

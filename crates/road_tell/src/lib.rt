@@ -7,6 +7,7 @@
 
 pub use asked::{Asked, asked_of};
 pub use challenge::faulty_file;
+pub use content::Content;
 pub use hex_text::WrongHex;
 pub use looks::{Look, look_of};
 pub use messages::{Facts, Message, message_on};
@@ -21,6 +22,7 @@ pub use words::{WrongWords, wrong_words};
 
 mod asked;
 mod challenge;
+mod content;
 mod hex_text;
 mod looks;
 mod messages;

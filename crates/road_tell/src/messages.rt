@@ -1,8 +1,8 @@
 //! What standard error says of a run.
 
 use crate::challenge::faulty_file;
-use crate::hex_text::WrongHex;
-use crate::looks::{Look, look_of};
+use crate::content::Content;
+use crate::looks::Look;
 use crate::numbers::bad_number;
 use crate::plans::{plan_rule, setting_name};
 use crate::refusals::Unusable;
@@ -23,8 +23,8 @@ use std::io::{self, ErrorKind};
 pub struct Facts<'a> {
     /// The name of the file that was asked for last.
     pub name: &'a str,
-    /// What that file holds, as far as it was read again.
-    pub text: &'a [u8],
+    /// What is known of that file, as far as it was read again.
+    pub file: &'a Content,
     /// The system's reason why that file was not read.
     pub file_error: Option<io::Error>,
     /// The system's reason why the input was not read.
@@ -263,9 +263,10 @@ impl<'a> Message<'a> {
                 self.look(f, wanted)
             }
             Fault::BadHex => {
-                let wanted = digits_of(self.command, self.facts.name);
-                let text = self.facts.text;
-                write!(f, "{}", WrongHex { text, wanted })?;
+                match self.facts.file {
+                    Content::Hex { wrong, .. } => write!(f, "{wrong}")?,
+                    _ => f.write_str("It is not the hex digits that are wanted.")?,
+                }
                 self.look(f, Look::Empty)
             }
             _ => {
@@ -281,7 +282,7 @@ impl<'a> Message<'a> {
 
     /// Which word of a line is no number of its range, and what it must be.
     fn number<W: fmt::Write>(&self, f: &mut Formatter<W>, line: u32) -> fmt::Result {
-        match bad_number(self.facts.text, line) {
+        match bad_number(self.facts.file.octets(), line) {
             Some(bad) => write!(f, "{bad}"),
             None => write!(f, "Line {line} has a word that is no number of its range."),
         }
@@ -297,7 +298,7 @@ impl<'a> Message<'a> {
 
     /// What the file looks like, where it looks like anything but this.
     fn look<W: fmt::Write>(&self, f: &mut Formatter<W>, wanted: Look) -> fmt::Result {
-        match look_of(self.facts.text) {
+        match self.facts.file.look() {
             Some(look) if look != wanted => write!(f, " {look}"),
             _ => Ok(()),
         }
@@ -314,7 +315,7 @@ impl<'a> Message<'a> {
                 | Command::Reach { .. }
                 | Command::AuditReach { .. },
             ) => None,
-            _ => place_of(self.facts.text, fault),
+            _ => place_of(self.facts.file.octets(), fault),
         };
         match place {
             Some(place) => write!(f, "{place}"),
@@ -501,14 +502,5 @@ fn settings_of(command: Option<Command<'_>>) -> Option<u8> {
     match command {
         Some(Command::Publish { settings, .. }) => Some(settings.method),
         _ => None,
-    }
-}
-
-/// How many hex digits a command's file of this name must have, unless any even number will do.
-fn digits_of(command: Option<Command<'_>>, name: &str) -> Option<usize> {
-    match command {
-        Some(Command::Key { .. } | Command::Succeed { .. }) => Some(96),
-        Some(Command::Reduce { key, .. }) if key != name => None,
-        _ => Some(112),
     }
 }

@@ -3,6 +3,8 @@
 ghost use Rattle.std.specs.Prelude.{◌≤◌, length, vec_len};
 
 use crate::challenge::faulty_file;
+use crate::content::Content;
+use crate::hex_text::digits_of;
 use crate::refusals::Unusable;
 use crate::slots::keys_left;
 use book_model::Query;
@@ -22,8 +24,9 @@ const MOST_OCTETS: usize = 268_435_456;
 /// What was found.
 #[derive(Drop)]
 pub struct Again {
-    /// What the file holds that the run's end is said of; nothing where that is not asked for.
-    pub text: Vec<u8>,
+    /// What is known of the file that the run's end is said of. A file of hex digits may be a secret's, so that of
+    /// one that is refused only its refusal is kept, in numbers.
+    pub file: Content,
     /// Why the client refuses the reply, where one was refused.
     pub refusal: Option<Unusable>,
     /// The ends of a query to which a reply was accepted that has no route.
@@ -41,17 +44,22 @@ pub fn look_again<L: Library>(
     name: &str,
 ) -> Again {
     let mut found = Again {
-        text: Vec::new(alloc),
+        file: Content::Unknown,
         refusal: None,
         apart: None,
         left: None,
     };
     match (ended.fault, command_of(words)) {
-        (Some(Fault::Road(_) | Fault::Map(_) | Fault::Malformed(_) | Fault::BadHex), _) => {
-            found.text = load(alloc, library, name);
+        (Some(Fault::BadHex), command) => {
+            found.file = Content::of_hex(&load(alloc, library, name), digits_of(command, name));
+        }
+        (_, Some(Command::Key { .. } | Command::Succeed { .. })) => {}
+        (Some(Fault::Road(_) | Fault::Map(_) | Fault::Malformed(_)), _) => {
+            found.file = Content::Octets(load(alloc, library, name));
         }
         (Some(Fault::Dimacs(fault)), Some(Command::Dimacs { graph, places })) => {
-            found.text = load(alloc, library, faulty_file(graph, places, fault));
+            let name = faulty_file(graph, places, fault);
+            found.file = Content::Octets(load(alloc, library, name));
         }
         (None, Some(Command::Publish { .. } | Command::Desk)) => {
             found.left = keys_left(&load(alloc, library, "owner.desk"));
@@ -64,8 +72,9 @@ pub fn look_again<L: Library>(
         }
         (None, Some(command)) if ended.status == 1 => {
             if let Some(refused) = refused_by(command) {
-                found.text = load(alloc, library, refused.reply);
-                found.refusal = refused.again(alloc, library, &found.text);
+                let reply = load(alloc, library, refused.reply);
+                found.refusal = refused.again(alloc, library, &reply);
+                found.file = Content::Octets(reply);
             }
         }
         _ => {}

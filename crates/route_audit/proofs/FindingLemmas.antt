@@ -39,7 +39,7 @@ module _ {Q A X E : Type 0} (kind : ReplyKind Q A X E) (hash : List ℕ → List
 
   pub refused_finds : (sha : List ℕ → List ℕ) (p : Publication) (e : AuditError E) → IsRefused kind hash public chain reply q e → Finds kind hash sha look (at public chain reply q p) (Err e)
   refused_finds sha p (Refused e) is = (own, is)
-  refused_finds sha p Memory is = tt
+  refused_finds sha p Memory is = own
   refused_finds sha p OtherKey is = absurd is
   refused_finds sha p (Install e) is = absurd is
   refused_finds sha p (Desk e) is = absurd is
@@ -50,7 +50,7 @@ module _ {Q A X E : Type 0} (kind : ReplyKind Q A X E) (hash : List ℕ → List
 
   pub not_installed_finds : (sha : List ℕ → List ℕ) (p : Publication) (a : A) (e : AuditError E) → IsAnswerTo kind hash public chain reply q a → IsNotInstalled hash sha p e → Finds kind hash sha look (at public chain reply q p) (Err e)
   not_installed_finds sha p a (Install e) answer is = (accepted_at p a answer, is.0, is.1)
-  not_installed_finds sha p a Memory answer is = tt
+  not_installed_finds sha p a Memory answer is = own
   not_installed_finds sha p a OtherKey answer is = absurd is
   not_installed_finds sha p a (Refused e) answer is = absurd is
   not_installed_finds sha p a (Desk e) answer is = absurd is
@@ -66,7 +66,7 @@ module _ {Q A X E : Type 0} (kind : ReplyKind Q A X E) (hash : List ℕ → List
     found_at : (r : Result Finding (AuditError E)) → FindsIn kind hash sha256 look public chain k q a r → Finds kind hash sha256 look (at public chain reply q (publication_in hash k)) r
     found_at (Err (Desk e)) found = (installed_at, found)
     found_at (Err OtherPublication) found = record { installed = installed_at; signed = found.0; other = found.1 }
-    found_at (Err Memory) found = tt
+    found_at (Err Memory) found = own
     found_at (Err OtherKey) found = absurd found
     found_at (Err (Refused e)) found = absurd found
     found_at (Err (Install e)) found = absurd found

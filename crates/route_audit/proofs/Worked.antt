@@ -49,6 +49,9 @@ module _ {Q A X E : Type 0} (kind : ReplyKind Q A X E) (hash sha : List ℕ → 
   another_key : Finds kind hash sha look u (Err OtherKey) → look.Owns u.public → ⊥
   another_key h = h
 
+  short_under_an_own_key : Finds kind hash sha look u (Err Memory) → look.Owns u.public
+  short_under_an_own_key h = h
+
   refused_by_the_client : (e : E) → Finds kind hash sha look u (Err (Refused e)) → kind.Refuses hash u.public u.chain u.reply u.query e
   refused_by_the_client e h = h.1
 

@@ -71,7 +71,8 @@ pub record IsOther {Q A X E : Type 0} (kind : ReplyKind Q A X E) (hash sha : Lis
   pub other : kind.header installed.reply.answer ≢ u.publication.header
 
 -- What an audit answers: the first of these that holds. Each asks that the earlier steps were
--- passed. Want of memory may come at any time.
+-- passed. Want of memory may come at any time behind the first step, so that a key that is none of
+-- the owner's has one answer.
 abbrev pub Finds : {Q A X E : Type 0} → ReplyKind Q A X E → (List ℕ → List ℕ) →
     (List ℕ → List ℕ) → Look → Audited Q → Result Finding (AuditError E) → Type 0
 Finds kind hash sha look u (Err OtherKey) = ¬ look.Owns u.public
@@ -87,7 +88,7 @@ Finds kind hash sha look u (Ok (Collision left right)) = (p : IsPublished kind h
     kind.Collides hash sha u.publication p.installed.reply.answer (two_texts left right)
 Finds kind hash sha look u (Ok Right) = (p : IsPublished kind hash sha look u) ×
     kind.IsRight hash sha u.publication u.query p.installed.reply.taken p.installed.reply.answer
-Finds kind hash sha look u (Err Memory) = Unit {0}
+Finds kind hash sha look u (Err Memory) = look.Owns u.public
 
 -- ---- one always comes
 

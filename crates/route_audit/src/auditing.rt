@@ -81,10 +81,10 @@ fn find_in<R: Replies, H: Hasher, D: Disk>(
 /// What a reply that a client accepted under a public key and a chain of links is evidence of, by the owner's
 /// desk and a publication. The first of these is answered:
 ///
-/// `OtherKey` where the public key is none of the desk's; `Refused` where the client does not accept the reply,
-/// whatever its version; `Install` where the publication's header is not that of its parts and settings;
-/// `Desk` where the desk is closed, or its disk fails; `Forged` of the first link whose text stands in no spent
-/// slot; `Forged` of the accepted header where it stands in none; `OtherPublication` where it is not the
+/// `OtherKey` where the public key is none of the desk's, whatever memory there is; `Refused` where the client does
+/// not accept the reply, whatever its version; `Install` where the publication's header is not that of its parts and
+/// settings; `Desk` where the desk is closed, or its disk fails; `Forged` of the first link whose text stands in no
+/// spent slot; `Forged` of the accepted header where it stands in none; `OtherPublication` where it is not the
 /// publication's; `Collision` where what the reply brings is not of the publication's trees; and else `Right`.
 pub fn audit_reply<R: Replies, H: Hasher, D: Disk>(
     alloc: Global,

@@ -1,3 +1,4 @@
 pub mod LeafLemmas
 pub mod RoomSteps
 mod Worked
+mod Refusals

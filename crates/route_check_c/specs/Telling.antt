@@ -6,6 +6,7 @@ use Rattle.lms_tree.specs.declared.links.Link.{Link}
 use Rattle.lms_tree.specs.ChainFiles.{chain_file}
 use Rattle.near_model.specs.NearReplies.{near_reply}
 use Rattle.near_client.specs.declared.errors.NearError.{NearError}
+use Rattle.near_client.specs.declared.errors.NearError.TheVariants as near_errors
 use Rattle.near_client.specs.declared.within.CheckedReply.{CheckedReply}
 use Rattle.near_client.specs.declared.within.Within.{Within}
 use Rattle.near_client.specs.NearVerdicts as near
@@ -16,7 +17,8 @@ use Rattle.road_line.specs.VerdictLine.{refused_line}
 use Rattle.route_client.specs.declared.accepted.Checked.{Checked}
 use Rattle.route_client.specs.declared.accepted.CheckedAnswer.{CheckedAnswer}
 use Rattle.route_client.specs.declared.errors.CheckError.{CheckError}
-use Rattle.route_client.specs.Verdicts.{UnlessMemory, taken}
+use Rattle.route_client.specs.declared.errors.CheckError.TheVariants as errors
+use Rattle.route_client.specs.Verdicts.{taken}
 use Rattle.route_check_c.specs.declared.nodes.ReachedNode.{ReachedNode}
 use Rattle.route_check_c.specs.declared.nodes.RouteNode.{RouteNode}
 use Rattle.route_check_c.specs.declared.reasons.Reason.{Reason}
@@ -30,12 +32,15 @@ filled items room = take (length room) items ++ drop (length items) room
 
 -- ---- what is not checked
 
+-- the octets of the chain or of the reply are too many to be read
+abbrev pub AreTooLong : List ℕ → List ℕ → Type 0
+AreTooLong chain reply = (2 ^ 32 ≤ length chain) ⊎ (2 ^ 32 ≤ length reply)
+
 -- The reply was not checked: memory was short, or the octets of the chain or of the reply are too
 -- many, or the chain's spell none; the first field that can't be read begins at that place.
 pub data IsUnread (chain reply : List ℕ) (why : Reason) : Type 0 where
   NoMemory : why ≡ told 16 0 0 → IsUnread chain reply why
-  TooLong : why ≡ told 17 0 0 → (2 ^ 32 ≤ length chain) ⊎ (2 ^ 32 ≤ length reply) →
-      IsUnread chain reply why
+  TooLong : why ≡ told 17 0 0 → AreTooLong chain reply → IsUnread chain reply why
   NoChain : (at : ℕ) → why ≡ told 18 at 0 → whole chain_file chain ≡ Err at →
       IsUnread chain reply why
 
@@ -47,6 +52,17 @@ pub record Unread {X : Type 0} (chain reply : List ℕ) (old_room new_room : Lis
   pub numbers : v ≡ refused_numbers why 0
   pub room : new_room ≡ old_room
   pub line : new_line ≡ old_line
+
+-- ---- what is refused
+
+-- What is told of a refusal for this reason and with this line: the reason, and the line is in its room;
+-- or that memory was short, for the check or for the line, and then the room stays.
+pub data TellsRefusal (IsShort : Type 0) (why : Reason) (text old_line new_line : List ℕ) (v : Verdict) :
+    Type 0 where
+  Reasoned : ¬ IsShort → v ≡ refused_numbers why (length text) → new_line ≡ filled text old_line →
+      TellsRefusal IsShort why text old_line new_line v
+  Unreasoned : v ≡ refused_numbers (told 16 0 0) 0 → new_line ≡ old_line →
+      TellsRefusal IsShort why text old_line new_line v
 
 -- ---- a route
 
@@ -98,14 +114,16 @@ pub record AcceptsRoute (IsVerdict : List Link → Result Checked CheckError →
   pub told : TellsChecked simple checked old_room new_room v
   pub line : new_line ≡ old_line
 
--- the client refuses the reply under the chain; the line is in its room, and no node is written
+-- The client refuses the reply under the chain, for another reason than want of memory, which is told
+-- as what is not checked; the line is in its room, and no node is written.
 pub record RefusesRoute (IsVerdict : List Link → Result Checked CheckError → Type 0)
     (chain : List ℕ) (old_room new_room : List RouteNode) (old_line new_line : List ℕ)
     (v : Verdict) : Type 0 where
   pub links : List Link
   pub spelled : whole chain_file chain ≡ Ok links
   pub error : CheckError
-  pub verdict : UnlessMemory (IsVerdict links) (Err error)
+  pub not_memory : error ≢ errors.Memory
+  pub verdict : IsVerdict links (Err error)
   pub numbers : v ≡ refused_numbers (route_reason error) (length (refused_line error))
   pub room : new_room ≡ old_room
   pub line : new_line ≡ filled (refused_line error) old_line
@@ -143,14 +161,16 @@ pub record AcceptsReach (IsVerdict : List Link → Result Within NearError → T
   pub told : TellsReached checked old_room new_room v
   pub line : new_line ≡ old_line
 
--- the client refuses the reply under the chain; the line is in its room, and no node is written
+-- The client refuses the reply under the chain, for another reason than want of memory; the line is in
+-- its room, and no node is written.
 pub record RefusesReach (IsVerdict : List Link → Result Within NearError → Type 0)
     (chain : List ℕ) (old_room new_room : List ReachedNode) (old_line new_line : List ℕ)
     (v : Verdict) : Type 0 where
   pub links : List Link
   pub spelled : whole chain_file chain ≡ Ok links
   pub error : NearError
-  pub verdict : near.UnlessMemory (IsVerdict links) (Err error)
+  pub not_memory : error ≢ near_errors.Memory
+  pub verdict : IsVerdict links (Err error)
   pub numbers : v ≡ refused_numbers (reach_reason error) (length (refused_near_line error))
   pub room : new_room ≡ old_room
   pub line : new_line ≡ filled (refused_near_line error) old_line

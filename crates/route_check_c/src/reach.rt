@@ -3,14 +3,17 @@ ghost use Rattle.std.specs.Prelude.{◌≡◌};
 ghost use Rattle.sha2.specs.Sha256.{sha256};
 ghost use Rattle.near_client.specs.NearVerdicts.{IsNearVerdict};
 ghost use Rattle.route_check_c.specs.Placing.{HaveLeavesOf};
-ghost use Rattle.route_check_c.specs.Telling.{TellsReach, TellsReached};
+ghost use Rattle.near_client.specs.declared.errors.NearError.{NearError};
+ghost use Rattle.near_line.specs.WithinLine.{refused_near_line};
+ghost use Rattle.route_check_c.specs.Codes.{told as told_of, reach_reason, refused_numbers};
+ghost use Rattle.route_check_c.specs.Telling.{AreTooLong, TellsReach, TellsReached, TellsRefusal};
 
 use crate::chains::links_of;
 use crate::filling::{fill, fill_reached};
 use crate::reasons::{reason_of_reach, told};
 use crate::verdict::{accepted, refused};
 use crate::{ReachedNode, Verdict};
-use near_client::{CheckedReply, check_near_reply};
+use near_client::{CheckedReply, NearError, check_near_reply};
 use near_line::line_of_refused_near;
 use near_model::NearQuery;
 use octet_text::Sha;
@@ -29,6 +32,24 @@ fn tell(alloc: Global, checked: &CheckedReply, nodes: &mut [ReachedNode]) -> Ver
             accepted(marks.len() as u64, 0, checked.reply.header.version)
         }
         Err(_) => refused(told(16, 0, 0), 0),
+    }
+}
+
+/// The numbers of what is refused; its line goes into its room. Want of memory is told as what is not
+/// checked, without a line.
+fn tell_refused(alloc: Global, error: NearError, line: &mut [u8]) -> Verdict
+    ensures { TellsRefusal (error ≡ NearError.Memory) (reach_reason error) (refused_near_line error)
+        line.old line.new result }
+{
+    match error {
+        NearError::Memory => refused(told(16, 0, 0), 0),
+        _ => match line_of_refused_near(alloc, error) {
+            Ok(text) => {
+                fill(line, &text);
+                refused(reason_of_reach(error), text.len() as u64)
+            }
+            Err(_) => refused(told(16, 0, 0), 0),
+        },
     }
 }
 
@@ -55,6 +76,8 @@ pub extern "C" fn gog_proved_reach(
         (λ links. IsNearVerdict sha256 public.now links reply.now
         (record { from = from; radius = radius }) least)
         chain.now reply.now nodes.old nodes.new line.old line.new verdict.new }
+    ensures too_long { AreTooLong chain.now reply.now →
+        verdict.new ≡ refused_numbers (told_of 17 0 0) 0 }
 {
     let links = match links_of(alloc, chain, reply) {
         Ok(links) => links,
@@ -66,13 +89,7 @@ pub extern "C" fn gog_proved_reach(
     let query = NearQuery { from, radius };
     match check_near_reply::<Sha>(alloc, public, links.as_slice(), reply, query, least) {
         Ok(checked) => *verdict = tell(alloc, &checked, nodes),
-        Err(error) => match line_of_refused_near(alloc, error) {
-            Ok(text) => {
-                fill(line, &text);
-                *verdict = refused(reason_of_reach(error), text.len() as u64);
-            }
-            Err(_) => *verdict = refused(told(16, 0, 0), 0),
-        },
+        Err(error) => *verdict = tell_refused(alloc, error, line),
     }
     verdict.code
 }

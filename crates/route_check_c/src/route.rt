@@ -3,7 +3,10 @@ ghost use Rattle.std.specs.Prelude.{◌≡◌, IfSome};
 ghost use Rattle.sha2.specs.Sha256.{sha256};
 ghost use Rattle.route_client.specs.Verdicts.{IsVerdict};
 ghost use Rattle.route_check_c.specs.Placing.{HaveLeaves};
-ghost use Rattle.route_check_c.specs.Telling.{TellsChecked, TellsFound, TellsRoute, Unwanted};
+ghost use Rattle.route_client.specs.declared.errors.CheckError.{CheckError};
+ghost use Rattle.road_line.specs.VerdictLine.{refused_line};
+ghost use Rattle.route_check_c.specs.Codes.{told as told_of, route_reason, refused_numbers};
+ghost use Rattle.route_check_c.specs.Telling.{AreTooLong, TellsChecked, TellsFound, TellsRefusal, TellsRoute, Unwanted};
 
 use crate::chains::links_of;
 use crate::filling::{fill, fill_route};
@@ -16,7 +19,7 @@ use octet_text::Sha;
 use proof_judge::NodesById;
 use proof_octets::Answer;
 use road_line::line_of_refused;
-use route_client::{CheckedAnswer, check_answer};
+use route_client::{CheckError, CheckedAnswer, check_answer};
 use std::alloc::Global;
 
 /// Why a route is not wanted where `simple` is not 0: it passes a node twice, or memory was short.
@@ -69,6 +72,24 @@ fn tell(alloc: Global, checked: &CheckedAnswer, simple: u32, nodes: &mut [RouteN
     }
 }
 
+/// The numbers of what is refused; its line goes into its room. Want of memory is told as what is not
+/// checked, without a line.
+fn tell_refused(alloc: Global, error: CheckError, line: &mut [u8]) -> Verdict
+    ensures { TellsRefusal (error ≡ CheckError.Memory) (route_reason error) (refused_line error)
+        line.old line.new result }
+{
+    match error {
+        CheckError::Memory => refused(told(16, 0, 0), 0),
+        _ => match line_of_refused(alloc, error) {
+            Ok(text) => {
+                fill(line, &text);
+                refused(reason_of_route(error), text.len() as u64)
+            }
+            Err(_) => refused(told(16, 0, 0), 0),
+        },
+    }
+}
+
 /// Checks a reply to the query for a shortest route under the owner's public key, and answers the
 /// verdict's code. `chain` has the octets of a chain file that leads from the key to the owner's later
 /// ones, none for no link. `least` is the least version that is taken. Where `simple` is not 0, a route
@@ -95,6 +116,8 @@ pub extern "C" fn gog_proved_route(
     ensures told { TellsRoute
         (λ links. IsVerdict sha256 public.now links reply.now (record { from = from; to = to }) least)
         chain.now reply.now simple nodes.old nodes.new line.old line.new verdict.new }
+    ensures too_long { AreTooLong chain.now reply.now →
+        verdict.new ≡ refused_numbers (told_of 17 0 0) 0 }
 {
     let links = match links_of(alloc, chain, reply) {
         Ok(links) => links,
@@ -106,13 +129,7 @@ pub extern "C" fn gog_proved_route(
     let query = Query { from, to };
     match check_answer::<Sha>(alloc, public, links.as_slice(), reply, query, least) {
         Ok(checked) => *verdict = tell(alloc, &checked, simple, nodes),
-        Err(error) => match line_of_refused(alloc, error) {
-            Ok(text) => {
-                fill(line, &text);
-                *verdict = refused(reason_of_route(error), text.len() as u64);
-            }
-            Err(_) => *verdict = refused(told(16, 0, 0), 0),
-        },
+        Err(error) => *verdict = tell_refused(alloc, error, line),
     }
     verdict.code
 }

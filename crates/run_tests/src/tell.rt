@@ -9,7 +9,7 @@ use mirror_out::MemMirror;
 use near_client::NearError;
 use road_command::Words;
 use road_run::run;
-use road_tell::{Again, Facts, Unusable, look_again, message_on};
+use road_tell::{Again, Content, Facts, Unusable, look_again, message_on};
 use route_client::CheckError;
 use std::alloc::Global;
 use std::io::{self, ErrorKind};
@@ -55,7 +55,7 @@ fn told_again(
 ) -> Result<String, Fail> {
     let facts = Facts {
         name,
-        text: &again.text,
+        file: &again.file,
         file_error: Some(io::Error::from(ErrorKind::NotFound)),
         source_error: None,
         sink_error: None,
@@ -151,6 +151,23 @@ fn each_end_is_told(rt: HostRuntime) -> Result<(), Fail> {
     Ok(())
 }
 
+#[test]
+fn of_a_secrets_file_no_octet_is_kept(rt: HostRuntime) -> Result<(), Fail> {
+    for line in ["key map.roads h5", "succeed map.roads h5"] {
+        let words = words_of(&rt, rt.alloc(), line)?;
+        let mut library = files(rt.alloc())?;
+        for fault in [Fault::BadHex, Fault::Malformed(0), Fault::TooLong] {
+            let ended = Ended {
+                status: 3,
+                fault: Some(fault),
+            };
+            let again = look_again(rt.alloc(), &mut library, &words, ended, "map.roads");
+            assert_octets(&rt, line, again.file.octets(), b"");
+        }
+    }
+    Ok(())
+}
+
 /// Compares what is said of a line that accepted the reply `r`, whose octets these are.
 fn says_of_accepted(
     rt: &impl Abort,
@@ -196,9 +213,13 @@ fn assert_told(
     wanted: &str,
 ) -> Result<(), Fail> {
     let words = words_of(rt, alloc, line)?;
+    let file = match ended.fault {
+        Some(Fault::BadHex) => Content::of_hex(b"RPP1", None),
+        _ => Content::Octets(b"RPP1".to_vec(alloc)?),
+    };
     let facts = Facts {
         name: "r",
-        text: b"RPP1",
+        file: &file,
         file_error: None,
         source_error: Some(io::Error::from(error)),
         sink_error: Some(io::Error::from(error)),

@@ -2,6 +2,7 @@ use Rattle.std.proofs.Common.{◌≡◌, Ok}
 use Rattle.octet_text.specs.Format.{whole}
 use Rattle.near_model.specs.declared.reply.NearReply.{NearReply}
 use Rattle.near_model.specs.NearReplies.{near_reply}
+use Rattle.near_model.proofs.Named.{read_named}
 use Rattle.near_client.specs.NearVerdicts.{taken}
 use Rattle.near_client.proofs.NearVerdictLaws.{refused, walked, spelled_of, of_same}
 use Rattle.near_client.proofs.checking.check_near_reply.Goals as goal
@@ -16,3 +17,7 @@ pub returns-in-Ok-clause-spelled : goal.returns-in-Ok-clause-spelled
 returns-in-Ok-clause-spelled g c =
     of_same (λ (a : NearReply). whole near_reply c.args.reply.now ≡ Ok a) c.in-Ok.reply c.accept.result
     (spelled_of g.H.Hasher.hash c.args.public.now c.args.chain.now c.args.reply.now c.args.least c.in-Ok.reply c.in-Ok.ensures.is) c.accept.ensures.same
+
+pub returns-in-Ok-clause-named : goal.returns-in-Ok-clause-named
+returns-in-Ok-clause-named g c memory =
+    read_named c.args.reply.now c.in-Ok.reply (spelled_of g.H.Hasher.hash c.args.public.now c.args.chain.now c.args.reply.now c.args.least c.in-Ok.reply c.in-Ok.ensures.is)

@@ -21,3 +21,9 @@ returns-in-Ok-clause-spelled g c =
 
 pub returns-in-Ok-clause-good : goal.returns-in-Ok-clause-good
 returns-in-Ok-clause-good g c = of_same IsGood c.in-Ok.answer c.accept.result c.in-Ok.ensures.good c.accept.ensures.same
+
+pub returns-in-Ok-clause-not_answer : goal.returns-in-Ok-clause-not_answer
+returns-in-Ok-clause-not_answer g c kind not = let e = c.in-Ok.ensures.not_answer kind not in absurd cc
+
+pub returns-in-Err-clause-not_answer : goal.returns-in-Err-clause-not_answer
+returns-in-Err-clause-not_answer g c kind not = let e = c.in-Err.ensures.not_answer kind not in cc

@@ -4,6 +4,7 @@ use Rattle.proof_octets.specs.declared.reply.Reply.{Reply}
 use Rattle.proof_octets.specs.Replies.{reply, reply_text}
 use Rattle.proof_octets.proofs.Good.{reply_is, is_routed, is_apart}
 use Rattle.route_client.specs.Verdicts.{answered}
+use Rattle.route_client.proofs.NotAnswers.{answer_begun}
 use Rattle.route_client.proofs.earlier_tests.read_answer.Goals as goal
 
 pub returns-in-Ok-Answer-clause-good : goal.returns-in-Ok-Answer-clause-good
@@ -37,3 +38,7 @@ pub returns-in-Ok-Apart-clause-spelled : goal.returns-in-Ok-Apart-clause-spelled
 returns-in-Ok-Apart-clause-spelled c =
     let fits = subst (λ r. reply.Fits r) c.in-Ok-Apart.field-0-is c.in-Ok-Apart.ensures.found.0 in
     c.in-Ok-Apart.ensures.found.1 ∙ ap reply_text (c.in-Ok-Apart.field-0-is ∙ sym (is_apart c.in-Ok-Apart.answer fits))
+
+pub returns-in-Err-Memory-clause-memory : goal.returns-in-Err-Memory-clause-memory
+returns-in-Err-Memory-clause-memory c is kind =
+    answer_begun c.args.octets.now kind (λ r none read. let e = c.in-Err-Memory.ensures.bare r none read in cc)

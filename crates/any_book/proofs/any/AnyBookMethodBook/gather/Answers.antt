@@ -1,6 +1,7 @@
-use Rattle.std.proofs.Common.{sym, subst}
+use Rattle.std.proofs.Common.{◌≡◌, ℕ, Err, sym, subst}
 use Rattle.std.specs.Prelude.{IfErr}
-use Rattle.proof_method.specs.Gathering.{WhyNone}
+use Rattle.proof_method.specs.Gathering.{IsFirstUnknown, WhyNone}
+use Rattle.proof_method.specs.declared.found.GatherError.TheVariants.{UnknownNode}
 use Rattle.any_book.specs.declared.any.AnyBook.{AnyBook}
 use Rattle.any_book.specs.AnyBooks.{shown_in}
 use Rattle.any_book.proofs.any.AnyBookMethodBook.gather.Goals as goal
@@ -16,3 +17,15 @@ returns-in-Ldm-clause-refused c = subst (λ (b : AnyBook). IfErr c.gather-in-Ldm
 
 pub returns-in-Hyp-clause-refused : goal.returns-in-Hyp-clause-refused
 returns-in-Hyp-clause-refused c = subst (λ (b : AnyBook). IfErr c.gather-in-Hyp.result (WhyNone (shown_in b).parts c.args.query)) (sym c.in-Hyp.is) c.gather-in-Hyp.ensures.refused
+
+pub returns-in-Dij-clause-unknown : goal.returns-in-Dij-clause-unknown
+returns-in-Dij-clause-unknown c = subst (λ (b : AnyBook). (id : ℕ) → IsFirstUnknown (shown_in b).parts c.args.query id → c.gather.result ≡ Err (UnknownNode id)) (sym c.in-Dij.is) c.gather.ensures.unknown
+
+pub returns-in-Full-clause-unknown : goal.returns-in-Full-clause-unknown
+returns-in-Full-clause-unknown c = subst (λ (b : AnyBook). (id : ℕ) → IsFirstUnknown (shown_in b).parts c.args.query id → c.gather-in-Full.result ≡ Err (UnknownNode id)) (sym c.in-Full.is) c.gather-in-Full.ensures.unknown
+
+pub returns-in-Ldm-clause-unknown : goal.returns-in-Ldm-clause-unknown
+returns-in-Ldm-clause-unknown c = subst (λ (b : AnyBook). (id : ℕ) → IsFirstUnknown (shown_in b).parts c.args.query id → c.gather-in-Ldm.result ≡ Err (UnknownNode id)) (sym c.in-Ldm.is) c.gather-in-Ldm.ensures.unknown
+
+pub returns-in-Hyp-clause-unknown : goal.returns-in-Hyp-clause-unknown
+returns-in-Hyp-clause-unknown c = subst (λ (b : AnyBook). (id : ℕ) → IsFirstUnknown (shown_in b).parts c.args.query id → c.gather-in-Hyp.result ≡ Err (UnknownNode id)) (sym c.in-Hyp.is) c.gather-in-Hyp.ensures.unknown

@@ -1,3 +1,4 @@
+use Rattle.std.proofs.lemmas.Result.{err_from_is_err_and}
 use Rattle.std.proofs.Common.{◌∙◌, ◌≤◌, length, sym, ap, subst, arith}
 use Rattle.road_map.specs.Walks.{distance}
 use Rattle.road_search.specs.Labelling.{length_at}
@@ -36,3 +37,9 @@ returns-clause-found c =
       found_hyp book.map.parts book.map.order c.parts-parts.ensures.is_map c.parts-parts.ensures.by_id book.grid.columns book.grid.rows book.pairs c.args.query d (record { route = found.reached.route; nodes = c.in_ok-nodes.nodes; pairs = c.in_ok-pairs.pairs }) near far book.borders book.bordered found.ensures.route found.ensures.distinct c.in_ok-near.ensures.lengths c.in_ok-far.ensures.lengths c.in_ok-nodes.ensures
           (places_same c.as_slice.result.now book.pairs c.as_slice-2.result.now book.borders near far d c.in_ok-pairs.pairs c.as_slice.ensures c.as_slice-2.ensures c.in_ok-pairs.ensures),
     )
+
+pub returns-in_err-reached-clause-unknown : goal.returns-in_err-reached-clause-unknown
+returns-in_err-reached-clause-unknown c id first =
+    let p = err_from_is_err_and c.from_residual.result c.from_residual.ensures.1 in
+    let told = c.in_err-reached.ensures.unknown id first in
+    rw (p.1, p.2) (cc (told))

@@ -1,3 +1,4 @@
+use Rattle.std.proofs.lemmas.Result.{err_from_is_err_and}
 use Rattle.std.proofs.Common.{◌∙◌}
 use Rattle.road_search.specs.Labelling.{length_at}
 use Rattle.ldm_book.proofs.FoundLaws.{short_route, found_ldm}
@@ -13,3 +14,9 @@ returns-clause-found c =
       found_ldm c.args.self.now.map.parts c.args.self.now.map.order c.args.self.now.extras.entries c.args.self.now.numbers c.parts-parts.ensures.is_map c.parts-parts.ensures.by_id c.args.query found.reached.length
           (length_at c.in_ok-labels.labels) c.in_ok-labels.ensures.lengths (record { route = found.reached.route; nodes = c.in_ok-nodes.nodes; pairs = c.from_vec.result }) found.ensures.route found.ensures.distinct c.in_ok-nodes.ensures (c.from_vec.ensures ∙ c.new.ensures.items),
     )
+
+pub returns-in_err-reached-clause-unknown : goal.returns-in_err-reached-clause-unknown
+returns-in_err-reached-clause-unknown c id first =
+    let p = err_from_is_err_and c.from_residual.result c.from_residual.ensures.1 in
+    let told = c.in_err-reached.ensures.unknown id first in
+    rw (p.1, p.2) (cc (told))

@@ -5,7 +5,7 @@ use Rattle.near_model.proofs.NearFormat.{near_exact}
 use Rattle.near_model.proofs.reply.NearReply.read.Goals as goal
 
 pub returns-clause-found : goal.returns-clause-found
-returns-clause-found c = is_found (λ r. r) near_reply near_exact c.args.octets.now c.read_whole.result (λ i. omega (arith, c.type_inv.octets i)) c.read_whole.ensures
+returns-clause-found c = is_found (λ r. r) near_reply near_exact c.args.octets.now c.read_whole.result (λ i. omega (arith, c.type_inv.octets i)) c.read_whole.ensures.reads
 
 pub returns-clause-only : goal.returns-clause-only
-returns-clause-only c = reads_all (λ r. r) near_reply near_exact c.args.octets.now c.read_whole.result c.read_whole.ensures
+returns-clause-only c = reads_all (λ r. r) near_reply near_exact c.args.octets.now c.read_whole.result c.read_whole.ensures.reads

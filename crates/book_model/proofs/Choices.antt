@@ -82,3 +82,18 @@ branched = record {
 second_branch_after_the_first : depth branched ≡ 1 ∷ 2 ∷ 4 ∷ 6 ∷ 5 ∷ 3 ∷ []
 unfolding sorted_by dive
 second_branch_after_the_first = refl
+
+-- A tour dives as deep as there are nodes: along a line all are found, and one node is a tour.
+abbrev line : Parts
+line = record {
+  nodes = node 1 ∷ node 2 ∷ node 3 ∷ node 4 ∷ node 5 ∷ [];
+  roads = road 1 5 ∷ road 5 2 ∷ road 2 4 ∷ road 4 3 ∷ [];
+}
+
+to_the_end_of_a_line : depth line ≡ 1 ∷ 5 ∷ 2 ∷ 4 ∷ 3 ∷ []
+unfolding sorted_by dive
+to_the_end_of_a_line = refl
+
+one_node_is_a_tour : depth (record { nodes = node 7 ∷ []; roads = [] }) ≡ 7 ∷ []
+unfolding sorted_by dive
+one_node_is_a_tour = refl

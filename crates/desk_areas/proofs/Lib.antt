@@ -1,6 +1,7 @@
 pub mod Areas
 pub mod Bases
 pub mod Blocks
+pub mod CallLemmas
 pub mod Frame
 pub mod Growth
 pub mod KeyLemmas

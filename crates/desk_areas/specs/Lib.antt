@@ -1,5 +1,6 @@
 pub mod Area
 pub mod Blank
+pub mod Calls
 pub mod Faults
 pub mod Keys
 pub mod Layout

@@ -1,9 +1,10 @@
 //! A new key's area: zeros first, then the key block, whose gate is opened last.
 ghost use Rattle.std.specs.Prelude.{◌≡◌, ◌≢◌, ◌⊎◌, ◌+◌, ◌*◌, ◌^◌, ◌<◌, ◌≤◌, Some, Err, length, take, drop, replicate, IfOk, OnOk, IsErrOf, IsErr, get_or};
 ghost use Rattle.std.specs.Option.{ForSome};
-ghost use Rattle.road_io.specs.Causes.{HasCause, Rose};
+ghost use Rattle.road_io.specs.Causes.{HasCause, Rose, RoseBy};
 ghost use Rattle.road_io.specs.Disk.{Narrows, Torn, Stays};
 ghost use Rattle.road_io.specs.Moments.{EachImage, AtEachMoment};
+ghost use Rattle.desk_areas.specs.Calls.{CalledUpTo};
 ghost use Rattle.desk_areas.specs.Layout.{slots_of, place_in, gate_at, IsOpen, AgreesOutside};
 ghost use Rattle.desk_areas.specs.Keys.{key_from};
 ghost use Rattle.desk_areas.specs.Blank.{IsZero, IsBlankArea, IsBlank, IsFresh};
@@ -30,6 +31,12 @@ pub fn look_for_key<D: Disk>(disk: &mut D) -> Result<u64, StartError>
     ensures refused { IsErrOf result StartError.Held →
         Narrows (D.content disk.old) (D.content disk.new) }
     ensures moments { AtEachMoment D.Disk disk.old disk.new Stays }
+    ensures counted { IfOk result (λ n.
+        ((64 ≤ n) × RoseBy 3 (D.calls disk.old) (D.calls disk.new)) ⊎
+        ((n < 64) × RoseBy 2 (D.calls disk.old) (D.calls disk.new))) }
+    ensures held_counted { IsErrOf result StartError.Held →
+        RoseBy 3 (D.calls disk.old) (D.calls disk.new) }
+    ensures few { CalledUpTo 3 (D.calls disk.old) (D.calls disk.new) }
 {
     disk.sync()?;
     let len = disk.len()?;
@@ -52,6 +59,10 @@ pub fn clear_first<D: Disk>(disk: &mut D, len: u64, zeros: &[u8]) -> Result<(), 
     ensures cleared { OnOk result (EachImage D.Disk disk.new (IsZero 0 (length zeros.now + 1))) }
     ensures cause { HasCause (D.faults disk.old) (D.faults disk.new) result }
     ensures kept { OnOk result (D.faults disk.new ≡ D.faults disk.old) }
+    ensures counted { OnOk result
+        (((64 ≤ len) × RoseBy 2 (D.calls disk.old) (D.calls disk.new)) ⊎
+        ((len < 64) × RoseBy 4 (D.calls disk.old) (D.calls disk.new))) }
+    ensures few { CalledUpTo 4 (D.calls disk.old) (D.calls disk.new) }
 {
     if len < 64 {
         close(disk)?;
@@ -68,6 +79,8 @@ fn zero_all<D: Disk>(disk: &mut D, zeros: &[u8]) -> Result<(), Failed>
     ensures cleared { OnOk result (EachImage D.Disk disk.new (IsZero 0 (length zeros.now + 1))) }
     ensures cause { HasCause (D.faults disk.old) (D.faults disk.new) result }
     ensures kept { OnOk result (D.faults disk.new ≡ D.faults disk.old) }
+    ensures counted { OnOk result (RoseBy 2 (D.calls disk.old) (D.calls disk.new)) }
+    ensures few { CalledUpTo 2 (D.calls disk.old) (D.calls disk.new) }
 {
     put(disk, 1, zeros)
 }
@@ -80,6 +93,8 @@ fn close<D: Disk>(disk: &mut D) -> Result<(), Failed>
         (λ i. (0 < length i) × (gate_at i 0 ≡ 0))) }
     ensures cause { HasCause (D.faults disk.old) (D.faults disk.new) result }
     ensures kept { OnOk result (D.faults disk.new ≡ D.faults disk.old) }
+    ensures counted { OnOk result (RoseBy 2 (D.calls disk.old) (D.calls disk.new)) }
+    ensures few { CalledUpTo 2 (D.calls disk.old) (D.calls disk.new) }
 {
     put(disk, 0, &[0])
 }
@@ -92,6 +107,8 @@ pub fn clear_next<D: Disk>(disk: &mut D, base: u64, zeros: &[u8]) -> Result<(), 
     ensures cleared { OnOk result (EachImage D.Disk disk.new (IsZero base (length zeros.now))) }
     ensures cause { HasCause (D.faults disk.old) (D.faults disk.new) result }
     ensures kept { OnOk result (D.faults disk.new ≡ D.faults disk.old) }
+    ensures counted { OnOk result (RoseBy 2 (D.calls disk.old) (D.calls disk.new)) }
+    ensures few { CalledUpTo 2 (D.calls disk.old) (D.calls disk.new) }
 {
     put(disk, base, zeros)
 }
@@ -110,6 +127,8 @@ pub fn put_block<D: Disk>(
         (IsBlankArea (key_from kind secret.now) base)) }
     ensures cause { HasCause (D.faults disk.old) (D.faults disk.new) result }
     ensures kept { OnOk result (D.faults disk.new ≡ D.faults disk.old) }
+    ensures counted { OnOk result (RoseBy 2 (D.calls disk.old) (D.calls disk.new)) }
+    ensures few { CalledUpTo 2 (D.calls disk.old) (D.calls disk.new) }
 {
     let block = block_of(kind, secret);
     store(disk, base + 1, &block)
@@ -138,6 +157,8 @@ pub fn open_first<D: Disk>(disk: &mut D, kind: u32, secret: &[u8; 48]) -> Result
     ensures blank { OnOk result (EachImage D.Disk disk.new (IsBlank (key_from kind secret.now))) }
     ensures cause { HasCause (D.faults disk.old) (D.faults disk.new) result }
     ensures kept { OnOk result (D.faults disk.new ≡ D.faults disk.old) }
+    ensures counted { OnOk result (RoseBy 4 (D.calls disk.old) (D.calls disk.new)) }
+    ensures few { CalledUpTo 4 (D.calls disk.old) (D.calls disk.new) }
 {
     put_block(disk, 0, kind, secret)?;
     open_block(disk)
@@ -150,6 +171,8 @@ fn open_block<D: Disk>(disk: &mut D) -> Result<(), Failed>
     ensures open { OnOk result (EachImage D.Disk disk.new (λ i. gate_at i 0 ≡ 1)) }
     ensures cause { HasCause (D.faults disk.old) (D.faults disk.new) result }
     ensures kept { OnOk result (D.faults disk.new ≡ D.faults disk.old) }
+    ensures counted { OnOk result (RoseBy 2 (D.calls disk.old) (D.calls disk.new)) }
+    ensures few { CalledUpTo 2 (D.calls disk.old) (D.calls disk.new) }
 {
     store(disk, 0, &[1])
 }

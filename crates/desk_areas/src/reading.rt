@@ -1,10 +1,12 @@
 //! The reading of areas: their blocks, gates and links.
 ghost use Rattle.std.specs.Prelude.{◌≡◌, ◌≢◌, ◌+◌, ◌*◌, ◌<◌, ◌≤◌, ◌-◌, ◌^◌, ◌↔◌, List, ℕ, Some, length, take, drop, min, IfOk, OnOk, IfSome, IfNone, IsErrOf, IsErr, Err, ◌⊎◌, true, false, slice_index_or, get_or};
+ghost use Rattle.std.specs.List.{count_by};
 ghost use Rattle.std.specs.Option.{ForSome};
-ghost use Rattle.road_io.specs.Causes.{HasCause, Rose};
+ghost use Rattle.road_io.specs.Causes.{HasCause, Rose, RoseBy};
 ghost use Rattle.road_io.specs.Disk.{Narrows, Stays};
 ghost use Rattle.road_io.specs.Moments.{Image, EachImage, AtEachMoment};
 ghost use Rattle.desk_areas.specs.Area.{area_in};
+ghost use Rattle.desk_areas.specs.Calls.{Called, CalledUpTo, area_calls, is_spent, most_area_calls};
 ghost use Rattle.desk_areas.specs.Faults.{IsBadArea, IsBadBlock};
 ghost use Rattle.desk_areas.specs.Layout.{slots_of, place_in, gate_at, text_at, kind_at, secret_at};
 ghost use Rattle.desk_areas.specs.Reading.{HasStray, HasGates, IsReadArea, IsLinkTo, IsLastLink, IsNamed, HasRead};
@@ -33,6 +35,7 @@ fn read_block<D: Disk>(disk: &mut D, base: u64) -> Result<Block, Failed>
     ensures moments { AtEachMoment D.Disk disk.old disk.new Stays }
     ensures cause { HasCause (D.faults disk.old) (D.faults disk.new) result }
     ensures kept { OnOk result (D.faults disk.new ≡ D.faults disk.old) }
+    ensures counted { RoseBy 1 (D.calls disk.old) (D.calls disk.new) }
 {
     let mut octets = [0u8; 53];
     disk.read_at(base, &mut octets)?;
@@ -54,6 +57,7 @@ pub fn read_gate<D: Disk>(disk: &mut D, place: u64) -> Result<bool, Failed>
     ensures moments { AtEachMoment D.Disk disk.old disk.new Stays }
     ensures cause { HasCause (D.faults disk.old) (D.faults disk.new) result }
     ensures kept { OnOk result (D.faults disk.new ≡ D.faults disk.old) }
+    ensures counted { RoseBy 1 (D.calls disk.old) (D.calls disk.new) }
 {
     let mut octets = [0u8; 1];
     disk.read_at(place, &mut octets)?;
@@ -82,6 +86,8 @@ fn read_gates<D: Disk>(
     ensures kept { result ≢ Err StartError.DiskFault → D.faults disk.new ≡ D.faults disk.old }
     ensures other { IsErr result → (result ≡ Err StartError.DiskFault) ⊎
         (result ≡ Err StartError.Memory) }
+    ensures counted { OnOk result (Called slots (D.calls disk.old) (D.calls disk.new)) }
+    ensures few { CalledUpTo slots (D.calls disk.old) (D.calls disk.new) }
 {
     let mut counts = Vec::new(alloc);
     for slot in 0..slots {
@@ -103,6 +109,7 @@ fn read_link<D: Disk>(disk: &mut D, place: u64) -> Result<Option<[u8; 56]>, Fail
     ensures moments { AtEachMoment D.Disk disk.old disk.new Stays }
     ensures cause { HasCause (D.faults disk.old) (D.faults disk.new) result }
     ensures kept { OnOk result (D.faults disk.new ≡ D.faults disk.old) }
+    ensures counted { RoseBy 1 (D.calls disk.old) (D.calls disk.new) }
 {
     let mut octets = [0u8; 127];
     disk.read_at(place + 1, &mut octets)?;
@@ -139,6 +146,10 @@ fn has_stray<D: Disk>(disk: &mut D, base: u64, counts: &[Count]) -> Result<bool,
     ensures moments { AtEachMoment D.Disk disk.old disk.new Stays }
     ensures cause { HasCause (D.faults disk.old) (D.faults disk.new) result }
     ensures kept { OnOk result (D.faults disk.new ≡ D.faults disk.old) }
+    ensures counted { IfOk result (λ found. found ≡ false →
+        Called (count_by is_spent (take (length counts.now - 1) counts.now))
+        (D.calls disk.old) (D.calls disk.new)) }
+    ensures few { CalledUpTo (length counts.now - 1) (D.calls disk.old) (D.calls disk.new) }
 {
     let mut number = 0u32;
     for count in counts {
@@ -165,6 +176,10 @@ fn last_link<D: Disk>(disk: &mut D, base: u64, counts: &[Count]) -> Result<Optio
     ensures moments { AtEachMoment D.Disk disk.old disk.new Stays }
     ensures cause { HasCause (D.faults disk.old) (D.faults disk.new) result }
     ensures kept { OnOk result (D.faults disk.new ≡ D.faults disk.old) }
+    ensures counted { OnOk result
+        (Called (count_by is_spent (drop (length counts.now - 1) counts.now))
+        (D.calls disk.old) (D.calls disk.new)) }
+    ensures few { CalledUpTo 1 (D.calls disk.old) (D.calls disk.new) }
 {
     let last = counts.len() - 1;
     if counts[last] != Count::Spent {
@@ -193,6 +208,10 @@ fn read_area<D: Disk>(alloc: Global, disk: &mut D, base: u64, len: u64) -> Resul
     ensures fault { IsErrOf result StartError.DiskFault →
         Rose (D.faults disk.old) (D.faults disk.new) }
     ensures kept { result ≢ Err StartError.DiskFault → D.faults disk.new ≡ D.faults disk.old }
+    ensures counted { IfOk result (λ a.
+        Called (1 + length a.counts + count_by is_spent (take (length a.counts - 1) a.counts))
+        (D.calls disk.old) (D.calls disk.new)) }
+    ensures few { CalledUpTo 2048 (D.calls disk.old) (D.calls disk.new) }
 {
     if len < base + 64 {
         return Err(StartError::BadBlock);
@@ -276,6 +295,9 @@ pub fn read_next<D: Disk>(
     ensures fault { IsErrOf result StartError.DiskFault →
         Rose (D.faults disk.old) (D.faults disk.new) }
     ensures kept { result ≢ Err StartError.DiskFault → D.faults disk.new ≡ D.faults disk.old }
+    ensures counted { IfOk result (λ f.
+        Called (area_calls f.area.counts) (D.calls disk.old) (D.calls disk.new)) }
+    ensures few { CalledUpTo most_area_calls (D.calls disk.old) (D.calls disk.new) }
 {
     let area = read_area(alloc, disk, base, len)?;
     if has_name(earlier, &area.key().i()) {

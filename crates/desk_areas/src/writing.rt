@@ -3,6 +3,7 @@ ghost use Rattle.std.specs.Prelude.{◌≡◌, ◌+◌, ◌*◌, ◌<◌, ◌^�
 ghost use Rattle.road_io.specs.Causes.{HasCause, RoseBy};
 ghost use Rattle.road_io.specs.Disk.{written, Torn};
 ghost use Rattle.road_io.specs.Moments.{Image, EachImage, AtEachMoment};
+ghost use Rattle.desk_areas.specs.Calls.{CalledUpTo};
 ghost use Rattle.desk_areas.specs.Layout.{AgreesOutside, gate_at, text_at};
 ghost use Rattle.desk_areas.specs.Settled.{IsSettled};
 
@@ -21,6 +22,7 @@ pub(crate) fn store<D: Disk>(disk: &mut D, at: u64, octets: &[u8]) -> Result<(),
     ensures cause { HasCause (D.faults disk.old) (D.faults disk.new) result }
     ensures kept { OnOk result (D.faults disk.new ≡ D.faults disk.old) }
     ensures counted { OnOk result (RoseBy 2 (D.calls disk.old) (D.calls disk.new)) }
+    ensures few { CalledUpTo 2 (D.calls disk.old) (D.calls disk.new) }
 {
     put(disk, at, octets)
 }
@@ -35,6 +37,7 @@ pub(crate) fn put<D: Disk>(disk: &mut D, at: u64, octets: &[u8]) -> Result<(), F
     ensures cause { HasCause (D.faults disk.old) (D.faults disk.new) result }
     ensures kept { OnOk result (D.faults disk.new ≡ D.faults disk.old) }
     ensures counted { OnOk result (RoseBy 2 (D.calls disk.old) (D.calls disk.new)) }
+    ensures few { CalledUpTo 2 (D.calls disk.old) (D.calls disk.new) }
 {
     disk.write_at(at, octets)?;
     disk.sync()
@@ -53,6 +56,7 @@ pub fn put_text<D: Disk>(disk: &mut D, place: u64, text: &[u8]) -> Result<[u8; 1
     ensures cause { HasCause (D.faults disk.old) (D.faults disk.new) result }
     ensures kept { OnOk result (D.faults disk.new ≡ D.faults disk.old) }
     ensures counted { OnOk result (RoseBy 2 (D.calls disk.old) (D.calls disk.new)) }
+    ensures few { CalledUpTo 2 (D.calls disk.old) (D.calls disk.new) }
 {
     let piece = piece_of(text);
     store(disk, place + 1, &piece[..text.len() + 1])?;
@@ -68,6 +72,7 @@ pub fn open_gate<D: Disk>(disk: &mut D, place: u64) -> Result<(), Failed>
     ensures cause { HasCause (D.faults disk.old) (D.faults disk.new) result }
     ensures kept { OnOk result (D.faults disk.new ≡ D.faults disk.old) }
     ensures counted { OnOk result (RoseBy 2 (D.calls disk.old) (D.calls disk.new)) }
+    ensures few { CalledUpTo 2 (D.calls disk.old) (D.calls disk.new) }
 {
     store(disk, place, &[1])
 }

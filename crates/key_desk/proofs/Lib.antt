@@ -1,4 +1,5 @@
 pub mod Blanks
+pub mod CallLemmas
 pub mod Counts
 pub mod Finding
 mod FreeSlots

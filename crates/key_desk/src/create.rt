@@ -1,9 +1,10 @@
 //! The making of a key on a disk that holds none.
-ghost use Rattle.std.specs.Prelude.{◌≡◌, ◌≢◌, ◌⊎◌, ◌<◌, ◌≤◌, [], List, ℕ, Err, IfOk, OnOk, IsErrOf, IsErr, true};
+ghost use Rattle.std.specs.Prelude.{◌≡◌, ◌≢◌, ◌⊎◌, ◌<◌, ◌≤◌, [], List, ℕ, length, Err, IfOk, OnOk, IsErrOf, IsErr, true};
 ghost use Rattle.std.specs.Option.{ForSome};
-ghost use Rattle.road_io.specs.Causes.{Rose};
+ghost use Rattle.road_io.specs.Causes.{Rose, RoseBy};
 ghost use Rattle.road_io.specs.Disk.{Narrows, Stays, Turns};
 ghost use Rattle.road_io.specs.Moments.{EachImage, AtEachMoment, still_told};
+ghost use Rattle.desk_areas.specs.Calls.{CalledUpTo};
 ghost use Rattle.desk_areas.specs.Blank.{IsBlank, IsFresh};
 ghost use Rattle.desk_areas.specs.Layout.{slots_of, IsOpen};
 ghost use Rattle.desk_areas.specs.Signed.{signed};
@@ -18,7 +19,8 @@ use std::alloc::Global;
 impl Desk {
     ghost use Rattle.key_desk.specs.Desk.{count_at, Fits};
 
-    /// Makes a key on a disk that holds none, and opens its desk.
+    /// Makes a key on a disk that holds none, and opens its desk. It makes nine calls of the disk, or ten where the
+    /// disk is shorter than a key block, and three where it holds a key.
     pub fn create<D: Disk>(
         alloc: Global,
         disk: &mut D,
@@ -53,6 +55,12 @@ impl Desk {
             Rose (D.faults disk.old) (D.faults disk.new) }
         ensures kept { result ≢ Err StartError.DiskFault → D.faults disk.new ≡ D.faults disk.old }
         ensures not_others { (result ≢ Err StartError.NoKey) × (result ≢ Err StartError.BadBlock) }
+        ensures counted { OnOk result (ForSome (still_told D.Disk disk.old disk.new) (λ c.
+            ((64 ≤ length c) × RoseBy 9 (D.calls disk.old) (D.calls disk.new)) ⊎
+            ((length c < 64) × RoseBy 10 (D.calls disk.old) (D.calls disk.new)))) }
+        ensures held_counted { IsErrOf result StartError.Held →
+            RoseBy 3 (D.calls disk.old) (D.calls disk.new) }
+        ensures few { CalledUpTo 10 (D.calls disk.old) (D.calls disk.new) }
     {
         let len = look_for_key(disk)?;
         let slots = slots_of(kind);

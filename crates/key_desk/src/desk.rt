@@ -2,6 +2,7 @@
 ghost use Rattle.std.specs.Prelude.{◌≡◌, ◌≢◌, ◌+◌, ◌*◌, ◌^◌, ◌<◌, ◌≤◌, ◌↔◌, List, ℕ, true, false, length, slice_set, slice_index_or, IfOk, OnOk, IsErrOf, IsErr, IsOk, Err, IfSome, IfNone, take, drop, ◌∷◌};
 ghost use Rattle.road_io.specs.Causes.{Rose, RoseBy};
 ghost use Rattle.road_io.specs.Moments.{Image, EachImage, AtEachMoment};
+ghost use Rattle.desk_areas.specs.Calls.{CalledUpTo};
 ghost use Rattle.desk_areas.specs.Layout.{SlotId, slots_of, place_in, gate_of, IsSigned, SameSigned, SignsAtMost, OutsideSlot};
 ghost use Rattle.key_desk.specs.Stands.{KeepsStanding};
 ghost use Rattle.lms_tree.specs.Signatures.{height_of, public_key, seal_len, sealed};
@@ -328,6 +329,7 @@ impl Desk {
             SignsAtMost (slot_here self.old q) text.now d i) }
         ensures stands { KeepsStanding D.Disk disk.old disk.new }
         ensures counted { OnOk result (RoseBy 4 (D.calls disk.old) (D.calls disk.new)) }
+        ensures few { CalledUpTo 4 (D.calls disk.old) (D.calls disk.new) }
         ensures faults { D.faults disk.old ≤ D.faults disk.new }
         ensures fault { IsErrOf result DeskError.DiskFault →
             Rose (D.faults disk.old) (D.faults disk.new) × (self.new.is_open ≡ false) }
@@ -421,6 +423,7 @@ impl Ticket {
             (λ d i. OutsideSlot (slot_here desk.old self) d i × SameSigned d i) }
         ensures stands { KeepsStanding D.Disk disk.old disk.new }
         ensures counted { OnOk result (RoseBy 2 (D.calls disk.old) (D.calls disk.new)) }
+        ensures few { CalledUpTo 2 (D.calls disk.old) (D.calls disk.new) }
         ensures faults { D.faults disk.old ≤ D.faults disk.new }
         ensures fault { IsErrOf result DeskError.DiskFault →
             Rose (D.faults disk.old) (D.faults disk.new) × (desk.new.is_open ≡ false) }
@@ -484,6 +487,7 @@ impl Texted {
             SignsAtMost (texted_slot self) (texted_text self) d i) }
         ensures stands { KeepsStanding D.Disk disk.old disk.new }
         ensures counted { OnOk result (RoseBy 2 (D.calls disk.old) (D.calls disk.new)) }
+        ensures few { CalledUpTo 2 (D.calls disk.old) (D.calls disk.new) }
         ensures faults { D.faults disk.old ≤ D.faults disk.new }
         ensures fault { IsErrOf result DeskError.DiskFault →
             Rose (D.faults disk.old) (D.faults disk.new) × (desk.new.is_open ≡ false) }

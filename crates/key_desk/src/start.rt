@@ -1,11 +1,13 @@
 //! The opening of a desk over what a disk holds.
 ghost use Rattle.std.specs.Prelude.{◌≡◌, ◌≢◌, ◌+◌, ◌*◌, ◌<◌, ◌≤◌, ◌-◌, List, ℕ, Some, length, IfOk, OnOk, IsErr, IsErrOf, Err, ◌⊎◌, true};
 ghost use Rattle.std.specs.Option.{ForSome};
-ghost use Rattle.road_io.specs.Causes.{Rose};
+ghost use Rattle.road_io.specs.Causes.{Rose, RoseBy};
 ghost use Rattle.road_io.specs.Disk.{Narrows, Stays};
 ghost use Rattle.road_io.specs.Moments.{Image, EachImage, AtEachMoment};
+ghost use Rattle.desk_areas.specs.Calls.{Called, CalledUpTo, area_calls, most_area_calls};
 ghost use Rattle.desk_areas.specs.Faults.{IsBadBlock};
 ghost use Rattle.desk_areas.specs.Layout.{IsOpen, keys_left};
+ghost use Rattle.key_desk.specs.Calls.{areas_calls, opening_calls, most_opening_calls};
 ghost use Rattle.key_desk.specs.Stands.{KeepsStanding};
 
 use crate::desk::Desk;
@@ -16,7 +18,8 @@ use std::alloc::Global;
 impl Desk {
     ghost use Rattle.key_desk.specs.Desk.{count_at, free_slots, HasAreas, Fits};
 
-    /// Opens the desk over the keys that the disk holds. It changes no image.
+    /// Opens the desk over the keys that the disk holds. It changes no image. Of the disk it makes a sync and asks for
+    /// its length and its first gate once, and then reads each block and each gate once, and the text of each spent slot.
     pub fn reopen<D: Disk>(alloc: Global, disk: &mut D) -> Result<Desk, StartError>
         ensures fits { IfOk result (λ desk. Fits D.Disk desk disk.new) }
         ensures opened { IfOk result (λ desk. desk.is_open ≡ true) }
@@ -47,6 +50,12 @@ impl Desk {
         ensures not_held { result ≢ Err StartError.Held }
         ensures stands { KeepsStanding D.Disk disk.old disk.new }
         ensures one { OnOk result (EachImage D.Disk disk.new (λ i. D.content disk.old ≡ Some i)) }
+        ensures counted { IfOk result (λ desk.
+            RoseBy (opening_calls desk) (D.calls disk.old) (D.calls disk.new)) }
+        ensures shut_counted { IsErrOf result StartError.NoKey →
+            RoseBy 2 (D.calls disk.old) (D.calls disk.new) ⊎
+            RoseBy 3 (D.calls disk.old) (D.calls disk.new) }
+        ensures few { CalledUpTo most_opening_calls (D.calls disk.old) (D.calls disk.new) }
     {
         disk.sync()?;
         let len = disk.len()?;
@@ -78,6 +87,10 @@ impl Desk {
         ensures fault { IsErrOf result StartError.DiskFault →
             Rose (D.faults disk.old) (D.faults disk.new) }
         ensures kept { result ≢ Err StartError.DiskFault → D.faults disk.new ≡ D.faults disk.old }
+        ensures counted { IfOk result (λ desk.
+            Called (areas_calls desk.earlier + area_calls desk.counts)
+            (D.calls disk.old) (D.calls disk.new)) }
+        ensures few { CalledUpTo (8 * most_area_calls) (D.calls disk.old) (D.calls disk.new) }
     {
         let mut earlier: Vec<Area> = Vec::new(alloc);
         let mut base = 0u64;

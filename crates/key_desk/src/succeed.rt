@@ -1,13 +1,15 @@
 //! The next key: a new area behind all others, which the last slot of the current one signs.
 ghost use Rattle.std.specs.Prelude.{◌≡◌, ◌≢◌, ◌⊎◌, ◌+◌, ◌*◌, ◌^◌, ◌↔◌, ◌<◌, ◌≤◌, ◌-◌, List, ℕ, suc, Err, length, take, replicate, IfOk, OnOk, OnErr, IfErr, IsErrOf, IsErr, true, false};
 ghost use Rattle.std.specs.Option.{ForSome};
-ghost use Rattle.road_io.specs.Causes.{HasCause, Rose};
+ghost use Rattle.road_io.specs.Causes.{HasCause, Rose, RoseBy};
 ghost use Rattle.road_io.specs.Disk.{Narrows, Stays};
 ghost use Rattle.road_io.specs.Moments.{Image, EachImage, AtEachMoment, still_told};
 ghost use Rattle.lms_tree.specs.Signatures.{public_key};
 ghost use Rattle.lms_tree.specs.Links.{link_text};
+ghost use Rattle.desk_areas.specs.Calls.{CalledUpTo};
 ghost use Rattle.desk_areas.specs.Layout.{slots_of, place_in, last_slot, IsSigned, IsCurrent, SignsAtMost};
 ghost use Rattle.desk_areas.specs.Keys.{key_from};
+ghost use Rattle.key_desk.specs.Calls.{most_succession_calls, succession_calls};
 ghost use Rattle.key_desk.specs.Stands.{KeepsStanding, SameKeys};
 ghost use Rattle.desk_areas.specs.Settled.{IsSettled};
 ghost use Rattle.key_desk.specs.Desk.{slot_here, Fits};
@@ -65,6 +67,8 @@ fn raise<D: Disk>(
         (IsUnspent (key_from kind secret.now) (place_in base slots))) }
     ensures cause { HasCause (D.faults disk.old) (D.faults disk.new) result }
     ensures kept { OnOk result (D.faults disk.new ≡ D.faults disk.old) }
+    ensures counted { OnOk result (RoseBy 8 (D.calls disk.old) (D.calls disk.new)) }
+    ensures few { CalledUpTo 8 (D.calls disk.old) (D.calls disk.new) }
 {
     let end = place_in(base, slots);
     clear_next(disk, end, zeros)?;
@@ -232,6 +236,9 @@ impl Desk {
         ensures fault { IsErrOf result SucceedError.DiskFault →
             Rose (D.faults disk.old) (D.faults disk.new) }
         ensures kept { result ≢ Err SucceedError.DiskFault → D.faults disk.new ≡ D.faults disk.old }
+        ensures counted { IfOk result (λ desk.
+            RoseBy (succession_calls desk.earlier) (D.calls disk.old) (D.calls disk.new)) }
+        ensures few { CalledUpTo most_succession_calls (D.calls disk.old) (D.calls disk.new) }
     {
         match Desk::reopen(alloc, disk) {
             Err(e) => Err(started(e)),
@@ -270,6 +277,9 @@ impl Desk {
         ensures fault { IsErrOf result SucceedError.DiskFault →
             Rose (D.faults disk.old) (D.faults disk.new) }
         ensures kept { result ≢ Err SucceedError.DiskFault → D.faults disk.new ≡ D.faults disk.old }
+        ensures counted { OnOk result (RoseBy 8 (D.calls disk.old) (D.calls disk.new)) }
+        ensures few { CalledUpTo 8 (D.calls disk.old) (D.calls disk.new) }
+        ensures free { OnOk result (count_at self (last_number self) ≢ Count.Spent) }
     {
         let name: [u8; 16] = array_at(secret, 0);
         match self.may_follow(&name) {
@@ -309,6 +319,8 @@ impl Desk {
         ensures fault { IsErrOf result SucceedError.DiskFault →
             Rose (D.faults disk.old) (D.faults disk.new) }
         ensures kept { result ≢ Err SucceedError.DiskFault → D.faults disk.new ≡ D.faults disk.old }
+        ensures counted { OnOk result (RoseBy 8 (D.calls disk.old) (D.calls disk.new)) }
+        ensures few { CalledUpTo 8 (D.calls disk.old) (D.calls disk.new) }
     {
         let slots = slots_of(kind);
         let key = match build_key(alloc, kind, secret) {

@@ -1,7 +1,6 @@
 -- How `key` and `desk` end.
-use Rattle.std.proofs.Common.{◌≡◌, inl, inr, ℕ, ◌-◌, List, [], sym, ap, ◌∙◌, subst, length, IfSome, IfOk, IfErr, OnOk}
+use Rattle.std.proofs.Common.{◌≡◌, inl, inr, ℕ, ◌-◌, List, [], sym, ap, ◌∙◌, subst, length, IfSome, IfErr, OnOk}
 use Rattle.std.specs.declared.option.Option.{Option}
-use Rattle.std.specs.declared.option.Option.TheVariants.{None, Some}
 use Rattle.std.specs.declared.result.Result.{Result}
 use Rattle.std.specs.declared.result.Result.TheVariants.{Ok, Err}
 use Rattle.std.specs.Option.{ForSome}
@@ -61,12 +60,6 @@ written_stays g before now text old new k k' o w = elim w [
   | inl h ↦ subst (λ (r : Result Conclusion Fault). IfErr r (StaysRefused g before now)) (sym h.0) tt
   | inr h ↦ subst (λ (r : Result Conclusion Fault). IfErr r (StaysRefused g before now)) (sym h.0) tt
 ]
-
--- what holds of the secret that was read holds of the one that the file spells
-pub made_of : (files : Option Folder) (name secret : List ℕ) (P : List ℕ → Type 0) → IfSome files (λ folder. secret_at folder name ≡ Ok secret) → P secret
-    → IfSome files (λ folder. IfOk (secret_at folder name) P)
-made_of None name secret P read p = tt
-made_of (Some folder) name secret P read p = subst (λ (r : Result (List ℕ) Fault). IfOk r P) (sym read) p
 
 -- the line of an opened desk is that of what the disk holds
 pub desk_told : (content : Option (List ℕ)) (desk : Desk) (left : ℕ) (text : List ℕ) → HasBlocks content desk → IsSound desk → ForSome content (λ c. left ≡ keys_left c desk.base)

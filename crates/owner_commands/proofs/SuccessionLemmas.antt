@@ -26,10 +26,10 @@ use Rattle.key_desk.specs.declared.succeed.SucceedError.{SucceedError}
 use Rattle.key_desk.specs.declared.succeed.SucceedError.TheVariants as why
 use Rattle.key_desk.specs.Desk.{key_of, HasAreas, IsSound, Fits}
 use Rattle.key_desk.specs.Links.{link_of, link_from, links_of}
-use Rattle.key_desk.specs.Succession.{SignsLink, Refuses, IsCalledFor}
+use Rattle.key_desk.specs.Succession.{IsUnspent, SignsLink, Refuses, IsCalledFor}
 use Rattle.key_desk.proofs.ReadGood.{key_is}
 use Rattle.key_desk.proofs.Refusals.{one_reason}
-use Rattle.command_desks.specs.Opening.{IsKeyOn, HasBlocks, EndsOpening}
+use Rattle.command_desks.specs.Opening.{HasBlocks, EndsOpening}
 use Rattle.command_desks.proofs.Openings.{key_on, shut, one_opening}
 use Rattle.command_files.specs.HexFiles.{secret_at}
 use Rattle.command_files.specs.Endings.{NoEnd, Promises, PromisesWithoutFiles, TellsNone, WhyNot, Writes}
@@ -39,7 +39,7 @@ use Rattle.command_files.specs.declared.ended.Conclusion.{Conclusion}
 use Rattle.command_files.specs.declared.ended.Conclusion.TheVariants.{Done}
 use Rattle.command_files.proofs.OneEnd.{HasOneEnd, one_reading}
 use Rattle.command_files.proofs.Written.{CallsFor, over, over_any, reads, refused, written_done, why_map}
-use Rattle.owner_commands.specs.NextKey.{fault_of, EndsSuccession, ends_succession, MakesNext, LinksFile, AddsKey}
+use Rattle.owner_commands.specs.NextKey.{fault_of, EndsSuccession, ends_succession, IsNextKey, LinksFile, AddsKey}
 use Rattle.owner_commands.specs.Signing.{StaysRefused}
 use Rattle.owner_commands.specs.ChainLine.{link_on, IsChainOn, TellsLinks, EndsLinks}
 
@@ -80,9 +80,12 @@ pub links_kind : {D : Type 0} (g : Ghosts D) (d e : D) (kind number : ℕ) (secr
     → AtEachMoment g d e (λ x i. (i ≡ x) ⊎ SignsLink (link_text (public_key (key_from kind secret))) x i)
 links_kind g d e kind number secret is each = subst (λ (n : ℕ). AtEachMoment g d e (λ x i. (i ≡ x) ⊎ SignsLink (link_text (public_key (key_from n secret))) x i)) is each
 
--- the key of a desk that fits stands in the last open area of each image
-pub next_on : {D : Type 0} (g : Ghosts D) (disk : D) (desk : Desk) (key : KeyOf) → Fits g desk disk → desk.key ≡ key → EachImage g disk (λ i. IsKeyOn i key)
-next_on g disk desk key fits is i now = subst (IsKeyOn i) is (key_on desk i fits.sound (fits.areas i now))
+-- the key of a desk that fits stands in the last open area of each image, and no slot there is spent
+pub next_on : {D : Type 0} (g : Ghosts D) (disk : D) (desk : Desk) (key : KeyOf) → Fits g desk disk → EachImage g disk (IsUnspent desk.key desk.base) → desk.key ≡ key → EachImage g disk (IsNextKey key)
+next_on g disk desk key fits unspent is i now =
+    let areas = fits.areas i now in
+    subst (λ (k : KeyOf). IsNextKey k i) is
+    (record { on_disk = key_on desk i fits.sound areas; unspent = subst (λ (b : ℕ). IsUnspent desk.key b i) (sym areas.based) (unspent i now) })
 
 -- over what a disk holds, a succession has one end
 one_succession : (content : List ℕ) (kind : ℕ) (secret : List ℕ) (o p : Result Conclusion Fault) (s t : List ℕ) → EndsSuccession (Some content) kind secret o s → EndsSuccession (Some content) kind secret p t → o ≡ p

@@ -22,7 +22,7 @@ use Rattle.command_files.specs.declared.ended.Conclusion.{Conclusion}
 use Rattle.command_files.specs.declared.ended.Conclusion.TheVariants.{Done}
 use Rattle.desk_areas.specs.Blank.{IsBlank}
 use Rattle.desk_areas.specs.Keys.{key_from}
-use Rattle.desk_areas.specs.Layout.{slots_of, IsOpen, IsAreaOpen, IsSigned}
+use Rattle.desk_areas.specs.Layout.{slots_of, base_of, place_in, gate_of, IsOpen, IsAreaOpen, IsSigned}
 use Rattle.lms_tree.specs.Signatures.{KeyOf, public_key, sealed}
 use Rattle.lms_tree.specs.Links.{IsLink, link_text}
 use Rattle.key_desk.specs.Stands.{key_in}
@@ -31,7 +31,7 @@ use Rattle.proof_octets.specs.Headers.{header_text}
 use Rattle.command_files.specs.HexFiles.{secret_at}
 use Rattle.owner_commands.specs.Names.{HasDistinctNames}
 use Rattle.owner_commands.specs.OwnerKey.{KeepsKey, MakesByFile}
-use Rattle.owner_commands.specs.NextKey.{AddsKey}
+use Rattle.owner_commands.specs.NextKey.{AddsKey, IsNextKey}
 use Rattle.owner_commands.specs.Publishing.{TellsLost}
 use Rattle.owner_commands.specs.Signing.{StaysRefused, Wrote, WroteSealed, SealsWhatItWrites, SealsWhatItMirrors, SpreadSealed}
 use Rattle.owner_commands.specs.StandingKeys.{KeysStand, last_of, next_text, WroteChain, ChainsWhatItWrites}
@@ -183,6 +183,13 @@ one_area i names first second same = omega (arith, names 0 1 first second same)
 -- the key of a new area is that of some secret, also where no file is told
 made_of_some_secret : {D : Type 0} (g : Ghosts D) (old new : D) (name : List ℕ) (kind : ℕ) → KeepsKey g old new None name kind (Ok Done) → (secret : List ℕ) × EachImage g new (IsBlank (key_from kind secret))
 made_of_some_secret g old new name kind h = (h.made.secret, h.made.blank)
+
+-- so is the next key, also where its line was cut, and no slot of it is spent
+next_of_some_secret : {D : Type 0} (g : Ghosts D) (old new : D) (name : List ℕ) (kind : ℕ) → AddsKey g old new None name kind (Err Sink) → (secret : List ℕ) × EachImage g new (IsNextKey (key_from kind secret))
+next_of_some_secret g old new name kind h = (h.made.secret, h.made.unspent)
+
+no_slot_of_it_is_spent : (key : KeyOf) (i : List ℕ) (n : IsNextKey key i) (number : ℕ) → number < slots_of key.kind → gate_of i (record { area = n.on_disk.area; number = number }) ≡ 0
+no_slot_of_it_is_spent key i n number lt = n.unspent.blank.zero (place_in (base_of i n.on_disk.area) number) (omega arith) (omega (arith, lt))
 
 -- the key of an area signs the link to the next by its last one-time key
 last_is : (keys : ℕ → KeyOf) (area : ℕ) → last_of keys area ≡ record { area = area; number = slots_of (keys area).kind - 1 }

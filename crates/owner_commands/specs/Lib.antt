@@ -1,3 +1,4 @@
+pub mod Calls
 pub mod OwnerKey
 pub mod Names
 pub mod NextKey

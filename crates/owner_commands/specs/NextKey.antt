@@ -1,5 +1,5 @@
 -- What `succeed` writes, and does to the owner's disk.
-use Rattle.std.specs.Prelude.{◌≡◌, ◌⊎◌, ℕ, List, [], take, IfOk, OnOk, IfSome, IfErr}
+use Rattle.std.specs.Prelude.{◌≡◌, ◌⊎◌, ℕ, List, [], take, IfSome, IfErr}
 use Rattle.std.specs.declared.option.Option.{Option}
 use Rattle.std.specs.declared.result.Result.{Result}
 use Rattle.std.specs.declared.result.Result.TheVariants.{Ok, Err}
@@ -8,11 +8,13 @@ use Rattle.road_io.specs.declared.disk.Disk.{Ghosts}
 use Rattle.road_io.specs.Disk.{Stays}
 use Rattle.road_io.specs.Moments.{EachImage, AtEachMoment}
 use Rattle.road_io.specs.Contents.{Folder}
-use Rattle.lms_tree.specs.Signatures.{public_key}
+use Rattle.lms_tree.specs.Signatures.{KeyOf, public_key}
 use Rattle.lms_tree.specs.Links.{link_text}
+use Rattle.desk_areas.specs.Calls.{CalledUpTo}
 use Rattle.desk_areas.specs.Keys.{key_from}
+use Rattle.desk_areas.specs.Layout.{base_of}
 use Rattle.key_desk.specs.Stands.{SameKeys}
-use Rattle.key_desk.specs.Succession.{SignsLink, Refuses}
+use Rattle.key_desk.specs.Succession.{IsUnspent, SignsLink, Refuses}
 use Rattle.key_desk.specs.declared.succeed.SucceedError.{SucceedError}
 use Rattle.key_desk.specs.declared.succeed.SucceedError.TheVariants as why
 use Rattle.command_desks.specs.Opening.{IsKeyOn}
@@ -22,6 +24,7 @@ use Rattle.command_files.specs.declared.fault.Fault.{Fault}
 use Rattle.command_files.specs.declared.fault.Fault.TheVariants.{Disk, Memory, NoKey, BadBlock, TooManyKeys, NoSuccession, SameSecret}
 use Rattle.command_files.specs.declared.ended.Conclusion.{Conclusion}
 use Rattle.command_files.specs.declared.ended.Conclusion.TheVariants.{Done}
+use Rattle.owner_commands.specs.Calls.{most_succeed_calls}
 use Rattle.owner_commands.specs.OwnerKey.{key_line}
 use Rattle.owner_commands.specs.Signing.{OnWriting, StaysRefused}
 use Rattle.owner_commands.specs.StandingKeys.{FollowsByFile}
@@ -51,10 +54,19 @@ abbrev pub ends_succession : Option (List ℕ) → List ℕ → ℕ → Folder �
 ends_succession content secret kind folder = EndsReading (secret_at folder secret)
     (EndsSuccession content kind)
 
--- in every image the last open area has the key of the secret and the type
-abbrev pub MakesNext : {D : Type 0} → Ghosts D → D → ℕ → Result (List ℕ) Fault → Type 0
-MakesNext g disk kind secret = IfOk secret
-    (λ secret. EachImage g disk (λ i. IsKeyOn i (key_from kind secret)))
+-- the last open area has this key, and every octet of it but the key's type and secret is zero, so
+-- that no slot of it is spent
+pub record IsNextKey (key : KeyOf) (image : List ℕ) : Type 0 where
+  pub on_disk : IsKeyOn image key
+  pub unspent : IsUnspent key (base_of image on_disk.area) image
+
+-- So it is in every image with the key of the file's secret and the type. Where no file is told, it is
+-- the key of some secret.
+pub record MakesNext {D : Type 0} (g : Ghosts D) (disk : D) (files : Option Folder)
+    (name : List ℕ) (kind : ℕ) : Type 0 where
+  pub secret : List ℕ
+  pub of_file : IfSome files (λ folder. secret_at folder name ≡ Ok secret)
+  pub unspent : EachImage g disk (IsNextKey (key_from kind secret))
 
 -- at each moment the images are those at entry, or the last slot of the current area has besides
 -- signed the link to the key of the file's secret
@@ -66,12 +78,14 @@ pub record LinksFile {D : Type 0} (g : Ghosts D) (old new : D) (files : Option F
       (λ d i. (i ≡ d) ⊎ SignsLink (link_text (public_key (key_from kind secret))) d i)
 
 -- A key is added where none of the refusals holds, and no image changes but by its link. The keys of
--- the areas that are open stay. Where a line may have been written, the new key stands behind
--- another, which has signed its link text. What is refused leaves every image.
+-- the areas that are open stay. Where a line may have been written, no slot of the new key is spent,
+-- and it stands behind another, which has signed its link text. What is refused leaves every image. The
+-- calls of the disk are so many at most.
 pub record AddsKey {D : Type 0} (g : Ghosts D) (old new : D) (files : Option Folder) (name : List ℕ)
     (kind : ℕ) (outcome : Result Conclusion Fault) : Type 0 where
-  pub made : OnOk outcome (IfSome files (λ folder. MakesNext g new kind (secret_at folder name)))
+  pub made : OnWriting outcome (MakesNext g new files name kind)
   pub links : AtEachMoment g old new Stays ⊎ LinksFile g old new files name kind
   pub keys : AtEachMoment g old new SameKeys
   pub follows : OnWriting outcome (FollowsByFile g new files name kind)
   pub untouched : IfErr outcome (StaysRefused g old new)
+  pub few : CalledUpTo most_succeed_calls (g.calls old) (g.calls new)

@@ -3,9 +3,11 @@
 ghost use Rattle.std.specs.Prelude.{IfOk, IfErr, ◌≡◌, ◌≢◌, Err, ◌∷◌, [], ◌++◌};
 ghost use Rattle.road_io.specs.Causes.{Rose};
 ghost use Rattle.road_io.specs.Moments.{still_told};
+ghost use Rattle.desk_areas.specs.Calls.{CalledUpTo};
 ghost use Rattle.key_desk.specs.Stands.{KeepsStanding};
 ghost use Rattle.command_files.specs.Endings.{Promises, WhyNot};
 ghost use Rattle.command_files.specs.Spared.{SparesLibrary, SparesBut};
+ghost use Rattle.owner_commands.specs.Calls.{most_publish_calls};
 ghost use Rattle.owner_commands.specs.Publishing.{EndsPublish, TellsLost, ends_publish};
 ghost use Rattle.owner_commands.specs.Signing.{SignsAtMostOne, SignsAtMostHeader, StaysRefused, IsSealedOnDisk, SealsWhatItMirrors, SealsWhatItWrites};
 
@@ -52,6 +54,7 @@ pub fn publish<L: Library, K: Sink, D: Disk, M: Mirror>(
     ensures untouched { IfErr result (StaysRefused D.Disk disk.old disk.new) }
     ensures unfaulted { result ≢ Err Fault.Disk → D.faults disk.new ≡ D.faults disk.old }
     ensures stands { KeepsStanding D.Disk disk.old disk.new }
+    ensures few { CalledUpTo most_publish_calls (D.calls disk.old) (D.calls disk.new) }
 {
     let parts = load_parts(alloc, library, roads)?;
     let Ok(mut spreader) = Spreader::new(alloc, mirrors) else {
@@ -80,6 +83,7 @@ fn signed<D: Disk>(
     ensures untouched { IfErr result (StaysRefused D.Disk disk.old disk.new) }
     ensures unfaulted { result ≢ Err Fault.Disk → D.faults disk.new ≡ D.faults disk.old }
     ensures stands { KeepsStanding D.Disk disk.old disk.new }
+    ensures few { CalledUpTo most_publish_calls (D.calls disk.old) (D.calls disk.new) }
 {
     let mut desk = open_desk(alloc, disk)?;
     match route_owner::publish::<Sha, D>(alloc, &mut desk, disk, parts, settings) {

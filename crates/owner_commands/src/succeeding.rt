@@ -5,14 +5,15 @@ ghost use Rattle.road_io.specs.Causes.{Rose};
 ghost use Rattle.road_io.specs.Moments.{AtEachMoment, EachImage, still_told};
 ghost use Rattle.lms_tree.specs.Links.{link_text};
 ghost use Rattle.lms_tree.specs.Signatures.{public_key};
+ghost use Rattle.desk_areas.specs.Calls.{CalledUpTo};
 ghost use Rattle.desk_areas.specs.Keys.{key_from};
 ghost use Rattle.key_desk.specs.Stands.{KeepsStanding, SameKeys};
 ghost use Rattle.key_desk.specs.Succession.{SignsLink};
 ghost use Rattle.road_command.specs.View.{type_of};
 ghost use Rattle.command_files.specs.Endings.{Promises, TellsNone, WhyNot};
 ghost use Rattle.command_files.specs.Spared.{SparesLibrary, SparesBut};
-ghost use Rattle.command_desks.specs.Opening.{IsKeyOn};
-ghost use Rattle.owner_commands.specs.NextKey.{AddsKey, EndsSuccession, ends_succession, fault_of};
+ghost use Rattle.owner_commands.specs.Calls.{most_succeed_calls};
+ghost use Rattle.owner_commands.specs.NextKey.{AddsKey, EndsSuccession, IsNextKey, ends_succession, fault_of};
 ghost use Rattle.owner_commands.specs.Signing.{StaysRefused};
 ghost use Rattle.owner_commands.specs.StandingKeys.{FollowsAnother};
 
@@ -61,7 +62,7 @@ fn make_next<D: Disk>(
         EndsSuccession (still_told D.Disk disk.old disk.new) (type_of kind) secret.now
         (Ok Conclusion.Done) line) }
     ensures made { OnOk result (EachImage D.Disk disk.new
-        (λ i. IsKeyOn i (key_from (type_of kind) secret.now))) }
+        (IsNextKey (key_from (type_of kind) secret.now))) }
     ensures refused { IfErr result
         (WhyNot (Rose (D.faults disk.old) (D.faults disk.new))
         (EndsSuccession (still_told D.Disk disk.old disk.new) (type_of kind) secret.now)) }
@@ -74,6 +75,7 @@ fn make_next<D: Disk>(
     ensures untouched { IfErr result (StaysRefused D.Disk disk.old disk.new) }
     ensures unfaulted { result ≢ Err Fault.Disk → D.faults disk.new ≡ D.faults disk.old }
     ensures stands { KeepsStanding D.Disk disk.old disk.new }
+    ensures few { CalledUpTo most_succeed_calls (D.calls disk.old) (D.calls disk.new) }
 {
     match Desk::succeed(alloc, disk, kind.number(), secret) {
         Ok(desk) => Ok(line_of_key(&desk.public())),

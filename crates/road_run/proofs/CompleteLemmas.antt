@@ -1,5 +1,5 @@
 -- Where nothing hinders it, a run does its work.
-use Rattle.std.proofs.Common.{◌≡◌, ◌≢◌, inl, inr, ℕ, suc, ◌<◌, List, [], ◌∷◌, length, refl, ap, subst, ◌∙◌, IfSome, arith}
+use Rattle.std.proofs.Common.{◌≡◌, ◌≢◌, inl, inr, ℕ, suc, ◌<◌, List, [], ◌∷◌, length, refl, sym, ap, subst, ◌∙◌, IfSome, arith}
 use Rattle.std.specs.declared.option.Option.{Option}
 use Rattle.std.specs.declared.option.Option.TheVariants.{None, Some}
 use Rattle.std.specs.declared.result.Result.{Result}
@@ -11,6 +11,7 @@ use Rattle.road_io.specs.Moments.{still_told}
 use Rattle.road_io.specs.Contents.{Folder}
 use Rattle.road_map.proofs.Among.{Contains-here, Contains-there}
 use Rattle.book_model.specs.declared.items.Query.{Query}
+use Rattle.book_model.specs.declared.settings.Settings.{Settings}
 use Rattle.proof_octets.specs.declared.publication.Publication.{Publication}
 use Rattle.proof_octets.specs.Publications.{publication_text}
 use Rattle.mirror_out.specs.Mirrors.{PromisedLess, Mirrors}
@@ -33,10 +34,11 @@ use Rattle.audit_commands.proofs.HeadlineLemmas.{installed}
 use Rattle.owner_commands.specs.Signing.{SealsWhatItMirrors}
 use Rattle.server_commands.specs.Proving.{EndsReply, EndsProve, ends_prove}
 use Rattle.road_run.specs.Accepting.{IsTaken, WritesAccepted}
-use Rattle.road_run.specs.Commands.{Ends, IsTold, TellsClient, OnMirrors, RunPromises, but_for_mirrors}
+use Rattle.road_run.specs.Commands.{Ends, files_for, IsTold, TellsClient, OnMirrors, RunPromises, but_for_mirrors}
 use Rattle.road_run.specs.Complete.{CallsFor, AreTold, Hinders, IsUnhindered, Answers, PromisedEnough, IsComplete, ProvesKnown}
 use Rattle.road_run.specs.Sources.{IfServe, RunTakes, IsExactServing}
 use Rattle.road_run.proofs.HonestLemmas.{AcceptedLaws, writes_accepted}
+use Rattle.road_run.proofs.RunLemmas.{files_served, serve_then}
 use Rattle.road_run.proofs.TakenLemmas.{taken}
 
 -- ---- an outcome by its status
@@ -100,12 +102,12 @@ module _ {M : Type 0} (octets : M → Option (List ℕ)) (label handed puts room
       ap length h.2 ∙ ap suc (all_stay count text old h.1 (λ x c. enough x (Contains-there m x old c)) h.4)
   all_stay count text (m ∷ old) kept enough (inr h) = absurd (enough m (Contains-here m old) h.0)
 
-  none_lost : {D : Type 0} (g : Ghosts D) (before now : D) (taken_before taken_now : Option (List ℕ)) (old kept : List M) → SealsWhatItMirrors octets label handed puts room g before now taken_before taken_now old kept (Err MirrorLost)
-      → ¬ PromisedEnough puts room taken_before taken_now old
-  none_lost g before now taken_before taken_now old kept h enough =
+  none_lost : {D : Type 0} (g : Ghosts D) (before now : D) (roads : List ℕ) (settings : Settings) (taken_before taken_now : Option (List ℕ)) (old kept : List M) → SealsWhatItMirrors octets label handed puts room g before now taken_before taken_now old kept (Err MirrorLost)
+      → ¬ PromisedEnough puts room g before now (Publish roads settings) taken_before taken_now old
+  none_lost g before now roads settings taken_before taken_now old kept h enough =
       let s = h.sealed in
       let text : List ℕ = publication_text s.publication in
-      let all : length kept ≡ length old = all_stay (pieces_in text) text old kept (enough text s.written) s.mirrored.0 in
+      let all : length kept ≡ length old = all_stay (pieces_in text) text old kept (enough s.publication s.on_disk s.written) s.mirrored.0 in
       let fewer : length kept < length old = s.mirrored.1 in
       omega (arith, all, fewer)
 
@@ -115,22 +117,33 @@ module _ {D M : Type 0} (g : Ghosts D) (octets : M → Option (List ℕ)) (label
   -- a run is complete
   pub complete_run : (asked : Option Request) → RunPromises g old new asked files l l' taken_before taken_now k k' o → RunTakes asked files left rest s s' taken_before taken_now o
       → OnMirrors octets label handed puts room g old new asked taken_before taken_now mirrors kept o
-      → (NoneFailed l l' k k' (g.faults old) (g.faults new) → IfSome asked (λ request. IfSome files (λ folder. IsTold request (still_told g old new) → IsExact (Ends (still_told g old new) request folder) (but_for_mirrors o))))
+      → (NoneFailed l l' k k' (g.faults old) (g.faults new) → IfSome asked (λ request. IfSome (files_for request files) (λ folder. IsTold request (still_told g old new) → IsExact (Ends (still_told g old new) request folder) (but_for_mirrors o))))
       → (¬ Rose s s' → NoneFailed l l' k k' (g.faults old) (g.faults new) → IfServe asked (λ named. IsExactServing named files left o))
       → ¬ Rose s s' → NoneFailed l l' k k' (g.faults old) (g.faults new)
-      → IfSome asked (λ request. IfSome files (λ folder. AreTold (still_told g old new) left request → IsComplete (CallsFor (still_told g old new) left request folder) (PromisedEnough puts room taken_before taken_now mirrors) o))
-  complete_run asked r t m exact serving still n = by asked files left r.command t.source m (exact n) (serving still n)
+      → IfSome asked (λ request. IfSome (files_for request files) (λ folder. AreTold (still_told g old new) left request → IsComplete (CallsFor (still_told g old new) left request folder) (PromisedEnough puts room g old new request taken_before taken_now mirrors) o))
+  complete_run None r t m exact serving still n = tt
+  complete_run (Some request) r t m exact serving still n =
+      by (Some request) (files_for request files) left r.command t.source m (exact n)
+      (serve_then (Some request) (λ named. IsExactServing named files left o) (λ named. IsExactServing named (files_for request files) left o)
+      (λ named is h.
+      subst (λ (a : Option Request). IsExactServing named (files_over a) left o) (sym is)
+      (subst (λ (f : Option Folder). IsExactServing named f left o) (sym (files_served named files)) h))
+      (serving still n))
     where
+      files_over : Option Request → Option Folder
+      files_over None = files
+      files_over (Some r) = files_for r files
+
       Command : Option Folder → Request → Type 0
       Command files request = Promises (Ends (still_told g old new) request) (TellsClient request) (Rose (g.faults old) (g.faults new)) files l l' taken_before taken_now k k' o
 
       Complete : Option (List ℕ) → Request → Folder → Type 0
-      Complete left request folder = IsComplete (CallsFor (still_told g old new) left request folder) (PromisedEnough puts room taken_before taken_now mirrors) o
+      Complete left request folder = IsComplete (CallsFor (still_told g old new) left request folder) (PromisedEnough puts room g old new request taken_before taken_now mirrors) o
 
       -- without a mirror
       plain : (request : Request) (folder : Folder) → Promises (Ends (still_told g old new) request) (TellsClient request) (Rose (g.faults old) (g.faults new)) (Some folder) l l' taken_before taken_now k k' o
-          → (o ≡ Err Source → Rose s s') → (PromisedEnough puts room taken_before taken_now mirrors → o ≢ Err MirrorLost)
-          → IsExact (Ends (still_told g old new) request folder) (but_for_mirrors o) → IsComplete (Ends (still_told g old new) request folder) (PromisedEnough puts room taken_before taken_now mirrors) o
+          → (o ≡ Err Source → Rose s s') → (PromisedEnough puts room g old new request taken_before taken_now mirrors → o ≢ Err MirrorLost)
+          → IsExact (Ends (still_told g old new) request folder) (but_for_mirrors o) → IsComplete (Ends (still_told g old new) request folder) (PromisedEnough puts room g old new request taken_before taken_now mirrors) o
       plain request folder p source mirror exact = λ free enough.
           let E : Ending = Ends (still_told g old new) request folder in
           answers E free o (subst (IsExact E) (same_but o (mirror enough)) exact).called_for p.words (λ e. n.library_stays (p.library e)) (λ e. still (source e)) (λ e. n.sink_stays (p.sink e)) (λ e. n.disk_stays (p.disk e)) (mirror enough)
@@ -156,7 +169,7 @@ module _ {D M : Type 0} (g : Ghosts D) (octets : M → Option (List ℕ)) (label
       by (Some Desk) (Some folder) left p source m exact serving = λ told. plain Desk folder p source (λ enough e. p.mirror e) (exact told)
       by (Some (Publish roads settings)) (Some folder) left p source m exact serving = λ told.
           plain (Publish roads settings) folder p source
-          (λ enough e. none_lost octets label handed puts room g old new taken_before taken_now mirrors kept (subst (SealsWhatItMirrors octets label handed puts room g old new taken_before taken_now mirrors kept) e m) enough) (exact told)
+          (λ enough e. none_lost octets label handed puts room g old new roads settings taken_before taken_now mirrors kept (subst (SealsWhatItMirrors octets label handed puts room g old new taken_before taken_now mirrors kept) e m) enough) (exact told)
       by (Some (Prove publication q)) (Some folder) left p source m exact serving = λ told. plain (Prove publication q) folder p source (λ enough e. p.mirror e) (exact told)
       by (Some (Check key reply q least chain)) (Some folder) left p source m exact serving = λ told. plain (Check key reply q least chain) folder p source (λ enough e. p.mirror e) (exact told)
       by (Some (Audit key publication reply q chain)) (Some folder) left p source m exact serving = λ told. plain (Audit key publication reply q chain) folder p source (λ enough e. p.mirror e) (exact told)
@@ -184,7 +197,7 @@ pub proves_run : OneMaking → AcceptedLaws → UnknownNodesAreTold → {D : Typ
     → RunPromises g old new asked files l l' taken_before taken_now k k' o → IfSome asked (λ request. ProvesKnown request files taken_before taken_now o)
 proves_run makings laws told g old new asked files l l' taken_before taken_now k k' o r = by asked files r.command
   where
-    by : (asked : Option Request) (files : Option Folder) → IfSome asked (λ request. Promises (Ends (still_told g old new) request) (TellsClient request) (Rose (g.faults old) (g.faults new)) files l l' taken_before taken_now k k' o)
+    by : (asked : Option Request) (files : Option Folder) → IfSome asked (λ request. Promises (Ends (still_told g old new) request) (TellsClient request) (Rose (g.faults old) (g.faults new)) (files_for request files) l l' taken_before taken_now k k' o)
         → IfSome asked (λ request. ProvesKnown request files taken_before taken_now o)
     by None files p = tt
     by (Some (Prove file q)) (Some folder) p = λ b read has known. proves makings laws told folder file q b read has known taken_before taken_now o p.answered (λ e. p.mirror e)

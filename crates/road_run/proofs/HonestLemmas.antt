@@ -16,7 +16,7 @@ use Rattle.route_laws.specs.Honest.{AnswersAreAccepted, AreAccepted}
 use Rattle.road_command.specs.Requests.{Request, Route, Root, Dimacs, Key, Succeed, Links, Desk, Publish, Prove, Serve, ServeSigned, Check, Audit, Survey, Reach, CheckReach, AuditReach, Reduce}
 use Rattle.command_files.specs.Endings.{Ending, Answered}
 use Rattle.client_commands.specs.Checking.{EndsCheck, ends_check}
-use Rattle.road_run.specs.Commands.{Ends, TellsClient}
+use Rattle.road_run.specs.Commands.{Ends, files_for, TellsClient}
 use Rattle.road_run.specs.Accepting.{IsAcceptedLine, IsWithinLine, WritesAccepted, IsHonestFile, IsHonestReach, AcceptsHonest}
 use Rattle.command_files.specs.declared.fault.Fault.{Fault}
 use Rattle.command_files.specs.declared.fault.Fault.TheVariants.{TruncatedFrame, FrameTooLong, Library, Source, Sink, Disk, Memory, UnknownNode, NoRoute, TooManyFrames, MirrorLost}
@@ -127,7 +127,7 @@ module _ (one : OneNearVerdict) (verdict : NearAcceptsVerdict) (laws : NearRepli
 
 -- the same for a request and the library of a run
 pub accepts_honest : Verdicts → AcceptedLaws → (request : Request) (files : Option Folder) (content : Option (List ℕ)) (old new : Option (List ℕ)) (o : Result Conclusion Fault)
-    → IfSome files (λ folder. Answered (Ends content request folder) old new o) → (o ≡ Err MirrorLost → TellsClient request MirrorLost) → AcceptsHonest request files old new o
+    → IfSome (files_for request files) (λ folder. Answered (Ends content request folder) old new o) → (o ≡ Err MirrorLost → TellsClient request MirrorLost) → AcceptsHonest request files old new o
 accepts_honest verdicts laws (Check key reply q least chain) (Some folder) content old new o a lost = λ p file. writes verdicts.one verdicts.accepted laws.answers folder key reply q least chain p file old new o a lost
 accepts_honest verdicts laws (Check key reply q least chain) None content old new o a lost = tt
 accepts_honest verdicts laws (Route roads from to) files content old new o a lost = tt

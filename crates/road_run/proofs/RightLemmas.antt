@@ -42,7 +42,7 @@ use Rattle.audit_commands.specs.Owners.{IsOwnersKey, look_in}
 use Rattle.audit_commands.proofs.AuditLemmas.{Behind}
 use Rattle.audit_commands.proofs.OneAudit.{only_audit}
 use Rattle.road_run.specs.Accepting.{FindsHonest, WritesAccepted}
-use Rattle.road_run.specs.Commands.{Ends, TellsClient, RunPromises}
+use Rattle.road_run.specs.Commands.{Ends, files_for, TellsClient, RunPromises}
 use Rattle.road_run.proofs.HonestLemmas.{Verdicts, writes_accepted}
 use Rattle.road_run.proofs.TakenLemmas.{behind}
 
@@ -157,7 +157,7 @@ module _ {Q A X E : Type 0} (kind : ReplyKind Q A X E) (line : E → List ℕ) (
 
 -- for a request and the library of a run
 finds_honest : OneMaking → Verdicts → HonestRepliesAreRight → HonestReachesAreRight → (request : Request) (files : Option Folder) (content : Option (List ℕ)) (old new : Option (List ℕ)) (o : Result Conclusion Fault)
-    → IfSome files (λ folder. Answered (Ends content request folder) old new o) → (o ≡ Err MirrorLost → TellsClient request MirrorLost) → FindsHonest request files content old new o
+    → IfSome (files_for request files) (λ folder. Answered (Ends content request folder) old new o) → (o ≡ Err MirrorLost → TellsClient request MirrorLost) → FindsHonest request files content old new o
 finds_honest makings verdicts answers reaches (Audit key publication reply q chain) (Some folder) content old new o a lost = λ p h.
     let f = h.file in
     let d = h.desk in
@@ -193,7 +193,7 @@ module _ {D : Type 0} (g : Ghosts D) (old new : D) (asked : Option Request) (fil
       → IfSome asked (λ request. FindsHonest request files (still_told g old new) taken_before taken_now o)
   right_run makings verdicts answers reaches r = by asked r.command
     where
-      by : (asked : Option Request) → IfSome asked (λ request. Promises (Ends (still_told g old new) request) (TellsClient request) (Rose (g.faults old) (g.faults new)) files l l' taken_before taken_now k k' o)
+      by : (asked : Option Request) → IfSome asked (λ request. Promises (Ends (still_told g old new) request) (TellsClient request) (Rose (g.faults old) (g.faults new)) (files_for request files) l l' taken_before taken_now k k' o)
           → IfSome asked (λ request. FindsHonest request files (still_told g old new) taken_before taken_now o)
       by None p = tt
       by (Some request) p = finds_honest makings verdicts answers reaches request files (still_told g old new) taken_before taken_now o p.answered p.mirror

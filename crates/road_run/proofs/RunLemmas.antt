@@ -47,7 +47,7 @@ use Rattle.road_line.specs.VerdictLine.{refused_line}
 use Rattle.route_audit.specs.Routes.{routes}
 use Rattle.route_audit.proofs.RouteLemmas as route
 use Rattle.road_run.specs.Accepting.{AcceptsHonest, RepliesAreTaken}
-use Rattle.road_run.specs.Commands.{Ends, IsTold, LeavesUnused, TellsClient, OnDisk, RunPromises, but_for_mirrors}
+use Rattle.road_run.specs.Commands.{Ends, files_for, IsTold, LeavesUnused, TellsClient, OnDisk, RunPromises, but_for_mirrors}
 use Rattle.road_run.specs.Names.{files_named}
 use Rattle.road_run.specs.Sources.{HasEnded, IfServe, UnlessServe, RunGave, RunTakes, IsExactServing}
 use Rattle.road_run.proofs.HonestLemmas.{Verdicts, AcceptedLaws, accepts_honest}
@@ -56,7 +56,7 @@ use Rattle.road_run.proofs.TakenLemmas.{replies_taken}
 
 module _ {D : Type 0} (g : Ghosts D) (old new : D) (asked : Option Request) (files : Option Folder) (l l' : ℕ) (taken_before taken_now : Option (List ℕ)) (k k' : ℕ) (o : Result Conclusion Fault) where
   -- what is promised of a request is promised of the words that ask for it
-  pub run_promises : (request : Request) → Some request ≡ asked → Promises (Ends (still_told g old new) request) (TellsClient request) (Rose (g.faults old) (g.faults new)) files l l' taken_before taken_now k k' o
+  pub run_promises : (request : Request) → Some request ≡ asked → Promises (Ends (still_told g old new) request) (TellsClient request) (Rose (g.faults old) (g.faults new)) (files_for request files) l l' taken_before taken_now k k' o
       → OnDisk g old new request files taken_before taken_now o → KeepsStanding g old new → RunPromises g old new asked files l l' taken_before taken_now k k' o
   run_promises request is promised on_disk stands = subst (λ (a : Option Request). RunPromises g old new a files l l' taken_before taken_now k k' o) is (record {
     words = (λ e. absurd (promised.words e), λ e. absurd (cc));
@@ -67,17 +67,17 @@ module _ {D : Type 0} (g : Ghosts D) (old new : D) (asked : Option Request) (fil
   })
 
   -- the same where the disk stays
-  pub run_stays : (request : Request) → Some request ≡ asked → Promises (Ends (still_told g old new) request) (TellsClient request) (Rose (g.faults old) (g.faults new)) files l l' taken_before taken_now k k' o
+  pub run_stays : (request : Request) → Some request ≡ asked → Promises (Ends (still_told g old new) request) (TellsClient request) (Rose (g.faults old) (g.faults new)) (files_for request files) l l' taken_before taken_now k k' o
       → OnDisk g old new request files taken_before taken_now o → AtEachMoment g old new Stays → RunPromises g old new asked files l l' taken_before taken_now k k' o
   run_stays request is promised on_disk stays = run_promises request is promised on_disk (standing_same g old new stays)
 
 module _ {D : Type 0} (g : Ghosts D) (disk : D) (asked : Option Request) (files : Option Folder) (l l' : ℕ) (taken_before taken_now : Option (List ℕ)) (k k' : ℕ) (o : Result Conclusion Fault) where
   -- the same for a command without a disk
   pub run_without_disk : (request : Request) → Some request ≡ asked → (AtEachMoment g disk disk Stays → OnDisk g disk disk request files taken_before taken_now o)
-      → Promises (Ends (still_told g disk disk) request) (TellsClient request) NoDisk files l l' taken_before taken_now k k' o → RunPromises g disk disk asked files l l' taken_before taken_now k k' o
+      → Promises (Ends (still_told g disk disk) request) (TellsClient request) NoDisk (files_for request files) l l' taken_before taken_now k k' o → RunPromises g disk disk asked files l l' taken_before taken_now k k' o
   run_without_disk request is on_disk promised =
       run_promises g disk disk asked files l l' taken_before taken_now k k' o request is
-      (beside_disk (Ends (still_told g disk disk) request) (TellsClient request) (Rose (g.faults disk) (g.faults disk)) files l l' k k' taken_before taken_now o promised)
+      (beside_disk (Ends (still_told g disk disk) request) (TellsClient request) (Rose (g.faults disk) (g.faults disk)) (files_for request files) l l' k k' taken_before taken_now o promised)
       (on_disk (no_moment g disk)) (no_step g disk)
 
 -- words that ask for nothing
@@ -129,7 +129,7 @@ exact_but E one before now o a library sink disk = exact_end E one before now o 
 module _ {D : Type 0} (g : Ghosts D) (old new : D) (asked : Option Request) (files : Option Folder) (l l' : ℕ) (taken_before taken_now : Option (List ℕ)) (k k' : ℕ) (o : Result Conclusion Fault) where
   -- what a run promises is exact where no object outside failed
   pub exact_run : Faults → ((parts : Parts) (u : ℕ) → ArcLaws parts u) → OneMaking → Verdicts → RunPromises g old new asked files l l' taken_before taken_now k k' o
-      → NoneFailed l l' k k' (g.faults old) (g.faults new) → IfSome asked (λ request. IfSome files (λ folder. IsTold request (still_told g old new) → IsExact (Ends (still_told g old new) request folder) (but_for_mirrors o)))
+      → NoneFailed l l' k k' (g.faults old) (g.faults new) → IfSome asked (λ request. IfSome (files_for request files) (λ folder. IsTold request (still_told g old new) → IsExact (Ends (still_told g old new) request folder) (but_for_mirrors o)))
   exact_run faults arcs makings verdicts r n = by asked r.command
     where
       of : (request : Request) (files : Option Folder) → Promises (Ends (still_told g old new) request) (TellsClient request) (Rose (g.faults old) (g.faults new)) files l l' taken_before taken_now k k' o
@@ -139,17 +139,17 @@ module _ {D : Type 0} (g : Ghosts D) (old new : D) (asked : Option Request) (fil
           exact_but (Ends (still_told g old new) request folder) (one_end faults arcs makings verdicts (still_told g old new) request told folder) taken_before taken_now o p.answered
           (λ e. n.library_stays (p.library e)) (λ e. n.sink_stays (p.sink e)) (λ e. n.disk_stays (p.disk e))
 
-      by : (asked : Option Request) → IfSome asked (λ request. Promises (Ends (still_told g old new) request) (TellsClient request) (Rose (g.faults old) (g.faults new)) files l l' taken_before taken_now k k' o)
-          → IfSome asked (λ request. IfSome files (λ folder. IsTold request (still_told g old new) → IsExact (Ends (still_told g old new) request folder) (but_for_mirrors o)))
+      by : (asked : Option Request) → IfSome asked (λ request. Promises (Ends (still_told g old new) request) (TellsClient request) (Rose (g.faults old) (g.faults new)) (files_for request files) l l' taken_before taken_now k k' o)
+          → IfSome asked (λ request. IfSome (files_for request files) (λ folder. IsTold request (still_told g old new) → IsExact (Ends (still_told g old new) request folder) (but_for_mirrors o)))
       by None p = tt
-      by (Some request) p = of request files p
+      by (Some request) p = of request (files_for request files) p
 
   -- and accepts honest replies
   pub honest_run : Verdicts → AcceptedLaws → RunPromises g old new asked files l l' taken_before taken_now k k' o
       → IfSome asked (λ request. AcceptsHonest request files taken_before taken_now o)
   honest_run verdicts laws r = by asked r.command
     where
-      by : (asked : Option Request) → IfSome asked (λ request. Promises (Ends (still_told g old new) request) (TellsClient request) (Rose (g.faults old) (g.faults new)) files l l' taken_before taken_now k k' o)
+      by : (asked : Option Request) → IfSome asked (λ request. Promises (Ends (still_told g old new) request) (TellsClient request) (Rose (g.faults old) (g.faults new)) (files_for request files) l l' taken_before taken_now k k' o)
           → IfSome asked (λ request. AcceptsHonest request files taken_before taken_now o)
       by None p = tt
       by (Some request) p = accepts_honest verdicts laws request files (still_told g old new) taken_before taken_now o p.answered p.mirror
@@ -159,7 +159,7 @@ module _ {D : Type 0} (g : Ghosts D) (old new : D) (asked : Option Request) (fil
       → IfSome asked (λ request. RepliesAreTaken request files taken_before taken_now o)
   taken_run laws refused r = by asked r.command
     where
-      by : (asked : Option Request) → IfSome asked (λ request. Promises (Ends (still_told g old new) request) (TellsClient request) (Rose (g.faults old) (g.faults new)) files l l' taken_before taken_now k k' o)
+      by : (asked : Option Request) → IfSome asked (λ request. Promises (Ends (still_told g old new) request) (TellsClient request) (Rose (g.faults old) (g.faults new)) (files_for request files) l l' taken_before taken_now k k' o)
           → IfSome asked (λ request. RepliesAreTaken request files taken_before taken_now o)
       by None p = tt
       by (Some request) p = replies_taken laws refused request files (still_told g old new) taken_before taken_now o p.answered
@@ -213,15 +213,23 @@ run_takes_nothing asked files left s taken_before taken_now is =
     subst (λ (a : Option Request). RunTakes a files left left s s taken_before taken_now (Err Words)) is (record { serves = tt; kept = refl; source = λ e. absurd (cc) })
 
 -- the words that ask for serving over files of these names
-abbrev serve_request : ServeFiles → Request
-serve_request named = by named.guard
+abbrev pub serve_by : List ℕ → Option (List ℕ × Option (List ℕ)) → Request
+serve_by publication None = Serve publication
+serve_by publication (Some guard) = ServeSigned publication guard.0 guard.1
+
+abbrev pub serve_request : ServeFiles → Request
+serve_request named = serve_by named.publication named.guard
+
+-- a service ends by the files that its library tells
+pub files_served : (named : ServeFiles) (files : Option Folder) → files_for (serve_request named) files ≡ files
+files_served named files = by named.guard
   where
-    by : Option (List ℕ × Option (List ℕ)) → Request
-    by None = Serve named.publication
-    by (Some guard) = ServeSigned named.publication guard.0 guard.1
+    by : (guard : Option (List ℕ × Option (List ℕ))) → files_for (serve_by named.publication guard) files ≡ files
+    by None = refl
+    by (Some guard) = refl
 
 -- what follows where words ask for serving
-serve_then : (asked : Option Request) (P Q : ServeFiles → Type 0) → ((named : ServeFiles) → asked ≡ Some (serve_request named) → P named → Q named) → IfServe asked P → IfServe asked Q
+pub serve_then : (asked : Option Request) (P Q : ServeFiles → Type 0) → ((named : ServeFiles) → asked ≡ Some (serve_request named) → P named → Q named) → IfServe asked P → IfServe asked Q
 serve_then (Some (Serve file)) P Q step h = step (unguarded file) refl h
 serve_then (Some (ServeSigned file key chain)) P Q step h = step (guarded file key chain) refl h
 serve_then (Some (Route roads from to)) P Q step h = tt
@@ -247,7 +255,7 @@ module _ {D : Type 0} (g : Ghosts D) (old new : D) (makings : OneMaking) (asked 
   Served left rest named = ServesFrames named files left rest s s' taken_before taken_now o
 
   abbrev Command : Request → Type 0
-  Command request = Promises (Ends (still_told g old new) request) (TellsClient request) (Rose (g.faults old) (g.faults new)) files l l' taken_before taken_now k k' o
+  Command request = Promises (Ends (still_told g old new) request) (TellsClient request) (Rose (g.faults old) (g.faults new)) (files_for request files) l l' taken_before taken_now k k' o
 
   exact_at : (left rest : Option (List ℕ)) → IfSome asked Command → ¬ Rose s s' → NoneFailed l l' k k' (g.faults old) (g.faults new) → (named : ServeFiles) → asked ≡ Some (serve_request named) → Served left rest named → IsExactServing named files left o
   exact_at left rest commands none n named is served =

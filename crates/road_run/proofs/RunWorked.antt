@@ -6,20 +6,25 @@ use Rattle.std.specs.declared.result.Result.{Result}
 use Rattle.std.specs.declared.result.Result.TheVariants.{Ok, Err}
 use Rattle.road_io.specs.declared.disk.Disk.{Ghosts}
 use Rattle.road_io.specs.Disk.{Stays}
-use Rattle.road_io.specs.Moments.{AtEachMoment}
+use Rattle.road_io.specs.Moments.{AtEachMoment, still_told}
 use Rattle.road_io.specs.Causes.{Rose}
 use Rattle.road_io.specs.Contents.{Folder}
+use Rattle.std.specs.Io.KnownBytes.{Appends}
+use Rattle.owner_commands.specs.ChainLine.{EndsLinks}
+use Rattle.owner_commands.specs.OwnerDesk.{EndsDesk}
+use Rattle.survey_commands.specs.Surveying.{EndsSurvey}
 use Rattle.book_model.specs.declared.items.Query.{Query}
 use Rattle.proof_octets.specs.declared.publication.Publication.{Publication}
 use Rattle.route_service.specs.Machine.{State, after, MayReply}
 use Rattle.route_service.specs.Isolation.{is_form_of, form_in, is_kept, IsIsolated}
-use Rattle.road_command.specs.Requests.{Route, Key, Links, Serve, Survey}
+use Rattle.road_command.specs.Requests.{Route, Key, Links, Desk, Serve, Survey}
 use Rattle.command_files.specs.declared.fault.Fault.{Fault}
 use Rattle.command_files.specs.declared.fault.Fault.TheVariants.{Source, UnknownNode}
 use Rattle.command_files.specs.declared.ended.Conclusion.{Conclusion}
 use Rattle.command_files.specs.declared.ended.Conclusion.TheVariants.{Done}
 use Rattle.road_run.specs.Accepting.{IsTaken, IsNoAnswer, WritesReply}
-use Rattle.road_run.specs.Commands.{LeavesAll, LeavesUnused, IsTold}
+use Rattle.road_run.specs.Commands.{LeavesAll, LeavesUnused, IsTold, RunPromises}
+use Rattle.road_run.specs.Complete.{PromisedEnough}
 use Rattle.road_run.specs.Sources.{RunTakes}
 
 -- ---- words that ask for nothing
@@ -87,6 +92,23 @@ module _ (library source sink disk : Type 0) where
 
   key_leaves : (secret : List ℕ) (kind : ℕ) → LeavesUnused (Some (Key secret kind)) library source sink disk → source
   key_leaves secret kind h = h
+
+-- ---- a command that loads no file
+
+-- it ends as the disk lets it end, or as its words do, also over a library that tells nothing
+module _ {D : Type 0} (g : Ghosts D) (old new : D) (l l' k k' : ℕ) (before now : Option (List ℕ)) where
+  links_without_a_library : RunPromises g old new (Some Links) None l l' before now k k' (Ok Done) → (text : List ℕ) × EndsLinks (still_told g old new) (Ok Done) text × Appends before now text
+  links_without_a_library r = r.command.answered
+
+  desk_without_a_library : RunPromises g old new (Some Desk) None l l' before now k k' (Ok Done) → (text : List ℕ) × EndsDesk (still_told g old new) (Ok Done) text × Appends before now text
+  desk_without_a_library r = r.command.answered
+
+  survey_without_a_library : (width seed method queries : ℕ) → RunPromises g old new (Some (Survey width seed method queries)) None l l' before now k k' (Ok Done) → (text : List ℕ) × EndsSurvey width seed method queries (Ok Done) text × Appends before now text
+  survey_without_a_library width seed method queries r = r.command.answered
+
+-- nothing is asked of a mirror but under `publish`
+nothing_is_promised_for_a_route : {D M : Type 0} (puts room : M → ℕ) (g : Ghosts D) (old new : D) (roads : List ℕ) (from to : ℕ) (before now : Option (List ℕ)) (mirrors : List M) → PromisedEnough puts room g old new (Route roads from to) before now mirrors
+nothing_is_promised_for_a_route puts room g old new roads from to before now mirrors = tt
 
 -- ---- what must be told of the disk
 

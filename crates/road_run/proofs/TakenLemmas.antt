@@ -27,7 +27,7 @@ use Rattle.command_books.specs.Installing.{AfterBuild, IfInstalled, EndsInstalli
 use Rattle.server_commands.specs.Proving.{EndsReply, EndsProve, ends_prove}
 use Rattle.near_model.specs.declared.query.NearQuery.{NearQuery}
 use Rattle.server_commands.specs.NearReaching.{EndsNear, EndsReach, ends_reach}
-use Rattle.road_run.specs.Commands.{Ends}
+use Rattle.road_run.specs.Commands.{Ends, files_for}
 use Rattle.road_run.specs.Accepting.{IsTaken, WritesReply, WritesNearReply, RepliesAreTaken}
 use Rattle.road_run.proofs.HonestLemmas.{AcceptedLaws}
 
@@ -91,7 +91,7 @@ module _ (laws : AcceptedLaws) (folder : Folder) (file : List ℕ) (q : NearQuer
 
 -- the same for a request and the library of a run
 pub replies_taken : AcceptedLaws → UnknownNodesAreTold → (request : Request) (files : Option Folder) (content : Option (List ℕ)) (old new : Option (List ℕ)) (o : Result Conclusion Fault)
-    → IfSome files (λ folder. Answered (Ends content request folder) old new o) → RepliesAreTaken request files old new o
+    → IfSome (files_for request files) (λ folder. Answered (Ends content request folder) old new o) → RepliesAreTaken request files old new o
 replies_taken laws told (Prove file q) (Some folder) content old new o a = λ p read. writes laws told folder file q p read old new o a
 replies_taken laws told (Prove file q) None content old new o a = tt
 replies_taken laws told (Reach file q) (Some folder) content old new o a = λ p read. near_writes laws folder file q p read old new o a

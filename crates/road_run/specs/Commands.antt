@@ -10,6 +10,7 @@ use Rattle.road_io.specs.Causes.{Rose}
 use Rattle.road_io.specs.Contents.{Folder}
 use Rattle.road_io.specs.Disk.{Stays}
 use Rattle.road_io.specs.Moments.{AtEachMoment, still_told}
+use Rattle.desk_areas.specs.Calls.{CalledUpTo}
 use Rattle.key_desk.specs.Stands.{KeepsStanding}
 use Rattle.road_command.specs.Requests.{Request, Route, Root, Dimacs, Key, Succeed, Links, Desk, Publish, Prove, Serve, ServeSigned, Check, Audit, Survey, Reach, CheckReach, AuditReach, Reduce}
 use Rattle.command_files.specs.Endings.{Ending, Promises, TellsNone}
@@ -24,6 +25,7 @@ use Rattle.map_commands.specs.DimacsFiles.{ends_dimacs}
 use Rattle.server_commands.specs.Proving.{TellsEnds, ends_prove}
 use Rattle.server_commands.specs.Guarding.{guarded, unguarded}
 use Rattle.server_commands.specs.Serving.{TellsFrames, ends_serve}
+use Rattle.owner_commands.specs.Calls.{most_publish_calls}
 use Rattle.owner_commands.specs.OwnerKey.{KeepsKey, ends_key}
 use Rattle.owner_commands.specs.NextKey.{AddsKey, ends_succession}
 use Rattle.owner_commands.specs.ChainLine.{EndsLinks}
@@ -69,6 +71,18 @@ Ends content (AuditReach key publication reply q chain) folder =
     ends_audit radii refused_near_line content key publication reply q chain folder
 Ends content (Reduce key text signature) folder = ends_reduce content key text signature folder
 
+-- a folder without a file
+abbrev pub no_files : Folder
+no_files name = None
+
+-- The files that let a command end: those that its library tells. A command that loads no file ends
+-- over every library, be it one that tells nothing, as over one without a file.
+abbrev pub files_for : Request → Option Folder → Option Folder
+files_for Links files = Some no_files
+files_for Desk files = Some no_files
+files_for (Survey width seed method queries) files = Some no_files
+files_for request files = files
+
 -- of which faults a command tells its client by a text
 abbrev pub TellsClient : Request → Fault → Type 0
 TellsClient (Prove publication q) = TellsEnds
@@ -88,7 +102,8 @@ OnDisk g old new Links files taken_before taken_now outcome = AtEachMoment g old
     ChainsWhatItWrites g new taken_before taken_now outcome
 OnDisk g old new (Publish roads settings) files taken_before taken_now outcome =
     SealsWhatItWrites g old new taken_before taken_now outcome ×
-    SignsAtMostOne g old new files roads settings × IfErr outcome (StaysRefused g old new)
+    SignsAtMostOne g old new files roads settings × IfErr outcome (StaysRefused g old new) ×
+    CalledUpTo most_publish_calls (g.calls old) (g.calls new)
 OnDisk g old new (Audit key publication reply q chain) files taken_before taken_now outcome =
     AtEachMoment g old new Stays ×
     WritesFindings g new (IsBrought routes) (ClashIn routes) key publication reply chain files
@@ -161,8 +176,8 @@ pub record RunPromises {D : Type 0} (g : Ghosts D) (old new : D) (asked : Option
   pub nothing : IfNone asked (LeavesAll g old new taken_before taken_now)
   pub command : IfSome asked (λ request.
       Promises (Ends (still_told g old new) request) (TellsClient request)
-      (Rose (g.faults old) (g.faults new))
-      files library_before library_now taken_before taken_now sink_before sink_now outcome)
+      (Rose (g.faults old) (g.faults new)) (files_for request files) library_before library_now
+      taken_before taken_now sink_before sink_now outcome)
   pub on_disk : IfSome asked (λ request.
       OnDisk g old new request files taken_before taken_now outcome)
   pub stands : KeepsStanding g old new

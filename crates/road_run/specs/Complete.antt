@@ -6,12 +6,15 @@ use Rattle.std.specs.declared.option.Option.TheVariants.{None, Some}
 use Rattle.std.specs.declared.result.Result.{Result}
 use Rattle.std.specs.declared.result.Result.TheVariants.{Ok}
 use Rattle.std.specs.Io.KnownBytes.{Appends}
+use Rattle.road_io.specs.declared.disk.Disk.{Ghosts}
 use Rattle.road_io.specs.Contents.{Folder}
 use Rattle.mirror_out.specs.Mirrors.{PromisedLess}
 use Rattle.publication_out.specs.Sent.{pieces_in}
 use Rattle.proof_octets.specs.declared.publication.Publication.{Publication}
+use Rattle.proof_octets.specs.Publications.{publication_text}
+use Rattle.owner_commands.specs.Signing.{StandsOnDisk}
 use Rattle.route_serving.specs.Inputs.{split}
-use Rattle.road_command.specs.Requests.{Request, Prove, Serve, ServeSigned}
+use Rattle.road_command.specs.Requests.{Request, Publish, Prove, Serve, ServeSigned}
 use Rattle.command_books.specs.Installing.{IsInstallable}
 use Rattle.command_files.specs.Reading.{publication_at}
 use Rattle.route_laws.specs.Honest.{AreKnown}
@@ -58,12 +61,16 @@ abbrev pub Answers : ℕ → Type 0
 Answers status = (status ≡ 0) ⊎ (status ≡ 1) ⊎ (status ≡ 10) ⊎ (status ≡ 11) ⊎ (status ≡ 14) ⊎
     (status ≡ 9)
 
--- no mirror had promised fewer puts or octets than the text that the sink took
-abbrev pub PromisedEnough : {M : Type 0} → (M → ℕ) → (M → ℕ) → Option (List ℕ) → Option (List ℕ) →
-    List M → Type 0
-PromisedEnough {M} puts room taken_before taken_now mirrors = (text : List ℕ) →
-    Appends taken_before taken_now text → (m : M) → Contains mirrors m →
-    ¬ PromisedLess (pieces_in text) text (puts m) (room m)
+-- Under `publish` no mirror had promised fewer puts or octets than the publication has: the one whose
+-- header stands on the disk, and whose octets the sink took. Nothing is asked of a mirror under another
+-- command.
+abbrev pub PromisedEnough : {M D : Type 0} → (M → ℕ) → (M → ℕ) → Ghosts D → D → D → Request →
+    Option (List ℕ) → Option (List ℕ) → List M → Type 0
+PromisedEnough {M} puts room g old new (Publish roads settings) taken_before taken_now mirrors =
+    (p : Publication) → StandsOnDisk g old new p →
+    Appends taken_before taken_now (publication_text p) → (m : M) → Contains mirrors m →
+    ¬ PromisedLess (pieces_in (publication_text p)) (publication_text p) (puts m) (room m)
+PromisedEnough puts room g old new request taken_before taken_now mirrors = Unit {0}
 
 -- where nothing hinders it, and the mirrors promised enough, the work is done, or memory is short
 abbrev pub IsComplete : Ending → Type 0 → Result Conclusion Fault → Type 0

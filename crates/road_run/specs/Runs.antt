@@ -21,7 +21,7 @@ use Rattle.command_files.specs.Spared.{SparesLibrary, SparesBut}
 use Rattle.command_files.specs.declared.fault.Fault.{Fault}
 use Rattle.command_files.specs.declared.fault.Fault.TheVariants.{Source, Sink, Disk}
 use Rattle.command_files.specs.declared.ended.Conclusion.{Conclusion}
-use Rattle.road_run.specs.Commands.{Ends, IsTold, LeavesUnused, OnMirrors, WritesBehindSync, RunPromises, but_for_mirrors}
+use Rattle.road_run.specs.Commands.{Ends, files_for, IsTold, LeavesUnused, OnMirrors, WritesBehindSync, RunPromises, but_for_mirrors}
 use Rattle.road_run.specs.Complete.{CallsFor, AreTold, IsComplete, PromisedEnough, ProvesKnown}
 use Rattle.road_run.specs.Names.{files_named}
 use Rattle.road_run.specs.Sources.{IfServe, IsExactServing, RunGave, RunTakes}
@@ -51,7 +51,7 @@ module _ {L S K D M : Type 0} (library : LibraryView L) (source : SourceView S) 
     pub unused : LeavesUnused asked (l' ≡ l) (s' ≡ s) (k' ≡ k) (d' ≡ d)
     pub exact : NoneFailed (library.faults l) (library.faults l') (sink.faults k) (sink.faults k')
         (disk.faults d) (disk.faults d') →
-        IfSome asked (λ request. IfSome (library.files l') (λ folder.
+        IfSome asked (λ request. IfSome (files_for request (library.files l')) (λ folder.
         IsTold request (still_told disk d d') →
         IsExact (Ends (still_told disk d d') request folder) (but_for_mirrors o)))
     pub serve_exact : ¬ Rose (source.faults s) (source.faults s') → NoneFailed (library.faults l)
@@ -71,7 +71,8 @@ module _ {L S K D M : Type 0} (library : LibraryView L) (source : SourceView S) 
         (sink.taken k') o)
     pub complete : ¬ Rose (source.faults s) (source.faults s') → NoneFailed (library.faults l)
         (library.faults l') (sink.faults k) (sink.faults k') (disk.faults d) (disk.faults d') →
-        IfSome asked (λ request. IfSome (library.files l') (λ folder.
+        IfSome asked (λ request. IfSome (files_for request (library.files l')) (λ folder.
         AreTold (still_told disk d d') (source.left s) request →
         IsComplete (CallsFor (still_told disk d d') (source.left s) request folder)
-        (PromisedEnough mirror.puts mirror.room (sink.taken k) (sink.taken k') ms) o))
+        (PromisedEnough mirror.puts mirror.room disk d d' request (sink.taken k) (sink.taken k') ms)
+        o))

@@ -9,7 +9,7 @@ ghost use Rattle.command_files.specs.Outcomes.{outcome_of, status_of};
 ghost use Rattle.command_files.specs.Asking.{AsksFront};
 ghost use Rattle.command_files.specs.Exact.{NoneFailed, IsExact};
 ghost use Rattle.command_files.specs.Spared.{SparesLibrary, SparesBut};
-ghost use Rattle.road_run.specs.Commands.{Ends, IsTold, LeavesUnused, OnMirrors, RunPromises, WritesBehindSync, but_for_mirrors};
+ghost use Rattle.road_run.specs.Commands.{Ends, files_for, IsTold, LeavesUnused, OnMirrors, RunPromises, WritesBehindSync, but_for_mirrors};
 ghost use Rattle.road_run.specs.Complete.{CallsFor, AreTold, IsComplete, PromisedEnough, ProvesKnown};
 ghost use Rattle.road_run.specs.Names.{files_named};
 ghost use Rattle.road_run.specs.Sources.{IfServe, IsExactServing, RunGave, RunTakes};
@@ -80,7 +80,7 @@ pub fn run<L: Library, S: Source, K: Sink, D: Disk, M: Mirror>(
         (K.faults sink.new)
         (D.faults disk.old) (D.faults disk.new) →
         IfSome (request_of words.now)
-        (λ request. IfSome (L.files library.new)
+        (λ request. IfSome (files_for request (L.files library.new))
         (λ folder. IsTold request (still_told D.Disk disk.old disk.new) →
         IsExact (Ends (still_told D.Disk disk.old disk.new) request folder)
         (but_for_mirrors (outcome_of result)))) }
@@ -111,11 +111,13 @@ pub fn run<L: Library, S: Source, K: Sink, D: Disk, M: Mirror>(
     ensures complete { ¬ Rose (S.faults source.old) (S.faults source.new) →
         NoneFailed (L.faults library.old) (L.faults library.new) (K.faults sink.old)
         (K.faults sink.new) (D.faults disk.old) (D.faults disk.new) →
-        IfSome (request_of words.now) (λ request. IfSome (L.files library.new) (λ folder.
+        IfSome (request_of words.now) (λ request.
+        IfSome (files_for request (L.files library.new)) (λ folder.
         AreTold (still_told D.Disk disk.old disk.new) (S.left source.old) request →
         IsComplete
         (CallsFor (still_told D.Disk disk.old disk.new) (S.left source.old) request folder)
-        (PromisedEnough M.puts M.room (K.taken sink.old) (K.taken sink.new) mirrors.old.items)
+        (PromisedEnough M.puts M.room D.Disk disk.old disk.new request
+        (K.taken sink.old) (K.taken sink.new) mirrors.old.items)
         (outcome_of result))) }
 {
     no_key_signs_twice::<D, M>();

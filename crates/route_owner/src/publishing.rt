@@ -1,8 +1,9 @@
 //! Publishing a map.
 
-ghost use Rattle.std.specs.Prelude.{◌≡◌, ◌≢◌, ◌⊎◌, ℕ, Some, slice_set, List, Ok, Err, IfOk, IfErr, IsOk, ◌<◌, ◌≤◌, true, false, length};
+ghost use Rattle.std.specs.Prelude.{◌≡◌, ◌≢◌, ◌⊎◌, ℕ, Some, slice_set, List, Ok, Err, IfOk, IfErr, OnOk, IsOk, ◌<◌, ◌≤◌, true, false, length};
 ghost use Rattle.sha2.specs.Sha256.{sha256};
-ghost use Rattle.road_io.specs.Causes.{Rose};
+ghost use Rattle.road_io.specs.Causes.{Rose, RoseBy};
+ghost use Rattle.desk_areas.specs.Calls.{CalledUpTo};
 ghost use Rattle.desk_areas.specs.declared.area.Count.TheVariants.{Free, Spent};
 ghost use Rattle.key_desk.specs.Desk.{count_at, Fits, KeepsAllKnown, SameAreas};
 ghost use Rattle.key_desk.specs.Stands.{KeepsStanding};
@@ -51,7 +52,8 @@ fn zeros(alloc: Global, count: usize) -> Result<Vec<u8>, NoMemory>
 }
 
 /// Signs the header of the book of parts and settings by the next one-time key, and answers the
-/// publication. All memory is taken before the signing begins.
+/// publication. All memory is taken before the signing begins. It makes four calls of the disk, and fewer where
+/// one of them fails or nothing is signed.
 #[tactic(auto, using(crate::proofs::Standing::stands_same, crate::proofs::Standing::same_areas))]
 pub fn publish<H: Hasher, D: Disk>(
     alloc: Global,
@@ -96,6 +98,8 @@ pub fn publish<H: Hasher, D: Disk>(
     ensures fits { Fits D.Disk desk.new disk.new }
     ensures same { SameAreas desk.old desk.new }
     ensures stands { KeepsStanding D.Disk disk.old disk.new }
+    ensures counted { OnOk result (RoseBy 4 (D.calls disk.old) (D.calls disk.new)) }
+    ensures few { CalledUpTo 4 (D.calls disk.old) (D.calls disk.new) }
 {
     server_laws();
     let Headed { header, parts } = match make_signable::<H>(alloc, parts, settings) {

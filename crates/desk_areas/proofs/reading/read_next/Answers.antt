@@ -1,8 +1,11 @@
-use Rattle.std.proofs.Common.{◌≡◌, List, rules, sym, ◌∙◌, subst}
+use Rattle.std.proofs.Common.{◌≡◌, ◌-◌, List, length, drop, rules, sym, ◌∙◌, subst}
+use Rattle.std.specs.List.{count_by}
 use Rattle.std.specs.Prelude.{IsErrOf}
 use Rattle.desk_areas.specs.declared.errors.StartError.TheVariants.{BadBlock}
 use Rattle.desk_areas.specs.declared.area.Count.{Count}
+use Rattle.desk_areas.specs.Calls.{Called, is_spent}
 use Rattle.desk_areas.specs.Reading.{IsLastLink}
+use Rattle.desk_areas.proofs.CallLemmas.{area_read}
 use Rattle.desk_areas.proofs.ReadLemmas.{alone_bad, same_name_bad, other_key_bad, ninth_bad}
 use Rattle.desk_areas.proofs.reading.read_next.Goals as goal
 
@@ -29,3 +32,8 @@ returns-then-earlier-eq7-clause-bad g c _ x told =
     let was = c.last_link.ensures.content x told in
     ninth_bad x c.args.earlier.now c.args.base c.args.named.now (c.requires.read x (c.read_area.ensures.content x was)) c.in_ok-area.area (c.in_ok-area.ensures.area x was) c.in_ok-area.ensures.known.1 c.in_ok-link.link (sym c.is_some.ensures ∙ c.if-is_some.true)
     (subst (λ (l : List Count). IsLastLink l c.args.base c.in_ok-link.link x) counts (c.in_ok-link.ensures.link x told)) c.if-earlier-eq7.true
+
+pub returns-clause-counted : goal.returns-clause-counted
+returns-clause-counted g c =
+    area_read c.in_ok-area.area.counts (g.D.Disk.calls c.args.disk.now) (g.D.Disk.calls c.read_area.new.disk) (g.D.Disk.calls c.last_link.new.disk) c.in_ok-area.ensures.counted
+    (subst (λ (l : List Count). Called (count_by is_spent (drop (length l - 1) l)) (g.D.Disk.calls c.read_area.new.disk) (g.D.Disk.calls c.last_link.new.disk)) c.counts.ensures.counts c.in_ok-link.ensures.counted)

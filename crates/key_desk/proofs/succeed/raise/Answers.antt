@@ -75,3 +75,7 @@ returns-clause-unspent g c =
     on_ok c.open_gate.result _ _ c.open_gate.ensures.stored (λ gate.
     unspent g.D.Disk (key_from c.args.kind c.args.secret.now) c.clear_next.new.disk c.put_block.new.disk c.put_text.new.disk c.open_gate.new.disk c.args.base c.args.slots c.place_in-end.result c.place_in-place.result (length c.args.zeros.now)
     c.requires.some c.place_in-end.ensures.place c.place_in-place.ensures.place (some_zeros c.args.zeros.now c.args.kind c.requires.zeros) c.in_ok-clear_next.ensures.cleared c.put_block.ensures.moments c.in_ok-put_block.ensures.blank c.put_text.ensures.moments c.open_gate.ensures.moments)
+
+pub returns-clause-counted : goal.returns-clause-counted
+returns-clause-counted g c =
+    on_ok c.open_gate.result _ _ c.open_gate.ensures.counted (λ opened. omega (arith, c.in_ok-clear_next.ensures.counted, c.in_ok-put_block.ensures.counted, c.in_ok-put_text.ensures.counted, opened))

@@ -11,7 +11,7 @@ returns-in-Ok-clause-line g c =
 
 pub returns-in-Ok-clause-made : goal.returns-in-Ok-clause-made
 returns-in-Ok-clause-made g c =
-    next_on g.D.Disk c.succeed.new.disk c.in-Ok.desk _ c.in-Ok.ensures.fits (c.in-Ok.ensures.key ∙ ap (λ n. key_from n c.args.secret.now) c.number.ensures.is)
+    next_on g.D.Disk c.succeed.new.disk c.in-Ok.desk _ c.in-Ok.ensures.fits c.in-Ok.ensures.unspent (c.in-Ok.ensures.key ∙ ap (λ n. key_from n c.args.secret.now) c.number.ensures.is)
 
 pub returns-in-Ok-clause-links : goal.returns-in-Ok-clause-links
 returns-in-Ok-clause-links g c = links_kind g.D.Disk c.args.disk.now c.succeed.new.disk _ _ _ c.number.ensures.is c.in-Ok.ensures.moments

@@ -1,11 +1,9 @@
-use Rattle.std.proofs.Common.{refl, inl, inr}
+use Rattle.std.proofs.Common.{refl, inl, inr, arith}
 use Rattle.std.proofs.lemmas.Result.{err_from_is_err_and}
-use Rattle.road_io.specs.Moments.{EachImage, still_told}
-use Rattle.desk_areas.specs.Keys.{key_from}
+use Rattle.road_io.specs.Moments.{still_told}
 use Rattle.road_command.specs.View.{type_of}
-use Rattle.command_desks.specs.Opening.{IsKeyOn}
 use Rattle.command_desks.proofs.Disks.{no_moment, no_step}
-use Rattle.owner_commands.proofs.OwnerLemmas.{made_of, on_any, written_stays}
+use Rattle.owner_commands.proofs.OwnerLemmas.{written_stays}
 use Rattle.owner_commands.proofs.PublishLemmas.{stays_refused}
 use Rattle.road_io.specs.Causes.{Rose}
 use Rattle.owner_commands.specs.NextKey.{EndsSuccession}
@@ -21,11 +19,12 @@ returns-in_err-secret-clause-adds g c =
     let p = err_from_is_err_and c.from_residual.result c.from_residual.ensures.1 in
     rw (p.1, p.2)
     (record {
-      made = tt;
+      made = files_written c.in_err-secret.field-0.0 _ c.in_err-secret.ensures.loads.others;
       links = inl (no_moment g.D.Disk c.args.disk.now);
       keys = no_keys g.D.Disk c.args.disk.now;
       follows = files_written c.in_err-secret.field-0.0 _ c.in_err-secret.ensures.loads.others;
       untouched = stays_refused g.D.Disk c.args.disk.now c.args.disk.now _ (no_moment g.D.Disk c.args.disk.now);
+      few = omega arith;
     })
 
 pub returns-in_err-line-clause-promised : goal.returns-in_err-line-clause-promised
@@ -39,11 +38,12 @@ returns-in_err-line-clause-adds g c =
     let p = err_from_is_err_and c.from_residual-in_err-line.result c.from_residual-in_err-line.ensures.1 in
     rw (p.1, p.2)
     (record {
-      made = tt;
+      made = none_written (Rose (g.D.Disk.faults c.args.disk.now) (g.D.Disk.faults c.make_next.new.disk)) (EndsSuccession (still_told g.D.Disk c.args.disk.now c.make_next.new.disk) (type_of c.args.kind) c.in_ok-secret.secret) c.in_err-line.field-0.0 _ c.in_err-line.ensures.refused;
       links = inr (links_file _ _ _ (still_told g.D.Disk c.args.disk.now c.make_next.new.disk) _ (Unit {0}) 0 0 0 0 c.in_ok-secret.ensures.loads.read (still_told g.D.Disk c.args.disk.now c.make_next.new.disk) g.D.Disk c.args.disk.now c.make_next.new.disk c.make_next.ensures.links);
       keys = c.make_next.ensures.keys;
       follows = none_written (Rose (g.D.Disk.faults c.args.disk.now) (g.D.Disk.faults c.make_next.new.disk)) (EndsSuccession (still_told g.D.Disk c.args.disk.now c.make_next.new.disk) (type_of c.args.kind) c.in_ok-secret.secret) c.in_err-line.field-0.0 _ c.in_err-line.ensures.refused;
       untouched = c.in_err-line.ensures.untouched;
+      few = c.make_next.ensures.few;
     })
 
 pub returns-clause-promised : goal.returns-clause-promised
@@ -52,9 +52,10 @@ returns-clause-promised g c =
 
 pub returns-clause-adds : goal.returns-clause-adds
 returns-clause-adds g c = record {
-  made = on_any _ _ (made_of _ _ _ (λ s. EachImage g.D.Disk c.make_next.new.disk (λ i. IsKeyOn i (key_from (type_of c.args.kind) s))) c.in_ok-secret.ensures.loads.read c.in_ok-line.ensures.made);
+  made = on_writing c.write_text.result _ (record { secret = c.in_ok-secret.secret; of_file = c.in_ok-secret.ensures.loads.read; unspent = c.in_ok-line.ensures.made });
   links = inr (links_file _ _ _ (still_told g.D.Disk c.args.disk.now c.make_next.new.disk) _ (Unit {0}) 0 0 0 0 c.in_ok-secret.ensures.loads.read (still_told g.D.Disk c.args.disk.now c.make_next.new.disk) g.D.Disk c.args.disk.now c.make_next.new.disk c.make_next.ensures.links);
   keys = c.make_next.ensures.keys;
   follows = on_writing c.write_text.result _ (record { secret = c.in_ok-secret.secret; of_file = c.in_ok-secret.ensures.loads.read; follows = c.in_ok-line.ensures.follows });
   untouched = written_stays g.D.Disk c.args.disk.now c.make_next.new.disk _ _ _ _ _ _ c.write_text.ensures.writes;
+  few = c.make_next.ensures.few;
 }

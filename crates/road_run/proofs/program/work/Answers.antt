@@ -45,7 +45,7 @@ returns-in-Some-Links-clause-promised g c =
 pub returns-in-Some-Publish-clause-promised : goal.returns-in-Some-Publish-clause-promised
 returns-in-Some-Publish-clause-promised g c =
     run_promises g.D.Disk c.args.disk.now c.publish.new.disk _ _ _ _ _ _ _ _ _ _ (rw c.in-Some-Publish.field-0-is at c.in-Some-Publish.ensures.is) c.publish.ensures.promised
-    (c.publish.ensures.sealed, c.publish.ensures.signs, c.publish.ensures.untouched) c.publish.ensures.stands
+    (c.publish.ensures.sealed, c.publish.ensures.signs, c.publish.ensures.untouched, c.publish.ensures.few) c.publish.ensures.stands
 
 pub returns-in-Some-Audit-clause-promised : goal.returns-in-Some-Audit-clause-promised
 returns-in-Some-Audit-clause-promised g c =

@@ -4,6 +4,7 @@ use Rattle.key_desk.specs.declared.succeed.SucceedError.{SucceedError}
 use Rattle.key_desk.specs.declared.succeed.SucceedError.TheVariants.{DiskFault, Memory}
 use Rattle.key_desk.specs.declared.desk.Desk.{Desk}
 use Rattle.key_desk.specs.Succession.{IsDeskCalledFor, CanFollow, DeskRefuses}
+use Rattle.desk_areas.proofs.OnOks.{on_ok}
 use Rattle.key_desk.proofs.Refusals.{none_refused, one_refusal, called, called_else, can_succeed, same_error}
 use Rattle.key_desk.proofs.desk.Desk.pass_on.Goals as goal
 
@@ -37,3 +38,6 @@ returns-in-Ok-clause-refused_else g c f h = absurd (none_refused c.args.self c.a
 
 pub returns-in-Err-clause-keys : goal.returns-in-Err-clause-keys
 returns-in-Err-clause-keys g c = nothing g.D.Disk c.args.disk.now _ (λ d now. let areas = c.requires.fits.areas d now in areas.keys)
+
+pub returns-in-Ok-clause-free : goal.returns-in-Ok-clause-free
+returns-in-Ok-clause-free g c = on_ok c.add_area.result _ _ c.add_area.ensures.counted (λ counted. c.in-Ok.ensures.follows.free)

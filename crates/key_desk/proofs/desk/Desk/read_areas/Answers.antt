@@ -10,6 +10,10 @@ use Rattle.key_desk.specs.Desk.{Fits, key_of}
 use Rattle.desk_areas.specs.Reading.{HasRead, IsLastLink}
 use Rattle.key_desk.proofs.ReadFits.{IsEither, IsWhole, desk_of, read_fits}
 use Rattle.key_desk.proofs.Finding.{some_is}
+use Rattle.desk_areas.specs.Calls.{Called, area_calls}
+use Rattle.desk_areas.proofs.CallLemmas.{called_then}
+use Rattle.key_desk.specs.Calls.{areas_calls}
+use Rattle.key_desk.proofs.CallLemmas.{areas_called}
 use Rattle.key_desk.proofs.ReadMore.{none_read, more_read, wholes_more, names_more}
 use Rattle.key_desk.proofs.desk.Desk.read_areas.Given.{Over}
 use Rattle.key_desk.proofs.desk.Desk.read_areas.Goals as goal
@@ -19,10 +23,13 @@ pub loop-round-init : goal.loop-round-init
 loop-round-init g c =
     let none : c.new-earlier.result.items ≡ [] = search rules in
     let size : length c.new-earlier.result.items ≡ 0 = ap (λ (l : List AreaView). length l) none in
+    let no_calls : areas_calls c.new-earlier.result.items ≡ 0 = ap (λ (l : List AreaView). areas_calls l) none in
     record {
       content = λ x told. told;
       moments = nothing g.D.Disk c.args.disk.now Stays (λ d now. refl);
       faults = refl;
+      called = λ low. omega (arith, low, no_calls);
+      calls = omega arith;
       count = size;
       few = omega arith;
       low = omega arith;
@@ -96,6 +103,11 @@ returns-in-None-clause-fits g c =
     (λ x told. c.loop-round.invariant.read x (c.read_next.ensures.content x told)) c.in_ok-area.ensures.area c.in_ok-area.ensures.named
     (λ x told. subst (λ (o : Option (List ℕ)). IsLastLink c.in_ok-area.field-0.area.counts c.loop-round.base o x) c.in-None.is (c.in_ok-area.ensures.link x told)))
 
+pub returns-in-None-clause-counted : goal.returns-in-None-clause-counted
+returns-in-None-clause-counted g c =
+    subst (λ (v : Desk). Called (areas_calls v.earlier + area_calls v.counts) (g.D.Disk.calls c.args.disk.now) (g.D.Disk.calls c.read_next.new.disk)) (sym c.with_current.ensures)
+    (called_then _ _ _ _ _ c.loop-round.invariant.called c.in_ok-area.ensures.counted)
+
 pub returns-clause-bad_block : goal.returns-clause-bad_block
 returns-clause-bad_block g c _ x told = absurd (omega (arith, c.loop-round.invariant.few, c.loop-round-test.false))
 
@@ -112,6 +124,8 @@ loop-round-preserved g c =
       content = λ x told. c.loop-round.invariant.content x (c.read_next.ensures.content x told);
       moments = all g at;
       faults = c.in_ok-area.ensures.kept (λ e. cc) ∙ c.loop-round.invariant.faults;
+      called = areas_called c.loop-round.earlier.items c.push.new.self.items c.in_ok-area.field-0.area _ _ _ items c.loop-round.invariant.called c.in_ok-area.ensures.counted;
+      calls = omega (arith, c.loop-round.invariant.calls, c.read_next.ensures.few);
       count = longer ∙ ap (λ (n : ℕ). n + 1) c.loop-round.invariant.count;
       few = omega (arith, seven, same, c.loop-round.invariant.count);
       low = omega (arith, c.loop-round.invariant.low, c.place_in-base.ensures.place, c.counts.ensures.few);

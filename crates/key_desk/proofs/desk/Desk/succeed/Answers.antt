@@ -20,6 +20,7 @@ use Rattle.desk_areas.specs.Keys.{key_from}
 use Rattle.key_desk.specs.Stands.{KeepsStanding, SameKeys}
 use Rattle.key_desk.specs.Desk.{slot_here, HasAreas, Fits}
 use Rattle.key_desk.specs.Succession.{last_number, next_desk, started, HasKeys, SignsLink, Refuses, IsCalledFor, IsDeskCalledFor}
+use Rattle.key_desk.proofs.CallLemmas.{succeeded}
 use Rattle.key_desk.proofs.Standing.{standing}
 use Rattle.key_desk.proofs.KeptKeys.{stays_keys, desk_keys}
 use Rattle.key_desk.proofs.Counts.{key_here}
@@ -175,3 +176,8 @@ follows desk key (Err e) is = tt
 
 pub returns-in-Ok-clause-follows : goal.returns-in-Ok-clause-follows
 returns-in-Ok-clause-follows g c = follows c.in-Ok.desk (key_from c.args.kind c.args.secret.now) c.pass_on.result c.pass_on.ensures.next
+
+pub returns-in-Ok-clause-counted : goal.returns-in-Ok-clause-counted
+returns-in-Ok-clause-counted g c =
+    succeeded c.in-Ok.desk (key_from c.args.kind c.args.secret.now) (g.D.Disk.calls c.args.disk.now) (g.D.Disk.calls c.reopen.new.disk) (g.D.Disk.calls c.pass_on.new.disk) c.pass_on.result c.in-Ok.ensures.fits.sound c.in-Ok.ensures.counted c.pass_on.ensures.next
+    c.pass_on.ensures.free c.pass_on.ensures.counted

@@ -1,11 +1,11 @@
 #!/usr/bin/env python3
 """Counts what the documents may have: checks/docs/sizes.py
 
-Words beside code blocks of README.md and docs/*.md, sentences of more than 40 words, and links to files or headings
-that are not there, in these and in the documents at the top; and looks that the version of the file VERSION is the one
-that the program, the changelog, the C header and the modules for Python and JavaScript say, that the program names the
-toolchain of SUMS, and that Git tracks nothing under an out folder. Ends with status 1 where one is above its budget or
-differs.
+Words beside code blocks of README.md and docs/*.md; sentences of more than 40 words, links to files or headings that
+are not there, and names of files that are not there, in these and in the documents apart. It compares the version of
+the file VERSION with the one that the program, the changelog, the C header and the modules for Python and JavaScript
+say, and the toolchain that the program names with that of SUMS, and looks that Git tracks nothing under an out folder.
+Ends with status 1 where one is above its budget, differs or is not there. checks/docs/planted.py plants each fault.
 """
 import glob
 import os
@@ -19,7 +19,10 @@ VERSIONS = {"crates/road_tell/src/usage.rt": r'VERSION: &str = "([^"]*)"', "CHAN
             "bindings/gogbetiku.h": r'GOG_VERSION "([^"]*)"', "bindings/python/gogbetiku/__init__.py": r'__version__ = "([^"]*)"',
             "web/route_check.mjs": r'VERSION = "([^"]*)"', "web/package.json": r'"version": "([^"]*)"'}
 KIT = r'KIT: &str = "([^"]*)"'
-APART = ["SECURITY.md", "CONTRIBUTING.md", "CHANGELOG.md", "checks/README.md"]
+APART = ["SECURITY.md", "CONTRIBUTING.md", "CHANGELOG.md", "checks/README.md", "vectors/README.md", "web/page/README.md"]
+SECTION = re.compile(r'`((?:docs/)?[A-Z_]+\.md)`(?:\]\([^)]*\))?,? (?:"([^"]+)"|(\d+(?:\.\d+)?)\b)')
+# what a document may name before it is made: all under an out folder
+NAMED = re.compile(r"`((?:bindings|checks|crates|docs|reference|tools|vectors|web)/[\w./@-]*\w|[A-Z]+\.md)`")
 
 
 def read(document):
@@ -38,9 +41,21 @@ def prose_of(text):
     return lines
 
 
+def paragraphs_of(lines):
+    """The lines of prose, those that go on with a paragraph joined to it."""
+    paragraph = ""
+    for line in lines + [""]:
+        plain = line.lstrip("> ").rstrip()
+        begins = not plain or re.match(r"[|#]|[-*] |\d+\. ", plain)
+        if paragraph and (begins or paragraph[0] in "|#"):
+            yield paragraph
+            paragraph = ""
+        paragraph = f"{paragraph} {plain}".strip()
+
+
 def sentences_of(lines):
     """The sentences of prose: of each paragraph, list item and cell of a table."""
-    for line in lines:
+    for line in paragraphs_of(lines):
         cells = line.strip().strip("|").split(" | ") if line.lstrip().startswith("|") else [line]
         for cell in cells:
             plain = re.sub(r"\]\([^)]*\)", "]", cell)
@@ -70,6 +85,27 @@ def dead_links(document, text):
             yield target
 
 
+def sections_not_there(document, text):
+    """The sections that a document names, as `docs/SPEC.md`, 4.3, or by a heading or a bold lead in quotes."""
+    for name, heading, number in SECTION.findall("\n".join(prose_of(text))):
+        path = name if name.startswith("docs/") or os.path.exists(f"{TOP}/{name}") else f"docs/{name}"
+        wanted = rf"^(#+ {re.escape(heading)}$|\*\*{re.escape(heading)}\.?\*\*)" if heading else f"^#+ {re.escape(number)}[. ]"
+        if os.path.exists(f"{TOP}/{path}") and not re.search(wanted, read(path), re.M):
+            yield f"{path}, {heading or number}"
+
+
+def files_not_there(document, text):
+    """The files that a document names in its prose, from the top or from its own folder, and that are not there."""
+    folder = os.path.dirname(f"{TOP}/{document}")
+    for name in NAMED.findall("\n".join(prose_of(text))):
+        if "/out/" not in name and "/NAME/" not in name and not any(os.path.exists(f"{at}/{name}") for at in (TOP, f"{TOP}/docs", folder)):
+            yield name
+
+
+def not_there(document, text):
+    return [*dead_links(document, text), *files_not_there(document, text), *sections_not_there(document, text)]
+
+
 def versions_that_differ():
     version = read("VERSION").strip()
     for name, pattern in VERSIONS.items():
@@ -82,7 +118,7 @@ def versions_that_differ():
 
 
 def tracked_in_out():
-    listed = subprocess.run(["git", "ls-files"], cwd=TOP, capture_output=True, text=True, check=False).stdout.split("\n")
+    listed = subprocess.run(["git", "ls-files"], cwd=TOP, capture_output=True, text=True, check=True).stdout.split("\n")
     return [f"{name}: Git tracks a file under out/" for name in listed if re.search(r"(^|/)out/", name)]
 
 
@@ -100,7 +136,7 @@ def main():
             count = len(re.findall(r"[A-Za-z0-9`'’\-]*[A-Za-z0-9][^\s]*", sentence))
             if count > SENTENCE_WORDS and document not in ["checks/README.md"]:
                 faults.append(f"{document}: a sentence of {count} words: {sentence.strip()[:90]} ..")
-        faults += [f"{document}: {target} is not there" for target in dead_links(document, text)]
+        faults += [f"{document}: {target} is not there" for target in not_there(document, text)]
         if document == "README.md" and words > README_WORDS:
             faults.append(f"README.md has {words} words, and may have {README_WORDS}")
     print(f"{total:6} together")

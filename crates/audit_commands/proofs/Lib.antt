@@ -3,3 +3,7 @@ pub mod OneAudit
 pub mod AuditLemmas
 pub mod HeadlineLemmas
 mod Worked
+pub mod SlotLemmas
+pub mod ReduceLemmas
+pub mod OneReduce
+mod ReduceWorked

@@ -4,8 +4,12 @@
 
 pub use auditing::{audit, audit_files};
 pub use near_auditing::audit_reach;
+pub use reducing::reduce;
 pub use telling::{RouteTelling, Telling};
 
 mod auditing;
+mod lines;
 mod near_auditing;
+mod reducing;
+mod slots;
 mod telling;

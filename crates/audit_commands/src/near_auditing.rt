@@ -2,26 +2,26 @@
 
 ghost use Rattle.std.specs.Prelude.{◌≡◌, IfOk};
 ghost use Rattle.std.specs.Option.{option_map};
-ghost use Rattle.near_line.specs.WithinLine.{refused_near_line};
-ghost use Rattle.near_audit.specs.Radii.{radii};
+ghost use Rattle.road_line.specs.WithinLine.{refused_near_line};
+ghost use Rattle.route_audit.specs.Radii.{radii};
 ghost use Rattle.audit_commands.specs.Headline.{AuditsFiles};
 
 use crate::auditing::audit_files;
 use crate::telling::Telling;
 use command_files::{Conclusion, Fault};
-use near_audit::Radii;
-use near_client::NearError;
-use near_line::line_of_refused_near;
-use near_model::NearQuery;
 use octet_text::NoMemory;
+use proof_octets::NearQuery;
 use road_io::{Disk, Library, Sink};
+use road_line::line_of_refused_near;
+use route_audit::Radii;
+use route_client::NearError;
 use std::alloc::Global;
 
 // How `audit-reach` tells of radii.
 struct RadiusTelling;
 
 impl Telling for RadiusTelling {
-    ghost use Rattle.near_line.specs.WithinLine.{refused_near_line};
+    ghost use Rattle.road_line.specs.WithinLine.{refused_near_line};
 
     type Kind = Radii;
 

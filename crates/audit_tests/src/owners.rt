@@ -14,8 +14,7 @@ use road_io::Disk;
 use route_server::Held;
 use std::alloc::Global;
 use std::test::Fail;
-use test_maps::{NODES, ROADS, parts_of};
-use test_settings::DIJ;
+use test_maps::{DIJ, NODES, ROADS, parts_of};
 
 /// The text that is hashed for the leaf of node 2, which stands at (10, 0).
 pub(crate) const SECOND: [u8; 32] = [

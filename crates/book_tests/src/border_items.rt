@@ -5,7 +5,7 @@
 use crate::judging::items_of;
 use crate::same::assert_row;
 use book_model::{Numbers, Query};
-use hyp_judge::Hyp;
+use method_judges::Hyp;
 use proof_judge::{Judge, Refusal};
 use road_leaf::{Extra, NodeLeaf, PairLeaf};
 use std::alloc::{AllocError, Global};

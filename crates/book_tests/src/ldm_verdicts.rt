@@ -3,7 +3,7 @@ ghost use Rattle.std.specs.Prelude.{◌≤◌, length};
 
 use crate::same::assert_same;
 use book_model::{Items, NodeLeaves, Numbers, PairLeaves, Query};
-use ldm_judge::{ItemLeaves, Ldm, bound};
+use method_judges::{ItemLeaves, Ldm, bound};
 use proof_judge::{Judge, NodesById, Refusal};
 use road_leaf::{Codes, Extra, NodeLeaf};
 use road_map::{Arc, Arcs, Ids};

@@ -3,7 +3,7 @@
 use crate::books::{Gathered, assert_gathered, book_of, settings_of};
 use crate::same::{assert_row, assert_same};
 use book_model::{Numbers, PlanError, Query};
-use plain_books::{DijBook, FullBook};
+use method_books::{DijBook, FullBook};
 use proof_method::{GatherError, MethodBook};
 use road_leaf::PairLeaf;
 use std::alloc::Global;

@@ -3,7 +3,7 @@
 use crate::judging::items_of;
 use crate::same::assert_row;
 use book_model::{Numbers, Query};
-use plain_judges::{Dij, Full};
+use method_judges::{Dij, Full};
 use proof_judge::{Judge, Refusal};
 use road_leaf::PairLeaf;
 use std::alloc::Global;

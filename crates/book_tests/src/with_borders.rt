@@ -5,7 +5,7 @@
 use crate::books::{Gathered, assert_gathered, book_of, settings_of};
 use crate::same::assert_same;
 use book_model::{PlanError, Query};
-use hyp_book::HypBook;
+use method_books::HypBook;
 use proof_method::{GatherError, MethodBook};
 use road_leaf::PairLeaf;
 use std::alloc::{AllocError, Global};

@@ -5,10 +5,10 @@ use Rattle.std.specs.declared.result.Result.{Result}
 use Rattle.std.specs.declared.result.Result.TheVariants.{Ok, Err}
 use Rattle.sha2.specs.Sha256.{sha256}
 use Rattle.road_io.specs.Contents.{Folder}
-use Rattle.near_model.specs.declared.query.NearQuery.{NearQuery}
-use Rattle.near_client.specs.declared.within.Within.{Within}
-use Rattle.near_client.specs.declared.errors.NearError.{NearError}
-use Rattle.near_client.specs.NearVerdicts.{IsNearVerdict}
+use Rattle.proof_octets.specs.declared.query.NearQuery.{NearQuery}
+use Rattle.route_client.specs.declared.within.Within.{Within}
+use Rattle.route_client.specs.declared.near_errors.NearError.{NearError}
+use Rattle.route_client.specs.NearVerdicts.{IsNearVerdict}
 use Rattle.lms_tree.specs.declared.links.Link.{Link}
 use Rattle.command_files.specs.Endings.{TellsNone, MayEnd}
 use Rattle.command_files.proofs.OneEnd.{HasOneEnd}

@@ -5,12 +5,12 @@ use Rattle.std.specs.declared.option.Option.{Option}
 use Rattle.lms_tree.specs.declared.links.Link.{Link}
 use Rattle.sha2.specs.Sha256.{sha256}
 use Rattle.road_io.specs.Contents.{Folder}
-use Rattle.near_model.specs.declared.query.NearQuery.{NearQuery}
-use Rattle.near_client.specs.declared.errors.NearError.{NearError}
-use Rattle.near_client.specs.declared.errors.NearError.TheVariants as errors
-use Rattle.near_client.specs.declared.within.Within.{Within}
-use Rattle.near_client.specs.NearVerdicts.{IsNearVerdict}
-use Rattle.near_line.specs.WithinLine.{within_line, refused_near_line}
+use Rattle.proof_octets.specs.declared.query.NearQuery.{NearQuery}
+use Rattle.route_client.specs.declared.near_errors.NearError.{NearError}
+use Rattle.route_client.specs.declared.near_errors.NearError.TheVariants as errors
+use Rattle.route_client.specs.declared.within.Within.{Within}
+use Rattle.route_client.specs.NearVerdicts.{IsNearVerdict}
+use Rattle.road_line.specs.WithinLine.{within_line, refused_near_line}
 use Rattle.command_files.specs.Reading.{octets_at, chain_at}
 use Rattle.command_files.specs.HexFiles.{public_key_at}
 use Rattle.command_files.specs.Endings.{Ending, EndsReading}

@@ -9,11 +9,11 @@ ghost use Rattle.client_commands.specs.NearChecking.{EndsCheckReach, ends_check_
 
 use command_files::{Conclusion, Fault, Told, load_chain, load_file, load_hex, write_told};
 use lms_tree::Link;
-use near_client::{NearError, check_near};
-use near_line::{line_of_refused_near, line_of_within};
-use near_model::NearQuery;
 use octet_text::{NoMemory, Sha};
+use proof_octets::NearQuery;
 use road_io::{Library, Sink};
+use road_line::{line_of_refused_near, line_of_within};
+use route_client::{NearError, check_near};
 use std::alloc::Global;
 
 /// Writes what a client says of a reply to a query on a radius, under a public key,

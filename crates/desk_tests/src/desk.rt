@@ -9,7 +9,7 @@ use road_command::KeyKind;
 use road_io::Disk;
 use std::alloc::Global;
 use std::test::Fail;
-use test_settings::DIJ;
+use test_maps::DIJ;
 
 /// How a command ends.
 type End = Result<Conclusion, Fault>;

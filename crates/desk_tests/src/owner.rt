@@ -10,8 +10,7 @@ use route_owner::{PublishError, publish};
 use route_server::BuildError;
 use std::alloc::Global;
 use std::test::Fail;
-use test_maps::{NODES, ROADS, parts_of};
-use test_settings::DIJ;
+use test_maps::{DIJ, NODES, ROADS, parts_of};
 
 /// An owner's disk, its public key, and the octets of the publication that its desk has signed.
 #[derive(Drop)]

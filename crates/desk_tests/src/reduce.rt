@@ -2,11 +2,11 @@
 
 use crate::asserts::{assert_octets, assert_same};
 use crate::owner::published;
+use audit_commands::reduce;
 use command_files::{Conclusion, Fault};
 use lms_ots::{array_at, digits, randomiser};
 use lms_tree::Key;
 use mem_io::{MemDisk, MemLibrary, MemSink};
-use reduce_commands::reduce;
 use std::alloc::Global;
 use std::process::Abort;
 use std::test::Fail;

@@ -3,17 +3,14 @@
 use crate::asserts::{assert_octets, assert_same};
 use book_model::Settings;
 use mem_io::{MemSink, MemSource};
-use octet_frame::next_frame;
 use octet_text::{List, NoMemory, Octets, Sha, put_i32, put_octets, put_u32, put_u64};
 use proof_octets::{Header, Publication};
 use route_server::Held;
-use route_service::{Guard, Service};
-use route_serving::{ServeError, serve};
+use route_service::{Guard, ServeError, Service, next_frame, serve};
 use std::alloc::Global;
 use std::process::Abort;
 use std::test::Fail;
-use test_maps::{NODES, ROADS, parts_of};
-use test_settings::DIJ;
+use test_maps::{DIJ, NODES, ROADS, parts_of};
 
 const MOST_OCTETS: u32 = 4_194_304;
 

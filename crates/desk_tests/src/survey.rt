@@ -5,11 +5,10 @@ use book_model::PlanError;
 use command_files::{Conclusion, Fault};
 use mem_io::MemSink;
 use road_command::Survey;
-use route_survey::survey;
+use route_survey::{survey as survey_command, survey_method};
 use std::alloc::Global;
 use std::process::Abort;
 use std::test::Fail;
-use survey_commands::survey as survey_command;
 
 /// Asserts what a survey writes, and how it ends.
 fn assert_surveyed(
@@ -52,7 +51,7 @@ fn surveys_over_grids(rt: HostRuntime) -> Result<(), Fail> {
 fn each_method_finds_the_same_lengths(rt: HostRuntime) -> Result<(), Fail> {
     let front = b"queries 20 accepted 20 total 35040 digest ";
     for method in 1..=4 {
-        let line = survey(rt.alloc(), 8, 5, method, 20)?;
+        let line = survey_method(rt.alloc(), 8, 5, method, 20)?;
         assert_octets(&rt, line.get(..42).unwrap_or(&[]), front);
     }
     Ok(())

@@ -1,20 +1,19 @@
 //! Each load of each command that loads files fails.
 
 use crate::parties::{ASKED, NEAR, Outputs, library_of, play_all};
-use audit_commands::{audit, audit_reach};
+use audit_commands::{audit, audit_reach, reduce};
 use client_commands::{check, check_reach};
 use command_files::{Conclusion, Fault};
 use map_commands::{dimacs, root, route};
 use mem_io::{MemDisk, MemLibrary, MemSink, MemSource};
 use mirror_out::MemMirror;
 use owner_commands::{key, publish, succeed};
-use reduce_commands::reduce;
 use road_command::KeyKind;
 use server_commands::{prove, reach, serve};
 use std::alloc::Global;
 use std::process::Abort;
 use std::test::Fail;
-use test_settings::DIJ;
+use test_maps::DIJ;
 
 /// A command that loads files.
 #[derive(Clone, Copy, Debug, PartialEq, Eq)]

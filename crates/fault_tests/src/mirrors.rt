@@ -10,7 +10,7 @@ use road_reader::{grid_roads, print_roads};
 use std::alloc::Global;
 use std::process::Abort;
 use std::test::Fail;
-use test_settings::DIJ;
+use test_maps::DIJ;
 
 /// The octets of the publication of a grid of width 20, and the pieces that it goes in.
 const OCTETS: usize = 15_362;

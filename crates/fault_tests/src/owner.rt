@@ -9,8 +9,7 @@ use road_command::KeyKind;
 use std::alloc::Global;
 use std::process::Abort;
 use std::test::Fail;
-use test_maps::FIVE_NODES;
-use test_settings::DIJ;
+use test_maps::{DIJ, FIVE_NODES};
 
 /// The hex digits of 48 octets that are 0, and of 48 that are 1.
 const ZEROS: &str =

@@ -5,7 +5,7 @@ use crate::owner::{Command, done, files};
 use book_model::Query;
 use command_files::Conclusion;
 use mem_io::{MemDisk, MemLibrary, MemSink};
-use near_model::NearQuery;
+use proof_octets::NearQuery;
 use server_commands::{prove, reach};
 use std::alloc::Global;
 use std::process::Abort;

@@ -4,7 +4,7 @@ use crate::asserts::{assert_octets, assert_same};
 use crate::publications::{octets_before_nodes, put_numbers};
 use octet_text::NoMemory;
 use proof_octets::Publication;
-use publication_pieces::pieces_of;
+use publication_out::pieces_of;
 use std::alloc::Global;
 use std::process::Abort;
 use std::test::Fail;

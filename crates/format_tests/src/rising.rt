@@ -1,8 +1,8 @@
 //! What no clause says: published digests, calls that succeed, and texts of refusals.
 
 use crate::asserts::{assert_octets, assert_same};
+use merkle_cover::{Risen, Rising, RisingError};
 use octet_text::{Digest32, Hasher, Sha, Toy};
-use rising_tree::{Risen, Rising, RisingError};
 use std::alloc::Global;
 use std::process::Abort;
 use std::test::Fail;

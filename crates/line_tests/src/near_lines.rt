@@ -2,10 +2,9 @@
 
 use crate::same::assert_same;
 use lms_tree::SealError;
-use near_client::NearError;
-use near_line::{line_of_refused_near, line_of_within};
-use near_model::Mark;
-use route_client::CoverFault;
+use proof_octets::Mark;
+use road_line::{line_of_refused_near, line_of_within};
+use route_client::{CoverFault, NearError};
 use std::test::Fail;
 
 static NODES: [Mark; 3] = [

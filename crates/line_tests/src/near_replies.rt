@@ -6,10 +6,9 @@ use crate::signed_near::{
     WITHIN_ANY, WITHOUT_4,
 };
 use lms_tree::SealError;
-use near_client::{NearError, check_near};
-use near_model::{Mark, NearQuery};
 use octet_text::{Sha, Toy};
-use route_client::CoverFault;
+use proof_octets::{Mark, NearQuery};
+use route_client::{CoverFault, NearError, check_near};
 use std::alloc::{AllocError, Global};
 
 const WITHIN_FOUR: NearQuery = NearQuery { from: 1, radius: 4 };

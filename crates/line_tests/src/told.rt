@@ -3,7 +3,6 @@
 use crate::same::{assert_printed, assert_row, assert_same};
 use dimacs_reader::DimacsError;
 use lms_tree::SealError;
-use near_client::NearError;
 use proof_judge::Refusal;
 use road_command::{MOST_WORDS, Words, command_of};
 use road_map::MapError;
@@ -11,7 +10,7 @@ use road_tell::{
     Look, Unusable, WrongHex, asked_of, bad_number, faulty_file, keys_left, look_of, place_of,
     plan_rule, setting_name, wrong_words,
 };
-use route_client::CheckError;
+use route_client::{CheckError, NearError};
 use std::alloc::{AllocError, Global};
 use std::process::Abort;
 use std::test::Fail;

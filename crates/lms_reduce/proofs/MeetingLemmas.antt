@@ -5,7 +5,7 @@ use Rattle.std.proofs.lemmas.Bool.{cases_eq}
 use Rattle.std.proofs.lemmas.List.{drop-drop}
 use Rattle.sha2.specs.Sha256.{sha256}
 use Rattle.octet_text.specs.declared.errors.NoMemory.{NoMemory}
-use Rattle.hash_collision.specs.Collisions.{AreCollision}
+use Rattle.octet_text.specs.Collisions.{AreCollision}
 use Rattle.lms_ots.specs.Chains.{chain_of, secret_of, public_of, candidate_of}
 use Rattle.lms_ots.proofs.OtsLemmas.{chain_of-chain_of}
 use Rattle.lms_tree.specs.Signatures.{KeyOf, height_of, node_of, leaf_of, path_node, climbed}

@@ -2,7 +2,7 @@
 -- signature shows the right one.
 use Rattle.std.specs.Prelude.{◌≡◌, ◌⊎◌, ℕ, ◌+◌, ◌-◌, ◌*◌, ◌/◌, ◌^◌, ◌<◌, ◌≤◌, List, take, drop, slice_index, Option, Some}
 use Rattle.sha2.specs.Sha256.{sha256}
-use Rattle.hash_collision.specs.Collisions.{AreCollision}
+use Rattle.octet_text.specs.Collisions.{AreCollision}
 use Rattle.lms_ots.specs.Chains.{chain_of, secret_of, public_value, public_of, ended_value, candidate_of, randomiser_of}
 use Rattle.lms_tree.specs.Signatures.{KeyOf, height_of, node_of, path_node, leaf_of, climbed, number_at}
 use Rattle.lms_reduce.specs.Released.{claimed_digits}

@@ -2,7 +2,7 @@
 -- owner could know.
 use Rattle.std.specs.Prelude.{ℕ, ◌≡◌, ◌⊎◌, ◌<◌, ◌≤◌, ◌+◌, ◌*◌, List, take, drop, slice_index, Option, Some, Ok}
 use Rattle.sha2.specs.Sha256.{sha256}
-use Rattle.hash_collision.specs.Collisions.{AreCollision}
+use Rattle.octet_text.specs.Collisions.{AreCollision}
 use Rattle.lms_tree.specs.Signatures.{KeyOf, number_at, public_key, verified}
 use Rattle.lms_reduce.specs.Meetings.{MeetOnWay, MeetSigned}
 use Rattle.lms_reduce.specs.Released.{claimed_digits, own_value, IsUnreleased}

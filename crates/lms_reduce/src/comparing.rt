@@ -4,7 +4,7 @@ ghost use Rattle.std.specs.Prelude.{◌≡◌, ◌≢◌, ℕ, ◌*◌, ◌^◌,
 ghost use Rattle.sha2.specs.Sha256.{sha256};
 ghost use Rattle.lms_ots.specs.Chains.{candidate_of, ended_value, key_of, public_of, text_hash};
 ghost use Rattle.lms_tree.specs.Signatures.{height_of, number_at, path_node, public_key, sibling, verified};
-ghost use Rattle.hash_collision.specs.Collisions.{AreCollision};
+ghost use Rattle.octet_text.specs.Collisions.{AreCollision};
 ghost use Rattle.lms_reduce.specs.Comparing.{EndsOwn, ShowsOwn};
 ghost use Rattle.lms_reduce.specs.Meetings.{MeetAtEnds, MeetInChain, MeetOnWay};
 ghost use Rattle.lms_reduce.specs.Released.{claimed_digits};
@@ -12,10 +12,9 @@ ghost use Rattle.lms_reduce.specs.Texts.{message_text};
 
 use crate::texts::{digest_of, leaf_text, message_text, own_ends, shown_ends};
 use crate::ways::{highest_meeting, is_same, meeting};
-use hash_collision::octet_law;
 use lms_ots::{array_at, candidate, chain, digits, public_hash, secret, write_array};
 use lms_tree::Key;
-use octet_text::{Digest32, NoMemory, Octets, Sha, put_octets};
+use octet_text::{Digest32, NoMemory, Octets, Sha, octet_law, put_octets};
 use std::alloc::Global;
 
 // Two different texts with one digest.

@@ -2,7 +2,7 @@
 ghost use Rattle.std.specs.Prelude.{◌≡◌, ◌≢◌, ◌-◌, ◌/◌, length, IfSome, IfNone};
 ghost use Rattle.std.specs.Bool.{OnTrue, OnFalse};
 ghost use Rattle.octet_text.specs.Exact.{IsBytes};
-ghost use Rattle.hash_collision.specs.Collisions.{AreCollision};
+ghost use Rattle.octet_text.specs.Collisions.{AreCollision};
 ghost use Rattle.lms_reduce.specs.Meetings.{IsFirstMeeting, IsHighestMeeting};
 ghost use Rattle.lms_reduce.specs.Ways.{raised, walked};
 

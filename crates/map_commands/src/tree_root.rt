@@ -8,8 +8,8 @@ ghost use Rattle.command_files.specs.Spared.{SparesLibrary, SparesBut};
 ghost use Rattle.map_commands.specs.RootLine.{IsPlainTextAt, plain_texts, root_line, IsRootLine, ends_root};
 
 use command_files::{Conclusion, Fault, load_map, write_text};
+use merkle_cover::Rising;
 use octet_text::{Digest32, NoMemory, Sha};
-use rising_tree::Rising;
 use road_io::{Library, Sink};
 use road_leaf::{Extra, NodeLeaf};
 use road_map::{Arc, Arcs, Map, Node};

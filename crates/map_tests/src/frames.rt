@@ -2,7 +2,7 @@
 
 use crate::same::assert_same;
 use mem_io::{MemSink, MemSource};
-use octet_frame::{FrameError, next_frame, write_frame};
+use route_service::{FrameError, next_frame, write_frame};
 use std::test::Fail;
 
 static FRAMES: [u8; 19] = [0, 0, 0, 2, 7, 8, 0, 0, 0, 0, 0, 0, 0, 4, 0, 0, 0, 3, 9];

@@ -2,7 +2,7 @@
 
 use crate::same::assert_row;
 use book_model::{Query, Settings};
-use near_model::NearQuery;
+use proof_octets::NearQuery;
 use road_command::{Command, KeyKind, MOST_WORDS, Survey, Words, command_of};
 use std::alloc::Global;
 use std::process::Abort;

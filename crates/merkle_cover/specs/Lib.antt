@@ -6,3 +6,6 @@ pub mod Refusals
 pub mod Shape
 pub mod Texts
 pub mod Trees
+pub mod Raising
+pub mod Rising
+pub mod Spots

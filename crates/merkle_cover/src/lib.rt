@@ -6,13 +6,17 @@ pub use clashes::{TwoTexts, clash};
 pub use cuts::{Cut, CutTexts, are_in};
 pub use folds::{FoldError, are_rising, fault_of, fold, is_next_below, leaf_digest, top_of};
 pub use laws::cover_laws;
+pub use rising::{Risen, Rising, RisingError};
 pub use texts::Texts;
 pub use trees::{Tree, TreeError};
 
 mod clashes;
+mod covering;
 mod covers;
 mod cuts;
 mod folds;
 mod laws;
+mod rising;
+mod spots;
 mod texts;
 mod trees;

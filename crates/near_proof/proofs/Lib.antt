@@ -2,3 +2,9 @@ pub mod NearAccepted
 pub mod NearMarks
 pub mod NearHonest
 pub mod RightLemmas
+pub mod Accepted
+pub mod Chosen
+pub mod Honest
+pub mod DeskLemmas
+pub mod Ordered
+pub mod ServedLemmas

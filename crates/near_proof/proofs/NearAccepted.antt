@@ -14,14 +14,14 @@ use Rattle.proof_octets.specs.declared.reply.Reply.{Reply}
 use Rattle.proof_octets.specs.Replies as formats
 use Rattle.route_client.specs.declared.accepted.Checked.{Checked}
 use Rattle.route_client.specs.Verdicts.{Accepts, reply_by}
-use Rattle.route_laws.proofs.Accepted.{not_verified, link_good}
-use Rattle.near_model.specs.declared.query.NearQuery.{NearQuery}
-use Rattle.near_model.specs.declared.reply.NearReply.{NearReply}
-use Rattle.near_model.specs.NearReplies.{near_name, near_reply}
-use Rattle.near_client.specs.declared.within.Within.{Within}
-use Rattle.near_client.specs.NearVerdicts.{NearAccepts}
-use Rattle.near_model.specs.Radius.{IsNear}
-use Rattle.near_model.proofs.MarkLaws.{listed_once}
+use Rattle.near_proof.proofs.Accepted.{not_verified, link_good}
+use Rattle.proof_octets.specs.declared.query.NearQuery.{NearQuery}
+use Rattle.proof_octets.specs.declared.near_reply.NearReply.{NearReply}
+use Rattle.proof_octets.specs.NearReplies.{near_name, near_reply}
+use Rattle.route_client.specs.declared.within.Within.{Within}
+use Rattle.route_client.specs.NearVerdicts.{NearAccepts}
+use Rattle.proof_octets.specs.Radius.{IsNear}
+use Rattle.proof_octets.proofs.MarkLaws.{listed_once}
 use Rattle.near_proof.specs.NearAcceptance.{LowerVersionsAccept, OnlyKeysAccept, NoOctetsAnswerBoth, TrueAnswersAgree}
 
 pub lower : LowerVersionsAccept

@@ -32,20 +32,20 @@ use Rattle.proof_octets.specs.Headers.{header_text}
 use Rattle.route_server.specs.Headers.{root_or_zeros, node_texts, book_header, header_of, HasHeader}
 use Rattle.route_server.specs.Honesty.{ids_at}
 use Rattle.route_server.proofs.Known.{known_leaf, length-leaves_of}
-use Rattle.route_laws.specs.Honest.{IsSigned, Leads}
-use Rattle.route_laws.proofs.Honest.{verified_among}
-use Rattle.route_laws.proofs.Chosen.{node_texts_chosen, is_covered}
-use Rattle.route_laws.proofs.Ordered.{is_order}
-use Rattle.near_model.specs.declared.marks.Mark.{Mark}
-use Rattle.near_model.specs.declared.query.NearQuery.{NearQuery}
-use Rattle.near_model.specs.declared.reply.NearReply.{NearReply}
-use Rattle.near_model.specs.NearReplies.{near_reply}
-use Rattle.near_model.specs.Radius.{IsWithin, IsNear, AreWithin}
-use Rattle.near_model.proofs.NearFormat.{near_exact}
-use Rattle.near_client.specs.declared.within.Within.{Within}
-use Rattle.near_client.specs.NearVerdicts.{LacksItem, items_covered, limit_of}
-use Rattle.near_server.specs.NearHonesty.{IsNearReply}
-use Rattle.near_audit.proofs.NearSound.{alone, authentic_alone, items_listed}
+use Rattle.near_proof.specs.Honest.{IsSigned, Leads}
+use Rattle.near_proof.proofs.Honest.{verified_among}
+use Rattle.near_proof.proofs.Chosen.{node_texts_chosen, is_covered}
+use Rattle.near_proof.proofs.Ordered.{is_order}
+use Rattle.proof_octets.specs.declared.marks.Mark.{Mark}
+use Rattle.proof_octets.specs.declared.query.NearQuery.{NearQuery}
+use Rattle.proof_octets.specs.declared.near_reply.NearReply.{NearReply}
+use Rattle.proof_octets.specs.NearReplies.{near_reply}
+use Rattle.proof_octets.specs.Radius.{IsWithin, IsNear, AreWithin}
+use Rattle.proof_octets.proofs.NearFormat.{near_exact}
+use Rattle.route_client.specs.declared.within.Within.{Within}
+use Rattle.route_client.specs.NearVerdicts.{LacksItem, items_covered, limit_of}
+use Rattle.route_server.specs.NearHonesty.{IsNearReply}
+use Rattle.route_audit.proofs.NearSound.{alone, authentic_alone, items_listed}
 use Rattle.near_proof.specs.NearLaws.{AreAccepted, NearRepliesAreAccepted}
 use Rattle.near_proof.proofs.NearMarks.{marks_of, all_listed}
 

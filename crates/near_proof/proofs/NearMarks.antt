@@ -16,9 +16,9 @@ use Rattle.road_search.specs.Nearness.{is_within}
 use Rattle.book_model.specs.Orders.{by_id}
 use Rattle.book_model.proofs.ById.{Up, up_sorted, once, sorted_kept}
 use Rattle.proof_method.proofs.Picks.{kept_from, kept_to}
-use Rattle.near_model.specs.declared.marks.Mark.{Mark}
-use Rattle.near_model.specs.declared.query.NearQuery.{NearQuery}
-use Rattle.near_model.specs.Radius.{marked_ids, IsNear, AreWithin}
+use Rattle.proof_octets.specs.declared.marks.Mark.{Mark}
+use Rattle.proof_octets.specs.declared.query.NearQuery.{NearQuery}
+use Rattle.proof_octets.specs.Radius.{marked_ids, IsNear, AreWithin}
 
 -- ---- ids that rise
 

@@ -25,14 +25,14 @@ use Rattle.route_server.specs.Honesty.{ids_at, Replies}
 use Rattle.route_audit.specs.Evidence.{IsTreesOwn, IsOwn, node_part, pair_part}
 use Rattle.route_audit.specs.Routes.{SpellsAnswer, routes}
 use Rattle.route_audit.proofs.RouteLemmas.{accepts_as}
-use Rattle.route_laws.specs.Honest.{AreKnown, AreAccepted, AnswersAreAccepted}
-use Rattle.route_laws.proofs.Honest.{MethodLaws, Over, all_known, node_count, pairs_rising, pairs_chosen}
-use Rattle.route_laws.proofs.Chosen.{node_texts_chosen}
-use Rattle.route_laws.proofs.Ordered.{is_order}
-use Rattle.near_model.specs.declared.reply.NearReply.{NearReply}
-use Rattle.near_model.specs.NearReplies.{near_reply}
-use Rattle.near_model.proofs.NearFormat.{near_exact}
-use Rattle.near_audit.specs.NearEvidence as near_evidence
+use Rattle.near_proof.specs.Honest.{AreKnown, AreAccepted, AnswersAreAccepted}
+use Rattle.near_proof.proofs.Honest.{MethodLaws, Over, all_known, node_count, pairs_rising, pairs_chosen}
+use Rattle.near_proof.proofs.Chosen.{node_texts_chosen}
+use Rattle.near_proof.proofs.Ordered.{is_order}
+use Rattle.proof_octets.specs.declared.near_reply.NearReply.{NearReply}
+use Rattle.proof_octets.specs.NearReplies.{near_reply}
+use Rattle.proof_octets.proofs.NearFormat.{near_exact}
+use Rattle.route_audit.specs.NearEvidence as near_evidence
 use Rattle.near_proof.specs.NearLaws.{NearRepliesAreAccepted}
 use Rattle.near_proof.specs.Right.{AreRight, HonestRepliesAreRight, HonestReachesAreRight}
 use Rattle.near_proof.proofs.NearHonest as near

@@ -8,11 +8,11 @@ use Rattle.lms_tree.specs.declared.links.Link.{Link}
 use Rattle.lms_tree.specs.Signatures.{is_key}
 use Rattle.route_client.specs.declared.accepted.Checked.{Checked}
 use Rattle.route_client.specs.Verdicts.{Accepts}
-use Rattle.near_model.specs.declared.marks.Mark.{Mark}
-use Rattle.near_model.specs.declared.query.NearQuery.{NearQuery}
-use Rattle.near_model.specs.Radius.{AreWithin}
-use Rattle.near_client.specs.declared.within.Within.{Within}
-use Rattle.near_client.specs.NearVerdicts.{NearAccepts}
+use Rattle.proof_octets.specs.declared.marks.Mark.{Mark}
+use Rattle.proof_octets.specs.declared.query.NearQuery.{NearQuery}
+use Rattle.proof_octets.specs.Radius.{AreWithin}
+use Rattle.route_client.specs.declared.within.Within.{Within}
+use Rattle.route_client.specs.NearVerdicts.{NearAccepts}
 
 -- what is accepted under a least version is accepted under each lower one
 abbrev pub LowerVersionsAccept : Type 0

@@ -5,12 +5,12 @@ use Rattle.std.specs.Prelude.{ℕ, ◌≤◌, List}
 use Rattle.road_map.specs.declared.parts.Parts.{Parts}
 use Rattle.lms_tree.specs.declared.links.Link.{Link}
 use Rattle.proof_octets.specs.declared.publication.Publication.{Publication}
-use Rattle.route_laws.specs.Honest.{IsSigned, Leads}
-use Rattle.near_model.specs.declared.query.NearQuery.{NearQuery}
-use Rattle.near_model.specs.Radius.{AreWithin}
-use Rattle.near_client.specs.declared.within.Within.{Within}
-use Rattle.near_client.specs.NearVerdicts.{NearAccepts}
-use Rattle.near_server.specs.NearHonesty.{IsNearHonest}
+use Rattle.near_proof.specs.Honest.{IsSigned, Leads}
+use Rattle.proof_octets.specs.declared.query.NearQuery.{NearQuery}
+use Rattle.proof_octets.specs.Radius.{AreWithin}
+use Rattle.route_client.specs.declared.within.Within.{Within}
+use Rattle.route_client.specs.NearVerdicts.{NearAccepts}
+use Rattle.route_server.specs.NearHonesty.{IsNearHonest}
 
 -- octets that a client accepts under a key and a chain from it, with exactly the nodes within the
 -- radius, each with its distance

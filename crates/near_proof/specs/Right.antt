@@ -6,12 +6,12 @@ use Rattle.book_model.specs.declared.items.Query.{Query}
 use Rattle.lms_tree.specs.declared.links.Link.{Link}
 use Rattle.proof_octets.specs.declared.publication.Publication.{Publication}
 use Rattle.route_server.specs.Honesty.{IsHonest}
-use Rattle.near_model.specs.declared.query.NearQuery.{NearQuery}
-use Rattle.near_server.specs.NearHonesty.{IsNearHonest}
-use Rattle.near_audit.specs.Radii.{radii}
+use Rattle.proof_octets.specs.declared.query.NearQuery.{NearQuery}
+use Rattle.route_server.specs.NearHonesty.{IsNearHonest}
+use Rattle.route_audit.specs.Radii.{radii}
 use Rattle.route_audit.specs.Kinds.{ReplyKind}
 use Rattle.route_audit.specs.Routes.{routes}
-use Rattle.route_laws.specs.Honest.{IsSigned, Leads, AreKnown}
+use Rattle.near_proof.specs.Honest.{IsSigned, Leads, AreKnown}
 
 -- octets that a client accepts as an answer with the publication's header: all that it brings is of
 -- the publication's trees, and what is taken holds in its map

@@ -1,10 +1,10 @@
 //! What an audit finds of honest replies.
 ghost use Rattle.near_proof.specs.Right.{HonestReachesAreRight, HonestRepliesAreRight};
 
+use crate::honest_laws;
 use crate::laws::near_laws;
 use proof_method::method_laws;
 use road_map::map_laws;
-use route_laws::honest_laws;
 use route_server::server_laws;
 
 /// Over a publication whose header is that of its parts and settings, and signed under a key, every

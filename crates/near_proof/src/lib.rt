@@ -5,13 +5,19 @@
 #![tactic(auto)]
 
 pub use acceptance::near_acceptance_laws;
+pub use answer_laws::{desk_laws, honest_laws};
 pub use honesty::right_laws;
 pub use laws::near_laws;
-pub use near_audit::{AuditError, Finding, audit_near};
-pub use near_client::{NearError, Within, check_near, near_verdict_laws};
-pub use near_model::{Mark, Marks, NearQuery, NearReply};
-pub use near_server::{NearRefusal, answer_near};
+pub use proof_octets::{Mark, Marks, NearQuery, NearReply};
+pub use route_acceptance::acceptance_laws;
+pub use route_audit::{AuditError, Finding, audit_near};
+pub use route_client::{NearError, Within, check_near, near_verdict_laws};
+pub use route_server::{NearRefusal, answer_near};
+pub use served::served_laws;
 
 mod acceptance;
+mod answer_laws;
 mod honesty;
 mod laws;
+mod route_acceptance;
+mod served;

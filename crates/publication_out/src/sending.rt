@@ -8,9 +8,9 @@ ghost use Rattle.mirror_out.specs.Mirrors.{Mirrors};
 ghost use Rattle.mirror_out.specs.Spreader.{lost_of, most_of};
 ghost use Rattle.publication_out.specs.Sent.{pieces_in, MirrorsFront};
 
+use crate::pieces_of;
 use mirror_out::{Mirror, Spreader};
 use proof_octets::Publication;
-use publication_pieces::pieces_of;
 use road_io::{Failed, Sink, write_all};
 
 /// How many octets are handed on at once.

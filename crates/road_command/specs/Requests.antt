@@ -5,7 +5,7 @@ use Rattle.std.specs.Str.{bytes_eq}
 use Rattle.road_reader.specs.Fields.{natural_of, wide_natural_of, ◌>>=◌}
 use Rattle.book_model.specs.declared.items.Query.{Query}
 use Rattle.book_model.specs.declared.settings.Settings.{Settings}
-use Rattle.near_model.specs.declared.query.NearQuery.{NearQuery}
+use Rattle.proof_octets.specs.declared.query.NearQuery.{NearQuery}
 
 -- a command with its words read; a name stands as its octets
 pub data Request : Type 0 where

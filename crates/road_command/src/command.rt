@@ -10,7 +10,7 @@ use crate::kind::KeyKind;
 use crate::reading::{fan, kind, near_query, parameters, query, settings, survey};
 use crate::words::Words;
 use book_model::{Query, Settings};
-use near_model::NearQuery;
+use proof_octets::NearQuery;
 use road_reader::{natural, wide_natural};
 
 /// A command, with its words read.

@@ -3,10 +3,14 @@
 
 pub use desk_line::line_of_desk;
 pub use evidence_line::{line_of_collision, line_of_forged, line_of_right};
+pub use refused_line::line_of_refused_near;
 pub use route_line::line_of_route;
 pub use verdict_line::{line_of_accepted, line_of_refused, name_of_cover, name_of_seal};
+pub use within_line::line_of_within;
 
 mod desk_line;
 mod evidence_line;
+mod refused_line;
 mod route_line;
 mod verdict_line;
+mod within_line;

@@ -20,7 +20,7 @@ use Rattle.road_command.specs.Requests.{Request, Route, Root, Dimacs, Key, Succe
 use Rattle.command_books.specs.Installing.{IsInstallable}
 use Rattle.command_books.proofs.OneBuilding.{OneMaking}
 use Rattle.command_files.specs.Reading.{publication_at}
-use Rattle.route_laws.specs.Honest.{UnknownNodesAreTold, AreKnown}
+use Rattle.near_proof.specs.Honest.{UnknownNodesAreTold, AreKnown}
 use Rattle.command_files.specs.Endings.{Ending, Answered, Promises}
 use Rattle.command_files.specs.Exact.{NoneFailed, IsExact}
 use Rattle.command_files.specs.Outcomes.{status_of}

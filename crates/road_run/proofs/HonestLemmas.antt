@@ -12,7 +12,7 @@ use Rattle.route_client.specs.declared.accepted.Checked.{Checked}
 use Rattle.route_client.specs.Truth.{HoldsIn}
 use Rattle.route_client.specs.declared.errors.CheckError.{CheckError}
 use Rattle.route_client.specs.Verdicts.{IsVerdict}
-use Rattle.route_laws.specs.Honest.{AnswersAreAccepted, AreAccepted}
+use Rattle.near_proof.specs.Honest.{AnswersAreAccepted, AreAccepted}
 use Rattle.road_command.specs.Requests.{Request, Route, Root, Dimacs, Key, Succeed, Links, Desk, Publish, Prove, Serve, ServeSigned, Check, Audit, Survey, Reach, CheckReach, AuditReach, Reduce}
 use Rattle.command_files.specs.Endings.{Ending, Answered}
 use Rattle.client_commands.specs.Checking.{EndsCheck, ends_check}
@@ -25,16 +25,16 @@ use Rattle.command_files.specs.declared.ended.Conclusion.TheVariants.{Done, Refu
 use Rattle.client_commands.proofs.CheckFiles.{of_files}
 use Rattle.client_commands.proofs.OneCheck.{OneVerdict}
 use Rattle.route_audit.proofs.RouteLemmas.{AcceptsVerdict}
-use Rattle.near_model.specs.declared.query.NearQuery.{NearQuery}
-use Rattle.near_model.specs.Radius.{AreWithin}
-use Rattle.near_client.specs.declared.within.Within.{Within}
-use Rattle.near_client.specs.declared.errors.NearError.{NearError}
-use Rattle.near_client.specs.NearVerdicts.{IsNearVerdict}
+use Rattle.proof_octets.specs.declared.query.NearQuery.{NearQuery}
+use Rattle.proof_octets.specs.Radius.{AreWithin}
+use Rattle.route_client.specs.declared.within.Within.{Within}
+use Rattle.route_client.specs.declared.near_errors.NearError.{NearError}
+use Rattle.route_client.specs.NearVerdicts.{IsNearVerdict}
 use Rattle.near_proof.specs.NearLaws.{NearRepliesAreAccepted}
 use Rattle.near_proof.specs.NearLaws as near
 use Rattle.client_commands.specs.NearChecking.{EndsCheckReach, ends_check_reach}
 use Rattle.client_commands.proofs.OneNearCheck.{OneNearVerdict}
-use Rattle.near_audit.proofs.RadiusLemmas.{AcceptsVerdict as NearAcceptsVerdict}
+use Rattle.route_audit.proofs.RadiusLemmas.{AcceptsVerdict as NearAcceptsVerdict}
 
 -- octets have one verdict at most, and what is accepted has it, for routes and for radii
 pub record Verdicts : Type 0 where

@@ -20,9 +20,9 @@ use Rattle.route_server.specs.Headers.{HasHeader}
 use Rattle.route_audit.specs.Kinds.{ReplyKind, AreReplies}
 use Rattle.route_audit.specs.Routes.{routes}
 use Rattle.route_audit.proofs.RouteLemmas as route
-use Rattle.near_audit.specs.Radii.{radii}
-use Rattle.near_audit.proofs.RadiusLemmas as radius
-use Rattle.near_line.specs.WithinLine.{refused_near_line}
+use Rattle.route_audit.specs.Radii.{radii}
+use Rattle.route_audit.proofs.RadiusLemmas as radius
+use Rattle.road_line.specs.WithinLine.{refused_near_line}
 use Rattle.near_proof.specs.Right.{AreRight, HonestRepliesAreRight, HonestReachesAreRight}
 use Rattle.road_line.specs.EvidenceLine.{right_line}
 use Rattle.road_line.specs.VerdictLine.{refused_line}

@@ -36,13 +36,13 @@ use Rattle.server_commands.specs.Serving.{ServesFrames}
 use Rattle.owner_commands.proofs.OneOwner.{only_key, only_desk, only_publish}
 use Rattle.owner_commands.proofs.SuccessionLemmas.{only_succession, only_links}
 use Rattle.audit_commands.proofs.OneAudit.{only_audit}
-use Rattle.reduce_commands.proofs.OneReduce.{only_reduce}
-use Rattle.survey_commands.proofs.SurveyLemmas.{only_survey}
+use Rattle.audit_commands.proofs.OneReduce.{only_reduce}
+use Rattle.route_survey.proofs.SurveyLemmas.{only_survey}
 use Rattle.client_commands.proofs.OneNearCheck.{only_check_reach}
 use Rattle.server_commands.proofs.OneNearReach.{only_reach}
-use Rattle.near_audit.specs.Radii.{radii}
-use Rattle.near_audit.proofs.RadiusLemmas as radius
-use Rattle.near_line.specs.WithinLine.{refused_near_line}
+use Rattle.route_audit.specs.Radii.{radii}
+use Rattle.route_audit.proofs.RadiusLemmas as radius
+use Rattle.road_line.specs.WithinLine.{refused_near_line}
 use Rattle.road_line.specs.VerdictLine.{refused_line}
 use Rattle.route_audit.specs.Routes.{routes}
 use Rattle.route_audit.proofs.RouteLemmas as route
@@ -51,7 +51,7 @@ use Rattle.road_run.specs.Commands.{Ends, files_for, IsTold, LeavesUnused, Tells
 use Rattle.road_run.specs.Names.{files_named}
 use Rattle.road_run.specs.Sources.{HasEnded, IfServe, UnlessServe, RunGave, RunTakes, IsExactServing}
 use Rattle.road_run.proofs.HonestLemmas.{Verdicts, AcceptedLaws, accepts_honest}
-use Rattle.route_laws.specs.Honest.{UnknownNodesAreTold}
+use Rattle.near_proof.specs.Honest.{UnknownNodesAreTold}
 use Rattle.road_run.proofs.TakenLemmas.{replies_taken}
 
 module _ {D : Type 0} (g : Ghosts D) (old new : D) (asked : Option Request) (files : Option Folder) (l l' : ℕ) (taken_before taken_now : Option (List ℕ)) (k k' : ℕ) (o : Result Conclusion Fault) where

@@ -12,7 +12,7 @@ use Rattle.road_io.specs.Contents.{Folder}
 use Rattle.std.specs.Io.KnownBytes.{Appends}
 use Rattle.owner_commands.specs.ChainLine.{EndsLinks}
 use Rattle.owner_commands.specs.OwnerDesk.{EndsDesk}
-use Rattle.survey_commands.specs.Surveying.{EndsSurvey}
+use Rattle.route_survey.specs.Surveying.{EndsSurvey}
 use Rattle.book_model.specs.declared.items.Query.{Query}
 use Rattle.proof_octets.specs.declared.publication.Publication.{Publication}
 use Rattle.route_service.specs.Machine.{State, after, MayReply}

@@ -13,7 +13,7 @@ use Rattle.proof_octets.specs.declared.header.Header.{Header}
 use Rattle.proof_octets.specs.declared.publication.Publication.{Publication}
 use Rattle.route_server.specs.declared.errors.BuildError.{BuildError}
 use Rattle.route_server.specs.declared.errors.BuildError.TheVariants as build
-use Rattle.route_laws.specs.Honest.{UnknownNodesAreTold}
+use Rattle.near_proof.specs.Honest.{UnknownNodesAreTold}
 use Rattle.road_command.specs.Requests.{Request, Route, Root, Dimacs, Key, Succeed, Links, Desk, Publish, Prove, Serve, ServeSigned, Check, Audit, Survey, Reach, CheckReach, AuditReach, Reduce}
 use Rattle.command_files.specs.Reading.{publication_at}
 use Rattle.command_files.specs.TwoEnds.{IsFirstUnknown}
@@ -25,7 +25,7 @@ use Rattle.command_files.specs.declared.ended.Conclusion.TheVariants.{Done, Refu
 use Rattle.command_files.proofs.Written.{read_as}
 use Rattle.command_books.specs.Installing.{AfterBuild, IfInstalled, EndsInstalling}
 use Rattle.server_commands.specs.Proving.{EndsReply, EndsProve, ends_prove}
-use Rattle.near_model.specs.declared.query.NearQuery.{NearQuery}
+use Rattle.proof_octets.specs.declared.query.NearQuery.{NearQuery}
 use Rattle.server_commands.specs.NearReaching.{EndsNear, EndsReach, ends_reach}
 use Rattle.road_run.specs.Commands.{Ends, files_for}
 use Rattle.road_run.specs.Accepting.{IsTaken, WritesReply, WritesNearReply, RepliesAreTaken}

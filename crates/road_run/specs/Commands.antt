@@ -35,13 +35,13 @@ use Rattle.owner_commands.specs.Publishing.{TellsLost, ends_publish}
 use Rattle.owner_commands.specs.Signing.{SealsWhatItWrites, SealsWhatItMirrors, SpreadSealed, SignsAtMostOne, StaysRefused}
 use Rattle.audit_commands.specs.Auditing.{ends_audit}
 use Rattle.audit_commands.specs.Headline.{ClashIn, IsBrought, WritesFindings, AuditsAccepted}
-use Rattle.reduce_commands.specs.Reducing.{ends_reduce}
-use Rattle.reduce_commands.specs.Unreleased.{WritesReduced}
-use Rattle.survey_commands.specs.Surveying.{EndsSurvey}
+use Rattle.audit_commands.specs.Reducing.{ends_reduce}
+use Rattle.audit_commands.specs.Unreleased.{WritesReduced}
+use Rattle.route_survey.specs.Surveying.{EndsSurvey}
 use Rattle.server_commands.specs.NearReaching.{ends_reach}
 use Rattle.client_commands.specs.NearChecking.{ends_check_reach}
-use Rattle.near_audit.specs.Radii.{radii}
-use Rattle.near_line.specs.WithinLine.{refused_near_line}
+use Rattle.route_audit.specs.Radii.{radii}
+use Rattle.road_line.specs.WithinLine.{refused_near_line}
 use Rattle.road_line.specs.VerdictLine.{refused_line}
 use Rattle.route_audit.specs.Routes.{routes}
 

@@ -13,11 +13,11 @@ use Rattle.publication_out.specs.Sent.{pieces_in}
 use Rattle.proof_octets.specs.declared.publication.Publication.{Publication}
 use Rattle.proof_octets.specs.Publications.{publication_text}
 use Rattle.owner_commands.specs.Signing.{StandsOnDisk}
-use Rattle.route_serving.specs.Inputs.{split}
+use Rattle.route_service.specs.Inputs.{split}
 use Rattle.road_command.specs.Requests.{Request, Publish, Prove, Serve, ServeSigned}
 use Rattle.command_books.specs.Installing.{IsInstallable}
 use Rattle.command_files.specs.Reading.{publication_at}
-use Rattle.route_laws.specs.Honest.{AreKnown}
+use Rattle.near_proof.specs.Honest.{AreKnown}
 use Rattle.command_files.specs.Endings.{Ending, NoEnd}
 use Rattle.command_files.specs.Outcomes.{status_of}
 use Rattle.command_files.specs.declared.fault.Fault.{Fault}

@@ -8,7 +8,7 @@ use Rattle.road_io.specs.Causes.{Rose}
 use Rattle.road_io.specs.Contents.{Folder}
 use Rattle.road_io.specs.Given.{Gave}
 use Rattle.road_command.specs.Requests.{Request, Serve, ServeSigned}
-use Rattle.route_serving.specs.Inputs.{split}
+use Rattle.route_service.specs.Inputs.{split}
 use Rattle.command_files.specs.Exact.{IsExact}
 use Rattle.command_files.specs.declared.fault.Fault.{Fault}
 use Rattle.command_files.specs.declared.fault.Fault.TheVariants.{TruncatedFrame, Source}

@@ -16,24 +16,21 @@ ghost use Rattle.road_run.specs.Sources.{IfServe, IsExactServing, RunGave, RunTa
 ghost use Rattle.road_run.specs.Accepting.{AcceptsHonest, FindsHonest, RepliesAreTaken};
 
 use crate::laws::no_key_signs_twice;
-use audit_commands::{audit, audit_reach};
+use audit_commands::{audit, audit_reach, reduce};
 use client_commands::{check, check_reach};
 use command_files::{Conclusion, Ended, Fault};
 use map_commands::{dimacs, root, route};
 use mirror_out::Mirror;
-use near_client::near_verdict_laws;
-use near_proof::{near_laws, right_laws};
+use near_proof::{honest_laws, near_laws, right_laws};
 use owner_commands::{desk, key, links, publish, succeed};
-use reduce_commands::reduce;
 use road_command::{Command, Words, command_of};
 use road_io::{Disk, Library, Sink, Source};
 use road_map::map_laws;
-use route_client::verdict_laws;
-use route_laws::honest_laws;
+use route_client::{near_verdict_laws, verdict_laws};
 use route_server::server_laws;
+use route_survey::survey;
 use server_commands::{prove, reach, serve, serve_signed};
 use std::alloc::Global;
-use survey_commands::survey;
 
 /// Does all that the program does, and answers how it ended.
 pub fn run<L: Library, S: Source, K: Sink, D: Disk, M: Mirror>(

@@ -1,9 +1,8 @@
 //! Refused replies, for somebody who plans by them.
 
 use lms_tree::SealError;
-use near_client::NearError;
 use proof_judge::Refusal;
-use route_client::CheckError;
+use route_client::{CheckError, NearError};
 use std::fmt::{self, Display, Formatter};
 
 /// What is said of items that don't fold to a signed root.

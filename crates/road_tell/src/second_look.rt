@@ -10,12 +10,11 @@ use crate::slots::keys_left;
 use book_model::Query;
 use command_files::{Ended, Fault, load_chain};
 use lms_tree::Link;
-use near_client::check_near;
-use near_model::NearQuery;
 use octet_text::Sha;
+use proof_octets::NearQuery;
 use road_command::{Command, Words, command_of};
 use road_io::Library;
-use route_client::check;
+use route_client::{check, check_near};
 use std::alloc::Global;
 
 /// The most octets of a file that is looked at again.

@@ -6,8 +6,7 @@ use proof_octets::{Answer, Header, Publication, Reply};
 use route_server::{BuildError, Held, InstallError};
 use std::alloc::Global;
 use std::test::Fail;
-use test_maps::{NODES, ROADS, parts_of};
-use test_settings::DIJ;
+use test_maps::{DIJ, NODES, ROADS, parts_of};
 
 pub(crate) const FULL: Settings = Settings { method: 2, ..DIJ };
 

@@ -6,7 +6,7 @@ use crate::same::assert_same;
 use book_model::Settings;
 use octet_text::Sha;
 use std::test::Fail;
-use test_settings::DIJ;
+use test_maps::DIJ;
 
 const NODES: [(u32, i32, i32); 5] = [(1, 0, 0), (2, 10, 0), (3, 20, 0), (4, 30, 0), (5, 40, 0)];
 

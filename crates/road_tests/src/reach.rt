@@ -5,14 +5,13 @@ use crate::holding::{CELLS, CODES, FULL, installed};
 use crate::octets::assert_digest;
 use crate::same::{assert_row, assert_same};
 use book_model::Settings;
-use near_model::{NearQuery, NearReply};
-use near_server::{NearRefusal, answer_near};
 use octet_text::Sha;
-use route_server::Held;
+use proof_octets::{NearQuery, NearReply};
+use route_server::{Held, NearRefusal, answer_near};
 use std::alloc::Global;
 use std::process::Abort;
 use std::test::Fail;
-use test_settings::DIJ;
+use test_maps::DIJ;
 
 fn reply(alloc: Global, held: &Held<Sha>, from: u32, radius: u64) -> Result<Vec<u8>, NearRefusal> {
     if held.signature().len() > 1452 {

@@ -15,8 +15,7 @@ use route_server::{BuildError, Held, InstallError};
 use std::alloc::Global;
 use std::process::Abort;
 use std::test::Fail;
-use test_maps::{NODES, ROADS, apart};
-use test_settings::DIJ;
+use test_maps::{DIJ, NODES, ROADS, apart};
 
 // The header of the five nodes under DIJ, but for the root of its nodes.
 const ROOTLESS: Header = Header {

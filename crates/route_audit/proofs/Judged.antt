@@ -34,7 +34,7 @@ use Rattle.route_server.specs.Keeping.{Kept, IsKept, HasSpellings, header_in, pu
 use Rattle.route_server.proofs.Answering.{code_is, leaf_kind_is}
 use Rattle.route_server.proofs.OneHeader.{SameLeaves, same_leaves, kind_same}
 use Rattle.route_audit.specs.Comparing.{leaves_or_none, node_part_of, pair_part_of}
-use Rattle.hash_collision.specs.Collisions.{AreCollision}
+use Rattle.octet_text.specs.Collisions.{AreCollision}
 use Rattle.route_audit.specs.Evidence.{Part, IsTreesOwn, IsOwn, IsRight, ClashesFirst, Collides, node_part, pair_part}
 use Rattle.route_audit.proofs.Authentic.{one_leaf, one_pair, stands}
 use Rattle.route_audit.proofs.Folded.{leaves_are}

@@ -5,3 +5,7 @@ pub mod Signed
 pub mod FindingLemmas
 pub mod RouteLemmas
 mod Worked
+pub mod NearSigned
+pub mod NearSound
+pub mod NearJudged
+pub mod RadiusLemmas

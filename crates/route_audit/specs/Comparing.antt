@@ -4,7 +4,7 @@ use Rattle.proof_octets.specs.declared.reply.Answer as answers
 use Rattle.route_client.specs.Verdicts.{covered}
 use Rattle.route_server.specs.Headers.{node_texts, pair_texts, root_or_zeros}
 use Rattle.route_server.specs.Keeping.{Kept, texts_in}
-use Rattle.hash_collision.specs.Collisions.{AreCollision}
+use Rattle.octet_text.specs.Collisions.{AreCollision}
 use Rattle.route_audit.specs.Evidence.{Part, IsTreesOwn, ClashesFirst, two_texts}
 use Rattle.route_audit.specs.declared.finding.Finding.{Finding}
 use Rattle.route_audit.specs.declared.finding.Finding.TheVariants.{Right, Collision, Forged}

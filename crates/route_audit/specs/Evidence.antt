@@ -2,7 +2,7 @@
 -- Source: Merkle, A Digital Signature Based on a Conventional Encryption Function, CRYPTO 1987:
 -- what folds to a tree's root and is not the tree's own shows two texts with one digest.
 use Rattle.std.specs.Prelude.{◌≡◌, ◌⊎◌, ℕ, List, length}
-use Rattle.hash_collision.specs.Collisions.{AreCollision}
+use Rattle.octet_text.specs.Collisions.{AreCollision}
 use Rattle.book_model.specs.declared.items.Query.{Query}
 use Rattle.book_model.specs.Books.{Kind, Book, leaves_of, leaf_order}
 use Rattle.merkle_cover.specs.Clashes.{AreHashed}

@@ -2,7 +2,7 @@
 -- routes are one kind, those on the nodes within a radius another, and all of them are audited
 -- alike.
 use Rattle.std.specs.Prelude.{◌≡◌, ℕ, List, Ok}
-use Rattle.hash_collision.specs.Collisions.{AreCollision}
+use Rattle.octet_text.specs.Collisions.{AreCollision}
 use Rattle.lms_tree.specs.Chains.{chained, verified_along}
 use Rattle.lms_tree.specs.declared.links.Link.{Link}
 use Rattle.merkle_cover.specs.declared.clashes.TwoTexts.{TwoTexts}

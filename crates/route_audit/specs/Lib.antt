@@ -4,3 +4,6 @@ pub mod Findings
 pub mod Kinds
 pub mod Routes
 pub mod Steps
+pub mod NearComparing
+pub mod NearEvidence
+pub mod Radii

@@ -6,13 +6,12 @@ ghost use Rattle.proof_octets.specs.Replies.{reply_of, reply_text};
 ghost use Rattle.route_server.specs.Headers.{node_texts, pair_texts};
 ghost use Rattle.route_server.specs.Keeping.{header_in};
 ghost use Rattle.route_audit.specs.Comparing.{part_under, node_part_of, pair_part_of, FoldsUnder, Compares};
-ghost use Rattle.hash_collision.specs.Collisions.{AreCollision};
+ghost use Rattle.octet_text.specs.Collisions.{AreCollision};
 ghost use Rattle.route_audit.specs.Evidence.{Clashes, IsTreesOwn};
 
 use crate::Finding;
-use hash_collision::octet_law;
 use merkle_cover::{CutTexts, TwoTexts, clash};
-use octet_text::{Digest32, Hasher, NoMemory};
+use octet_text::{Digest32, Hasher, NoMemory, octet_law};
 use proof_octets::Answer;
 use route_client::leaf_cuts;
 use route_server::Held;

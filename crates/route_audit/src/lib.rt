@@ -6,6 +6,8 @@ pub use auditing::{audit, audit_reply};
 pub use comparing::clash_under;
 pub use errors::AuditError;
 pub use finding::Finding;
+pub use near_auditing::audit_near;
+pub use radii::Radii;
 pub use replies::Replies;
 pub use routes::Routes;
 
@@ -13,6 +15,9 @@ mod auditing;
 mod comparing;
 mod errors;
 mod finding;
+mod near_auditing;
+mod near_comparing;
+mod radii;
 mod replies;
 mod routes;
 mod steps;

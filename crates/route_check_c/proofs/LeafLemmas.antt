@@ -23,14 +23,14 @@ use Rattle.route_client.specs.declared.accepted.CheckedAnswer.{CheckedAnswer}
 use Rattle.route_client.specs.declared.errors.CheckError.{CheckError}
 use Rattle.route_client.specs.Verdicts.{IsVerdict, UnlessMemory, as_checked, taken}
 use Rattle.route_client.proofs.VerdictLaws.{accepts_of}
-use Rattle.near_model.specs.declared.marks.Mark.{Mark}
-use Rattle.near_model.specs.declared.query.NearQuery.{NearQuery}
-use Rattle.near_model.specs.declared.reply.NearReply.{NearReply}
-use Rattle.near_model.specs.NearReplies.{near_reply}
-use Rattle.near_client.specs.declared.within.CheckedReply.{CheckedReply}
-use Rattle.near_client.specs.NearVerdicts as near
-use Rattle.near_client.specs.NearVerdicts.{IsReached, LacksItem}
-use Rattle.near_client.proofs.NearVerdictLaws as near_laws
+use Rattle.proof_octets.specs.declared.marks.Mark.{Mark}
+use Rattle.proof_octets.specs.declared.query.NearQuery.{NearQuery}
+use Rattle.proof_octets.specs.declared.near_reply.NearReply.{NearReply}
+use Rattle.proof_octets.specs.NearReplies.{near_reply}
+use Rattle.route_client.specs.declared.within.CheckedReply.{CheckedReply}
+use Rattle.route_client.specs.NearVerdicts as near
+use Rattle.route_client.specs.NearVerdicts.{IsReached, LacksItem}
+use Rattle.route_client.proofs.NearVerdictLaws as near_laws
 use Rattle.route_check_c.specs.Placing.{HaveLeaves, HaveLeavesOf}
 
 -- ---- a route that was walked

@@ -3,11 +3,11 @@ use Rattle.std.proofs.Common.{◌≡◌, ◌≢◌, ℕ, List, Result, Ok, Err, 
 use Rattle.octet_text.specs.Format.{whole}
 use Rattle.lms_tree.specs.declared.links.Link.{Link}
 use Rattle.lms_tree.specs.ChainFiles.{chain_file}
-use Rattle.near_client.specs.declared.errors.NearError.{NearError}
-use Rattle.near_client.specs.declared.errors.NearError.TheVariants as near_errors
-use Rattle.near_client.specs.declared.within.Within.{Within}
-use Rattle.near_client.specs.NearVerdicts as near
-use Rattle.near_line.specs.WithinLine.{refused_near_line}
+use Rattle.route_client.specs.declared.near_errors.NearError.{NearError}
+use Rattle.route_client.specs.declared.near_errors.NearError.TheVariants as near_errors
+use Rattle.route_client.specs.declared.within.Within.{Within}
+use Rattle.route_client.specs.NearVerdicts as near
+use Rattle.road_line.specs.WithinLine.{refused_near_line}
 use Rattle.road_line.specs.VerdictLine.{refused_line}
 use Rattle.route_client.specs.declared.accepted.Checked.{Checked}
 use Rattle.route_client.specs.declared.errors.CheckError.{CheckError}

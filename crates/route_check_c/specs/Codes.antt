@@ -10,8 +10,8 @@ use Rattle.route_client.specs.declared.errors.CheckError.{CheckError}
 use Rattle.route_client.specs.declared.errors.CheckError.TheVariants as errors
 use Rattle.route_client.specs.declared.errors.CoverFault.{CoverFault}
 use Rattle.route_client.specs.declared.errors.CoverFault.TheVariants as faults
-use Rattle.near_client.specs.declared.errors.NearError.{NearError}
-use Rattle.near_client.specs.declared.errors.NearError.TheVariants as near_errors
+use Rattle.route_client.specs.declared.near_errors.NearError.{NearError}
+use Rattle.route_client.specs.declared.near_errors.NearError.TheVariants as near_errors
 use Rattle.route_check_c.specs.declared.reasons.Reason.{Reason}
 use Rattle.route_check_c.specs.declared.verdict.Verdict.{Verdict}
 

@@ -2,7 +2,7 @@
 use Rattle.std.specs.Prelude.{ℕ, pos, List, map, Option, None, Some, IsSome, All}
 use Rattle.road_leaf.specs.declared.leaf.NodeLeaf.{NodeLeaf}
 use Rattle.proof_judge.specs.ItemWalks.{item_at}
-use Rattle.near_model.specs.declared.marks.Mark.{Mark}
+use Rattle.proof_octets.specs.declared.marks.Mark.{Mark}
 use Rattle.route_check_c.specs.declared.nodes.RouteNode.{RouteNode}
 use Rattle.route_check_c.specs.declared.nodes.ReachedNode.{ReachedNode}
 

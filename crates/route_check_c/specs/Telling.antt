@@ -4,13 +4,13 @@ use Rattle.std.specs.Prelude.{◌≡◌, ◌≢◌, ◌⊎◌, ℕ, ◌≤◌, �
 use Rattle.octet_text.specs.Format.{whole}
 use Rattle.lms_tree.specs.declared.links.Link.{Link}
 use Rattle.lms_tree.specs.ChainFiles.{chain_file}
-use Rattle.near_model.specs.NearReplies.{near_reply}
-use Rattle.near_client.specs.declared.errors.NearError.{NearError}
-use Rattle.near_client.specs.declared.errors.NearError.TheVariants as near_errors
-use Rattle.near_client.specs.declared.within.CheckedReply.{CheckedReply}
-use Rattle.near_client.specs.declared.within.Within.{Within}
-use Rattle.near_client.specs.NearVerdicts as near
-use Rattle.near_line.specs.WithinLine.{refused_near_line}
+use Rattle.proof_octets.specs.NearReplies.{near_reply}
+use Rattle.route_client.specs.declared.near_errors.NearError.{NearError}
+use Rattle.route_client.specs.declared.near_errors.NearError.TheVariants as near_errors
+use Rattle.route_client.specs.declared.within.CheckedReply.{CheckedReply}
+use Rattle.route_client.specs.declared.within.Within.{Within}
+use Rattle.route_client.specs.NearVerdicts as near
+use Rattle.road_line.specs.WithinLine.{refused_near_line}
 use Rattle.proof_octets.specs.declared.reply.Answer as answers
 use Rattle.proof_octets.specs.Replies.{reply as reply_format, reply_of}
 use Rattle.road_line.specs.VerdictLine.{refused_line}

@@ -5,8 +5,8 @@ ghost use Rattle.route_check_c.specs.Telling.{filled};
 
 use crate::nodes::{reached_node, route_node};
 use crate::{ReachedNode, RouteNode};
-use near_model::Mark;
 use proof_judge::NodesById;
+use proof_octets::Mark;
 
 /// Puts as many of the items as there is room for.
 pub(crate) fn fill<T: Copy>(room: &mut [T], items: &[T])

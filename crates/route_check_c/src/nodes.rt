@@ -3,8 +3,8 @@ ghost use Rattle.std.specs.Prelude.{◌≡◌, IsSome};
 ghost use Rattle.proof_judge.specs.ItemWalks.{item_at};
 ghost use Rattle.route_check_c.specs.Placing.{route_node as placed, reached_node as reached};
 
-use near_model::Mark;
 use proof_judge::NodesById;
+use proof_octets::Mark;
 
 /// A node of a route.
 #[repr(C)]

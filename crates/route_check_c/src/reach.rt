@@ -1,10 +1,10 @@
 //! The check of a radius's reply.
 ghost use Rattle.std.specs.Prelude.{◌≡◌};
 ghost use Rattle.sha2.specs.Sha256.{sha256};
-ghost use Rattle.near_client.specs.NearVerdicts.{IsNearVerdict};
+ghost use Rattle.route_client.specs.NearVerdicts.{IsNearVerdict};
 ghost use Rattle.route_check_c.specs.Placing.{HaveLeavesOf};
-ghost use Rattle.near_client.specs.declared.errors.NearError.{NearError};
-ghost use Rattle.near_line.specs.WithinLine.{refused_near_line};
+ghost use Rattle.route_client.specs.declared.near_errors.NearError.{NearError};
+ghost use Rattle.road_line.specs.WithinLine.{refused_near_line};
 ghost use Rattle.route_check_c.specs.Codes.{told as told_of, reach_reason, refused_numbers};
 ghost use Rattle.route_check_c.specs.Telling.{AreTooLong, TellsReach, TellsReached, TellsRefusal};
 
@@ -13,11 +13,11 @@ use crate::filling::{fill, fill_reached};
 use crate::reasons::{reason_of_reach, told};
 use crate::verdict::{accepted, refused};
 use crate::{ReachedNode, Verdict};
-use near_client::{CheckedReply, NearError, check_near_reply};
-use near_line::line_of_refused_near;
-use near_model::NearQuery;
 use octet_text::Sha;
 use proof_judge::NodesById;
+use proof_octets::NearQuery;
+use road_line::line_of_refused_near;
+use route_client::{CheckedReply, NearError, check_near_reply};
 use std::alloc::Global;
 
 /// The numbers of what is accepted; the nodes go into their room.

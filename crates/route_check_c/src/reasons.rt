@@ -3,9 +3,8 @@ ghost use Rattle.std.specs.Prelude.{◌≡◌};
 ghost use Rattle.route_check_c.specs.Codes.{cover_number, judged_reason, reach_reason, told as told_of, route_reason, seal_number};
 
 use lms_tree::SealError;
-use near_client::NearError;
 use proof_judge::Refusal;
-use route_client::{CheckError, CoverFault};
+use route_client::{CheckError, CoverFault, NearError};
 
 /// Which test failed, and the two numbers that it found; 0 for those that it has not.
 #[derive(Clone, Copy, Debug, PartialEq, Eq)]

@@ -11,7 +11,7 @@ use Rattle.road_leaf.specs.declared.pair.PairLeaf.{PairLeaf}
 use Rattle.road_leaf.specs.Leaves.{node_leaf_text, pair_leaf}
 use Rattle.merkle_cover.specs.declared.cuts.Cut.{Cut}
 use Rattle.merkle_cover.specs.Cuts.{cut_from, IsIn, AreIn}
-use Rattle.leaf_texts.proofs.TextRoom.{all_short}
+use Rattle.proof_octets.proofs.TextRoom.{all_short}
 use Rattle.proof_octets.specs.declared.items.NodeItem.{NodeItem}
 use Rattle.proof_octets.specs.declared.items.PairItem.{PairItem}
 use Rattle.proof_octets.specs.declared.reply.Answer as answers

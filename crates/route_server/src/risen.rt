@@ -4,14 +4,14 @@ ghost use Rattle.road_map.specs.Maps.{IsMap};
 ghost use Rattle.book_model.specs.Books.{leaves_of};
 ghost use Rattle.proof_method.specs.Gathering.{IsOrderOf};
 ghost use Rattle.merkle_cover.specs.Trees.{root};
-ghost use Rattle.rising_tree.specs.Rising.{Takes};
+ghost use Rattle.merkle_cover.specs.Rising.{Takes};
 ghost use Rattle.route_server.specs.Fitting.{FitsFormats};
 ghost use Rattle.route_server.specs.Headers.{node_texts, pair_texts, root_or_zeros};
 
 use crate::widths::has_widths;
+use merkle_cover::Rising;
 use octet_text::{Digest32, Hasher, NoMemory};
 use proof_method::MethodBook;
-use rising_tree::Rising;
 use road_leaf::PairLeaf;
 use road_map::map_laws;
 use std::alloc::Global;

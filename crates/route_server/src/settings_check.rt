@@ -4,8 +4,8 @@ ghost use Rattle.road_map.specs.declared.parts.Parts.{Parts};
 ghost use Rattle.proof_method.specs.Planning.{book_fault};
 ghost use Rattle.route_server.specs.CommonSettings.{IsCommon};
 
-use any_book::AnyBook;
 use book_model::{PlanError, Settings};
+use method_books::AnyBook;
 use proof_method::MethodBook;
 
 /// Makes the tests that all methods share: setting 0 is the method, 1 the order, 2 the fan-out.

@@ -6,3 +6,7 @@ pub mod StepLemmas
 pub mod InstallLemmas
 pub mod ExtraLemmas
 pub mod Installable
+pub mod Pieces
+pub mod FrameLemmas
+pub mod ServeLemmas
+pub mod Splits

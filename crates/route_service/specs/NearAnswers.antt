@@ -2,8 +2,8 @@
 use Rattle.std.specs.Prelude.{◌≡◌, ◌⊎◌, ℕ, List, [], ◌∷◌}
 use Rattle.road_map.specs.Walks.{Knows}
 use Rattle.proof_octets.specs.declared.publication.Publication.{Publication}
-use Rattle.near_model.specs.declared.query.NearQuery.{NearQuery}
-use Rattle.near_server.specs.NearHonesty.{IsNearHonest}
+use Rattle.proof_octets.specs.declared.query.NearQuery.{NearQuery}
+use Rattle.route_server.specs.NearHonesty.{IsNearHonest}
 
 -- the honest reply, or, where the start is no node of the map, one octet that says so
 unfoldable pub IsNearAnswer : (List ℕ → List ℕ) → (List ℕ → List ℕ) → Publication → NearQuery →

@@ -22,7 +22,7 @@ use Rattle.route_client.specs.Truth.{HoldsIn}
 use Rattle.route_client.specs.declared.errors.CheckError.{CheckError}
 use Rattle.route_client.specs.declared.errors.CheckError.TheVariants as errors
 use Rattle.route_client.specs.Verdicts.{UnlessMemory, Accepts}
-use Rattle.route_laws.specs.Honest.{IsSigned, AreKnown, AreJoined, AreAccepted}
+use Rattle.near_proof.specs.Honest.{IsSigned, AreKnown, AreJoined, AreAccepted}
 use Rattle.book_model.specs.declared.items.Query.{Query}
 use Rattle.route_survey.specs.Surveys.{survey_key, IsSurveyed}
 use Rattle.route_survey.specs.Tallies.{IsAskable}

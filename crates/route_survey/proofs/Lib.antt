@@ -3,3 +3,4 @@ pub mod TallyLaws
 pub mod AnswerLaws
 pub mod LineLaws
 pub mod PublishLaws
+pub mod SurveyLemmas

@@ -8,7 +8,7 @@ use Rattle.book_model.specs.declared.items.Query.{Query}
 use Rattle.book_model.specs.declared.settings.Settings.{Settings}
 use Rattle.proof_octets.specs.declared.publication.Publication.{Publication}
 use Rattle.proof_octets.specs.Publications.{publication_text}
-use Rattle.route_laws.specs.Honest.{AreJoined}
+use Rattle.near_proof.specs.Honest.{AreJoined}
 use Rattle.route_survey.specs.Surveys.{IsSurveyed, IsSurveyLine, length_of, survey_line}
 use Rattle.route_survey.specs.Tallies.{CountsAll, IsTallied, IsCounted}
 use Rattle.route_survey.specs.declared.tally.Tally.{Tally}

@@ -7,7 +7,7 @@ use Rattle.road_map.specs.declared.parts.Parts.{Parts}
 use Rattle.road_map.specs.Walks.{Knows}
 use Rattle.road_reader.specs.Grid.{first_state, after_draws, next_state, drawn, grid_of, IsConnected}
 use Rattle.book_model.specs.declared.items.Query.{Query}
-use Rattle.route_laws.specs.Honest.{AreJoined}
+use Rattle.near_proof.specs.Honest.{AreJoined}
 use Rattle.route_survey.specs.Asked.{id_drawn, query_drawn, queries_drawn, survey_queries}
 
 pub query_more : (all items items' : List Query) (count draw draw' left : ℕ) (q : Query) → 0 < left → all ≡ items ++ queries_drawn count draw left → q ≡ query_drawn draw count → draw' ≡ after_draws draw 4 → items' ≡ items ++ q ∷ [] → all ≡ items' ++ queries_drawn count draw' (left - 1)

@@ -1,3 +1,4 @@
 pub mod Asked
 pub mod Surveys
 pub mod Tallies
+pub mod Surveying

@@ -17,7 +17,7 @@ use Rattle.proof_octets.specs.Publications.{publication, publication_text}
 use Rattle.book_model.specs.Books.{kind_of, plan_fault}
 use Rattle.route_server.specs.Headers.{HasHeader}
 use Rattle.route_server.specs.Honesty.{IsHonest}
-use Rattle.route_laws.specs.Honest.{AreAccepted}
+use Rattle.near_proof.specs.Honest.{AreAccepted}
 use Rattle.route_survey.specs.declared.errors.SurveyError.{SurveyError}
 use Rattle.route_survey.specs.declared.errors.SurveyError.TheVariants.{Plan, Memory}
 

@@ -10,7 +10,7 @@ use Rattle.book_model.specs.declared.settings.Settings.{Settings}
 use Rattle.proof_octets.specs.declared.publication.Publication.{Publication}
 use Rattle.proof_octets.specs.Publications.{publication_text}
 use Rattle.route_server.specs.Keeping.{Kept, publication_in}
-use Rattle.route_laws.specs.Honest.{IsSigned}
+use Rattle.near_proof.specs.Honest.{IsSigned}
 use Rattle.route_survey.specs.Surveys.{survey_key, IsSurveyed, IsAnswered, AllAnswered, length_of}
 use Rattle.route_survey.specs.declared.tally.Tally.{Tally}
 

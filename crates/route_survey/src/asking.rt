@@ -4,16 +4,16 @@ ghost use Rattle.sha2.specs.Sha256.{sha256};
 ghost use Rattle.lms_tree.specs.Signatures.{public_key};
 ghost use Rattle.road_map.specs.Walks.{distance};
 ghost use Rattle.route_server.specs.Keeping.{publication_in};
-ghost use Rattle.route_laws.specs.Honest.{AreJoined};
+ghost use Rattle.near_proof.specs.Honest.{AreJoined};
 ghost use Rattle.route_survey.specs.Surveys.{survey_key, IsAnswered};
 ghost use Rattle.route_survey.specs.Tallies.{IsAskable, CountsOne, CountsAll};
 
 use crate::tally::Tally;
 use book_model::Query;
+use near_proof::honest_laws;
 use octet_text::{Hasher, NoMemory, Sha};
 use road_map::map_laws;
 use route_client::{CheckError, Checked, check};
-use route_laws::honest_laws;
 use route_server::Held;
 use std::alloc::Global;
 

@@ -1,11 +1,13 @@
 //! A survey: drawn queries over a grid, each answered by a server and checked by a client.
 #![tactic(auto)]
 
+pub use commanding::survey;
 pub use errors::SurveyError;
-pub use surveying::survey;
+pub use surveying::survey_method;
 
 mod asked;
 mod asking;
+mod commanding;
 mod errors;
 mod line;
 mod publishing;

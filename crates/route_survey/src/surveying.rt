@@ -4,7 +4,7 @@ ghost use Rattle.octet_text.specs.Sha.{HoldsText};
 ghost use Rattle.sha2.specs.Sha256.{sha256};
 ghost use Rattle.lms_tree.specs.Signatures.{public_key};
 ghost use Rattle.road_reader.specs.Grid.{grid_of};
-ghost use Rattle.route_laws.specs.Honest.{AreJoined};
+ghost use Rattle.near_proof.specs.Honest.{AreJoined};
 ghost use Rattle.route_survey.specs.Asked.{survey_queries, survey_settings};
 ghost use Rattle.route_survey.specs.Surveys.{survey_key, survey_line, IsSurveyed, IsSurveyLine, WhyNoSurvey};
 ghost use Rattle.route_survey.specs.Tallies.{CountsAll, IsTallied, IsCounted};
@@ -107,7 +107,7 @@ fn line_of_tally(alloc: Global, queries: u32, tally: Tally) -> Result<Vec<u8>, N
 ///
 /// All replies are accepted: a grid is a map, and a walk joins any two of its nodes. `Plan` comes
 /// exactly where the grid has no book under the method.
-pub fn survey(
+pub fn survey_method(
     alloc: Global,
     width: u32,
     seed: u64,

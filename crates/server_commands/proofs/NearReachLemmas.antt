@@ -5,7 +5,7 @@ use Rattle.std.specs.declared.result.Result.{Result}
 use Rattle.std.specs.declared.result.Result.TheVariants.{Ok, Err}
 use Rattle.road_io.specs.Contents.{Folder}
 use Rattle.proof_octets.specs.declared.publication.Publication.{Publication}
-use Rattle.near_model.specs.declared.query.NearQuery.{NearQuery}
+use Rattle.proof_octets.specs.declared.query.NearQuery.{NearQuery}
 use Rattle.command_files.specs.Reading.{publication_at}
 use Rattle.command_files.specs.Endings.{Promises, TellsNone, NoDisk, NoEnd, WhyNot, Writes}
 use Rattle.command_files.specs.declared.fault.Fault.{Fault}

@@ -6,7 +6,7 @@ use Rattle.std.specs.declared.result.Result.{Result}
 use Rattle.std.specs.declared.result.Result.TheVariants.{Ok, Err}
 use Rattle.road_io.specs.Causes.{Rose}
 use Rattle.road_io.specs.Contents.{Folder}
-use Rattle.route_serving.specs.Inputs.{Input, split}
+use Rattle.route_service.specs.Inputs.{Input, split}
 use Rattle.route_client.specs.declared.errors.CheckError.{CheckError}
 use Rattle.command_files.specs.Reading.{publication_at}
 use Rattle.command_files.specs.Endings.{Ending, EndsReading}

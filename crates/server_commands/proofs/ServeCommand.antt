@@ -10,8 +10,8 @@ use Rattle.sha2.specs.Sha256.{sha256}
 use Rattle.road_io.specs.Causes.{Rose}
 use Rattle.road_io.specs.Contents.{Folder, AppendsFront}
 use Rattle.road_io.specs.Disk.{Narrows}
-use Rattle.octet_frame.specs.Frames.{frame_of, framed, IsPart, IsTooLong}
-use Rattle.octet_frame.proofs.FrameLemmas.{length_frame}
+use Rattle.route_service.specs.Frames.{frame_of, framed, IsPart, IsTooLong}
+use Rattle.route_service.proofs.FrameLemmas.{length_frame}
 use Rattle.road_io.proofs.ReadLemmas.{Consumes-++, Consumes-none}
 use Rattle.proof_octets.specs.declared.header.Header.{Header}
 use Rattle.proof_octets.specs.declared.publication.Publication.{Publication}
@@ -22,11 +22,11 @@ use Rattle.road_line.specs.VerdictLine.{refused_line}
 use Rattle.route_service.specs.declared.guard.Guard.{Guard}
 use Rattle.route_service.specs.declared.guard.Guard.TheVariants.{Open}
 use Rattle.route_service.specs.Machine.{State, first_state}
-use Rattle.route_serving.specs.Inputs.{Ending as InputEnding, Input, IsInput, split, WritesRun, WritesFront, ServesInput}
-use Rattle.route_serving.specs.Inputs.Ending.{Regular, TooLong, Truncated, TooMany}
-use Rattle.route_serving.specs.Serving.{IsUnanswered, Served, Then, Cut, Serves}
-use Rattle.route_serving.specs.declared.serving.ServeError.{ServeError}
-use Rattle.route_serving.specs.declared.serving.ServeError.TheVariants as errors
+use Rattle.route_service.specs.Inputs.{Ending as InputEnding, Input, IsInput, split, WritesRun, WritesFront, ServesInput}
+use Rattle.route_service.specs.Inputs.Ending.{Regular, TooLong, Truncated, TooMany}
+use Rattle.route_service.specs.Serving.{IsUnanswered, Served, Then, Cut, Serves}
+use Rattle.route_service.specs.declared.serving.ServeError.{ServeError}
+use Rattle.route_service.specs.declared.serving.ServeError.TheVariants as errors
 use Rattle.command_files.specs.Reading.{publication_at, IsOfFiles, Fails, Loads}
 use Rattle.command_files.specs.Endings.{Ending, EndsReading, Answered, HasUntoldCause, MayEnd, Writes, Promises, NoDisk, NoEnd, WhyNot}
 use Rattle.command_files.specs.declared.fault.Fault.{Fault}

@@ -5,8 +5,8 @@ use Rattle.sha2.specs.Sha256.{sha256}
 use Rattle.road_io.specs.Contents.{Folder}
 use Rattle.road_map.specs.Walks.{Knows}
 use Rattle.proof_octets.specs.declared.publication.Publication.{Publication}
-use Rattle.near_model.specs.declared.query.NearQuery.{NearQuery}
-use Rattle.near_server.specs.NearHonesty.{IsNearHonest}
+use Rattle.proof_octets.specs.declared.query.NearQuery.{NearQuery}
+use Rattle.route_server.specs.NearHonesty.{IsNearHonest}
 use Rattle.command_files.specs.Reading.{publication_at}
 use Rattle.command_files.specs.Endings.{Ending, EndsReading}
 use Rattle.command_files.specs.declared.fault.Fault.TheVariants.{UnknownNode}

@@ -7,18 +7,18 @@ use Rattle.std.specs.Io.KnownBytes.{Appends, Consumes, IsAtEnd, Keeps}
 use Rattle.sha2.specs.Sha256.{sha256}
 use Rattle.road_io.specs.Causes.{Rose}
 use Rattle.road_io.specs.Contents.{Folder, AppendsFront}
-use Rattle.octet_frame.specs.Frames.{framed}
+use Rattle.route_service.specs.Frames.{framed}
 use Rattle.proof_octets.specs.declared.publication.Publication.{Publication}
 use Rattle.route_client.specs.declared.errors.CheckError.{CheckError}
 use Rattle.road_line.specs.VerdictLine.{refused_line}
 use Rattle.route_service.specs.declared.guard.Guard.{Guard}
 use Rattle.route_service.specs.Machine.{State, first_state, Run}
 use Rattle.route_service.specs.Isolation.{IsIsolated}
-use Rattle.route_serving.specs.Inputs.{Ending as InputEnding, Input, IsInput}
-use Rattle.route_serving.specs.Serving.{Serves}
-use Rattle.route_serving.specs.declared.serving.ServeError.{ServeError}
-use Rattle.route_serving.specs.declared.serving.ServeError.TheVariants as serve
-use Rattle.route_serving.specs.Inputs.Ending.{Regular, TooLong, Truncated, TooMany}
+use Rattle.route_service.specs.Inputs.{Ending as InputEnding, Input, IsInput}
+use Rattle.route_service.specs.Serving.{Serves}
+use Rattle.route_service.specs.declared.serving.ServeError.{ServeError}
+use Rattle.route_service.specs.declared.serving.ServeError.TheVariants as serve
+use Rattle.route_service.specs.Inputs.Ending.{Regular, TooLong, Truncated, TooMany}
 use Rattle.command_files.specs.Reading.{publication_at}
 use Rattle.command_files.specs.Endings.{Ending, EndsReading}
 use Rattle.command_files.specs.declared.fault.Fault.{Fault}

@@ -1,8 +1,8 @@
 -- How a run ends that served frames.
 use Rattle.std.specs.declared.result.Result.{Result}
 use Rattle.std.specs.declared.result.Result.TheVariants.{Ok, Err}
-use Rattle.route_serving.specs.declared.serving.ServeError.{ServeError}
-use Rattle.route_serving.specs.declared.serving.ServeError.TheVariants as serve
+use Rattle.route_service.specs.declared.serving.ServeError.{ServeError}
+use Rattle.route_service.specs.declared.serving.ServeError.TheVariants as serve
 use Rattle.command_files.specs.declared.fault.Fault.{Fault}
 use Rattle.command_files.specs.declared.fault.Fault.TheVariants.{TruncatedFrame, FrameTooLong, Source, Sink, Memory, TooManyFrames}
 use Rattle.command_files.specs.declared.ended.Conclusion.{Conclusion}

@@ -10,12 +10,10 @@ ghost use Rattle.server_commands.specs.NearReaching.{EndsNear, EndsReach, ends_r
 
 use command_books::install;
 use command_files::{Conclusion, Fault, load_publication, write_text};
-use near_model::NearQuery;
-use near_server::{NearRefusal, answer_near};
 use octet_text::Sha;
-use proof_octets::{Publication, range_laws};
+use proof_octets::{NearQuery, Publication, range_laws};
 use road_io::{Library, Sink};
-use route_server::Held;
+use route_server::{Held, NearRefusal, answer_near};
 use std::alloc::Global;
 
 /// Writes the reply to a query on a radius over a publication.

@@ -25,8 +25,7 @@ use proof_octets::{Publication, range_laws};
 use road_io::{Library, Sink, Source};
 use road_line::line_of_refused;
 use route_client::{CheckError, test_header};
-use route_service::{Guard, Service};
-use route_serving::ServeError;
+use route_service::{Guard, ServeError, Service};
 use std::alloc::Global;
 
 /// The most octets of a frame's body.
@@ -163,7 +162,7 @@ fn serve_over<S: Source, K: Sink>(
     ensures cut { result ≡ Err Fault.TruncatedFrame → S.ended source.new }
 {
     let mut service = service_over(alloc, guard, publication)?;
-    let served = route_serving::serve(alloc, &mut service, source, sink, MOST_OCTETS, MOST_FRAMES);
+    let served = route_service::serve(alloc, &mut service, source, sink, MOST_OCTETS, MOST_FRAMES);
     ended_serving(served)
 }
 

@@ -7,3 +7,17 @@ pub use maps::{FIVE_NODES, NODES, ROADS, apart, map_of, parts_of};
 
 mod leaves;
 mod maps;
+
+use book_model::Settings;
+
+/// DIJ by id with fan-out 2, version 3.
+pub const DIJ: Settings = Settings {
+    method: 1,
+    version: 3,
+    order: 0,
+    seed: 0,
+    fan: 2,
+    p1: 0,
+    p2: 0,
+    p3: 0,
+};

@@ -1,7 +1,7 @@
 use Rattle.std.proofs.Common.{◌≡◌, ℕ, List, take, drop, Option, Some, None, ap, subst, sym, ◌∙◌, inl, inr}
 use Rattle.std.specs.Option.{option_copied}
 use Rattle.sha2.specs.Sha256.{sha256}
-use Rattle.hash_collision.specs.Collisions.{AreCollision}
+use Rattle.octet_text.specs.Collisions.{AreCollision}
 use Rattle.lms_ots.specs.Chains.{digits_of, randomiser_of}
 use Rattle.lms_tree.specs.Signatures.{number_at}
 use Rattle.lms_reduce.specs.Comparing.{HasNoLesser, ShowsOwn}

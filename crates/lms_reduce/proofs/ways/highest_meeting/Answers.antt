@@ -1,7 +1,7 @@
 use Rattle.std.proofs.Common.{◌≡◌, ℕ, ◌+◌, ◌*◌, ◌/◌, List, None, Some, take, drop, ap, ◌∙◌, sym, subst, arith, refl, IfSome, IfNone, Option}
 use Rattle.std.proofs.lemmas.Nat.{shr-shr}
 use Rattle.lms_reduce.specs.Texts.{parent_text}
-use Rattle.hash_collision.specs.Collisions.{AreCollision}
+use Rattle.octet_text.specs.Collisions.{AreCollision}
 use Rattle.lms_reduce.specs.Meetings.{IsHighestMeeting, text_above}
 use Rattle.lms_reduce.specs.Ways.{raised}
 use Rattle.lms_reduce.specs.declared.ways.TwoNodes.{TwoNodes}

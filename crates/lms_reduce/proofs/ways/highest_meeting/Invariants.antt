@@ -1,5 +1,5 @@
 use Rattle.std.proofs.Common.{◌≡◌, ◌/◌, ◌^◌, length, IfSome, IfNone}
-use Rattle.hash_collision.specs.Collisions.{AreCollision}
+use Rattle.octet_text.specs.Collisions.{AreCollision}
 use Rattle.lms_reduce.specs.Meetings.{IsHighestMeeting}
 use Rattle.lms_reduce.specs.Ways.{raised}
 use Rattle.lms_reduce.proofs.ways.highest_meeting.Given as goal

@@ -1,5 +1,5 @@
 use Rattle.std.proofs.Common.{◌∙◌, ℕ, ap, arith, sym}
-use Rattle.hash_collision.specs.Collisions.{AreCollision}
+use Rattle.octet_text.specs.Collisions.{AreCollision}
 use Rattle.lms_reduce.specs.Meetings.{text_of_step}
 use Rattle.lms_reduce.specs.Texts.{step_text}
 use Rattle.lms_reduce.proofs.MeetingLemmas.{none-here, one-more}

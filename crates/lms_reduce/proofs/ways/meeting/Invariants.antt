@@ -1,5 +1,5 @@
 use Rattle.std.proofs.Common.{◌≡◌, ℕ, ◌-◌, ◌<◌, ◌≤◌}
-use Rattle.hash_collision.specs.Collisions.{AreCollision}
+use Rattle.octet_text.specs.Collisions.{AreCollision}
 use Rattle.lms_reduce.specs.Meetings.{text_of_step}
 use Rattle.lms_reduce.specs.Ways.{walked}
 use Rattle.lms_reduce.proofs.ways.meeting.Given as goal

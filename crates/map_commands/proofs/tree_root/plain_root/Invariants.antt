@@ -1,6 +1,6 @@
 use Rattle.std.proofs.Common.{◌≡◌, [], length}
 use Rattle.sha2.specs.Sha256.{sha256}
-use Rattle.rising_tree.specs.Rising.{Takes}
+use Rattle.merkle_cover.specs.Rising.{Takes}
 use Rattle.map_commands.specs.RootLine.{plain_texts}
 use Rattle.map_commands.proofs.tree_root.plain_root.Given as goal
 

@@ -1,4 +1,4 @@
-use Rattle.route_laws.proofs.Honest.{one_of}
+use Rattle.near_proof.proofs.Honest.{one_of}
 use Rattle.near_proof.proofs.RightLemmas.{replies_right, reaches_right}
 use Rattle.near_proof.proofs.honesty.right_laws.Goals as goal
 

@@ -1,4 +1,4 @@
-use Rattle.route_laws.proofs.Honest.{one_of}
+use Rattle.near_proof.proofs.Honest.{one_of}
 use Rattle.near_proof.proofs.NearHonest.{replies_accepted}
 use Rattle.near_proof.proofs.laws.near_laws.Goals as goal
 

@@ -1,6 +1,6 @@
 use Rattle.std.proofs.Common.{◌<◌, sym, arith, length, ◌∙◌}
 use Rattle.std.proofs.lemmas.List.{length-map, get_or-map}
-use Rattle.near_model.specs.declared.marks.Mark.{Mark}
+use Rattle.proof_octets.specs.declared.marks.Mark.{Mark}
 use Rattle.proof_judge.specs.ItemWalks.{item_at}
 use Rattle.route_check_c.specs.Placing.{reached_node, reached_nodes}
 use Rattle.route_check_c.proofs.RoomSteps.{put_next}

@@ -2,7 +2,7 @@ use Rattle.std.proofs.Common.{◌≡◌, Ok, inr, refl, rules}
 use Rattle.sha2.specs.Sha256.{sha256}
 use Rattle.octet_text.specs.Format.{whole}
 use Rattle.lms_tree.specs.ChainFiles.{chain_file}
-use Rattle.near_client.specs.NearVerdicts.{IsNearVerdict}
+use Rattle.route_client.specs.NearVerdicts.{IsNearVerdict}
 use Rattle.route_check_c.proofs.LeafLemmas.{reached_leaves}
 use Rattle.route_check_c.proofs.Refusals.{reach_told}
 use Rattle.route_check_c.proofs.reach.gog_proved_reach.Goals as goal

@@ -2,7 +2,7 @@ use Rattle.std.proofs.Common.{ℕ, List, [], subst, sym, ap, ◌∙◌}
 use Rattle.road_map.specs.declared.parts.Parts.{Parts}
 use Rattle.road_map.specs.Maps.{IsMap}
 use Rattle.book_model.specs.Books.{IsBookOf}
-use Rattle.any_book.specs.AnyBooks.{kind_in, shown_in}
+use Rattle.method_books.specs.AnyBooks.{kind_in, shown_in}
 use Rattle.proof_method.specs.Gathering.{IsOrderOf}
 use Rattle.route_server.specs.Fitting.{FitsFormats}
 use Rattle.route_server.specs.Headers.{book_header}

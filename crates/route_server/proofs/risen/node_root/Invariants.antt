@@ -1,6 +1,6 @@
 use Rattle.std.proofs.Common.{◌≡◌, [], length}
 use Rattle.book_model.specs.Books.{leaves_of}
-use Rattle.rising_tree.specs.Rising.{Takes}
+use Rattle.merkle_cover.specs.Rising.{Takes}
 use Rattle.route_server.specs.Headers.{node_texts}
 use Rattle.route_server.proofs.risen.node_root.Given as goal
 

@@ -1,5 +1,5 @@
 use Rattle.std.proofs.Common.{◌≡◌, [], length}
-use Rattle.rising_tree.specs.Rising.{Takes}
+use Rattle.merkle_cover.specs.Rising.{Takes}
 use Rattle.route_server.specs.Headers.{pair_texts}
 use Rattle.route_server.proofs.risen.pair_root.Given as goal
 

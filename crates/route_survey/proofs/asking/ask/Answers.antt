@@ -2,8 +2,8 @@ use Rattle.std.proofs.Common.{◌≡◌, [], Ok, Err, refl, sym, ◌∙◌}
 use Rattle.sha2.specs.Sha256.{sha256}
 use Rattle.lms_tree.specs.Signatures.{public_key}
 use Rattle.route_server.specs.Keeping.{publication_in}
-use Rattle.route_laws.specs.Honest.{AreAccepted}
-use Rattle.route_laws.proofs.Honest.{leads_itself}
+use Rattle.near_proof.specs.Honest.{AreAccepted}
+use Rattle.near_proof.proofs.Honest.{leads_itself}
 use Rattle.route_survey.specs.Surveys.{survey_key}
 use Rattle.route_survey.proofs.AnswerLaws.{refused_as, accepted_as, same_accepted, length_is, never_apart, known_of}
 use Rattle.route_survey.proofs.asking.ask.Goals as goal

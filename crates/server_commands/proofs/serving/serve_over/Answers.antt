@@ -1,7 +1,7 @@
 use Rattle.std.proofs.Common.{sym, ap, [], append-nil, ◌∙◌, arith}
 use Rattle.std.specs.declared.option.Option.TheVariants.{Some}
 use Rattle.std.proofs.lemmas.Result.{err_from_is_err_and}
-use Rattle.route_serving.proofs.Splits.{serves_input}
+use Rattle.route_service.proofs.Splits.{serves_input}
 use Rattle.server_commands.specs.Serving.{most_octets, most_frames}
 use Rattle.server_commands.specs.ServingEnds.{ended_serving}
 use Rattle.server_commands.proofs.ServeCommand.{serve_refused, refused_serves, serve_ends, serves_frames, done_serving}

@@ -14,7 +14,7 @@ use Rattle.proof_method.specs.declared.found.Found.{Found}
 use Rattle.proof_method.specs.Gathering.{IsOrderOf, IsFirstUnknown}
 use Rattle.proof_octets.specs.declared.reply.Reply.TheVariants as replies
 use Rattle.proof_octets.specs.Replies.{reply, reply_of}
-use Rattle.any_book.specs.AnyBooks.{kind_in, shown_in, charted_in}
+use Rattle.method_books.specs.AnyBooks.{kind_in, shown_in, charted_in}
 use Rattle.route_server.specs.Bringing.{answer_of}
 use Rattle.route_server.specs.Headers.{node_texts, pair_texts}
 use Rattle.route_server.specs.Honesty.{IsHonest, Gathers, Replies, ids_at}

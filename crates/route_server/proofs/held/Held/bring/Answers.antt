@@ -4,7 +4,7 @@ use Rattle.road_map.specs.Walks.{Knows}
 use Rattle.road_map.specs.Maps.{Charted}
 use Rattle.merkle_cover.specs.Covers.{IsRising}
 use Rattle.proof_method.specs.Gathering.{IsOrderOf}
-use Rattle.any_book.specs.AnyBooks.{kind_in, shown_in, charted_in}
+use Rattle.method_books.specs.AnyBooks.{kind_in, shown_in, charted_in}
 use Rattle.route_server.specs.declared.bringing.NodesBrought.{NodesBrought}
 use Rattle.route_server.specs.Bringing.{AreAt, AreBrought}
 use Rattle.route_server.specs.Keeping.{Kept, HasPlaces, kept_as}

@@ -1,5 +1,5 @@
 use Rattle.std.proofs.Common.{◌∙◌, ap}
-use Rattle.any_book.specs.AnyBooks.{shown_in}
+use Rattle.method_books.specs.AnyBooks.{shown_in}
 use Rattle.route_server.specs.Keeping.{Kept, header_in, count_in, root_in}
 use Rattle.route_server.proofs.HeaderLemmas.{header_is}
 use Rattle.route_server.proofs.held.Held.header.Goals as goal

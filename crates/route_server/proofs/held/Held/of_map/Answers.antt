@@ -1,7 +1,7 @@
 use Rattle.std.proofs.Common.{ℕ, List, refl, sym, subst, ◌∙◌}
 use Rattle.road_map.specs.Maps.{Charted}
 use Rattle.book_model.specs.Books.{IsBookOf}
-use Rattle.any_book.specs.AnyBooks.{kind_in, shown_in}
+use Rattle.method_books.specs.AnyBooks.{kind_in, shown_in}
 use Rattle.route_server.specs.Keeping.{HasPlaces, IsPlanned}
 use Rattle.route_server.proofs.RisenLemmas.{order_fits}
 use Rattle.route_server.proofs.held.Held.of_map.Goals as goal

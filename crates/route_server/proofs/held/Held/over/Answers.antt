@@ -1,7 +1,7 @@
 use Rattle.std.proofs.Common.{ℕ, List, Option, All, ap, sym, subst, ◌∙◌}
 use Rattle.road_leaf.specs.Leaves.{node_leaf}
 use Rattle.book_model.specs.Books.{Book, leaves_of}
-use Rattle.any_book.specs.AnyBooks.{kind_in, shown_in, charted_in}
+use Rattle.method_books.specs.AnyBooks.{kind_in, shown_in, charted_in}
 use Rattle.proof_method.specs.Gathering.{IsOrderOf}
 use Rattle.route_server.specs.Fitting.{kind_of_leaves}
 use Rattle.route_server.specs.Headers.{node_texts}

@@ -1,0 +1,75 @@
+//! The lines of what a forgery comes down to.
+
+ghost use Rattle.std.specs.Prelude.{◌≡◌, IfOk, string_bytes};
+ghost use Rattle.audit_commands.specs.ReduceLine.{chain_line, reduced_line, signed_line};
+
+use lms_reduce::Reduced;
+use octet_text::{Digest32, NoMemory};
+use road_line::line_of_collision;
+use std::alloc::{AllocError, Global};
+
+/// The line of a collision, or of a chain's value.
+pub fn line_of_reduced(alloc: Global, reduced: &Reduced) -> Result<Vec<u8>, NoMemory>
+    ensures { IfOk result (λ line. line.items ≡ reduced_line reduced.now) }
+{
+    match reduced {
+        Reduced::Collision { left, right } => {
+            line_of_collision(alloc, left.as_slice(), right.as_slice())
+        }
+        Reduced::Chain {
+            slot,
+            at,
+            step,
+            value,
+        } => line_of_chain(alloc, *slot, *at, *step, value),
+    }
+}
+
+/// The line of a slot that has signed the text itself.
+pub fn line_of_signed(alloc: Global, slot: u32) -> Result<Vec<u8>, NoMemory>
+    ensures { IfOk result (λ line. line.items ≡ signed_line slot) }
+{
+    match signed(alloc, slot) {
+        Ok(text) => Ok(text.into_bytes()),
+        Err(_) => Err(NoMemory),
+    }
+}
+
+/// The line of a value of a chain.
+fn line_of_chain(
+    alloc: Global,
+    slot: u32,
+    at: u16,
+    step: u8,
+    value: &Digest32,
+) -> Result<Vec<u8>, NoMemory>
+    ensures { IfOk result (λ line. line.items ≡ chain_line slot at step value.now) }
+{
+    match chain(alloc, slot, at, step, value) {
+        Ok(text) => Ok(text.into_bytes()),
+        Err(_) => Err(NoMemory),
+    }
+}
+
+fn signed(alloc: Global, slot: u32) -> Result<String, AllocError>
+    ensures { IfOk result (λ text. string_bytes text ≡ signed_line slot) }
+{
+    let mut text = String::new(alloc);
+    writeln!(text, "signed {slot}")?;
+    Ok(text)
+}
+
+fn chain(
+    alloc: Global,
+    slot: u32,
+    at: u16,
+    step: u8,
+    value: &Digest32,
+) -> Result<String, AllocError>
+    ensures { IfOk result (λ text. string_bytes text ≡ chain_line slot at step value.now) }
+{
+    let digits = hex::encode(alloc, value)?;
+    let mut text = String::new(alloc);
+    writeln!(text, "chain {slot} {at} {step} {digits}")?;
+    Ok(text)
+}

@@ -1,5 +1,0 @@
-use Rattle.std.proofs.Common.{arith}
-use Rattle.hash_collision.proofs.octet_law.Goals as goal
-
-pub returns : goal.returns
-returns c = λ i. omega (arith, c.type_inv.text i)

@@ -1,6 +1,0 @@
-use Rattle.std.proofs.Common.{take}
-use Rattle.hyp_book.specs.HypBooks.{IsInRow, AddsAll}
-use Rattle.hyp_book.proofs.gathering.add_rows.Given as goal
-
-abbrev pub invariant-loop-border : goal.invariant-loop-border
-invariant-loop-border l = AddsAll (IsInRow l.pairs l.most l.far) (take l.border-index l.near) l.fn.places l.places

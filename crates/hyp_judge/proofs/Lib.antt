@@ -1,3 +1,0 @@
-mod BorderLists
-mod BorderLaws
-mod ScanLaws

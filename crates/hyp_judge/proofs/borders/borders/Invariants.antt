@@ -1,9 +1,0 @@
-use Rattle.std.proofs.Common.{ℕ, ◌≡◌, take}
-use Rattle.std.specs.Ordering.{nat_cmp}
-use Rattle.std.specs.BTreeMap.{get}
-use Rattle.road_search.specs.Labelling.{length_at}
-use Rattle.hyp_judge.proofs.BorderLists.{border_among}
-use Rattle.hyp_judge.proofs.borders.borders.Given as goal
-
-abbrev pub invariant-loop-node : goal.invariant-loop-node
-invariant-loop-node l = (q : ℕ) → get nat_cmp l.near q ≡ border_among l.nodes (take l.node-index l.nodes) (length_at l.labels) q

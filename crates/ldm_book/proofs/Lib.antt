@@ -1,5 +1,0 @@
-pub mod ExtraLaws
-pub mod NodeLaws
-pub mod NeedLaws
-pub mod PlanLaws
-pub mod FoundLaws

@@ -1,6 +1,0 @@
-use Rattle.std.proofs.Common.{◌∙◌}
-use Rattle.ldm_book.proofs.NodeLaws.{extra_leaf}
-use Rattle.ldm_book.proofs.book.LdmBookLookup.extra.Goals as goal
-
-pub returns : goal.returns
-returns c = c.get.ensures.value ∙ extra_leaf c.args.self.now.map.parts c.args.self.now.extras.entries c.args.self.now.numbers c.args.id (c.args.self.now.covers c.args.id)

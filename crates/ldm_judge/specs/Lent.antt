@@ -1,7 +1,0 @@
--- Vectors that are lent.
-use Rattle.book_model.specs.Bounds.{Vector}
-use Rattle.ldm_judge.specs.declared.bounds.Vector.{Vector as Lent}
-
--- the codes of a vector, and how far each may be off
-abbrev pub shown : Lent → Vector
-shown v = record { codes = v.codes.now; error = v.error }

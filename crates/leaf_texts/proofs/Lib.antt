@@ -1,2 +1,0 @@
-pub mod TextRoom
-pub mod TextLength

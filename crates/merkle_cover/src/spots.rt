@@ -1,0 +1,85 @@
+//! Where the digests of a cover stand in their tree.
+ghost use Rattle.std.specs.Prelude.{◌≡◌, ℕ, ◌+◌, ◌*◌, ◌^◌, ◌<◌, ◌≤◌, List, [], ◌++◌, length, IfOk, OnOk};
+ghost use Rattle.merkle_cover.specs.Spots.{spots_below, spots_of};
+ghost use Rattle.merkle_cover.specs.Folding.{CanWalk, SplitsAt};
+ghost use Rattle.merkle_cover.specs.Covers.{IsRising};
+
+use crate::{is_next_below, top_of};
+use octet_text::NoMemory;
+use std::alloc::Global;
+
+// A place of a level.
+#[derive(Clone, Copy, PartialEq, Eq)]
+pub(crate) struct Spot {
+    pub(crate) level: u32,
+    pub(crate) place: u64,
+}
+
+// Chosen leaves among so many, in a tree with a fan-out.
+#[derive(Drop)]
+struct Chosen<'a> {
+    leaves: u64,
+    fan: u64,
+    places: &'a [u32],
+}
+
+// Appends the spots of the cover below a place, and answers the index of the next chosen leaf.
+fn spots_at(
+    chosen: &Chosen<'_>,
+    level: u32,
+    place: u64,
+    span: u64,
+    item: usize,
+    out: &mut Vec<Spot>,
+) -> Result<usize, NoMemory>
+    requires { CanWalk chosen.now.leaves chosen.now.fan chosen.now.places.now level place span
+        item }
+    ensures next { IfOk result (λ next. SplitsAt chosen.now.places.now ((place + 1) * span) next) }
+    ensures out { OnOk result (out.new.items ≡ out.old.items
+        ++ spots_below chosen.now.leaves chosen.now.fan chosen.now.places.now level place) }
+{
+    if !is_next_below(chosen.places, item, (place + 1) * span) {
+        return match out.push(Spot { level, place }) {
+            Ok(()) => Ok(item),
+            Err(_) => Err(NoMemory),
+        };
+    }
+    if level == 0 {
+        return Ok(item + 1);
+    }
+    let below = span / chosen.fan;
+    let first = place * chosen.fan;
+    let end = (first + chosen.fan).min(chosen.leaves.div_ceil(below));
+    let mut item = item;
+    for child in first..end {
+        item = spots_at(chosen, level - 1, child, below, item, out)?;
+    }
+    Ok(item)
+}
+
+// The spots of the cover of chosen leaves, from left to right.
+pub(crate) fn cover_spots(
+    alloc: Global,
+    leaves: u32,
+    fan: u8,
+    places: &[u32],
+) -> Result<Vec<Spot>, NoMemory>
+    requires fan { 2 ≤ fan }
+    requires fan_max { fan ≤ 32 }
+    requires leaves { 1 ≤ leaves }
+    requires places { IsRising leaves places.now }
+    ensures { IfOk result (λ spots. spots.items ≡ spots_of leaves fan places.now) }
+{
+    let mut out = Vec::new(alloc);
+    if places.is_empty() {
+        return Ok(out);
+    }
+    let chosen = Chosen {
+        leaves: u64::from(leaves),
+        fan: u64::from(fan),
+        places,
+    };
+    let (level, span) = top_of(chosen.leaves, chosen.fan);
+    spots_at(&chosen, level, 0, span, 0, &mut out)?;
+    Ok(out)
+}

@@ -1,0 +1,10 @@
+pub mod WithinLaws
+pub mod FullLaws
+pub mod ExtraLaws
+pub mod NodeLaws
+pub mod NeedLaws
+pub mod PlanLaws
+pub mod FoundLaws
+pub mod GridLaws
+pub mod HypLaws
+pub mod HypFound

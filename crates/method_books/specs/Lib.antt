@@ -1,0 +1,5 @@
+pub mod PlainBooks
+pub mod LdmBooks
+pub mod Grids
+pub mod HypBooks
+pub mod AnyBooks

@@ -1,0 +1,88 @@
+//! The book of HYP.
+
+ghost use Rattle.std.specs.Prelude.{◌≡◌, ◌==◌, ◌<◌, ◌≤◌, ◌⊎◌, ℕ, IfOk, OnOk, IfErr, IfNone, Contains, length, slice_get};
+ghost use Rattle.std.specs.List.{filter};
+ghost use Rattle.road_map.specs.declared.parts.Parts.{Parts};
+ghost use Rattle.road_map.specs.declared.parts.Node.{Node};
+ghost use Rattle.road_map.specs.Walks.{Knows, distance};
+ghost use Rattle.road_leaf.specs.declared.pair.PairLeaf.{PairLeaf};
+ghost use Rattle.book_model.specs.Books.{Hyp as ByHyp, borders as borders_in, first_failed, own_tests};
+ghost use Rattle.book_model.specs.Pairs.{pairs_of};
+ghost use Rattle.book_model.specs.declared.settings.PlanError.TheVariants as plan_error;
+ghost use Rattle.method_books.specs.Grids.{IsGridOf};
+
+use crate::grid::{Grid, is_border_at};
+use book_model::{PairLeaves, PlanError, Settings};
+use octet_text::NoMemory;
+use pair_dist::{PairError, pair_leaves};
+use road_map::{Ids, Map};
+use std::alloc::Global;
+
+/// A map with a grid of cells, its border nodes by rising id, and the leaves of all pairs of these.
+#[derive(Drop)]
+pub struct HypBook {
+    pub map: Map,
+    pub grid: Grid,
+    pub borders: Ids,
+    pub pairs: PairLeaves,
+    ghost of: { IsGridOf map.parts.nodes grid },
+    ghost bordered: { borders ≡ borders_in map.parts grid.columns grid.rows },
+    ghost few: { length borders ≤ 2048 },
+    ghost all: { pairs ≡ pairs_of (distance map.parts) borders },
+}
+
+/// The number of the first parameter that is out of its range: 1 to 1,024 columns, 1 to 1,024 rows,
+/// and no third one.
+pub fn first_parameter(settings: &Settings) -> Option<u8>
+    ensures first { (parts : Parts) → result ≡ first_failed 3 (own_tests ByHyp parts settings.now) }
+    ensures columns { IfNone result (1 ≤ settings.now.p1) }
+    ensures columns_max { IfNone result (settings.now.p1 ≤ 1024) }
+    ensures rows { IfNone result (1 ≤ settings.now.p2) }
+    ensures rows_max { IfNone result (settings.now.p2 ≤ 1024) }
+{
+    if settings.p1 < 1 || settings.p1 > 1024 {
+        return Some(3);
+    }
+    if settings.p2 < 1 || settings.p2 > 1024 {
+        return Some(4);
+    }
+    if settings.p3 != 0 {
+        return Some(5);
+    }
+    None
+}
+
+/// The border nodes of a map in a grid, by rising id.
+pub fn borders(alloc: Global, map: &Map, grid: &Grid) -> Result<Ids, NoMemory>
+    requires { IsGridOf map.now.parts.nodes grid.now }
+    ensures { IfOk result (λ ids. ids ≡ borders_in map.now.parts grid.now.columns grid.now.rows) }
+{
+    let _parts = map.parts();
+    let mut found = Vec::new(alloc);
+    for position in 0..map.count() {
+        let id = map.node(position).id;
+        if is_border_at(map, grid, position) {
+            found.push(id)?;
+        }
+    }
+    Ok(Ids::from_vec(found))
+}
+
+/// The leaves of all pairs of border nodes; more than 2,048 of these are refused before any search.
+pub fn table_of(alloc: Global, map: &Map, borders: &Ids) -> Result<PairLeaves, PlanError>
+    requires known { (id : ℕ) → Contains borders.now id → Knows map.now.parts id }
+    requires counted { length borders.now ≤ 65536 }
+    ensures leaves { IfOk result (λ leaves.
+        leaves ≡ pairs_of (distance map.now.parts) borders.now) }
+    ensures few { OnOk result (length borders.now ≤ 2048) }
+    ensures refused { IfErr result
+        (λ e. (e ≡ plan_error.Memory) ⊎
+        ((e ≡ plan_error.TooManyBorders (length borders.now)) × (2048 < length borders.now))) }
+{
+    let ids = borders.as_slice();
+    match pair_leaves(alloc, map, ids) {
+        Ok(pairs) => Ok(pairs),
+        Err(PairError::TooMany) => Err(PlanError::TooManyBorders(ids.len() as u32)),
+        Err(PairError::Memory) => Err(PlanError::Memory),
+    }
+}

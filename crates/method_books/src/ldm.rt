@@ -1,0 +1,130 @@
+//! How a book of LDM is planned, and what it brings for a query.
+
+ghost use Rattle.std.specs.Prelude.{◌≡◌, ℕ, IfOk, length};
+ghost use Rattle.road_map.specs.declared.parts.Parts.{Parts};
+ghost use Rattle.book_model.specs.Books.{Ldm as ByLdm, own_tests, first_failed};
+
+use crate::ldm_method::{LdmBook, by_id, copy};
+use crate::near::needed;
+use book_model::{Numbers, Places, PlanError, Query, Settings};
+use landmarks::{compress, landmark_codes};
+use method_judges::{Open, live_labels};
+use octet_text::NoMemory;
+use proof_judge::search_all;
+use proof_method::{Found, GatherError, MethodBook, ends, leaf_adding, method_laws, reach};
+use road_leaf::{NodeLeaf, PairLeaf};
+use road_map::{Ids, Map, map_laws};
+use std::alloc::Global;
+
+impl MethodBook for LdmBook {
+    ghost use Rattle.std.specs.Prelude.{Some};
+    ghost use Rattle.book_model.specs.Books.{Ldm as ByLdm};
+    ghost use Rattle.method_books.specs.LdmBooks.{ldm_book};
+
+    ghost planned = { λ _. Some ByLdm };
+
+    ghost kind = { λ _. ByLdm };
+
+    ghost shown = { λ b. ldm_book b.map.parts b.extras.entries b.numbers };
+
+    ghost charted = { λ b. b.map };
+
+    fn offers(_method: u8) -> bool {
+        true
+    }
+
+    fn plan(
+        alloc: Global,
+        map: Map,
+        settings: &Settings,
+        order: &[u32],
+    ) -> Result<LdmBook, PlanError> {
+        method_laws();
+        let count = map.parts().nodes.as_slice().len();
+        if let Some(index) = refused_parameter(settings, count) {
+            return Err(PlanError::Settings(index));
+        }
+        let table = landmark_codes(alloc, &map, settings.p1 as u32, settings.p2 as u8)?;
+        let extras = compress(alloc, &table, order, settings.p3 as u16)?;
+        let numbers = Numbers {
+            first: table.step(),
+            second: settings.p1,
+        };
+        let extras = by_id(alloc, order, extras)?;
+        Ok(LdmBook {
+            map,
+            extras,
+            numbers,
+        })
+    }
+
+    fn map(&self) -> &Map {
+        &self.map
+    }
+
+    fn into_map(self) -> Map {
+        let LdmBook { map, .. } = self;
+        map
+    }
+
+    fn numbers(&self) -> Numbers {
+        self.numbers
+    }
+
+    fn node_leaf(&self, alloc: Global, id: u32) -> Result<NodeLeaf, NoMemory> {
+        let extra = copy(alloc, self.extra_at(id))?;
+        leaf_adding(alloc, &self.map, id, extra)
+    }
+
+    fn pairs(&self) -> &[PairLeaf] {
+        &[]
+    }
+
+    #[tactic(auto, using(proof_method::proofs::EndLaws::none_first))]
+    fn gather(&self, alloc: Global, query: Query) -> Result<Found, GatherError> {
+        map_laws();
+        let _parts = self.map.parts();
+        let reached = reach(alloc, &self.map, query)?;
+        let labels = live_labels(alloc, self, self.numbers.first, query, reached.length)?;
+        let nodes = needed(alloc, self, &reached.route, &labels)?;
+        Ok(Found {
+            route: reached.route,
+            nodes,
+            pairs: Places::from_vec(Vec::new(alloc)),
+        })
+    }
+
+    fn gather_apart(&self, alloc: Global, query: Query) -> Result<Found, NoMemory> {
+        let _parts = self.map.parts();
+        let open = Open {
+            leaves: self,
+            to: query.to,
+        };
+        let labels = search_all(alloc, &open, query.from)?;
+        let ends = ends(alloc, query)?;
+        let nodes = needed(alloc, self, &ends, &labels)?;
+        Ok(Found {
+            route: Ids::from_vec(Vec::new(alloc)),
+            nodes,
+            pairs: Places::from_vec(Vec::new(alloc)),
+        })
+    }
+}
+
+/// The number of the first parameter that is out of its range, over a map of so many nodes: 1 to 64
+/// landmarks and no more than nodes, 1 to 16 bits of a code, a threshold of at most 65,534.
+fn refused_parameter(settings: &Settings, nodes: usize) -> Option<u8>
+    ensures { (parts : Parts) → nodes ≡ length parts.nodes →
+        result ≡ first_failed 3 (own_tests ByLdm parts settings.now) }
+{
+    if settings.p1 < 1 || settings.p1 > 64 || settings.p1 > nodes as u64 {
+        return Some(3);
+    }
+    if settings.p2 < 1 || settings.p2 > 16 {
+        return Some(4);
+    }
+    if settings.p3 > 65534 {
+        return Some(5);
+    }
+    None
+}

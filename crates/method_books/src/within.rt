@@ -1,0 +1,39 @@
+//! Nodes that are within a length, and nodes that a walk leads to.
+
+ghost use Rattle.std.specs.Prelude.{[], ◌⊎◌, IsTrue, IfOk};
+ghost use Rattle.road_search.specs.Labelling.{length_at};
+ghost use Rattle.road_search.specs.Nearness.{is_within};
+ghost use Rattle.book_model.specs.Books.{Dij as ByDij};
+ghost use Rattle.proof_method.specs.Gathering.{AreUnjoined, Lists};
+ghost use Rattle.proof_method.specs.Apart.{IsEnd, WantedApart};
+ghost use Rattle.method_books.specs.PlainBooks.{plain_book};
+
+use book_model::Query;
+use octet_text::NoMemory;
+use proof_method::rising;
+use road_map::{Ids, Map, map_laws};
+use road_search::{Labels, WholeMap, search};
+use std::alloc::Global;
+
+/// The ids to which a walk of at most this length leads, by rising id.
+pub fn near(alloc: Global, labels: &Labels, most: u64) -> Result<Ids, NoMemory>
+    ensures { IfOk result (Lists (λ id. IsTrue (is_within most (length_at labels.now id)))) }
+{
+    let mut ids = labels.near(alloc, most)?;
+    ids.sort_unstable();
+    Ok(Ids::from_vec(ids))
+}
+
+/// The ids to which a walk leads from the start, and the end, to which none does, by rising id.
+pub fn component(alloc: Global, map: &Map, query: Query) -> Result<Ids, NoMemory>
+    requires { AreUnjoined map.now.parts query }
+    ensures { IfOk result (Lists (λ id. IsEnd query id ⊎
+        WantedApart ByDij (plain_book map.now.parts []) query id)) }
+{
+    map_laws();
+    let _parts = map.parts();
+    let labels = search(alloc, &WholeMap { map }, query.from, u64::MAX)?;
+    let mut ids = labels.near(alloc, u64::MAX)?;
+    ids.push(query.to)?;
+    Ok(rising(ids))
+}

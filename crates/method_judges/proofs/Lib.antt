@@ -1,0 +1,4 @@
+pub mod LiveLaws
+mod BorderLists
+mod BorderLaws
+mod ScanLaws

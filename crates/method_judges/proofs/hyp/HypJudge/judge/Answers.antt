@@ -1,0 +1,10 @@
+use Rattle.std.proofs.lemmas.Result.{err_from_is_err_and}
+use Rattle.book_model.specs.Books.{Hyp}
+use Rattle.proof_judge.proofs.Tested.{judged_by}
+use Rattle.method_judges.proofs.hyp.HypJudge.judge.Goals as goal
+
+pub returns-in_err-by_id : goal.returns-in_err-by_id
+returns-in_err-by_id c = let p = err_from_is_err_and c.from_residual.result c.from_residual.ensures.1 in rw (p.1, p.2) (c.in_err-by_id.ensures.refused Hyp c.args._numbers)
+
+pub returns : goal.returns
+returns c = judged_by Hyp c.args._numbers c.args.items.now c.args.query c.in_ok-by_id.length c.tests.result c.in_ok-by_id.ensures.distinct c.in_ok-by_id.ensures.length c.tests.ensures

@@ -1,0 +1,7 @@
+-- Vectors that are lent.
+use Rattle.book_model.specs.Bounds.{Vector}
+use Rattle.method_judges.specs.declared.bounds.Vector.{Vector as Lent}
+
+-- the codes of a vector, and how far each may be off
+abbrev pub shown : Lent → Vector
+shown v = record { codes = v.codes.now; error = v.error }

@@ -1,0 +1,149 @@
+//! Lower bounds of distances, by the codes at hand.
+
+ghost use Rattle.std.specs.Prelude.{◌≡◌, ℕ, ◌^◌, ◌<◌, Option, length};
+ghost use Rattle.std.specs.Option.{option_map, option_copied};
+ghost use Rattle.road_leaf.specs.declared.leaf.NodeLeaf.{NodeLeaf};
+ghost use Rattle.book_model.specs.Bounds.{gap, greatest_bound, own_vector, vector_at, bound_of, bound};
+ghost use Rattle.proof_judge.specs.Apart.{is_split, are_split, are_apart};
+ghost use Rattle.method_judges.specs.Lent.{shown};
+
+use road_leaf::Extra;
+use road_map::Arc;
+
+/// The code that says that no walk joins a node and a landmark.
+const NO_CODE: u16 = 65535;
+
+/// Leaves at hand, by id.
+pub trait Lookup {
+    // What contracts see of it: the leaf of an id, where it is at hand.
+    ghost leaves: { Self → ℕ → Option NodeLeaf };
+
+    /// The arcs in the leaf of an id, if it is at hand.
+    fn arcs(&self, id: u32) -> Option<&[Arc]>
+        ensures { option_copied result ≡ option_map (λ n. n.arcs) (leaves self.now id) };
+
+    /// What the leaf of an id says beside the node's place and arcs, if it is at hand.
+    fn extra(&self, id: u32) -> Option<&Extra>
+        ensures { option_copied result ≡ option_map (λ n. n.extra) (leaves self.now id) };
+}
+
+/// Codes, one for each landmark, and by how much at most each may be off.
+#[derive(Clone, Copy)]
+struct Vector<'a> {
+    codes: &'a [u16],
+    error: u16,
+}
+
+/// The codes that a leaf keeps itself, off by an error.
+fn own(extra: &Extra, error: u16) -> Option<Vector<'_>>
+    ensures { option_map shown result ≡ own_vector error extra.now }
+{
+    match extra {
+        Extra::Own(codes) => Some(Vector {
+            codes: codes.as_slice(),
+            error,
+        }),
+        _ => None,
+    }
+}
+
+/// The codes at hand of an id: its own, or those of the node that its leaf refers to.
+fn vector_at<L: Lookup>(at: &L, id: u32) -> Option<Vector<'_>>
+    ensures { option_map shown result ≡ vector_at (L.leaves at.now) (L.leaves at.now id) }
+{
+    match at.extra(id) {
+        None => None,
+        Some(Extra::Near { reference, error }) => match at.extra(*reference) {
+            None => None,
+            Some(other) => own(other, *error),
+        },
+        Some(extra) => own(extra, 0),
+    }
+}
+
+/// How far two codes are surely apart, where they may be off by an error together.
+fn gap_of(error: u32, a: u16, b: u16) -> u32
+    ensures value { result ≡ gap error a b }
+    ensures small { result < 2 ^ 16 }
+{
+    u32::from(a.abs_diff(b))
+        .saturating_sub(error)
+        .saturating_sub(1)
+}
+
+/// The greatest bound of a landmark to which both have a code.
+fn greatest_of(step: u64, error: u32, v: &[u16], t: &[u16]) -> u128
+    requires { length v.now ≡ length t.now }
+    ensures value { result ≡ greatest_bound step error v.now t.now }
+    ensures small { result < 2 ^ 80 }
+{
+    let mut best: u128 = 0;
+    for i in 0..v.len() {
+        let a = v[i];
+        let b = t[i];
+        if a != NO_CODE && b != NO_CODE {
+            let here = u128::from(step) * u128::from(gap_of(error, a, b));
+            best = best.max(here);
+        }
+    }
+    best
+}
+
+/// The bound of two vectors, 0 where one is not at hand or they are of different counts of
+/// landmarks.
+fn bound_between(step: u64, v: Option<Vector<'_>>, t: Option<Vector<'_>>) -> u128
+    ensures value { result ≡ bound_of step (option_map shown v.entry) (option_map shown t.entry) }
+    ensures small { result < 2 ^ 80 }
+{
+    match (v, t) {
+        (Some(v), Some(t)) => {
+            if v.codes.len() == t.codes.len() {
+                let error = u32::from(v.error) + u32::from(t.error);
+                greatest_of(step, error, v.codes, t.codes)
+            } else {
+                0
+            }
+        }
+        _ => 0,
+    }
+}
+
+/// A length that no walk between two nodes falls below, by the leaves at hand: 0 where these say
+/// nothing.
+pub fn bound<L: Lookup>(step: u64, at: &L, v: u32, t: u32) -> u128
+    ensures value { result ≡ bound step (L.leaves at.now) (L.leaves at.now v) (L.leaves at.now t) }
+    ensures small { result < 2 ^ 80 }
+{
+    bound_between(step, vector_at(at, v), vector_at(at, t))
+}
+
+/// Whether just one of two codes says that no walk joins its node and the landmark.
+fn is_split(a: u16, b: u16) -> bool
+    ensures { result ≡ is_split a b }
+{
+    (a == NO_CODE) != (b == NO_CODE)
+}
+
+/// Whether just one of two vectors lacks a walk at some landmark.
+fn are_split(v: &[u16], t: &[u16]) -> bool
+    requires { length v.now ≡ length t.now }
+    ensures { result ≡ are_split v.now t.now }
+{
+    for i in 0..v.len() {
+        if is_split(v[i], t[i]) {
+            return true;
+        }
+    }
+    false
+}
+
+/// Whether no walk joins two nodes, by the leaves at hand: their codes lack a walk at different
+/// landmarks. False where these say nothing.
+pub fn apart<L: Lookup>(at: &L, v: u32, t: u32) -> bool
+    ensures { result ≡ are_apart (L.leaves at.now) (L.leaves at.now v) (L.leaves at.now t) }
+{
+    match (vector_at(at, v), vector_at(at, t)) {
+        (Some(v), Some(t)) => v.codes.len() == t.codes.len() && are_split(v.codes, t.codes),
+        _ => false,
+    }
+}

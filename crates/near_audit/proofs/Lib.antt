@@ -1,4 +1,0 @@
-pub mod NearSigned
-pub mod NearSound
-pub mod NearJudged
-pub mod RadiusLemmas

@@ -1,3 +1,0 @@
-pub mod NearComparing
-pub mod NearEvidence
-pub mod Radii

@@ -1,5 +1,0 @@
-pub mod NearCuts
-pub mod LongWalks
-pub mod MarkSteps
-pub mod Walks
-pub mod NearVerdictLaws

@@ -1,5 +1,0 @@
-use Rattle.near_model.proofs.NearFormat.{near_good}
-use Rattle.near_client.proofs.passing.read_reply.Goals as goal
-
-pub returns-in-Ok-clause-good : goal.returns-in-Ok-clause-good
-returns-in-Ok-clause-good c = near_good c.in-Ok.reply c.in-Ok.ensures.found.0

@@ -1,2 +1,0 @@
-pub mod NearVerdicts
-pub mod Reached

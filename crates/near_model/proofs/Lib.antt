@@ -1,4 +1,0 @@
-pub mod NearFormat
-pub mod MarkLaws
-pub mod Named
-mod Worked

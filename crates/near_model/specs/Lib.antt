@@ -1,3 +1,0 @@
-pub mod Radius
-pub mod NearReplies
-pub mod NearWriting

@@ -1,2 +1,0 @@
-pub mod NearReach
-pub mod NearBrought

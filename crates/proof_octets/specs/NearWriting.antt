@@ -1,0 +1,16 @@
+-- What the writer of a reply appends, without the kind of the leaves, and what it asks.
+use Rattle.std.specs.Prelude.{ℕ, ◌^◌, ◌<◌, List, ◌++◌, length}
+use Rattle.proof_octets.specs.Headers.{header}
+use Rattle.proof_octets.specs.Replies.{signature, digests}
+use Rattle.proof_octets.specs.Writing.{items_text, CanPut}
+use Rattle.proof_octets.specs.declared.near_reply.NearReply.{NearReply}
+use Rattle.proof_octets.specs.NearReplies.{near_name}
+
+unfoldable pub near_text : NearReply → List ℕ
+near_text a = near_name ++ (header.spell a.header ++
+    (signature.spell a.signature ++ (items_text a.places a.nodes ++ digests.spell a.cover)))
+
+pub record CanWriteNear (a : NearReply) : Type 0 where
+  pub signature : length a.signature < 2 ^ 16
+  pub nodes : CanPut a.places a.nodes
+  pub cover : length a.cover < 2 ^ 32

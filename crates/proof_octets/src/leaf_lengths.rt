@@ -1,0 +1,28 @@
+//! How long the text of a node's leaf is.
+
+ghost use Rattle.std.specs.Prelude.{◌≡◌, ◌<◌, ◌^◌, length};
+ghost use Rattle.road_leaf.specs.Leaves.{node_leaf_text};
+ghost use Rattle.proof_octets.specs.Lengths.{added_length};
+
+use road_leaf::{Extra, NodeLeaf};
+
+// How many octets a leaf's text has of what its kind adds.
+fn length_added(extra: &Extra) -> usize
+    requires { added_length extra.now < 2 ^ 32 }
+    ensures { result ≡ added_length extra.now }
+{
+    match extra {
+        Extra::Plain => 0,
+        Extra::Own(codes) => 1 + 2 * codes.as_slice().len(),
+        Extra::Near { .. } => 7,
+        Extra::Cell { .. } => 5,
+    }
+}
+
+/// How many octets the text of a node's leaf has.
+pub fn text_length(leaf: &NodeLeaf) -> u32
+    requires { length (node_leaf_text leaf.now) < 2 ^ 32 }
+    ensures { result ≡ length (node_leaf_text leaf.now) }
+{
+    (15 + 8 * leaf.arcs.as_slice().len() + length_added(&leaf.extra)) as u32
+}

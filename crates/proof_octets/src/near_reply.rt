@@ -1,0 +1,101 @@
+//! The reply to a query for what lies within a radius.
+ghost use Rattle.std.specs.Prelude.{◌≡◌, ◌<◌, ◌^◌, length, Err, IfOk, OnOk};
+ghost use Rattle.octet_text.specs.Format.{Gives, Reads, IsFound, ReadsAll, whole};
+ghost use Rattle.octet_text.specs.Puts.{Puts};
+ghost use Rattle.octet_text.specs.declared.errors.ReadError.{ReadError};
+ghost use Rattle.proof_octets.specs.NearReplies.{near_reply, IsNamed};
+ghost use Rattle.proof_octets.specs.NearWriting.{near_text, CanWriteNear};
+
+use crate::{
+    Header, put_digests, put_node_items, put_signature, read_digests, read_header, read_node_items,
+    read_signature,
+};
+use book_model::{NodeLeaves, Places};
+use octet_text::{Cursor, Digests, Malformed, NoMemory, Octets, ReadError, put_octets};
+use std::alloc::Global;
+
+/// Leaves of nodes, with all that proves them: their places in the node tree under the signed header,
+/// and the cover of all other places.
+#[derive(Debug, Drop)]
+pub struct NearReply {
+    pub header: Header,
+    /// The owner's signature of the header's octets.
+    pub signature: Octets,
+    /// The places of the leaves in the node tree, by rising place.
+    pub places: Places,
+    /// The leaves at these places.
+    pub nodes: NodeLeaves,
+    pub cover: Digests,
+}
+
+#[tactic(auto, unfolding(crate::specs::NearReplies::near_reply), using(crate::proofs::Named::begun))]
+fn read_near(alloc: Global, cursor: &mut Cursor<'_>) -> Result<NearReply, ReadError>
+    ensures gives { Gives (λ a. a) result cursor.new (near_reply.read cursor.old) }
+    ensures named { result ≡ Err ReadError.Memory → IsNamed cursor.old.text }
+{
+    cursor.name(b"RPN1")?;
+    let header = read_header(cursor)?;
+    let signature = read_signature(alloc, cursor)?;
+    let (places, nodes) = read_node_items(alloc, cursor, header.leaf_kind())?;
+    let cover = read_digests(alloc, cursor)?;
+    Ok(NearReply {
+        header,
+        signature,
+        places,
+        nodes,
+        cover,
+    })
+}
+
+// The reply that octets spell, all of them.
+fn read_whole(alloc: Global, octets: &[u8]) -> Result<NearReply, ReadError>
+    requires { length octets.now < 2 ^ 32 }
+    ensures reads { Reads (λ r. r) result (whole near_reply octets.now) }
+    ensures named { result ≡ Err ReadError.Memory → IsNamed octets.now }
+{
+    let mut cursor = Cursor::new(octets);
+    let reply = read_near(alloc, &mut cursor)?;
+    if !cursor.is_empty() {
+        return Err(ReadError::Malformed(Malformed { at: cursor.at() }));
+    }
+    Ok(reply)
+}
+
+// Appends the octets of a reply. After a refusal a part of them may stand there.
+fn put_near(alloc: Global, out: &mut Vec<u8>, reply: &NearReply) -> Result<(), NoMemory>
+    requires { CanWriteNear reply.now }
+    ensures { OnOk result (Puts out.old.items out.new.items (near_text reply.now)) }
+{
+    put_octets(out, b"RPN1")?;
+    put_octets(out, &reply.header.write())?;
+    put_signature(out, reply.signature.as_slice())?;
+    put_node_items(alloc, out, &reply.places, &reply.nodes)?;
+    put_digests(out, &reply.cover)?;
+    Ok(())
+}
+
+impl NearReply {
+    /// The reply that octets spell, all of them, or the place of the first field that can't be read.
+    ///
+    /// A count that the octets left can't hold reserves no memory. Octets that don't begin with the name
+    /// of such a reply are refused whatever memory there is.
+    pub fn read(alloc: Global, octets: &[u8]) -> Result<NearReply, ReadError>
+        requires { length octets.now < 2 ^ 32 }
+        ensures found { IsFound (λ r. r) near_reply octets.now result }
+        ensures only { ReadsAll (λ r. r) near_reply octets.now result }
+        ensures exact { Reads (λ r. r) result (whole near_reply octets.now) }
+        ensures named { result ≡ Err ReadError.Memory → IsNamed octets.now }
+    {
+        read_whole(alloc, octets)
+    }
+
+    /// The octets of the reply.
+    pub fn write(&self, alloc: Global) -> Result<Vec<u8>, NoMemory>
+        requires { near_reply.Fits self.now }
+        ensures { IfOk result (λ v. v.items ≡ near_reply.spell self.now) }
+    {
+        let mut out = Vec::new(alloc);
+        put_near(alloc, &mut out, self)?;
+        Ok(out)
+    }
+}

@@ -1,4 +1,0 @@
-pub mod SlotLemmas
-pub mod ReduceLemmas
-pub mod OneReduce
-mod Worked

@@ -1,3 +1,0 @@
-pub mod ReduceLine
-pub mod Reducing
-pub mod Unreleased

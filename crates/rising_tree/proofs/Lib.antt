@@ -1,4 +1,0 @@
-pub mod OnItsWay
-pub mod RisingLemmas
-pub mod SpotLemmas
-mod Worked

@@ -1,0 +1,13 @@
+use Rattle.std.proofs.Common.{sym, subst, get_or, take, ◌∙◌, arith}
+use Rattle.std.proofs.lemmas.List.{take_more}
+use Rattle.route_client.specs.Reached.{AreMarked}
+use Rattle.route_client.proofs.MarkSteps.{none_marked, one_marked}
+use Rattle.route_client.proofs.walking.marks_of.Goals as goal
+
+pub loop-id-init : goal.loop-id-init
+loop-id-init c = subst (AreMarked c.args.labels.now (take 0 c.args.ids.now)) (sym c.new-marks.ensures.items) (none_marked c.args.labels.now c.args.ids.now)
+
+pub loop-id-preserved : goal.loop-id-preserved
+loop-id-preserved c =
+    one_marked c.args.labels.now c.args.ids.now c.loop-id.id-index c.loop-id.marks.items c.push.new.self.items (record { id = get_or c.args.ids.now c.loop-id.id-index 0; distance = c.in-Some.distance }) c.in_ok-push-in-Some.ensures.items
+    (take_more c.args.ids.now c.loop-id.id-index 0 (omega (arith, c.loop-id-test.true))) (sym c.get.ensures ∙ c.in-Some.is) c.loop-id.invariant

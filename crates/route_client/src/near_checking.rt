@@ -1,0 +1,81 @@
+//! The check of a reply.
+ghost use Rattle.std.specs.Prelude.{◌≡◌, ◌<◌, ◌≤◌, ◌^◌, length, IfOk, Ok, Err};
+ghost use Rattle.octet_text.specs.Format.{whole};
+ghost use Rattle.proof_octets.specs.NearReplies.{near_reply, IsGoodNear, IsNamed};
+ghost use Rattle.route_client.specs.declared.near_errors.NearError.{NearError};
+ghost use Rattle.route_client.specs.declared.within.Within.{Within};
+ghost use Rattle.route_client.specs.NearVerdicts.{UnlessMemory, IsNearVerdict, NearAccepts, WalkedAfter, taken};
+
+use crate::passing::pass;
+use crate::walking::walk;
+use crate::{CheckedReply, NearError, Within};
+use lms_tree::Link;
+use octet_text::Hasher;
+use proof_octets::{NearQuery, NearReply};
+use std::alloc::Global;
+
+// The verdict on a reply that passes all tests before its items are walked.
+fn accept(alloc: Global, reply: NearReply, query: NearQuery) -> Result<CheckedReply, NearError>
+    requires { IsGoodNear reply }
+    ensures verdict { UnlessMemory (WalkedAfter (Ok reply) query) (taken result) }
+    ensures same { IfOk result (λ checked. checked.reply ≡ reply) }
+{
+    match walk(alloc, reply.nodes.as_slice(), query) {
+        Ok(nodes) => Ok(CheckedReply { reply, nodes }),
+        Err(error) => Err(error),
+    }
+}
+
+/// Checks a reply to a query for what lies within a radius under the owner's public key, where `least`
+/// is the least version that the client takes, and hands out the whole reply. `chain` leads from that key
+/// to the owner's later ones, by at most seven links. The tests are made in this order: the octets spell a
+/// reply, it is of that version or a later one, each link is signed under the key before it, the header is
+/// signed under one of the keys, the items stand under the node root, no two carry one id, and each walk
+/// over them that is no longer than the radius ends at an item. The first that fails is answered.
+///
+/// An item that no such walk comes to is allowed, and not listed. No memory is reserved by a count
+/// that the octets don't bear out. Octets that don't begin with the name of such a reply are told so
+/// whatever memory there is.
+pub fn check_near_reply<H: Hasher>(
+    alloc: Global,
+    public: &[u8],
+    chain: &[Link],
+    reply: &[u8],
+    query: NearQuery,
+    least: u64,
+) -> Result<CheckedReply, NearError>
+    requires short { length reply.now < 2 ^ 32 }
+    requires few { length chain.now ≤ 7 }
+    ensures verdict { UnlessMemory
+        (IsNearVerdict H.hash public.now chain.now reply.now query least) (taken result) }
+    ensures spelled { IfOk result (λ checked. whole near_reply reply.now ≡ Ok checked.reply) }
+    ensures named { result ≡ Err NearError.Memory → IsNamed reply.now }
+{
+    match pass::<H>(alloc, public, chain, reply, least) {
+        Ok(reply) => accept(alloc, reply, query),
+        Err(error) => Err(error),
+    }
+}
+
+/// Checks a reply as `check_near_reply` does, and keeps of an accepted one only what a client takes.
+pub fn check_near<H: Hasher>(
+    alloc: Global,
+    public: &[u8],
+    chain: &[Link],
+    reply: &[u8],
+    query: NearQuery,
+    least: u64,
+) -> Result<Within, NearError>
+    requires short { length reply.now < 2 ^ 32 }
+    requires few { length chain.now ≤ 7 }
+    ensures verdict { UnlessMemory
+        (IsNearVerdict H.hash public.now chain.now reply.now query least) result }
+    ensures accepts { (x : Within) → NearAccepts H.hash public.now chain.now reply.now query least x
+        → UnlessMemory (λ r. r ≡ Ok x) result }
+    ensures named { result ≡ Err NearError.Memory → IsNamed reply.now }
+{
+    match check_near_reply::<H>(alloc, public, chain, reply, query, least) {
+        Ok(checked) => Ok(checked.into_within()),
+        Err(error) => Err(error),
+    }
+}

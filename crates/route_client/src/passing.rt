@@ -1,0 +1,127 @@
+// The tests before the items are walked. Those of the header and of the cover stand for routes too.
+ghost use Rattle.std.specs.Prelude.{◌≡◌, ◌<◌, ◌≤◌, ◌^◌, length, Err, IfOk};
+ghost use Rattle.octet_text.specs.Format.{whole};
+ghost use Rattle.route_client.specs.Verdicts.{Meets as MeetsTest};
+ghost use Rattle.proof_octets.specs.NearReplies.{near_reply, IsGoodNear, IsNamed};
+ghost use Rattle.route_client.specs.declared.near_errors.NearError.{NearError};
+ghost use Rattle.route_client.specs.NearVerdicts.{Meets, near_error, items_covered, header_and_cover, after_tests, spelled, near_passed};
+
+use crate::{CheckError, NearError, reply_cuts, test_cover, test_header};
+use lms_tree::Link;
+use merkle_cover::CutTexts;
+use octet_text::{Hasher, ReadError};
+use proof_octets::NearReply;
+use std::alloc::Global;
+
+// The reply that octets spell.
+fn read_reply(alloc: Global, octets: &[u8]) -> Result<NearReply, NearError>
+    requires { length octets.now < 2 ^ 32 }
+    ensures is { Meets result (spelled (whole near_reply octets.now)) }
+    ensures good { IfOk result IsGoodNear }
+    ensures spelled { IfOk result (λ a. octets.now ≡ near_reply.spell a) }
+    ensures named { result ≡ Err NearError.Memory → IsNamed octets.now }
+{
+    match NearReply::read(alloc, octets) {
+        Ok(reply) => Ok(reply),
+        Err(ReadError::Malformed(malformed)) => Err(NearError::Malformed(malformed.at)),
+        Err(ReadError::Memory) => Err(NearError::Memory),
+    }
+}
+
+// Whether the items, as they stand in the octets, fold to the node root.
+fn test_items<H: Hasher>(alloc: Global, octets: &[u8], reply: &NearReply) -> Result<(), CheckError>
+    requires good { IsGoodNear reply.now }
+    requires spelled { octets.now ≡ near_reply.spell reply.now }
+    requires short { length octets.now < 2 ^ 32 }
+    ensures { MeetsTest result (items_covered H.hash reply.now) }
+{
+    let cuts = reply_cuts(alloc, octets, reply)?;
+    let texts = CutTexts::new(octets, cuts.as_slice());
+    let header = &reply.header;
+    test_cover::<H>(
+        1,
+        header.nodes,
+        header.fan,
+        reply.places.as_slice(),
+        &texts,
+        reply.cover.as_slice(),
+        &header.node_root,
+    )
+}
+
+// The header's version and its signature, and then the cover.
+#[tactic(auto, unfolding(crate::specs::NearVerdicts::header_and_cover))]
+fn test_reply<H: Hasher>(
+    alloc: Global,
+    public: &[u8],
+    chain: &[Link],
+    octets: &[u8],
+    reply: &NearReply,
+    least: u64,
+) -> Result<(), CheckError>
+    requires good { IsGoodNear reply.now }
+    requires spelled { octets.now ≡ near_reply.spell reply.now }
+    requires short { length octets.now < 2 ^ 32 }
+    requires few { length chain.now ≤ 7 }
+    ensures { MeetsTest result (header_and_cover H.hash public.now chain.now least reply.now) }
+{
+    let signature = reply.signature.as_slice();
+    test_header(public, chain, &reply.header, signature, least)?;
+    test_items::<H>(alloc, octets, reply)
+}
+
+// A failed test as a refusal of a reply. No other errors come from these tests.
+fn near_error(error: CheckError) -> NearError
+    ensures { result ≡ near_error error }
+{
+    match error {
+        CheckError::Stale(version) => NearError::Stale(version),
+        CheckError::BadChain(link, why) => NearError::BadChain(link, why),
+        CheckError::BadSignature(why) => NearError::BadSignature(why),
+        CheckError::BadCover(_, why) => NearError::BadCover(why),
+        _ => NearError::Memory,
+    }
+}
+
+// The reply, where it passes these tests.
+fn test<H: Hasher>(
+    alloc: Global,
+    public: &[u8],
+    chain: &[Link],
+    octets: &[u8],
+    reply: NearReply,
+    least: u64,
+) -> Result<NearReply, NearError>
+    requires good { IsGoodNear reply }
+    requires spelled { octets.now ≡ near_reply.spell reply }
+    requires short { length octets.now < 2 ^ 32 }
+    requires few { length chain.now ≤ 7 }
+    ensures is { Meets result
+        (after_tests reply (header_and_cover H.hash public.now chain.now least reply)) }
+    ensures good { IfOk result IsGoodNear }
+{
+    match test_reply::<H>(alloc, public, chain, octets, &reply, least) {
+        Ok(()) => Ok(reply),
+        Err(error) => Err(near_error(error)),
+    }
+}
+
+// The reply that passes all tests before its items are walked, or the first that fails.
+pub(crate) fn pass<H: Hasher>(
+    alloc: Global,
+    public: &[u8],
+    chain: &[Link],
+    octets: &[u8],
+    least: u64,
+) -> Result<NearReply, NearError>
+    requires short { length octets.now < 2 ^ 32 }
+    requires few { length chain.now ≤ 7 }
+    ensures is { Meets result (near_passed H.hash public.now chain.now octets.now least) }
+    ensures good { IfOk result IsGoodNear }
+    ensures named { result ≡ Err NearError.Memory → IsNamed octets.now }
+{
+    match read_reply(alloc, octets) {
+        Ok(reply) => test::<H>(alloc, public, chain, octets, reply, least),
+        Err(error) => Err(error),
+    }
+}

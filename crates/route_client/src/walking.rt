@@ -1,0 +1,101 @@
+// The walks over the items of a reply.
+ghost use Rattle.std.specs.Prelude.{◌≡◌, ◌⊎◌, ℕ, ◌+◌, ◌<◌, ◌≤◌, ◌^◌, length, Some, IsSome, IfOk, All};
+ghost use Rattle.road_map.specs.Least.{IsLeast};
+ghost use Rattle.road_search.specs.Labelling.{length_at};
+ghost use Rattle.road_search.specs.Passing.{IsLeastPassing};
+ghost use Rattle.proof_judge.specs.ItemWalks.{item_at, any_ways, Lacks};
+ghost use Rattle.proof_judge.specs.SharedTests.{AreShort};
+ghost use Rattle.proof_octets.specs.Radius.{ListsMarks};
+ghost use Rattle.route_client.specs.NearVerdicts.{UnlessMemory, Listed, Walked};
+ghost use Rattle.route_client.specs.Reached.{IsLimitAbove, AreLeast, RiseWithin, IsLabelled, AreMarked};
+
+use crate::NearError;
+use method_judges::Anywhere;
+use octet_text::NoMemory;
+use proof_judge::{NodesById, Refusal, are_short};
+use proof_octets::{Mark, Marks, NearQuery};
+use road_leaf::NodeLeaf;
+use road_search::{Labels, search};
+use std::alloc::Global;
+
+// One more than a radius, but for the greatest one, above which no least length lies.
+fn limit_above(radius: u64) -> u64
+    ensures { IsLimitAbove radius result }
+{
+    radius.saturating_add(1)
+}
+
+// The ids that have a length of at most this one, by rising id.
+fn ids_within(alloc: Global, labels: &Labels, most: u64) -> Result<Vec<u32>, NoMemory>
+    ensures { IfOk result (λ ids. RiseWithin labels.now most ids.items) }
+{
+    let mut ids = labels.near(alloc, most)?;
+    ids.sort_unstable();
+    Ok(ids)
+}
+
+// Ids with their lengths.
+fn marks_of(alloc: Global, labels: &Labels, ids: &[u32]) -> Result<Marks, NoMemory>
+    requires { All (λ id. IsSome (length_at labels.now id)) ids.now }
+    ensures { IfOk result (AreMarked labels.now ids.now) }
+{
+    let mut marks = Vec::new(alloc);
+    for id in ids {
+        match labels.get(*id) {
+            Some(distance) => marks.push(Mark { id: *id, distance })?,
+            None => unreachable!(),
+        }
+    }
+    Ok(Marks::from_vec(marks))
+}
+
+// The ids that have a length of at most this one, by rising id, each with its length.
+fn marks_within(alloc: Global, labels: &Labels, most: u64) -> Result<Marks, NoMemory>
+    ensures { IfOk result (ListsMarks (IsLabelled labels.now most)) }
+{
+    let ids = ids_within(alloc, labels, most)?;
+    let marks = marks_of(alloc, labels, &ids)?;
+    Ok(marks)
+}
+
+// The least lengths of walks that are no longer than the radius.
+fn reach(alloc: Global, by_id: &NodesById<'_>, query: NearQuery) -> Result<Labels, NoMemory>
+    requires short { AreShort by_id.now }
+    requires few { length by_id.now < 2 ^ 32 }
+    ensures least { IfOk result (λ found.
+        AreLeast (any_ways (item_at by_id.now)) query.from (query.radius + 1) found) }
+    ensures missing { IfOk result (λ found.
+        IsLeast (Lacks (any_ways (item_at by_id.now)) query.from (query.radius + 1))
+        found.missing) }
+{
+    let limit = limit_above(query.radius);
+    let labels = search(alloc, &Anywhere { by_id }, query.from, limit)?;
+    Ok(labels)
+}
+
+// The nodes at which such walks end, where each has an item, or the least that has none.
+fn list(alloc: Global, by_id: &NodesById<'_>, query: NearQuery) -> Result<Marks, NearError>
+    requires short { AreShort by_id.now }
+    requires few { length by_id.now < 2 ^ 32 }
+    ensures { UnlessMemory (Listed by_id.now query) result }
+{
+    let labels = reach(alloc, by_id, query)?;
+    if let Some(id) = labels.missing() {
+        return Err(NearError::MissingTuple(id));
+    }
+    let marks = marks_within(alloc, &labels, query.radius)?;
+    Ok(marks)
+}
+
+// What the items show, or why they are refused.
+pub(crate) fn walk(alloc: Global, nodes: &[NodeLeaf], query: NearQuery) -> Result<Marks, NearError>
+    requires { length nodes.now < 2 ^ 32 }
+    ensures { UnlessMemory (Walked nodes.now query) result }
+{
+    are_short(nodes);
+    match NodesById::new(alloc, nodes) {
+        Ok(by_id) => list(alloc, &by_id, query),
+        Err(Refusal::RepeatedNode(id)) => Err(NearError::RepeatedNode(id)),
+        Err(_) => Err(NearError::Memory),
+    }
+}

@@ -1,0 +1,82 @@
+//! The reply to a query for what lies within a radius.
+ghost use Rattle.std.specs.Prelude.{◌≡◌, ◌<◌, ◌≤◌, ◌^◌, IfOk, IfErr, length};
+ghost use Rattle.sha2.specs.Sha256.{sha256};
+ghost use Rattle.proof_octets.specs.NearReplies.{IsGoodNear};
+ghost use Rattle.route_server.specs.NearHonesty.{IsNearHonest, WhyNot, IsOver};
+ghost use Rattle.road_map.specs.Walks.{Knows};
+ghost use Rattle.route_server.specs.Keeping.{publication_in};
+
+use crate::reaching::ids_within;
+use crate::{Held, NearRefusal, header_laws};
+use octet_text::{Hasher, NoMemory, Octets};
+use proof_octets::{Header, NearQuery, NearReply, near_range_laws};
+use road_search::knows;
+use std::alloc::Global;
+
+fn signature_of(alloc: Global, octets: &[u8]) -> Result<Octets, NoMemory>
+    ensures { IfOk result (λ signature. signature ≡ octets.now) }
+{
+    let octets = octets.to_vec(alloc)?;
+    Ok(Octets::from_vec(octets))
+}
+
+// The version of a header has its width.
+fn version_fits(header: &Header)
+    ensures { header.now.version < 2 ^ 64 }
+{
+    let _version = header.version;
+}
+
+// The reply over the nodes within the radius, from a node that is known.
+fn reply_from<H: Hasher>(
+    alloc: Global,
+    held: &Held<H>,
+    query: NearQuery,
+) -> Result<NearReply, NoMemory>
+    requires known { Knows held.now.map.parts query.from }
+    requires signature { length held.now.signature ≤ 1452 }
+    ensures over { IfOk result (IsOver H.hash held.now query) }
+    ensures good { IfOk result IsGoodNear }
+{
+    let map = held.map();
+    let ids = ids_within(alloc, map, query)?;
+    let brought = held.bring(alloc, &ids)?;
+    let signature = signature_of(alloc, held.signature())?;
+    let header = held.header();
+    version_fits(&header);
+    header_laws::<H>();
+    Ok(NearReply {
+        header,
+        signature,
+        places: brought.places,
+        nodes: brought.nodes,
+        cover: brought.cover,
+    })
+}
+
+/// The octets of the honest reply to a query for what lies within a radius: the leaves of exactly the
+/// nodes whose distance is at most the radius, under the publication's header and signature, with the
+/// cover of all other leaves.
+///
+/// `UnknownNode` comes exactly where no node has the id that was asked about, whatever memory there is.
+pub fn answer_near<H: Hasher>(
+    alloc: Global,
+    held: &Held<H>,
+    query: NearQuery,
+) -> Result<Vec<u8>, NearRefusal>
+    requires { length held.now.signature ≤ 1452 }
+    ensures honest { IfOk result (λ octets.
+        IsNearHonest H.hash sha256 (publication_in H.hash held.now) query octets.items) }
+    ensures refused { IfErr result (WhyNot held.now.map.parts query) }
+    ensures unknown { ¬ Knows held.now.map.parts query.from
+        → result ≡ Err (NearRefusal.UnknownNode query.from) }
+{
+    near_range_laws();
+    let map = held.map();
+    if !knows(map, query.from) {
+        return Err(NearRefusal::UnknownNode(query.from));
+    }
+    let reply = reply_from(alloc, held, query)?;
+    let octets = reply.write(alloc)?;
+    Ok(octets)
+}

@@ -1,0 +1,26 @@
+//! Why there is no reply.
+
+ghost use Rattle.std.specs.Prelude.{◌≡◌};
+ghost use Rattle.route_server.specs.declared.near_errors.NearRefusal.TheVariants as refusals;
+
+use octet_text::NoMemory;
+use thiserror::Error;
+
+/// Why there is no reply.
+#[derive(Clone, Copy, Debug, PartialEq, Eq, Error)]
+pub enum NearRefusal {
+    /// No node of the map has this id, which was asked about.
+    #[error("The map has no node {0}.")]
+    UnknownNode(u32),
+    /// No memory was found.
+    #[error("No memory was found.")]
+    Memory,
+}
+
+impl From<NoMemory> for NearRefusal {
+    ghost from_gives = { λ _ e. e ≡ refusals.Memory };
+
+    fn from(_none: NoMemory) -> NearRefusal {
+        NearRefusal::Memory
+    }
+}

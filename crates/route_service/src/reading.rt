@@ -1,0 +1,130 @@
+//! The frames of a source.
+ghost use Rattle.std.specs.Prelude.{◌≡◌, ◌≢◌, ◌≤◌, ◌∷◌, [], Some, None, Ok, Err, false};
+ghost use Rattle.std.specs.Int.{w32, to_be_bytes};
+ghost use Rattle.road_io.specs.Causes.{Rose};
+ghost use Rattle.road_io.specs.Given.{Gave};
+ghost use Rattle.route_service.specs.Taking.{TakesFrame};
+ghost use Rattle.route_service.specs.TakingBody.{TakesBody};
+ghost use Rattle.route_service.specs.TakingHead.{TakesHead};
+
+use road_io::{Failed, Source, read_whole};
+use thiserror::Error;
+
+/// Why there is no next frame.
+#[derive(Clone, Copy, Debug, PartialEq, Eq, Error)]
+pub enum FrameError {
+    /// The length of a frame is above the greatest that is taken.
+    #[error("a frame is too long")]
+    TooLong,
+    /// The input ends within a frame.
+    #[error("the input ends within a frame")]
+    Truncated,
+    /// The source failed.
+    #[error("the source failed")]
+    Source,
+    /// There was no memory for the body of a frame.
+    #[error("there is no memory for a frame")]
+    Memory,
+}
+
+/// Reads the body of the next frame into a buffer, in place of what it held, and answers whether there
+/// was one. A frame has at most `most` octets behind its length, and no more than one frame is taken
+/// from the source. The buffer's memory is used again.
+pub fn next_frame<S: Source>(
+    source: &mut S,
+    most: u32,
+    body: &mut Vec<u8>,
+) -> Result<bool, FrameError>
+    ensures takes { TakesFrame most (S.left source.old) (S.left source.new) body.new.items result }
+    ensures gave { Gave (S.given source.old) (S.given source.new)
+        (λ octets. TakesFrame most (Some octets) (Some []) body.new.items result) }
+    ensures ended { result ≡ Ok false → S.ended source.new }
+    ensures cut { result ≡ Err FrameError.Truncated → S.ended source.new }
+    ensures later { S.faults source.old ≤ S.faults source.new }
+    ensures source { result ≡ Err FrameError.Source →
+        Rose (S.faults source.old) (S.faults source.new) }
+    ensures kept { result ≢ Err FrameError.Source → S.faults source.new ≡ S.faults source.old }
+{
+    let size = match read_head(source) {
+        Ok(Some(size)) => size,
+        Ok(None) => return Ok(false),
+        Err(HeadError::Truncated) => return Err(FrameError::Truncated),
+        Err(HeadError::Source) => return Err(FrameError::Source),
+    };
+    if size > most {
+        return Err(FrameError::TooLong);
+    }
+    match read_body(source, size as usize, body) {
+        Ok(()) => Ok(true),
+        Err(BodyError::Truncated) => Err(FrameError::Truncated),
+        Err(BodyError::Source) => Err(FrameError::Source),
+        Err(BodyError::Memory) => Err(FrameError::Memory),
+    }
+}
+
+// Why there is no body.
+#[derive(Clone, Copy, Debug, PartialEq, Eq)]
+enum BodyError {
+    Truncated,
+    Source,
+    Memory,
+}
+
+// Reads so many octets into a buffer, in place of what it held.
+fn read_body<S: Source>(source: &mut S, size: usize, body: &mut Vec<u8>) -> Result<(), BodyError>
+    ensures takes { TakesBody size (S.left source.old) (S.left source.new) body.new.items result }
+    ensures gave { Gave (S.given source.old) (S.given source.new)
+        (λ octets. TakesBody size (Some octets) (Some []) body.new.items result) }
+    ensures cut { result ≡ Err BodyError.Truncated → S.ended source.new }
+    ensures later { S.faults source.old ≤ S.faults source.new }
+    ensures source { result ≡ Err BodyError.Source →
+        Rose (S.faults source.old) (S.faults source.new) }
+    ensures kept { result ≢ Err BodyError.Source → S.faults source.new ≡ S.faults source.old }
+{
+    if body.resize(size, 0).is_err() {
+        return Err(BodyError::Memory);
+    }
+    match read_whole(source, body.as_mut_slice()) {
+        Ok(n) if n < size => Err(BodyError::Truncated),
+        Ok(_) => Ok(()),
+        Err(Failed) => Err(BodyError::Source),
+    }
+}
+
+// Why there is no length.
+#[derive(Clone, Copy, Debug, PartialEq, Eq)]
+enum HeadError {
+    Truncated,
+    Source,
+}
+
+// The length of the next frame, or nothing at the end.
+fn read_head<S: Source>(source: &mut S) -> Result<Option<u32>, HeadError>
+    ensures takes { TakesHead (S.left source.old) (S.left source.new) result }
+    ensures gave { Gave (S.given source.old) (S.given source.new)
+        (λ octets. TakesHead (Some octets) (Some []) result) }
+    ensures ended { result ≡ Ok None → S.ended source.new }
+    ensures cut { result ≡ Err HeadError.Truncated → S.ended source.new }
+    ensures later { S.faults source.old ≤ S.faults source.new }
+    ensures source { result ≡ Err HeadError.Source →
+        Rose (S.faults source.old) (S.faults source.new) }
+    ensures kept { result ≢ Err HeadError.Source → S.faults source.new ≡ S.faults source.old }
+{
+    let mut head = [0u8; 4];
+    match read_whole(source, &mut head) {
+        Ok(0) => Ok(None),
+        Ok(n) if n < 4 => Err(HeadError::Truncated),
+        Ok(_) => {
+            let [a, b, c, d] = head;
+            Ok(Some(size_of(a, b, c, d)))
+        }
+        Err(Failed) => Err(HeadError::Source),
+    }
+}
+
+// The number that four octets spell.
+fn size_of(a: u8, b: u8, c: u8, d: u8) -> u32
+    ensures { to_be_bytes w32 result ≡ a ∷ b ∷ c ∷ d ∷ [] }
+{
+    u32::from_be_bytes([a, b, c, d])
+}

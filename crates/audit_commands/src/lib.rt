@@ -1,5 +1,6 @@
 //! The auditor's command: what a reply is evidence of. It is one for every kind of replies; `audit`
-//! is that on routes, and `audit_reach` that on the nodes within a radius.
+//! is that on routes, and `audit_reach` that on the nodes within a radius. Beside them stands `reduce`:
+//! what a forgery comes down to.
 #![tactic(auto)]
 
 pub use auditing::{audit, audit_files};

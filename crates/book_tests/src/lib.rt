@@ -6,10 +6,6 @@ mod books;
 #[cfg(test)]
 mod border_items;
 #[cfg(test)]
-mod codes;
-#[cfg(test)]
-mod distances;
-#[cfg(test)]
 mod items;
 #[cfg(test)]
 mod judging;

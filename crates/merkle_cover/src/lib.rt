@@ -1,5 +1,6 @@
 //! Merkle trees with a fan-out over texts, by any hash: roots, covers of chosen leaves, folds of
-//! texts and a cover, and the clash of two texts with one digest.
+//! texts and a cover, and the clash of two texts with one digest. A root, and a cover of it, can be made
+//! of texts that come one at a time: only the digests that wait for their group to be whole are kept.
 #![tactic(auto)]
 
 pub use clashes::{TwoTexts, clash};

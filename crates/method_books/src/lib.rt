@@ -1,4 +1,5 @@
-//! The books of the four methods, and one of any of them.
+//! The books of the four methods, and one of any of them. A method is added here: a variant, a line in
+//! each call, and a line in each definition of `specs/AnyBooks`.
 #![tactic(auto)]
 
 pub use any::AnyBook;

@@ -1,5 +1,6 @@
-//! What a client concludes from a reply's items, method by method: a search over what is shown under DIJ and FULL,
-//! bounds by landmarks under LDM, and cells and borders under HYP.
+//! What a client concludes from a reply's items, method by method: a search over what is shown under DIJ
+//! and FULL, lower bounds by landmarks under LDM, with which the client repeats a search that heads for
+//! the end, and cells and borders under HYP.
 #![tactic(auto)]
 
 pub use bounds::{Lookup, apart, bound};

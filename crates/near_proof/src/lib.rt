@@ -1,7 +1,10 @@
+//! What holds between the parties: what an honest server replies over a signed publication, a client
+//! accepts, and an audit finds right.
+//!
 //! Nodes within a radius, authenticated: a server answers which nodes lie within a radius of a node,
 //! a client checks the answer with the owner's public key alone, and an audit turns an accepted false
-//! answer into evidence. The parts stand in crates of their own, one for each party; here are their
-//! calls, and what holds between them.
+//! answer into evidence. Each party's crate has its calls for radii beside those for routes; here these
+//! calls stand together, and what holds between them.
 #![tactic(auto)]
 
 pub use acceptance::near_acceptance_laws;

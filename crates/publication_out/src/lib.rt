@@ -1,4 +1,5 @@
-//! A publication's octets, handed to a sink and to mirrors as they are made.
+//! A publication's octets, given piece by piece without a list of all of them, and handed to a sink and
+//! to mirrors as they are made.
 #![tactic(auto)]
 
 pub use pieces::{Pieces, pieces_of};

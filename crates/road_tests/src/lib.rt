@@ -1,7 +1,11 @@
-//! Tests of the server: books, replies on routes and on radii over one map. Each shows what no
-//! clause says.
+//! Tests of the server: tables of distances, landmarks and their codes, books, replies on routes and on
+//! radii over one map. Each shows what no clause says.
 #![tactic(auto)]
 
+#[cfg(test)]
+mod codes;
+#[cfg(test)]
+mod distances;
 #[cfg(test)]
 mod holding;
 #[cfg(test)]

@@ -1,5 +1,5 @@
-//! The audit: what a reply that a client accepted is evidence of. Its steps are those of every kind of replies;
-//! those on routes are one.
+//! The audit: what a reply that a client accepted is evidence of. Its steps and its findings are those of
+//! every kind of replies; those on routes are one, and those on the nodes within a radius another.
 #![tactic(auto)]
 
 pub use auditing::{audit, audit_reply};

@@ -1,4 +1,5 @@
-//! A survey: drawn queries over a grid, each answered by a server and checked by a client.
+//! A survey: drawn queries over a grid, each answered by a server and checked by a client; and the
+//! command over no file that makes one.
 #![tactic(auto)]
 
 pub use commanding::survey;

@@ -1,5 +1,5 @@
-//! Maps that tests share, above all that of five nodes: two ways from 1 to 3, of length 9 over 2 and of
-//! length 10 over 4, and the node 5 without roads.
+//! Maps and settings that tests share, above all the map of five nodes: two ways from 1 to 3, of length 9
+//! over 2 and of length 10 over 4, and the node 5 without roads.
 #![tactic(auto)]
 
 pub use leaves::{are_known, leaf_with, leaves_of};

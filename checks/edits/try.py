@@ -1,10 +1,11 @@
 #!/usr/bin/env python3
 """Tries wrong bodies that the prover must refuse, beside those that the gate tries: checks/edits/try.py [CRATE..]
 
-Each edit in checks/edits/CRATE is of the form of those in crates/CRATE/must-fail. They are tried on a copy of the
-repository that has no other edits, by `rt ci CRATE..`, which takes what earlier runs on this machine have proved; with
-no names, the edits of all crates. With --apply nothing is tried: it says which edits, the gate's too, can't be applied,
-since a text of theirs does not stand exactly once. Ends with status 1 where an edit is not refused or can't be applied.
+Those of crates/CRATE/must-fail are the gate's; those of crates/CRATE/more-edits, of the same form, are tried here: on a
+copy of the repository that has no other edits, by `rt ci CRATE..`, which takes what earlier runs on this machine have
+proved; with no names, the edits of all crates. With --apply nothing is tried: it says which edits of both folders can't
+be applied, since a text of theirs does not stand exactly once, and which name stands in both. Ends with status 1 where an
+edit is not refused or can't be applied.
 """
 import glob
 import os
@@ -13,8 +14,8 @@ import subprocess
 import sys
 import tempfile
 
-HERE = os.path.dirname(os.path.abspath(__file__))
-TOP = os.path.join(HERE, "../..")
+TOP = os.path.dirname(os.path.dirname(os.path.dirname(os.path.abspath(__file__))))
+GATE, MORE = "must-fail", "more-edits"
 
 
 def steps_of(edit):
@@ -50,17 +51,28 @@ def faults_of(edit, crate):
         texts[path] = texts[path].replace(old, new, 1)
 
 
+def edits_in(folder, crate="*"):
+    """The edits of a crate's folder of edits, or of every crate's, in their order."""
+    return sorted(glob.glob(f"{TOP}/crates/{crate}/{folder}/*.edit"))
+
+
+def faults_of_names(crate):
+    """The names that stand in both folders of a crate."""
+    names = [{os.path.basename(edit) for edit in edits_in(folder, crate)} for folder in (GATE, MORE)]
+    return [f"{name}: it stands in {GATE} and in {MORE}" for name in sorted(names[0] & names[1])]
+
+
 def apply_all():
-    """Says which edits can't be applied, and answers how many these are."""
-    here = [(edit, edit.split("/")[-2]) for edit in glob.glob(f"{HERE}/*/*.edit")]
-    gate = [(edit, edit.split("/")[-3]) for edit in glob.glob(f"{TOP}/crates/*/must-fail/*.edit")]
-    count = 0
-    for edit, crate in sorted(here + gate):
-        for fault in faults_of(edit, crate):
-            print(f"{crate}: {os.path.basename(edit)}: {fault}")
-            count += 1
-    print(f"{len(here)} edits here, {len(gate)} of the gate, {count} faults")
-    return count
+    """Says which edits can't be applied, and answers how many faults there are."""
+    gate, more = edits_in(GATE), edits_in(MORE)
+    faults = []
+    for edit in gate + more:
+        crate = edit.split("/")[-3]
+        faults += [f"{crate}: {os.path.basename(edit)}: {fault}" for fault in faults_of(edit, crate)]
+    for crate in sorted(os.listdir(f"{TOP}/crates")):
+        faults += [f"{crate}: {fault}" for fault in faults_of_names(crate)]
+    print("\n".join([*faults, f"{len(gate)} edits of the gate, {len(more)} beside it, {len(faults)} faults"]))
+    return len(faults)
 
 
 def try_all(crates):
@@ -68,21 +80,21 @@ def try_all(crates):
     names = subprocess.check_output(["git", "ls-files", "crates", "crates.txt", "HANDLES"], cwd=TOP, text=True)
     with tempfile.TemporaryDirectory() as copy:
         for name in names.splitlines():
-            if "/must-fail/" not in name and os.path.exists(os.path.join(TOP, name)):
+            if f"/{GATE}/" not in name and f"/{MORE}/" not in name and os.path.exists(os.path.join(TOP, name)):
                 os.makedirs(os.path.dirname(f"{copy}/{name}"), exist_ok=True)
                 shutil.copy(os.path.join(TOP, name), f"{copy}/{name}")
         for crate in crates:
-            shutil.copytree(f"{HERE}/{crate}", f"{copy}/crates/{crate}/must-fail")
+            shutil.copytree(f"{TOP}/crates/{crate}/{MORE}", f"{copy}/crates/{crate}/{GATE}")
         return subprocess.run(["rt", "ci", *crates], cwd=copy).returncode
 
 
 def main(words):
     if words == ["--apply"]:
         return 1 if apply_all() else 0
-    here = sorted(os.path.basename(os.path.dirname(it)) for it in glob.glob(f"{HERE}/*/"))
+    here = sorted({edit.split("/")[-3] for edit in edits_in(MORE)})
     unknown = [word for word in words if word not in here]
     if unknown:
-        print(f"no edits of {unknown[0]} stand here")
+        print(f"{unknown[0]} has no {MORE}")
         return 2
     return 1 if try_all(words or here) else 0
 

@@ -36,6 +36,31 @@ fn checked<H: Hasher>(
     check::<H>(alloc, public, &[], octets, query, least)
 }
 
+// The version and the length that a client takes from a reply: the example of the crate `route_client`.
+fn version_and_length(
+    rt: &impl Abort,
+    alloc: Global,
+    public: &[u8],
+    reply: &[u8],
+) -> Result<(u64, Option<u64>), Fail> {
+    // The reply may come from anywhere: the owner's public key is all that is trusted.
+    assert!(rt; reply.len() < 1_000_000);
+    let query = Query { from: 1, to: 3 };
+    let (version, length) = match check::<Sha>(alloc, public, &[], reply, query, 3)? {
+        // In the map of this version, 3 or later, no walk from 1 to 3 is shorter than the route.
+        Checked::Route(it) => (it.version, Some(it.length)),
+        Checked::Apart { version, .. } => (version, None),
+    };
+    Ok((version, length))
+}
+
+#[test]
+fn a_signed_answer_has_a_version_and_a_length(rt: HostRuntime) -> Result<(), Fail> {
+    let found = version_and_length(&rt, rt.alloc(), &PUBLIC, &REPLY)?;
+    assert_same(&rt, &found, &(3, Some(9)));
+    Ok(())
+}
+
 // The route that is accepted.
 fn route_in(checked: Checked) -> Result<Accepted, Fail> {
     match checked {

@@ -152,6 +152,31 @@ fn covers_of_five_leaves_fold_to_the_root(rt: HostRuntime) -> Result<(), Fail> {
     covers_and_folds::<Toy>(&rt, alloc, 3, toy_digest(103), toy_digest(191))
 }
 
+// The root that the second and the fourth of five leaves fold to, and the tree's: the example of the
+// crate `merkle_cover`.
+fn second_and_fourth(rt: &impl Abort, alloc: Global) -> Result<(Digest32, Digest32), Fail> {
+    let leaves = five_leaves(alloc)?;
+    let tree = Tree::<Sha>::build(alloc, &leaves, 2)?;
+    let places = [1, 3];
+    assert!(rt; are_rising(tree.leaves(), &places));
+    let cover = tree.cover(alloc, &places)?;
+    // Whoever has the root believes these two of five texts, which stand in octets, by the cover.
+    let octets = b"bcdef";
+    let cuts = [Cut { start: 0, end: 2 }, Cut { start: 2, end: 5 }];
+    assert!(rt; are_in(octets, &cuts));
+    let texts = CutTexts::new(octets, &cuts);
+    assert!(rt; texts.count() as usize == places.len());
+    let root = fold::<Sha>(5, 2, &places, &texts, &cover)?;
+    Ok((root, tree.root()))
+}
+
+#[test]
+fn two_of_five_leaves_fold_to_the_root(rt: HostRuntime) -> Result<(), Fail> {
+    let found = second_and_fourth(&rt, rt.alloc())?;
+    assert_same(&rt, &found, &(ROOT_BY_TWO, ROOT_BY_TWO));
+    Ok(())
+}
+
 // The root of a tree.
 fn root_of(alloc: Global, leaves: &Texts, fan: u8) -> Result<Digest32, TreeError> {
     let tree = Tree::<Sha>::build(alloc, leaves, fan)?;

@@ -228,6 +228,28 @@ fn assert_answer(rt: &impl Abort, answer: &Answer) {
     assert_same(rt, &answer.pair_cover.as_slice().len(), &0);
 }
 
+// The octets of a reply, written again, and how many nodes its route visits: the example of the crate
+// `proof_octets`.
+fn written_again(rt: &impl Abort, alloc: Global, octets: &[u8]) -> Result<(Vec<u8>, usize), Fail> {
+    assert!(rt; octets.len() < 1_000_000);
+    let reply = Reply::read(alloc, octets)?;
+    // A reply has one spelling, so these are the octets that were read.
+    let written = reply.write(alloc)?;
+    let nodes = match &reply {
+        Reply::Answer(answer) => answer.items.route.as_slice().len(),
+        _ => 0,
+    };
+    Ok((written, nodes))
+}
+
+#[test]
+fn a_route_is_read_and_written_again(rt: HostRuntime) -> Result<(), Fail> {
+    let (octets, nodes) = written_again(&rt, rt.alloc(), &REPLY)?;
+    assert_octets(&rt, &octets, &REPLY);
+    assert_same(&rt, &nodes, &2);
+    Ok(())
+}
+
 // The reply that the octets spell, and its octets when it is written again.
 fn rewritten(alloc: Global) -> Result<(Reply, Vec<u8>), Fail> {
     let reply = Reply::read(alloc, &REPLY)?;

@@ -3,6 +3,15 @@
 //!
 //! A key signs as many texts as its tree has leaves, one with each one-time key. It keeps no
 //! count of them: who calls `Key::sign_into` must never use a one-time key for two texts.
+//!
+//! ```rust
+//! let key = Key::build(alloc, 5, &[0; 16], &[0; 32])?;
+//! let mut signature = [0; 1292];
+//! // Of this key's 32 one-time keys the last signs, and must sign no other text, ever.
+//! key.sign_into(31, b"abc", &mut signature);
+//! let public = key.public();
+//! verify(&public, b"abc", &signature)?;
+//! ```
 #![tactic(auto)]
 
 pub use chain_files::{read_links, write_links};

@@ -2,12 +2,12 @@
 
 use crate::same::{assert_row, assert_same};
 use octet_text::NoMemory;
-use road_map::{Arc, Arcs, Map, MapError};
+use road_map::{Arc, Arcs, Map, MapError, Parts};
 use road_search::{Ground, Labels, Path, distances_to, knows, search, shortest};
 use std::alloc::{AllocError, Global};
 use std::process::Abort;
 use std::test::Fail;
-use test_maps::{ROADS, apart, map_of};
+use test_maps::{NODES, ROADS, apart, map_of, parts_of};
 
 /// A ground whose ids are places in a list; one id bars walks from a length on.
 #[derive(Drop)]
@@ -320,6 +320,32 @@ fn map_to(alloc: Global, count: u32, roads: &[(u32, u32, u32)]) -> Result<Map, M
 fn path_of(alloc: Global, row: &Worked) -> Result<Option<Path>, Fail> {
     let map = map_to(alloc, row.0, row.1)?;
     Ok(shortest(alloc, &map, row.2, row.3)?)
+}
+
+// A path from 1 to 3, and the distance of 4: the example of the crate `road_search`.
+fn path_and_distance(
+    rt: &impl Abort,
+    alloc: Global,
+    parts: Parts,
+) -> Result<(Option<Path>, Option<u64>), Fail> {
+    let map = Map::build(alloc, parts)?;
+    // No path comes exactly where no walk joins the two ends.
+    let path = shortest(alloc, &map, 1, 3)?;
+    assert!(rt; knows(&map, 1));
+    // The distances from 1 of all nodes that are no farther than 3.
+    let distances = distances_to(alloc, &map, 1, 3)?;
+    let to_4 = distances.get(4);
+    Ok((path, to_4))
+}
+
+#[test]
+fn a_path_and_a_distance_of_five_nodes(rt: HostRuntime) -> Result<(), Fail> {
+    let parts = parts_of(rt.alloc(), &NODES, &ROADS)?;
+    let (path, to_4) = path_and_distance(&rt, rt.alloc(), parts)?;
+    assert_row(&rt, 3, length_of(&path), Some(9));
+    assert_row(&rt, 3, ids_of(&path), [1, 2, 3].as_slice());
+    assert_row(&rt, 4, to_4, Some(3));
+    Ok(())
 }
 
 fn assert_shortest(rt: &impl Abort, alloc: Global, row: &Worked) -> Result<(), Fail> {

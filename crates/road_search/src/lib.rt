@@ -1,4 +1,14 @@
 //! Least lengths by a label-setting search: over any ground, and over a whole road map.
+//!
+//! ```rust
+//! let map = Map::build(alloc, parts)?;
+//! // No path comes exactly where no walk joins the two ends.
+//! let path = shortest(alloc, &map, 1, 3)?;
+//! assert!(rt; knows(&map, 1));
+//! // The distances from 1 of all nodes that are no farther than 3.
+//! let distances = distances_to(alloc, &map, 1, 3)?;
+//! let to_4 = distances.get(4);
+//! ```
 #![tactic(auto)]
 
 pub use ground::Ground;

@@ -50,8 +50,29 @@ pub(crate) fn header_of<H: Hasher>(
     Ok(held.header())
 }
 
-/// The book over rows, installed with a header and a signature of zeros as long as one of a key of
-/// height 5.
+/// The publication of rows with a header and a signature of zeros as long as one of a key of height 5.
+pub(crate) fn publication_with(
+    alloc: Global,
+    nodes: &[(u32, i32, i32)],
+    roads: &[(u32, u32, u32)],
+    settings: &Settings,
+    header: Header,
+) -> Result<Publication, InstallError> {
+    let Ok(parts) = parts_of(alloc, nodes, roads) else {
+        return Err(InstallError::Memory);
+    };
+    let Ok(zeros) = Vec::from_elem(alloc, 0, 1292) else {
+        return Err(InstallError::Memory);
+    };
+    Ok(Publication {
+        header,
+        signature: Octets::from_vec(zeros),
+        settings: *settings,
+        parts,
+    })
+}
+
+/// The book over rows, installed with a header.
 fn installed_with(
     alloc: Global,
     nodes: &[(u32, i32, i32)],
@@ -59,18 +80,7 @@ fn installed_with(
     settings: &Settings,
     header: Header,
 ) -> Result<Held<Sha>, InstallError> {
-    let Ok(parts) = parts_of(alloc, nodes, roads) else {
-        return Err(InstallError::Memory);
-    };
-    let Ok(zeros) = Vec::from_elem(alloc, 0, 1292) else {
-        return Err(InstallError::Memory);
-    };
-    let publication = Publication {
-        header,
-        signature: Octets::from_vec(zeros),
-        settings: *settings,
-        parts,
-    };
+    let publication = publication_with(alloc, nodes, roads, settings, header)?;
     Held::install(alloc, publication)
 }
 

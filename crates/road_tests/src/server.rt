@@ -2,16 +2,16 @@
 //! calls that succeed with ample memory.
 
 use crate::holding::{
-    CELLS, CODES, FULL, first_reply, header_of, installed, read_answer, read_apart, refusal_of,
-    refusal_with, reply_over,
+    CELLS, CODES, FULL, first_reply, header_of, installed, publication_with, read_answer,
+    read_apart, refusal_of, refusal_with, reply_over,
 };
 use crate::octets::{assert_digest, assert_hex};
 use crate::same::{assert_row, assert_same};
-use book_model::{Numbers, PlanError, Settings};
+use book_model::{Numbers, PlanError, Query, Settings};
 use octet_text::{Hasher, Sha, Toy};
-use proof_octets::{Answer, Header};
+use proof_octets::{Answer, Header, NearQuery, Publication};
 use road_map::MapError;
-use route_server::{BuildError, Held, InstallError};
+use route_server::{BuildError, Held, InstallError, answer_near};
 use std::alloc::Global;
 use std::process::Abort;
 use std::test::Fail;
@@ -115,6 +115,32 @@ fn assert_reply(rt: &impl Abort, alloc: Global, row: &Replied) -> Result<(), Fai
     let answer = read_answer(alloc, &octets)?;
     assert_items(rt, &answer, *nodes, *pairs);
     Ok(())
+}
+
+// What a publication's book answers: the example of the crate `route_server`.
+fn replies(
+    rt: &impl Abort,
+    alloc: Global,
+    publication: Publication,
+) -> Result<(Vec<u8>, Vec<u8>), Fail> {
+    let held = Held::<Sha>::install(alloc, publication)?;
+    assert!(rt; held.signature().len() <= 1452);
+    // The octets of two replies: to a query for a route, and to one for the nodes within a radius.
+    let route = held.answer(alloc, Query { from: 1, to: 3 })?;
+    let near = answer_near(alloc, &held, NearQuery { from: 1, radius: 4 })?;
+    Ok((route, near))
+}
+
+#[test]
+fn a_publication_answers_for_routes_and_radii(rt: HostRuntime) -> Result<(), Fail> {
+    let alloc = rt.alloc();
+    let header = header_of::<Sha>(alloc, &NODES, &ROADS, &DIJ)?;
+    let publication = publication_with(alloc, &NODES, &ROADS, &DIJ, header)?;
+    let (route, near) = replies(&rt, alloc, publication)?;
+    let of_route = "a8f93da4ffdd7c54544431ff179f9b43804887108fa864037890d1535cda8d32";
+    assert_digest(&rt, alloc, &route, of_route)?;
+    let of_near = "5fe608c961e9982f280d6bbd806d54ba9dd435ea70c511f5bcdf2fd03e2e4fad";
+    assert_digest(&rt, alloc, &near, of_near)
 }
 
 #[test]

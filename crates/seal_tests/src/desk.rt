@@ -53,6 +53,28 @@ fn next_after_a_stop(rt: &impl Abort, alloc: Global, pick: Pick) -> Result<(u32,
     next_after(alloc, disk, pick)
 }
 
+// Where a text is signed, and whether it is after a crash: the example of the crate `key_desk`.
+fn signed_before_a_crash(alloc: Global) -> Result<(u32, bool), Fail> {
+    // Any `Disk` serves, as one over a file; this one is in memory.
+    let mut disk = MemDisk::new(alloc, 4160, 65_536, Vec::new(alloc), None)?;
+    let mut desk = Desk::create(alloc, &mut disk, 5, &[0; 48])?;
+    let mut signature = [0; 1292];
+    let slot = desk.sign(&mut disk, b"version 1", &mut signature)?;
+    verify(&desk.public(), b"version 1", &signature)?;
+    // The text stands after a crash, and its one-time key signs no other.
+    let mut disk = disk.crash(Pick::Old);
+    let mut desk = Desk::reopen(alloc, &mut disk)?;
+    let is_signed = desk.signed(&mut disk, b"version 1")?;
+    Ok((slot, is_signed))
+}
+
+#[test]
+fn a_signed_text_stands_after_a_crash(rt: HostRuntime) -> Result<(), Fail> {
+    let found = signed_before_a_crash(rt.alloc())?;
+    assert_same(&rt, &found, &(0, true));
+    Ok(())
+}
+
 #[test]
 fn a_stopped_signing_uses_its_slot_or_none(rt: HostRuntime) -> Result<(), Fail> {
     let old = next_after_a_stop(&rt, rt.alloc(), Pick::Old)?;

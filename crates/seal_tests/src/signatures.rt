@@ -155,9 +155,12 @@ fn the_standards_key_is_made(rt: HostRuntime) -> Result<(), Fail> {
 // The signature of "abc" by the last slot of a key of zero octets, and its public key.
 fn sealed(alloc: Global) -> Result<([u8; 56], [u8; 1292]), Fail> {
     let key = Key::build(alloc, 5, &[0; 16], &[0; 32])?;
-    let mut sig = [0; 1292];
-    key.sign_into(31, b"abc", &mut sig);
-    Ok((key.public(), sig))
+    let mut signature = [0; 1292];
+    // Of this key's 32 one-time keys the last signs, and must sign no other text, ever.
+    key.sign_into(31, b"abc", &mut signature);
+    let public = key.public();
+    verify(&public, b"abc", &signature)?;
+    Ok((public, signature))
 }
 
 // Compares what a client says of "abc" and such a signature under a key.

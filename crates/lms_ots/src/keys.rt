@@ -14,8 +14,8 @@ pub(crate) const D_PBLC: u16 = 0x8080;
 // The number that a secret value is hashed with, which no step of a chain has (Appendix A).
 pub(crate) const SECRET: u8 = 0xff;
 
-// A hasher that was given what each hashed text begins with.
-pub(crate) fn begin(i: &[u8; 16], q: u32, at: u16) -> Sha
+/// A hasher that was given what each hashed text begins with: the identifier of a tree, and a number and a place in it.
+pub fn prefixed(i: &[u8; 16], q: u32, at: u16) -> Sha
     ensures { HoldsText result (prefix i.now q at) }
 {
     let mut hasher = Sha::start();
@@ -75,7 +75,7 @@ pub fn chain(i: &[u8; 16], q: u32, at: u16, from: u8, to: u8, x: &Digest32) -> D
 pub fn public_hash(i: &[u8; 16], q: u32, seed: &[u8; 32]) -> Digest32
     ensures { result ≡ public_of i.now q seed.now }
 {
-    let mut hasher = begin(i, q, D_PBLC);
+    let mut hasher = prefixed(i, q, D_PBLC);
     for at in 0..34 {
         hasher.add(&chain(i, q, at, 0, 255, &secret(i, q, at, seed)));
     }

@@ -6,7 +6,7 @@
 //! away what forges a third. A signature has 1,124 octets. No call refuses or takes memory.
 #![tactic(auto)]
 
-pub use keys::{chain, public_hash, secret};
+pub use keys::{chain, prefixed, public_hash, secret};
 pub use places::{array_at, write_array};
 pub use signatures::{candidate, digits, randomiser, sign_ots};
 

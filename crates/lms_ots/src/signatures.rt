@@ -2,7 +2,7 @@
 ghost use Rattle.std.specs.Prelude.{◌≡◌, ℕ, ◌+◌, ◌-◌, ◌*◌, List, length};
 ghost use Rattle.lms_ots.specs.Chains.{public_of, randomiser_of, digits_of, signature_of, candidate_of, checksum};
 
-use crate::keys::{D_PBLC, SECRET, begin, chain, secret};
+use crate::keys::{D_PBLC, SECRET, chain, prefixed, secret};
 use crate::places::{array_at, write_array};
 use octet_text::{Digest32, Hasher};
 
@@ -20,7 +20,7 @@ const LMOTS_SHA256_N32_W8: u32 = 4;
 pub fn randomiser(i: &[u8; 16], q: u32, seed: &[u8; 32]) -> Digest32
     ensures { result ≡ randomiser_of i.now q seed.now }
 {
-    let mut hasher = begin(i, q, RANDOMISER);
+    let mut hasher = prefixed(i, q, RANDOMISER);
     hasher.add(&[SECRET]);
     hasher.add(seed);
     hasher.end()
@@ -42,7 +42,7 @@ fn checksum_of(digest: &Digest32) -> u16
 pub fn digits(i: &[u8; 16], q: u32, c: &Digest32, text: &[u8]) -> [u8; 34]
     ensures { result ≡ digits_of i.now q c.now text.now }
 {
-    let mut hasher = begin(i, q, D_MESG);
+    let mut hasher = prefixed(i, q, D_MESG);
     hasher.add(c);
     hasher.add(text);
     let hash = hasher.end();
@@ -76,7 +76,7 @@ pub fn candidate(i: &[u8; 16], q: u32, ots: &[u8], text: &[u8]) -> Digest32
     ensures { result ≡ candidate_of i.now q ots.now text.now }
 {
     let digits = digits(i, q, &array_at(ots, 4), text);
-    let mut hasher = begin(i, q, D_PBLC);
+    let mut hasher = prefixed(i, q, D_PBLC);
     for at in 0..34u16 {
         let value = array_at(ots, 36 + 32 * at as usize);
         hasher.add(&chain(i, q, at, digits[at as usize], 255, &value));

@@ -20,7 +20,7 @@ pub use draw::Draw;
 pub use error::{GridError, RoadError};
 pub use grid::grid_roads;
 pub use laws::grid_laws;
-pub use lines::{Line, Lines, split_line};
+pub use lines::{Line, Lines, split_line, without_return};
 pub use numbers::{coordinate, natural, wide_natural};
 pub use printer::print_roads;
 pub use reader::{MOST_NODES, MOST_ROADS, printed_roads_are_read, read_roads};

@@ -1,7 +1,7 @@
 //! Words of a line that are no numbers of their ranges.
 
 use crate::quoted::Quoted;
-use road_reader::{coordinate, natural, split_word};
+use road_reader::{coordinate, natural, split_word, without_return};
 use std::fmt::{self, Display, Formatter};
 
 /// What a number must be.
@@ -42,14 +42,6 @@ pub fn bad_number(text: &[u8], line: u32) -> Option<BadNumber<'_>> {
         }
     }
     None
-}
-
-/// A line without the carriage return that may end it.
-fn without_return(line: &[u8]) -> &[u8] {
-    match line {
-        [front @ .., b'\r'] => front,
-        _ => line,
-    }
 }
 
 /// The first word of a line's octets that is no number of its range.

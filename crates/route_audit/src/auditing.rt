@@ -11,7 +11,7 @@ ghost use Rattle.route_audit.specs.Routes.{routes};
 ghost use Rattle.route_audit.specs.Steps.{FindsIn, IsAnswerTo};
 
 use crate::routes::Routes;
-use crate::steps::{install, is_same_header};
+use crate::steps::install;
 use crate::{AuditError, Finding, Replies};
 use book_model::Query;
 use desk_look::{LookError, look, own_key};
@@ -21,7 +21,7 @@ use octet_text::{Hasher, NoMemory};
 use proof_octets::Publication;
 use road_io::Disk;
 use route_client::CheckError;
-use route_server::{Held, server_laws};
+use route_server::{Held, is_same_header, server_laws};
 use std::alloc::Global;
 
 // What an accepted answer is evidence of, by the desk and the book of a publication.

@@ -1,6 +1,5 @@
 //! The steps of an audit that are the same for every kind of replies.
-ghost use Rattle.std.specs.Prelude.{◌≡◌, ◌≢◌, IfOk, IfErr, Ok};
-ghost use Rattle.std.specs.Bool.{OnTrue, OnFalse};
+ghost use Rattle.std.specs.Prelude.{IfOk, IfErr, Ok};
 ghost use Rattle.sha2.specs.Sha256.{sha256};
 ghost use Rattle.route_server.specs.Installing.{Installs};
 ghost use Rattle.route_server.specs.Keeping.{HasSpellings};
@@ -8,17 +7,9 @@ ghost use Rattle.route_audit.specs.Steps.{IsNotInstalled};
 
 use crate::AuditError;
 use octet_text::Hasher;
-use proof_octets::{Header, Publication};
+use proof_octets::Publication;
 use route_server::{Held, InstallError};
 use std::alloc::Global;
-
-/// Whether two headers are the same.
-pub(crate) fn is_same_header(left: &Header, right: &Header) -> bool
-    ensures same { OnTrue result (left.now ≡ right.now) }
-    ensures apart { OnFalse result (left.now ≢ right.now) }
-{
-    left == right
-}
 
 /// The book of a publication.
 pub(crate) fn install<H: Hasher, E: Copy>(

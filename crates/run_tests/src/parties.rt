@@ -11,19 +11,7 @@ use road_run::run;
 use std::alloc::Global;
 use std::process::Abort;
 use std::test::Fail;
-
-/// Five nodes: two routes from 1 to 3, and the node 5 without roads.
-pub(crate) const FIVE_NODES: &str = "roads 1
-node 1 0 0
-node 2 10 0
-node 3 20 0
-node 4 10 10
-node 5 50 50
-road 1 2 4
-road 2 3 5
-road 1 4 3
-road 4 3 7
-";
+use test_maps::FIVE_NODES;
 
 /// The hex digits of 48 zero octets.
 pub(crate) const ZEROS: &str =

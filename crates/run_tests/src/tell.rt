@@ -1,7 +1,7 @@
 //! A table of what standard error says of runs over objects in memory.
 
 use crate::asserts::assert_octets;
-use crate::parties::{FIVE_NODES, ZEROS, words_of};
+use crate::parties::{ZEROS, words_of};
 use book_model::PlanError;
 use command_files::{Ended, Fault};
 use mem_io::{MemDisk, MemLibrary, MemSink, MemSource};
@@ -14,6 +14,7 @@ use std::alloc::Global;
 use std::io::{self, ErrorKind};
 use std::process::Abort;
 use std::test::Fail;
+use test_maps::FIVE_NODES;
 
 /// The files that the command lines name.
 fn files(alloc: Global) -> Result<MemLibrary, Fail> {

@@ -8,7 +8,7 @@ pub returns : goal.returns
 unfolding digits_of text_hash
 returns c =
     let out = c.write_array-2.new.out in
-    let hash = c.end-hash.ensures _ (c.add-2.ensures _ (c.add.ensures _ c.begin-hasher.ensures)) in
+    let hash = c.end-hash.ensures _ (c.add-2.ensures _ (c.add.ensures _ c.prefixed-hasher.ensures)) in
     sym (take_all 34 out (omega arith)) ∙ c.write_array-2.ensures.written
     ∙ ap (λ (l : List ℕ). l ++ c.to_be_bytes.result) c.write_array.ensures.written
     ∙ ap (λ (l : List ℕ). c.end-hash.result ++ l) (c.to_be_bytes.ensures ∙ ap (to_be_bytes w16) c.checksum_of.ensures)

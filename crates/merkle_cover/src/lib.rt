@@ -19,7 +19,7 @@
 
 pub use clashes::{TwoTexts, clash};
 pub use cuts::{Cut, CutTexts, are_in};
-pub use folds::{FoldError, are_rising, fault_of, fold, is_next_below, leaf_digest, top_of};
+pub use folds::{FoldError, are_rising, fold};
 pub use laws::cover_laws;
 pub use rising::{Risen, Rising, RisingError};
 pub use texts::Texts;

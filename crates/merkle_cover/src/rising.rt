@@ -9,8 +9,8 @@ ghost use Rattle.merkle_cover.specs.Shape.{top};
 ghost use Rattle.merkle_cover.specs.Trees.{root};
 
 use crate::covering::Covering;
+use crate::folds::{fault_of, leaf_digest, top_of};
 use crate::spots::{Spot, cover_spots};
-use crate::{fault_of, leaf_digest, top_of};
 use octet_text::{Digest32, Digests, Hasher, NoMemory, digest_of_pieces};
 use std::alloc::Global;
 use std::marker::{Model, PhantomData};

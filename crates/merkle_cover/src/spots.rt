@@ -4,7 +4,7 @@ ghost use Rattle.merkle_cover.specs.Spots.{spots_below, spots_of};
 ghost use Rattle.merkle_cover.specs.Folding.{CanWalk, SplitsAt};
 ghost use Rattle.merkle_cover.specs.Covers.{IsRising};
 
-use crate::{is_next_below, top_of};
+use crate::folds::{is_next_below, top_of};
 use octet_text::NoMemory;
 use std::alloc::Global;
 

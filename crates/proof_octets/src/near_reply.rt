@@ -6,10 +6,10 @@ ghost use Rattle.octet_text.specs.declared.errors.ReadError.{ReadError};
 ghost use Rattle.proof_octets.specs.NearReplies.{near_reply, IsNamed};
 ghost use Rattle.proof_octets.specs.NearWriting.{near_text, CanWriteNear};
 
-use crate::{
-    Header, put_digests, put_node_items, put_signature, read_digests, read_header, read_node_items,
-    read_signature,
-};
+use crate::header::{Header, read_header};
+use crate::item_writing::put_node_items;
+use crate::items::read_node_items;
+use crate::lists::{put_digests, put_signature, read_digests, read_signature};
 use book_model::{NodeLeaves, Places};
 use octet_text::{Cursor, Digests, Malformed, NoMemory, Octets, ReadError, put_octets};
 use std::alloc::Global;

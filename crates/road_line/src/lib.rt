@@ -5,7 +5,7 @@ pub use desk_line::line_of_desk;
 pub use evidence_line::{line_of_collision, line_of_forged, line_of_right};
 pub use refused_line::line_of_refused_near;
 pub use route_line::line_of_route;
-pub use verdict_line::{line_of_accepted, line_of_refused, name_of_cover, name_of_seal};
+pub use verdict_line::{line_of_accepted, line_of_refused};
 pub use within_line::line_of_within;
 
 mod desk_line;

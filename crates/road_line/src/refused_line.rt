@@ -3,7 +3,7 @@
 ghost use Rattle.std.specs.Prelude.{◌≡◌, ◌++◌, codes, IfOk, OnOk, string_bytes};
 ghost use Rattle.road_line.specs.WithinLine.{refused_near_line, refused_near_words};
 
-use crate::{name_of_cover, name_of_seal};
+use crate::verdict_line::{name_of_cover, name_of_seal};
 use octet_text::NoMemory;
 use route_client::NearError;
 use std::alloc::{AllocError, Global};

@@ -3,7 +3,6 @@
 #![tactic(auto)]
 
 pub use auditing::{audit, audit_reply};
-pub use comparing::clash_under;
 pub use errors::AuditError;
 pub use finding::Finding;
 pub use near_auditing::audit_near;

@@ -5,7 +5,8 @@ ghost use Rattle.proof_octets.specs.NearReplies.{near_reply, IsGoodNear};
 ghost use Rattle.route_client.specs.NearVerdicts.{items_covered};
 ghost use Rattle.route_audit.specs.NearComparing.{part_of, Compares};
 
-use crate::{Finding, clash_under};
+use crate::Finding;
+use crate::comparing::clash_under;
 use merkle_cover::CutTexts;
 use octet_text::{Hasher, NoMemory};
 use proof_octets::NearReply;

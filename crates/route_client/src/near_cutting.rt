@@ -5,7 +5,7 @@ ghost use Rattle.road_leaf.specs.Leaves.{node_leaf_text};
 ghost use Rattle.merkle_cover.specs.Cuts.{cut_from, AreIn};
 ghost use Rattle.proof_octets.specs.NearReplies.{near_reply, IsGoodNear};
 
-use crate::push_nodes;
+use crate::cutting::push_nodes;
 use merkle_cover::Cut;
 use octet_text::NoMemory;
 use proof_octets::NearReply;

@@ -6,7 +6,10 @@ ghost use Rattle.proof_octets.specs.NearReplies.{near_reply, IsGoodNear, IsNamed
 ghost use Rattle.route_client.specs.declared.near_errors.NearError.{NearError};
 ghost use Rattle.route_client.specs.NearVerdicts.{Meets, near_error, items_covered, header_and_cover, after_tests, spelled, near_passed};
 
-use crate::{CheckError, NearError, reply_cuts, test_cover, test_header};
+use crate::covers::test_cover;
+use crate::earlier_tests::test_header;
+use crate::near_cutting::reply_cuts;
+use crate::{CheckError, NearError};
 use lms_tree::Link;
 use merkle_cover::CutTexts;
 use octet_text::{Hasher, ReadError};

@@ -101,7 +101,9 @@ def crates():
 
 
 def show(crate):
-    head = " ".join(line[3:].strip() for line in read(glob.glob(f"{TOP}/crates/{crate}/src/[lm]*[bn].rt")[0]).splitlines() if line.startswith("//!"))
+    root = read(glob.glob(f"{TOP}/crates/{crate}/src/[lm]*[bn].rt")[0])
+    # the example at the head is left out
+    head = " ".join(line[3:].strip() for line in root.split("//! ```")[0].splitlines() if line.startswith("//!"))
     print(f"## `{crate}`\n\n{head}\n\n| call | says | ensures | requires |\n|---|---|---|---|")
     for call, (comment, contract) in sorted(calls_of(crate).items()):
         clauses = clauses_of(contract)

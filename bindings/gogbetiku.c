@@ -59,7 +59,7 @@ static const char *const sentences[] = {
     [GOG_ACCEPTED] = "The reply is accepted: what it says holds in the map that the owner signed.",
     [GOG_NO_ROUTE] = "No road leads from one to the other, and the map that the owner signed shows it.",
     [GOG_NOT_ANSWER] = "The server says, without proof, that an end is no node, or that no route joins the two (kind #).",
-    [GOG_MALFORMED] = "The octets are no reply: the field at place # can't be read.",
+    [GOG_MALFORMED] = "The octets are no reply: the field at offset # can't be read.",
     [GOG_STALE] = "The reply is of version # of the map, which is older than the one asked for.",
     [GOG_BAD_CHAIN] = "Link # of the owner's chain of keys is not signed. Get the chain anew.",
     [GOG_BAD_SIGNATURE] = "The owner has not signed this map, or the key is not the owner's, or lacks a newer chain.",
@@ -73,7 +73,7 @@ static const char *const sentences[] = {
     [GOG_PASSES_TWICE] = "The route passes a node twice, which an honest one never does.",
     [GOG_NO_MEMORY] = "There was not memory enough to check the reply. Try again.",
     [GOG_TOO_LONG] = "A reply or a chain of 4,294,967,296 octets or more is not looked at.",
-    [GOG_MALFORMED_CHAIN] = "The octets are no chain of keys: the field at place # can't be read. Get the chain anew.",
+    [GOG_MALFORMED_CHAIN] = "The octets are no chain of keys: the field at offset # can't be read. Get the chain anew.",
 };
 
 /* puts an octet where there is room for it and a 0 */

@@ -34,7 +34,7 @@ enum gog_code {
     GOG_ACCEPTED = 1,         /* a shortest route, or all nodes within the radius */
     GOG_NO_ROUTE = 2,         /* accepted: no road leads from one to the other */
     GOG_NOT_ANSWER = 3,       /* the kind of the reply */
-    GOG_MALFORMED = 4,        /* the place of the first field that can't be read */
+    GOG_MALFORMED = 4,        /* the offset of the first field that can't be read */
     GOG_STALE = 5,            /* the version of the reply */
     GOG_BAD_CHAIN = 6,        /* the number of the link, and a `gog_seal` */
     GOG_BAD_SIGNATURE = 7,    /* a `gog_seal` */
@@ -48,7 +48,7 @@ enum gog_code {
     GOG_PASSES_TWICE = 15,    /* where `simple` asks for it: the route passes a node twice */
     GOG_NO_MEMORY = 16,
     GOG_TOO_LONG = 17,
-    GOG_MALFORMED_CHAIN = 18  /* the place of the first field of the chain that can't be read */
+    GOG_MALFORMED_CHAIN = 18  /* the offset of the first field of the chain that can't be read */
 };
 
 /* Why a signature is not verified. */

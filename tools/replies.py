@@ -22,7 +22,7 @@ class Octets:
         try:
             values = struct.unpack_from(">" + form, self.octets, self.at)
         except struct.error:
-            raise Trouble(f"{self.path}: it ends within a field, at place {self.at}") from None
+            raise Trouble(f"{self.path}: it ends within a field, at offset {self.at}") from None
         self.at += struct.calcsize(">" + form)
         return values if len(values) > 1 else values[0]
 
@@ -31,7 +31,7 @@ class Octets:
 
     def end(self) -> None:
         if self.at != len(self.octets):
-            raise Trouble(f"{self.path}: octets follow its end, from place {self.at} on")
+            raise Trouble(f"{self.path}: octets follow its end, from offset {self.at} on")
 
 
 @dataclass

@@ -48,7 +48,7 @@ use Rattle.audit_commands.specs.Owners.{IsOwnersKey, look_in, look_everywhere}
 use Rattle.audit_commands.specs.Headline.{AreAllSigned, ClashIn, IsBrought, RestsOn}
 use Rattle.audit_commands.proofs.Steps.{own, own_in, not_own, signed_more, forges_more, later}
 
--- the steps behind the owner's key
+-- the steps after the owner's key
 abbrev pub Behind : {Q A X E : Type 0} → ReplyKind Q A X E → (E → List ℕ) → Option (List ℕ) → List ℕ → List Link → List ℕ → Q → Publication → Ending
 Behind kind line content key links octets q p =
     EndsClient kind line key links octets q (λ x a. EndsInstalling p (EndsSigned content key links (kind.header a) (kind.signature a) (EndsSameHeader p (kind.header a) (EndsComparing kind p q x a))))
@@ -97,12 +97,12 @@ module _ {D : Type 0} (g : Ghosts D) (old mid new : D) (desk : Desk) (seen : (c 
     abbrev IsFound : Result Finding (AuditError E) → Type 0
     IsFound r = Finds kind sha256 sha256 (look_at g desk mid new) (at key links octets q p) r
 
-    -- behind the owner's key
+    -- after the owner's key
     behind : IsKeyFrom desk 0 key → (o : Result Conclusion Fault) (t : List ℕ) → Behind kind line (still_told g old new) key links octets q p o t
         → EndsOwnersKey (still_told g old new) key (Behind kind line (still_told g old new) key links octets q p) o t
     behind own_key o t h = inr (own (still_told g old new) desk key blocks fits.sound own_key, h)
 
-    -- behind the installing
+    -- after the installing
     behind_installed : (i : IsInstalled kind sha256 sha256 (look_at g desk mid new) (at key links octets q p)) → (o : Result Conclusion Fault) (t : List ℕ)
         → EndsSigned (still_told g old new) key links (kind.header i.reply.answer) (kind.signature i.reply.answer) (EndsSameHeader p (kind.header i.reply.answer) (EndsComparing kind p q i.reply.taken i.reply.answer)) o t
         → EndsOwnersKey (still_told g old new) key (Behind kind line (still_told g old new) key links octets q p) o t
@@ -127,7 +127,7 @@ module _ {D : Type 0} (g : Ghosts D) (old mid new : D) (desk : Desk) (seen : (c 
     by_answer (Ok (Collision left right)) o t f tells = behind_installed f.0.installed o t (inr (signed_read links _ f.0.signed, inr (f.0.same, inr (tells.0, record { left = left; right = right }, f.1, tells.1))))
     by_answer (Ok Right) o t f tells = behind_installed f.0.installed o t (inr (signed_read links _ f.0.signed, inr (f.0.same, inl (tells.0, f.1, tells.1))))
 
-    -- behind the opened desk
+    -- after the opened desk
     pub ends_of : ForSome (still_told g old new) IsUsable → (r : Result Finding (AuditError E)) (o : Result Conclusion Fault) (t : List ℕ) → IsFound r → Tells line r o t → EndsAudit kind line (still_told g old new) key links p octets q o t
     ends_of usable r o t f tells = inr (inr (usable, by_answer r o t f tells))
 

@@ -118,7 +118,7 @@ module _ {Q A X E : Type 0} (kind : ReplyKind Q A X E) (line : E → List ℕ) (
   opening o t (inr (inl h)) = absurd (f.usable.good_block (h.1 f.image f.told).1)
   opening o t (inr (inr h)) = owners o t h.1
 
-  -- over what the files spell
+  -- over what the files encode
   over_files : (o : Result Conclusion Fault) (t : List ℕ) → ends_audit kind line content key_name publication_name reply_name q chain_name folder o t → IsEnd p (kind.taken_header x) Truth o t
   over_files o t h =
       let by_key = read_as (public_key_at folder key_name) key (λ k. EndsReading (publication_at folder publication_name) (λ b. EndsReading (octets_at folder reply_name) (λ octets. EndsReading (chain_at folder chain_name) (λ ls. EndsAudit kind line content k ls b octets q)))) o t f.key_read h in

@@ -37,7 +37,7 @@ use Rattle.audit_commands.specs.Owners.{IsOwnersKey, look_everywhere}
 
 -- ---- what a reply brings
 
--- the octets of the header, and the signature, of the answer that octets spell
+-- the octets of the header, and the signature, of the answer that octets encode
 pub record IsBrought {Q A X E : Type 0} (kind : ReplyKind Q A X E)
     (octets header signature : List ℕ) : Type 0 where
   pub answer : A
@@ -45,8 +45,8 @@ pub record IsBrought {Q A X E : Type 0} (kind : ReplyKind Q A X E)
   pub header_is : header ≡ header_text (kind.header answer)
   pub signature_is : signature ≡ kind.signature answer
 
--- two texts that collide where the answer that octets spell is not of the trees of the publication's
--- book: the tree hashes the left one, and the fold of what the answer brings the right one
+-- two texts that collide where the answer that octets encode is not of the trees of the publication's
+-- book: the tree hashes the left one, and the root recomputed of what the answer brings the right one
 pub record ClashIn {Q A X E : Type 0} (kind : ReplyKind Q A X E) (publication : Publication)
     (octets left right : List ℕ) : Type 0 where
   pub answer : A
@@ -174,7 +174,7 @@ FindsTruth g disk Brings Hashed key links p accepted Truth old new (Err Sink) = 
 FindsTruth g disk Brings Hashed key links p accepted Truth old new (Err Disk) = Unit {0}
 FindsTruth g disk Brings Hashed key links p accepted Truth old new outcome = ⊥
 
--- The files spell a public key, a chain of links, a publication, of whatever header, that can be
+-- The files encode a public key, a chain of links, a publication, of whatever header, that can be
 -- installed, as its header is that of its parts and settings, and octets that the client accepts
 -- under the key and the chain, whatever they are; and the key is one of those on the owner's disk,
 -- which can be used.
@@ -213,7 +213,7 @@ AuditsAccepted kind g content disk key publication reply q chain None old new ou
 
 -- what the command promises over its files, its sink and the owner's disk: its end is one that they
 -- call for, what its line rests on, the headline, that no image of the disk changes, that a fault
--- of the disk is always answered, that a front of its names is asked for, and that a failure of the
+-- of the disk is always answered, that a prefix of its names is asked for, and that a failure of the
 -- library or the sink is swallowed by no other end
 pub record AuditsFiles {Q A X E : Type 0} (kind : ReplyKind Q A X E) (line : E → List ℕ) {D : Type 0}
     (g : Ghosts D) (disk new_disk : D) (key publication reply : List ℕ) (q : Q)

@@ -62,13 +62,13 @@ RestsOnReduced g disk text sig (Ok Evidence) line =
     IsClashLine line ⊎ IsUnreleasedLine g disk text sig line
 RestsOnReduced g disk text sig outcome line = Unit {0}
 
--- the hex files of these names spell the text and the signature
+-- the hex files of these names encode the text and the signature
 pub record AreSpelled (folder : Folder) (text_name sig_name text sig : List ℕ) : Type 0 where
   pub text_is : hex_text_at folder text_name ≡ Ok text
   pub signature_is : hex_text_at folder sig_name ≡ Ok sig
 
 -- what was written of evidence is such a line, of the text and the signature that the files of these
--- names spell
+-- names encode
 abbrev pub WritesReduced : {D : Type 0} → Ghosts D → D → Option Folder → List ℕ → List ℕ →
     Option (List ℕ) → Option (List ℕ) → Result Conclusion Fault → Type 0
 WritesReduced g disk files text_name sig_name old new (Ok Evidence) =

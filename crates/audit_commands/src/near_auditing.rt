@@ -17,7 +17,7 @@ use route_audit::Radii;
 use route_client::NearError;
 use std::alloc::Global;
 
-// How `audit-reach` tells of radii.
+// How `audit-reach` tells of range queries.
 struct RadiusTelling;
 
 impl Telling for RadiusTelling {
@@ -32,7 +32,8 @@ impl Telling for RadiusTelling {
     }
 }
 
-/// Writes what a reply on a radius is evidence of, by the owner's disk and a publication, under a public key and the
+/// Writes what a reply to a range query is evidence of, by the owner's disk and a publication, under a public key
+/// and the
 /// chain of links of a file, where one is named.
 pub fn audit_reach<L: Library, K: Sink, D: Disk>(
     alloc: Global,

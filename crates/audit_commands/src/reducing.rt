@@ -121,7 +121,7 @@ fn find_in<D: Disk>(
     }
 }
 
-/// The front of some octets, where its length is told.
+/// The prefix of some octets, where its length is told.
 fn front(found: Option<u32>, octets: &[u8; 126]) -> Option<&[u8]>
     requires { IfSome found (λ n. n ≤ 126) }
     ensures { option_copied result ≡ option_map (λ n. take n octets.now) found }

@@ -1,4 +1,4 @@
-//! What no clause says: a reply on a radius over a map of five nodes is right, of another
+//! What no clause says: a reply to a range query over a map of five nodes is right, of another
 //! publication, refused, or shows two leaves with one digest.
 ghost use Rattle.std.specs.Prelude.{◌≤◌, length};
 ghost use Rattle.key_desk.specs.Desk.{Fits};

@@ -87,7 +87,7 @@ fn assert_refused(rt: &impl Abort, alloc: Global, octets: &[u8], why: CheckError
     assert_no_answer(rt, alloc, octets, ASKED, 0, why);
 }
 
-// Asserts that a reply with other octets from a place up to another is refused for this reason.
+// Asserts that a reply with other octets from an offset up to another is refused for this reason.
 fn assert_found(
     rt: &impl Abort,
     alloc: Global,
@@ -197,7 +197,7 @@ fn a_broken_route_is_found(rt: HostRuntime) -> Result<(), Fail> {
     assert_broken(&rt, alloc, &reply, (1, 2), 2)
 }
 
-// A count and the digests behind it.
+// A count and the digests after it.
 fn counted(alloc: Global, count: u8, digests: &[u8]) -> Result<Vec<u8>, Fail> {
     spliced(alloc, &[0, 0, 0, count], 4, 4, digests)
 }
@@ -275,7 +275,7 @@ fn signed_answers_of_each_method_are_accepted(rt: HostRuntime) -> Result<(), Fai
     Ok(())
 }
 
-// Asserts that a reply in hex, with others behind its signature up to a place, is judged so.
+// Asserts that a reply in hex, with others after its signature up to an offset, is judged so.
 fn assert_judged(
     rt: &impl Abort,
     alloc: Global,

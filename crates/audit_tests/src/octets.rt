@@ -8,7 +8,7 @@ pub(crate) fn octets_of(alloc: Global, text: &str) -> Result<Vec<u8>, Fail> {
     Ok(hex::decode(alloc, text)?)
 }
 
-/// The octets with others from a place up to another.
+/// The octets with others from an offset up to another.
 pub(crate) fn spliced(
     alloc: Global,
     octets: &[u8],

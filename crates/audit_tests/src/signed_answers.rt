@@ -93,13 +93,13 @@ pub const BORDER_REPLY: &str =
      4352d97750cb1247dcc653817493c5ac2bf27f7b2a175ce10000000122c534900f8945685ecd57d053477f6063f39a\
      30475f5eb0eb9c7734bf01d541";
 
-/// The cover of that pair tree where only its first leaf is chosen, behind its count.
+/// The cover of that pair tree where only its first leaf is chosen, after its count.
 pub const ONE_PAIR_COVER: &str =
     "0000000222c534900f8945685ecd57d053477f6063f39a30475f5eb0eb9c7734bf01d541f892f40994591ea6b9d85c\
      12f26bdbfedc2d6452a8e2c103071bab4859cf6311";
 
 /// Over the five nodes under FULL, version 3: the answer to a query from 1 to 3, the route 1 2 3 with the
-/// leaves of its nodes and of the pair 1, 3, which stands at place 1 of ten.
+/// leaves of its nodes and of the pair 1, 3, which stands at index 1 of ten.
 pub const FULL_REPLY: &str =
     "0052504631020002000000000000000003000000051adff7e4b827b0aea5b991da79e10f3f31e279841406199d0999\
      aa32db8e63ed0000000a50dc530a08b9f7666ebe4e6556ba27ffecd7a1fe70354b2f5c9d4126cf6b45890000000000\

@@ -11,7 +11,7 @@ pub struct Query {
     pub to: u32,
 }
 
-/// Places in a list of leaves, from 0.
+/// Indices in a list of leaves, from 0.
 pub type Places = List<u32>;
 
 /// A list of the leaves of nodes.

@@ -35,7 +35,7 @@ pub(crate) fn book_of<B: MethodBook>(
     B::plan(alloc, map, settings, order.as_slice())
 }
 
-/// Two ends, and what is gathered for them: the ids of the route and of the leaves, and the places
+/// Two ends, and what is gathered for them: the ids of the route and of the leaves, and the indices
 /// of the pairs.
 pub(crate) type Gathered = (u32, u32, &'static [u32], &'static [u32], &'static [u32]);
 
@@ -54,7 +54,7 @@ pub(crate) fn assert_gathered<B: MethodBook>(
     Ok(())
 }
 
-/// Two ends that no walk joins, and what is gathered for them: the ids of the leaves and the places
+/// Two ends that no walk joins, and what is gathered for them: the ids of the leaves and the indices
 /// of the pairs.
 pub(crate) type Apart = (u32, u32, &'static [u32], &'static [u32]);
 

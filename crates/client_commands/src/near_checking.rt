@@ -16,7 +16,7 @@ use road_line::{line_of_refused_near, line_of_within};
 use route_client::{NearError, check_near};
 use std::alloc::Global;
 
-/// Writes what a client says of a reply to a query on a radius, under a public key,
+/// Writes what a client says of a reply to a range query, under a public key,
 /// and along the chain of a file where one is named.
 pub fn check_reach<L: Library, K: Sink>(
     alloc: Global,

@@ -26,7 +26,7 @@ no_book DiskFailed parts s Next build.Memory h = tt
 pub wrong_header : (p : Publication) (Next : Ending) (h : Header) → HasHeader sha256 sha256 p.parts p.settings h → h ≢ p.header → EndsInstalling p Next (Err HeaderWrong) []
 wrong_header p Next h has other = record { made = Ok h; makes = has; follows = inr (other, refl, refl) }
 
--- behind an installing
+-- after an installing
 pub installed : (p : Publication) (Next : Ending) (o : Result Conclusion Fault) (text : List ℕ) → IsInstallable p → Next o text → EndsInstalling p Next o text
 installed p Next o text is h = record { made = Ok p.header; makes = is; follows = inl (refl, h) }
 

@@ -1,4 +1,4 @@
--- Names that were asked for one behind another.
+-- Names that were asked for one after another.
 use Rattle.std.proofs.Common.{◌≡◌, ℕ, ◌≤◌, List, [], ◌∷◌, ◌++◌, length, take, ap, sym, ◌∙◌, append_assoc, arith, refl}
 use Rattle.std.proofs.lemmas.List.{take_at, take_all, length-append}
 use Rattle.command_files.specs.Asking.{AsksFront}

@@ -111,7 +111,7 @@ module _ (E : Ending) (old new : Option (List ℕ)) where
   evidence_is_written : Answered E old new (Ok Evidence) → (text : List ℕ) × E (Ok Evidence) text × Appends old new text
   evidence_is_written h = h
 
-  -- a front of some end's where the sink failed
+  -- a prefix of some end's where the sink failed
   front_is_written : Answered E old new (Err Sink) → (end : Outcome) × (text : List ℕ) × E end text × AppendsFront old new text
   front_is_written h = h
 
@@ -198,7 +198,7 @@ given_is_read read n h = h
 first_fault_ends : (Next : ℕ → Ending) (outcome : Outcome) (text : List ℕ) → EndsReading (Err BadHex) Next outcome text → (outcome ≡ Err BadHex) × (text ≡ [])
 first_fault_ends Next outcome text h = h
 
--- ---- want of memory
+-- ---- out of memory
 
 -- where memory is said to be short, no fault was counted
 abbrev short : Outcome

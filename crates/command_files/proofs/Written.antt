@@ -73,7 +73,7 @@ module _ (Ends : Folder → Ending) (Tells : Fault → Type 0) (DiskFailed : Typ
   nothing : IfSome files (λ folder. Unit {0})
   nothing = over_any files (λ folder. Unit {0}) (λ folder. tt)
 
-  -- want of memory
+  -- out of memory
   pub no_memory : Promises Ends Tells DiskFailed files l l' old old k k' (Err Memory)
   no_memory = record {
     answered = nothing;

@@ -8,7 +8,7 @@ abbrev pub if_named : Option (List ℕ) → List (List ℕ)
 if_named None = []
 if_named (Some name) = name ∷ []
 
--- a front of these names was asked for, in their order, and no other name
+-- a prefix of these names was asked for, in their order, and no other name
 pub record AsksFront (names before now : List (List ℕ)) : Type 0 where
   pub n : ℕ
   pub within : n ≤ length names

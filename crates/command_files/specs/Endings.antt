@@ -22,8 +22,8 @@ EndsReading read Next outcome text = MatchResult read (λ x. Next x outcome text
     (λ first. (outcome ≡ Err first) × (text ≡ []))
 
 -- Ends says with which outcome the files let a command end, and which text it then writes. The
--- outcome is such a one, or want of memory, or the library's or the disk's failure, and the sink
--- has taken its text, or a front of such a text where it failed. Where a mirror was lost, the sink
+-- outcome is such a one, or out of memory, or the library's or the disk's failure, and the sink
+-- has taken its text, or a prefix of such a text where it failed. Where a mirror was lost, the sink
 -- has taken all of the text of work that was done. Only ends that name unknown nodes or no route,
 -- or a fault of frames or of their source, may have a text beside a fault.
 abbrev pub Answered : Ending → Option (List ℕ) → Option (List ℕ) → Result Conclusion Fault → Type 0
@@ -100,7 +100,7 @@ NoEnd outcome text = ⊥
 
 -- ---- what functions give of it
 
--- a command's work behind its files was not done, as its ends say, unless memory ran out or the
+-- a command's work after its files was not done, as its ends say, unless memory ran out or the
 -- disk failed
 abbrev pub WhyNot : Type 0 → Ending → Fault → Type 0
 WhyNot DiskFailed Ends Memory = Unit {0}

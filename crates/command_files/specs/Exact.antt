@@ -15,7 +15,7 @@ pub record NoneFailed (library_before library_now sink_before sink_now disk_befo
   pub sink_stays : ¬ Rose sink_before sink_now
   pub disk_stays : ¬ Rose disk_before disk_now
 
--- but for want of memory, the outcome is one that the files call for, and they call for no other
+-- unless memory runs out, the outcome is one that the files call for, and they call for no other
 pub record IsExact (Ends : Ending) (outcome : Result Conclusion Fault) : Type 0 where
   pub called_for : outcome ≢ Err Memory → (text : List ℕ) × Ends outcome text
   pub only_one : (other : Result Conclusion Fault) (text : List ℕ) → outcome ≢ Err Memory →

@@ -44,7 +44,7 @@ parts_in (Err fault) = Err fault
 abbrev pub parts_at : Folder → List ℕ → Result Parts Fault
 parts_at folder name = parts_in (octets_at folder name)
 
--- what octets spell, or the place of the first field that can't be read
+-- what octets encode, or the offset of the first field that can't be read
 abbrev pub as_spelled : {X : Type 0} → Result X ℕ → Result X Fault
 as_spelled (Ok x) = Ok x
 as_spelled (Err at) = Err (Malformed at)
@@ -53,7 +53,7 @@ abbrev pub spelled_in : {X : Type 0} → Format X → Result (List ℕ) Fault �
 spelled_in format (Ok text) = as_spelled (whole format text)
 spelled_in format (Err fault) = Err fault
 
--- the publication that the file of this name spells
+-- the publication that the file of this name encodes
 abbrev pub publication_at : Folder → List ℕ → Result Publication Fault
 publication_at folder name = spelled_in publication (octets_at folder name)
 

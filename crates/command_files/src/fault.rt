@@ -9,7 +9,7 @@ use thiserror::Error;
 /// Why a run did not do its work. No variant holds a `Memory` of an error inside it.
 #[derive(Clone, Copy, Debug, PartialEq, Eq, Error)]
 pub enum Fault {
-    /// The words fit no command.
+    /// The arguments fit no command.
     #[error("The words fit no command.")]
     Words,
     /// A file isn't there.
@@ -30,8 +30,8 @@ pub enum Fault {
     /// The first reason why settings and a map have no book.
     #[error("{0}")]
     Plan(PlanError),
-    /// A publication file or a chain file spells none: the place of its first field that can't be read.
-    #[error("The file can't be read from place {0} on.")]
+    /// A publication file or a chain file encodes none: the offset of its first field that can't be read.
+    #[error("The file can't be read from offset {0} on.")]
     Malformed(u32),
     /// A publication's header is not that of its map and settings.
     #[error("The publication's header is not that of its map and settings.")]
@@ -63,8 +63,8 @@ pub enum Fault {
     /// All one-time keys of the owner's key were used.
     #[error("The owner's key has no one-time key left.")]
     KeysUsedUp,
-    /// No memory was found.
-    #[error("There is not enough memory.")]
+    /// Out of memory.
+    #[error("Out of memory.")]
     Memory,
     /// The first of the two ends that is no node of the map.
     #[error("The map has no node {0}.")]
@@ -90,7 +90,7 @@ pub enum Fault {
     /// A key of this secret stands on the disk.
     #[error("The owner's disk holds a key of this secret already.")]
     SameSecret,
-    /// The input goes on behind 1,000,000 frames.
+    /// The input goes on after 1,000,000 frames.
     #[error("The input has more than 1,000,000 frames.")]
     TooManyFrames,
     /// An accepted reply is of another publication of the owner's than the one at hand.

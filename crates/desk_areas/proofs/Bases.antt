@@ -6,7 +6,7 @@ use Rattle.desk_areas.specs.Layout.{place_in, base_of}
 use Rattle.desk_areas.specs.Reading.{IsLaidOut}
 use Rattle.desk_areas.proofs.Areas.{base_next}
 
--- an element is the one at its place
+-- an element is the one at its offset
 pub item_at : (areas : List AreaView) (i : ℕ) (item : AreaView) → i < length areas → item ≡ get_or areas i item → item ≡ area_in areas i
 item_at areas i item lt is = is ∙ get_or_default areas i item no_area lt
 

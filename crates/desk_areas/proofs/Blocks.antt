@@ -21,7 +21,7 @@ cleared zeros c are first some = record {
         let there : get_or (written 1 zeros c) (suc k) 0 ≡ get_or zeros k 0 = grind (arith, places) in
         there ∙ here
 
--- a key block, written behind the gate at a base
+-- a key block, written after the gate at a base
 module _ (base : ℕ) (block d : List ℕ) (size : length block ≡ 52) (fits : base + 53 ≤ length d) where
   inside : take 52 (drop (base + 1) (written (base + 1) block d)) ≡ block
   inside = subst (λ (n : ℕ). take n (drop (base + 1) (written (base + 1) block d)) ≡ block) size (written_inside (base + 1) block d (omega arith))

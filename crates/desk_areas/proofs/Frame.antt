@@ -38,7 +38,7 @@ module _ (from to : ℕ) (d i : List ℕ) (outside : AgreesOutside from to d i) 
       let f : get_or i (base + 4) 0 ≡ get_or d (base + 4) 0 = outside.same (base + 4) (elim apart [ inl before ↦ inl (omega arith) | inr after ↦ inr (omega arith) ]) in
       cc
 
--- the text behind a gate stays where only the gate changes
+-- the text after a gate stays where only the gate changes
 pub text_behind : (p : ℕ) (d i : List ℕ) → AgreesOutside p (p + 1) d i → text_at i p ≡ text_at d p
 text_behind p d i h =
     let len : get_or i (p + 1) 0 ≡ get_or d (p + 1) 0 = h.same (p + 1) (inr (omega arith)) in

@@ -1,4 +1,4 @@
--- What a change behind all open areas leaves of an image: the zeros and the key block of a new area.
+-- What a change after all open areas leaves of an image: the zeros and the key block of a new area.
 use Rattle.std.proofs.Common.{◌≡◌, ℕ, zero, suc, ◌+◌, ◌-◌, ◌<◌, ◌≤◌, min, List, length, get_or, take, drop, arith, inl, inr, sym, ◌∙◌, ap, subst, length-take, length-drop}
 use Rattle.std.proofs.lemmas.Bool.{cases_lt}
 use Rattle.std.proofs.lemmas.List.{ext_get_or, get_or-take, get_or-drop}
@@ -108,7 +108,7 @@ module _ (end : ℕ) (d i : List ℕ) (front : SameFront end d i) (current : ℕ
   front_open (suc area) le is_open =
       next_open i area (front_open area (omega arith) (open_before d area is_open)) (front_link area (omega arith) (open_link d area is_open)) (open_few d area is_open)
 
--- an open area is not behind the current one
+-- an open area is not after the current one
 pub open_upto : (image : List ℕ) (current area : ℕ) → IsCurrent image current → IsAreaOpen image area → area ≤ current
 open_upto image current area is is_open = elim (cases_lt current area) [
   | inl later ↦ absurd (is.no_later (open_down image (suc current) area later is_open))

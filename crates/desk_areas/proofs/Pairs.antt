@@ -23,7 +23,7 @@ text_signs_nothing slot from to d i low high known shut h =
       },
     )
 
--- an opened gate signs the text behind it at most
+-- an opened gate signs the text after it at most
 module _ (slot : SlotId) (text d i : List ℕ) (known : slot.number < slots_at d (base_of d slot.area)) (shut : gate_of d slot ≡ 0) (text_is : text_of d slot ≡ text) (h : AgreesOutside (place_of d slot) (place_of d slot + 1) d i) where
   pub gate_outside : OutsideSlot slot d i
   gate_outside = widen (place_of d slot) (place_of d slot + 1) (place_of d slot) (place_of d slot + 128) d i (omega arith) (omega arith) h

@@ -1,4 +1,4 @@
--- A slot's text, from the octets behind its gate.
+-- A slot's text, from the octets after its gate.
 use Rattle.std.proofs.Common.{◌≡◌, ℕ, ◌+◌, min, List, get_or, take, drop, arith, sym, ◌∙◌, ap}
 use Rattle.std.proofs.lemmas.List.{get_or-take, get_or-drop, drop-take, drop-drop, take-take}
 use Rattle.desk_areas.specs.Layout.{text_at}

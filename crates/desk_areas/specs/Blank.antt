@@ -14,7 +14,7 @@ pub record IsZero (from size : ℕ) (image : List ℕ) : Type 0 where
   pub long : from + size ≤ length image
   pub zero : (k : ℕ) → from ≤ k → k < from + size → get_or image k 0 ≡ 0
 
--- the image has this key's whole block at a base, and behind its 53 octets zeros to the area's end:
+-- the image has this key's whole block at a base, and after its 53 octets zeros to the area's end:
 -- no slot is spent
 pub record IsBlankArea (key : KeyOf) (base : ℕ) (image : List ℕ) : Type 0 where
   pub block : HasKey key base image

@@ -1,6 +1,6 @@
 -- The octets of an owner's disk. An area is a key block of 64 octets and then the key's slots of
 -- 128 octets, and the next area begins where it ends. The last slot of an area signs the key of the
--- next one. All places within an area are counted from its base. A disk with one key has one area,
+-- next one. All offsets within an area are counted from its base. A disk with one key has one area,
 -- at base 0.
 use Rattle.std.specs.Prelude.{◌≡◌, ◌⊎◌, ℕ, zero, suc, ◌+◌, ◌-◌, ◌*◌, ◌<◌, ◌≤◌, ◌==◌, min, List, length, get_or, take, drop, if◌then◌else◌}
 use Rattle.std.specs.List.{count_by, range_with_len}
@@ -15,25 +15,25 @@ pub record SlotId : Type 0 where
 unfoldable pub slots_of : ℕ → ℕ
 slots_of kind = if kind == 5 then 32 else (if kind == 6 then 1024 else 0)
 
--- where a slot of the area at a base begins, and behind its last slot where the area ends
+-- where a slot of the area at a base begins, and after its last slot where the area ends
 abbrev pub place_in : ℕ → ℕ → ℕ
 place_in base number = base + 64 + 128 * number
 
--- the gate at a place
+-- the gate at an offset
 abbrev pub gate_at : List ℕ → ℕ → ℕ
 gate_at image place = get_or image place 0
 
--- the text of the slot at a place: as many octets as its length octet says, and 126 at most
+-- the text of the slot at an offset: as many octets as its length octet says, and 126 at most
 abbrev pub text_at : List ℕ → ℕ → List ℕ
 text_at image place = take (min (get_or image (place + 1) 0) 126) (drop (place + 2) image)
 
--- the kind that the key block at a base names, four octets behind its gate
+-- the kind that the key block at a base names, four octets after its gate
 abbrev pub kind_at : List ℕ → ℕ → ℕ
 kind_at image base =
     ((get_or image (base + 1) 0 * 256 + get_or image (base + 2) 0) * 256 + get_or image
     (base + 3) 0) * 256 + get_or image (base + 4) 0
 
--- I and SEED, 48 octets behind the kind
+-- I and SEED, 48 octets after the kind
 abbrev pub secret_at : List ℕ → ℕ → List ℕ
 secret_at image base = take 48 (drop (base + 5) image)
 

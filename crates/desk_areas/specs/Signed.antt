@@ -52,7 +52,7 @@ unfoldable pub signed_before : List ℕ → ℕ → List (SlotId × List ℕ)
 signed_before image zero = []
 signed_before image (suc area) = signed_before image area ++ signed_in image area
 
--- the pairs that are signed in an image, by area and slot: none behind a closed key gate or under
+-- the pairs that are signed in an image, by area and slot: none after a closed key gate or under
 -- an unknown kind
 abbrev pub signed : List ℕ → List (SlotId × List ℕ)
 signed image = signed_before image 8

@@ -20,8 +20,8 @@ pub enum StartError {
     /// The disk failed.
     #[error("The disk failed.")]
     DiskFault,
-    /// No memory was found.
-    #[error("No memory was found.")]
+    /// Out of memory.
+    #[error("Out of memory.")]
     Memory,
 }
 

@@ -10,7 +10,7 @@ ghost use Rattle.desk_areas.specs.Reading.{IsLaidOut, FindsIn, FindsEarlier};
 use crate::area::{Area, Count, place_in};
 use road_io::{Disk, Failed};
 
-// Whether the slot at this place has this text.
+// Whether the slot at this offset has this text.
 fn has_text<D: Disk>(disk: &mut D, place: u64, text: &[u8]) -> Result<bool, Failed>
     requires within { ForSome (D.content disk.old) (λ c. place + 128 ≤ length c) }
     requires place { place < 2 ^ 63 }
@@ -93,7 +93,7 @@ pub fn find_earlier<D: Disk>(areas: &[Area], disk: &mut D, text: &[u8]) -> Resul
     Ok(false)
 }
 
-/// Reads the text of the slot at this place, and answers how many octets of what it has put there are the text.
+/// Reads the text of the slot at this offset, and answers how many octets of what it has put there are the text.
 pub fn read_text<D: Disk>(disk: &mut D, place: u64, into: &mut [u8; 126]) -> Result<u32, Failed>
     requires within { ForSome (D.content disk.old) (λ c. place + 128 ≤ length c) }
     requires place { place < 2 ^ 63 }

@@ -99,7 +99,7 @@ fn close<D: Disk>(disk: &mut D) -> Result<(), Failed>
     put(disk, 0, &[0])
 }
 
-/// Zeros over a new area behind all others.
+/// Zeros over a new area after all others.
 pub fn clear_next<D: Disk>(disk: &mut D, base: u64, zeros: &[u8]) -> Result<(), Failed>
     requires within { EachImage D.Disk disk.old (λ i. base ≤ length i) }
     requires zeros { zeros.now ≡ replicate (length zeros.now) 0 }

@@ -46,7 +46,7 @@ fn read_block<D: Disk>(disk: &mut D, base: u64) -> Result<Block, Failed>
     Ok(Block { kind, secret })
 }
 
-/// Whether the gate at a place is open.
+/// Whether the gate at an offset is open.
 pub fn read_gate<D: Disk>(disk: &mut D, place: u64) -> Result<bool, Failed>
     requires { ForSome (D.content disk.old) (λ c. place + 1 ≤ length c) }
     ensures shut { IfOk result (λ b. b ≡ false →
@@ -97,7 +97,7 @@ fn read_gates<D: Disk>(
     Ok(counts)
 }
 
-// The key that the slot at this place names, if its text is a link text.
+// The key that the slot at this offset names, if its text is a link text.
 fn read_link<D: Disk>(disk: &mut D, place: u64) -> Result<Option<[u8; 56]>, Failed>
     requires within { ForSome (D.content disk.old) (λ c. place + 128 ≤ length c) }
     requires low { place < 2 ^ 63 }
@@ -261,7 +261,7 @@ pub struct Found {
     pub link: Option<[u8; 56]>,
 }
 
-/// The area behind some that were read, and its link. It can be used, or else the block is bad.
+/// The area after some that were read, and its link. It can be used, or else the block is bad.
 pub fn read_next<D: Disk>(
     alloc: Global,
     disk: &mut D,

@@ -43,7 +43,7 @@ pub(crate) fn put<D: Disk>(disk: &mut D, at: u64, octets: &[u8]) -> Result<(), F
     disk.sync()
 }
 
-/// Puts the length octet and a text behind the gate of the slot at this place, and answers them.
+/// Puts the length octet and a text after the gate of the slot at this offset, and answers them.
 pub fn put_text<D: Disk>(disk: &mut D, place: u64, text: &[u8]) -> Result<[u8; 127], Failed>
     requires within { EachImage D.Disk disk.old (λ i. place + 128 ≤ length i) }
     requires place { place < 2 ^ 63 }
@@ -63,7 +63,7 @@ pub fn put_text<D: Disk>(disk: &mut D, place: u64, text: &[u8]) -> Result<[u8; 1
     Ok(piece)
 }
 
-/// Opens the gate of the slot at this place.
+/// Opens the gate of the slot at this offset.
 pub fn open_gate<D: Disk>(disk: &mut D, place: u64) -> Result<(), Failed>
     requires within { EachImage D.Disk disk.old (λ i. place + 128 ≤ length i) }
     ensures moments { AtEachMoment D.Disk disk.old disk.new (AgreesOutside place (place + 1)) }

@@ -34,7 +34,7 @@ abbrev slot_in : ℕ → ℕ → SlotId
 slot_in area number = record { area = area; number = number - 1 }
 
 module _ {D : Type 0} (g : Ghosts D) (desk : Desk) (disk : D) (fits : Fits g desk disk) where
-  -- the link text of the area behind an area is signed in its last slot
+  -- the link text of the area after an area is signed in its last slot
   in_last : (a : ℕ) → a < length desk.earlier → EachImage g disk (λ i. IsSigned i (record { area = a; number = slots_of (key_of desk a).kind - 1 }) (link_text (public_key (key_of desk (suc a)))))
   in_last a lt i now =
       let areas = fits.areas i now in
@@ -69,7 +69,7 @@ both : (n : ℕ) (v : Result (Unit {0}) SealError) (r : Result (Unit {0}) (ℕ �
 both n (Ok _) r so = (refl, so)
 both n (Err why) r so = absurd cc
 
--- the key before a link, behind the first link
+-- the key before a link, after the first link
 before_next : (key : List ℕ) (first : Link) (links : List Link) (n : ℕ) → key_before key (first ∷ links) (suc n) ≡ key_before first.key links n
 before_next key first links zero = refl
 before_next key first links (suc n) = refl

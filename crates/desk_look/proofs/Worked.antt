@@ -64,7 +64,7 @@ module _ (key header signature : List ℕ) (one two : Link) where
     first_comes_first : (f : Forgery) → (h : IsForgedLink look key chain f) → h.number ≡ 1 → look.Signed (link_text one.key)
     first_comes_first f h is = h.before 0 (omega (arith, is))
 
-    -- no link behind the last is found
+    -- no link after the last is found
     none_behind : (f : Forgery) → (h : IsForgedLink look key chain f) → h.number ≤ 1
     none_behind f h = omega (arith, h.known)
 

@@ -9,7 +9,7 @@ pub enum LookError {
     /// The desk could not say what it has signed, for this reason.
     #[error("{0}")]
     Desk(DeskError),
-    /// No memory was found.
-    #[error("No memory was found.")]
+    /// Out of memory.
+    #[error("Out of memory.")]
     Memory,
 }

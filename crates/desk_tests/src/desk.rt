@@ -93,7 +93,7 @@ fn publish_map(alloc: Global, world: &mut World) -> End {
     )
 }
 
-/// Pieces of a text, one behind the other.
+/// Pieces of a text, one after the other.
 fn joined(alloc: Global, pieces: &[&[u8]]) -> Result<Vec<u8>, Fail> {
     let mut text = Vec::new(alloc);
     for piece in pieces {

@@ -116,7 +116,7 @@ fn assert_shows(
     )
 }
 
-/// The first place at which the digits of a text are below those of another that the first slot has
+/// The first index at which the digits of a text are below those of another that the first slot has
 /// signed.
 fn first_below(text: &[u8], own: &[u8]) -> usize {
     let c = randomiser(&[0; 16], 0, &[0; 32]);

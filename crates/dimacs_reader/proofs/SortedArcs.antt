@@ -1,4 +1,4 @@
--- Places of arcs among sorted arcs, and how many are left there.
+-- Indices of arcs among sorted arcs, and how many are left there.
 use Rattle.std.proofs.Common.{◌≡◌, ℕ, ◌+◌, ◌-◌, ◌<◌, ◌≤◌, ◌==◌, ◌&&◌, ◌||◌, nat_eq, nat_lt, Bool, true, false, cond, Option, None, Some, IsSome, is_some, List, ◌⊎◌, inl, inr, length, get_or, set, take, count_by, refl, arith, ap, sym, ◌∙◌, subst, get_or-set_other, get_or-set_same}
 use Rattle.std.proofs.lemmas.List.{get_or_default, length-take}
 use Rattle.std.specs.List.{position, position_or_len}
@@ -77,14 +77,14 @@ module _ (xs : List Arc) (sorted : AreSorted xs) (arc : Arc) where
       | inr ge ↦ with_it arc (get_or xs k d) ∙ high (rank arc (get_or xs place d)) (rank arc (get_or xs k d)) (point.1 place d (omega arith) within) (sym (with_it arc (get_or xs place d)) ∙ other) (ranks_rise place k d ge lt)
     ])
 
--- what stands at the place of an arc
+-- what stands at the index of an arc
 stands : (xs : List Arc) (arc : Arc) (k : ℕ) → place_in xs arc ≡ Some k → (k < length xs) × (is_arc arc (get_or xs k arc) ≡ true)
 stands xs arc k h = let p = position-Some (is_arc arc) xs k arc h in (p.0, p.1)
 
 pub within_arcs : (xs : List Arc) (arc : Arc) (k : ℕ) → Some k ≡ place_in xs arc → k < length xs
 within_arcs xs arc k h = (stands xs arc k (sym h)).0
 
--- an arc of the list has a place
+-- an arc of the list has an index
 pub has_place : (xs : List Arc) (i : ℕ) (arc : Arc) → i < length xs → arc ≡ get_or xs i arc → IsSome (place_in xs arc)
 has_place xs i arc within at = placed (position_or_len (is_arc arc) xs) refl
   where
@@ -104,7 +104,7 @@ not_it : (b : Bool) → (b ≡ true → ⊥) → b ≡ false
 not_it true h = absurd (h refl)
 not_it false h = refl
 
--- a number changes at the place of an arc
+-- a number changes at the index of an arc
 pub left_turn : (xs : List Arc) (left : List ℕ) (arc : Arc) (k count : ℕ) → length left ≡ length xs → Some k ≡ place_in xs arc → (other : Arc) → left_of xs (set left k count) other ≡ cond (is_arc arc other) count (left_of xs left other)
 left_turn xs left arc k count long at other = by_place (place_in xs other) refl
   where
@@ -127,7 +127,7 @@ left_turn xs left arc k count long at other = by_place (place_in xs other) refl
           get_or-set_other left k p count 0 ne ∙ sym (ap (λ b. cond b count (get_or left p 0)) (not_it (is_arc arc other) (λ t. let eq : Some p ≡ Some k = sym e ∙ same_place t in let number : p ≡ k = cc in ne number))))
     ]
 
--- one more at the place of an arc
+-- one more at the index of an arc
 pub one_more : (xs : List Arc) (left : List ℕ) (arc : Arc) (k index : ℕ) → length left ≡ length xs → Some k ≡ place_in xs arc → index < length xs → arc ≡ get_or xs index arc → ((other : Arc) → left_of xs left other ≡ count_by (is_arc other) (take index xs)) → (other : Arc) → left_of xs (set left k (get_or left k 0 + 1)) other ≡ count_by (is_arc other) (take (index + 1) xs)
 one_more xs left arc k index long at within is so_far other =
     left_turn xs left arc k (get_or left k 0 + 1) long at other
@@ -149,7 +149,7 @@ one_more xs left arc k index long at within is so_far other =
 pub same_counts : (xs ys : List Arc) → IsPermutation xs ys → (arc : Arc) → count_by (is_arc arc) ys ≡ count_by (is_arc arc) xs
 same_counts xs ys h arc = sum_by-IsPermutation (λ (x : Arc). cond (is_arc arc x) 1 0) xs ys h
 
--- one less at the place of the arc back
+-- one less at the index of the arc back
 pub takes_back : (xs : List Arc) (left : List ℕ) (arc : Arc) (k : ℕ) → length left ≡ length xs → Some k ≡ place_in xs (turned arc) → 0 < get_or left k 0 → TakesBack (left_of xs left) (left_of xs (set left k (get_or left k 0 - 1))) arc
 takes_back xs left arc k long at some other apart =
     ap (λ n. n + cond (is_arc (turned other) arc) 1 0) (left_turn xs left (turned arc) k (get_or left k 0 - 1) long at other) ∙ by_test (is_arc (turned arc) other) refl
@@ -165,7 +165,7 @@ takes_back xs left arc k long at some other apart =
     by_test false t =
         ap (λ b. cond b (get_or left k 0 - 1) (left_of xs left other) + cond (is_arc (turned other) arc) 1 0) t ∙ (ap (λ b. left_of xs left other + cond b 1 0) (turns other arc ∙ t) ∙ omega arith)
 
--- that a place says how many are left
+-- that an index says how many are left
 pub at_place : (xs : List Arc) (left : List ℕ) (arc : Arc) (k : ℕ) → Some k ≡ place_in xs arc → left_of xs left arc ≡ get_or left k 0
 at_place xs left arc k at = sym (ap (left_at left) at)
 

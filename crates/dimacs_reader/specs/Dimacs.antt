@@ -110,7 +110,7 @@ unfoldable pub placed_twice : ℕ → List Node → Option ℕ
 placed_twice nodes places = find (λ id. nat_lt 1 (count_by (λ node. node.id == id) places))
     (range_with_len 1 nodes)
 
--- the place of each of so many ids, by rising id
+-- the place of each of so many ids, by ascending id
 unfoldable pub nodes_of : ℕ → List Node → List Node
 nodes_of nodes places = filter_map (λ id. find (λ node. node.id == id) places)
     (range_with_len 1 nodes)

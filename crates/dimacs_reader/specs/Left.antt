@@ -1,4 +1,4 @@
--- How many arcs are left, by the places of sorted arcs.
+-- How many arcs are left, by the indices of sorted arcs.
 use Rattle.std.specs.Prelude.{◌≡◌, ◌≢◌, ℕ, ◌+◌, ◌==◌, ◌||◌, nat_lt, Bool, if◌then◌else◌, Option, None, Some, List, get_or}
 use Rattle.std.specs.List.{position}
 use Rattle.std.specs.List.Sorted.{IsSortedByKey}
@@ -17,7 +17,7 @@ three_cmp x y = ordering_then (ordering_then (nat_cmp x.0 y.0) (nat_cmp x.1 y.1)
 abbrev pub AreSorted : List Arc → Type 0
 AreSorted arcs = IsSortedByKey three_of three_cmp arcs
 
--- where an arc stands against another: 0 before it, 1 with it, 2 behind it
+-- where an arc stands against another: 0 before it, 1 with it, 2 after it
 abbrev pub rank : Arc → Arc → ℕ
 rank arc other = ordering_index (three_cmp (three_of other) (three_of arc))
 
@@ -25,16 +25,16 @@ rank arc other = ordering_index (three_cmp (three_of other) (three_of arc))
 abbrev pub precedes : Arc → Arc → Bool
 precedes arc other = nat_lt (rank arc other) 1
 
--- the first place of an arc, if it stands in the list
+-- the first index of an arc, if it stands in the list
 abbrev pub place_in : List Arc → Arc → Option ℕ
 place_in arcs arc = position (is_arc arc) arcs
 
--- how many are left at a place that may be there
+-- how many are left at an index that may be there
 abbrev pub left_at : List ℕ → Option ℕ → ℕ
 left_at left None = 0
 left_at left (Some place) = get_or left place 0
 
--- how many arcs like this one are left: each number stands at the first place of its arc
+-- how many arcs like this one are left: each number stands at the first index of its arc
 abbrev pub left_of : List Arc → List ℕ → Arc → ℕ
 left_of arcs left arc = left_at left (place_in arcs arc)
 

@@ -37,7 +37,7 @@ pub enum DimacsError {
     /// The least index, from 0, of an arc between two nodes for which no arc back is left.
     #[error("The arc at index {0} has no arc back of the same length.")]
     Unpaired(u32),
-    /// No memory was found.
+    /// Out of memory.
     #[error("There is not enough memory to read the two files.")]
     Memory,
 }

@@ -10,7 +10,7 @@ use crate::error::DimacsError;
 use road_map::Road;
 use std::alloc::{AllocError, Global};
 
-/// Arcs by rising ends and lengths.
+/// Arcs by ascending ends and lengths.
 fn sorted_arcs(alloc: Global, arcs: &[Arc]) -> Result<Vec<Arc>, AllocError>
     ensures sorted { IfOk result (λ sorted. AreSorted sorted.items) }
     ensures same { IfOk result (λ sorted. IsPermutation arcs.now sorted.items) }
@@ -36,7 +36,7 @@ fn is_arc(arc: Arc, other: Arc) -> bool
     arc.from == other.from && arc.to == other.to && arc.length == other.length
 }
 
-/// The first place of an arc among sorted arcs.
+/// The first index of an arc among sorted arcs.
 fn place_in(sorted: &[Arc], arc: Arc) -> Option<usize>
     requires { AreSorted sorted.now }
     ensures { result ≡ place_in sorted.now arc }
@@ -62,7 +62,7 @@ fn zeros(alloc: Global, count: usize) -> Result<Vec<u32>, AllocError>
     vec![in alloc; 0; count]
 }
 
-/// One more at a place.
+/// One more at an index.
 fn add_one(left: &mut Vec<u32>, place: usize)
     requires within { place < length left.old.items }
     requires room { get_or left.old.items place 0 + 1 < 2 ^ 32 }
@@ -71,7 +71,7 @@ fn add_one(left: &mut Vec<u32>, place: usize)
     left[place] += 1;
 }
 
-/// How many of each arc there are, at its first place among sorted arcs.
+/// How many of each arc there are, at its first index among sorted arcs.
 fn count_arcs(alloc: Global, sorted: &[Arc]) -> Result<Vec<u32>, AllocError>
     requires few { length sorted.now < 2 ^ 32 }
     requires sorted { AreSorted sorted.now }
@@ -87,7 +87,7 @@ fn count_arcs(alloc: Global, sorted: &[Arc]) -> Result<Vec<u32>, AllocError>
     Ok(left)
 }
 
-/// One less at a place, and answers whether one was left.
+/// One less at an index, and answers whether one was left.
 fn take_one(left: &mut Vec<u32>, place: usize) -> bool
     requires { place < length left.old.items }
     ensures some { result ≡ nat_lt 0 (get_or left.old.items place 0) }

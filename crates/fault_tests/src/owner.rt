@@ -26,7 +26,7 @@ const KIND: KeyKind = KeyKind::H5;
 pub(crate) enum Command {
     /// Makes the key of the zeros.
     Key,
-    /// Makes the key of the ones behind it.
+    /// Makes the key of the ones after it.
     Succeed,
     /// Publishes the map of five nodes in this version.
     Publish(u64),

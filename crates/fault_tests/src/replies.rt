@@ -16,7 +16,7 @@ const FIELDS: [usize; 36] = [
     4, 2, 31, 4, 4, 32, 4,
 ];
 
-/// The first octets of the reply, so many, are refused as malformed at this place.
+/// The first octets of the reply, so many, are refused as malformed at this offset.
 fn is_malformed(
     rt: &impl Abort,
     alloc: Global,

@@ -47,7 +47,7 @@ fn is_open(image: &[u8], command: Command) -> bool {
     image.len() >= 64 && matches!(image.get(gate_of(command)), Some(1..))
 }
 
-/// Publishes over an image, by a slot of the area that begins at this place, which was free.
+/// Publishes over an image, by a slot of the area that begins at this offset, which was free.
 fn publishes(rt: &impl Abort, alloc: Global, image: &[u8], area: u16) -> Result<(), Fail> {
     let mut disk = disk_of(alloc, image, MANY)?;
     let publication = done(rt, alloc, &mut disk, PUBLISH)?;

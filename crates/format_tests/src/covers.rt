@@ -111,7 +111,7 @@ fn root_and_cover<H: Hasher>(
     Ok((tree.root(), cover))
 }
 
-// Compares what the first four texts fold to at these places of five.
+// Compares what the first four texts recompute at these indices of five.
 fn assert_folds<H: Hasher>(
     rt: &impl Abort,
     fan: u8,
@@ -123,7 +123,7 @@ fn assert_folds<H: Hasher>(
     assert_same(rt, &folded::<H>(rt, fan, places, &texts, cover), &wanted);
 }
 
-// What the cover of the first four of five leaves is, and what it folds to.
+// What the cover of the first four of five leaves is, and what it recomputes.
 fn covers_and_folds<H: Hasher>(
     rt: &impl Abort,
     alloc: Global,
@@ -152,7 +152,7 @@ fn covers_of_five_leaves_fold_to_the_root(rt: HostRuntime) -> Result<(), Fail> {
     covers_and_folds::<Toy>(&rt, alloc, 3, toy_digest(103), toy_digest(191))
 }
 
-// The root that the second and the fourth of five leaves fold to, and the tree's: the example of the
+// The root that the second and the fourth of five leaves recompute, and the tree's: the example of the
 // crate `merkle_cover`.
 fn second_and_fourth(rt: &impl Abort, alloc: Global) -> Result<(Digest32, Digest32), Fail> {
     let leaves = five_leaves(alloc)?;
@@ -196,7 +196,7 @@ fn a_tree_of_one_leaf_has_its_digest(rt: HostRuntime) -> Result<(), Fail> {
     Ok(())
 }
 
-// The clash of a tree with what folds to its root.
+// The clash of a tree with what recomputes its root.
 fn clash_of(
     rt: &impl Abort,
     alloc: Global,
@@ -228,7 +228,7 @@ fn is_root(digest: &Result<Digest32, FoldError>, root: &Digest32) -> bool
     }
 }
 
-// The clash of the sums of five leaves with two texts at the places of the second and the fourth.
+// The clash of the sums of five leaves with two texts at the indices of the second and the fourth.
 fn clash_with(rt: &impl Abort, alloc: Global, cuts: &[Cut]) -> Result<Option<TwoTexts>, Fail> {
     let leaves = five_leaves(alloc)?;
     let tree = Tree::<Toy>::build(alloc, &leaves, 2)?;

@@ -20,7 +20,7 @@ const HEADER: [u8; 104] = [
     0x22, 0x22, 0, 0, 0, 0, 0, 0, 0, 0x02, 0, 0, 0, 0, 0, 0, 0, 0x02,
 ];
 
-// The route 1 3: nodes 1 and 3 at places 0 and 4, their pair at place 1, and one digest of the node
+// The route 1 3: nodes 1 and 3 at indices 0 and 4, their pair at index 1, and one digest of the node
 // cover.
 const REPLY: [u8; 251] = [
     0, 0x52, 0x50, 0x46, 0x31, 0x04, 0x03, 0x04, 0, 0, 0, 0, 0, 0, 0, 0, 0x07, 0, 0, 0, 0x05, 0x11,
@@ -67,7 +67,7 @@ const WRITTEN: Header = Header {
     },
 };
 
-// The octets with another octet at a place.
+// The octets with another octet at an offset.
 fn changed(alloc: Global, octets: &[u8], place: usize, octet: u8) -> Result<Vec<u8>, Fail> {
     let mut other = octets.to_vec(alloc)?;
     if place < other.len() {
@@ -76,7 +76,7 @@ fn changed(alloc: Global, octets: &[u8], place: usize, octet: u8) -> Result<Vec<
     Ok(other)
 }
 
-// The place of the first field of a reply that can't be read.
+// The offset of the first field of a reply that can't be read.
 fn bad_place(alloc: Global, octets: &[u8]) -> Option<u32> {
     if octets.len() > 1000 {
         return None;
@@ -99,7 +99,7 @@ fn a_header_has_one_octet_for_each_place(rt: HostRuntime) {
     assert_same(&rt, &longer, &Err(Malformed { at: 104 }));
 }
 
-// The header with another octet at a place can't be read from a place on.
+// The header with another octet at an offset can't be read from an offset on.
 fn assert_unread(
     rt: &impl Abort,
     alloc: Global,
@@ -156,7 +156,7 @@ fn cut_replies_are_named_by_their_place(rt: HostRuntime) {
     assert_same(&rt, &bad_place(alloc, &REPLY[..140]), &Some(132));
 }
 
-// The reply with another octet at a place can't be read from a place on.
+// The reply with another octet at an offset can't be read from an offset on.
 fn assert_bad(
     rt: &impl Abort,
     alloc: Global,
@@ -233,7 +233,7 @@ fn assert_answer(rt: &impl Abort, answer: &Answer) {
 fn written_again(rt: &impl Abort, alloc: Global, octets: &[u8]) -> Result<(Vec<u8>, usize), Fail> {
     assert!(rt; octets.len() < 1_000_000);
     let reply = Reply::read(alloc, octets)?;
-    // A reply has one spelling, so these are the octets that were read.
+    // A reply has one encoding, so these are the octets that were read.
     let written = reply.write(alloc)?;
     let nodes = match &reply {
         Reply::Answer(answer) => answer.items.route.as_slice().len(),
@@ -250,7 +250,7 @@ fn a_route_is_read_and_written_again(rt: HostRuntime) -> Result<(), Fail> {
     Ok(())
 }
 
-// The reply that the octets spell, and its octets when it is written again.
+// The reply that the octets encode, and its octets when it is written again.
 fn rewritten(alloc: Global) -> Result<(Reply, Vec<u8>), Fail> {
     let reply = Reply::read(alloc, &REPLY)?;
     let octets = reply.write(alloc)?;
@@ -309,7 +309,7 @@ fn assert_parts(rt: &impl Abort, parts: &Parts) {
     assert_same(rt, &parts.roads.as_slice(), &[road].as_slice());
 }
 
-// The publication that the octets spell, and its octets when it is written again.
+// The publication that the octets encode, and its octets when it is written again.
 fn rewritten_publication(alloc: Global) -> Result<(Publication, Vec<u8>), Fail> {
     let publication = Publication::read(alloc, &PUBLICATION)?;
     let octets = publication.write(alloc)?;

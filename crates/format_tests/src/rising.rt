@@ -82,7 +82,7 @@ fn five_leaves_rise_to_the_root_of_their_tree(rt: HostRuntime) -> Result<(), Fai
     Ok(())
 }
 
-// Why a tree can't rise where the place 2 is chosen twice.
+// Why a tree can't rise where the index 2 is chosen twice.
 fn refusal(alloc: Global, leaves: u32, fan: u8) -> Option<RisingError> {
     Rising::<Sha>::new(alloc, leaves, fan, &[2, 2]).err()
 }

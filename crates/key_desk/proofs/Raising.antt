@@ -20,7 +20,7 @@ use Rattle.key_desk.proofs.Steps.{place_here, known_on}
 use Rattle.desk_areas.proofs.Growth.{SameFront, torn_front, outside_front}
 use Rattle.key_desk.proofs.Successors
 
--- one change behind a front after another
+-- one change after a prefix after another
 front_twice : (end : ℕ) (d e i : List ℕ) → SameFront end d e → SameFront end e i → SameFront end d i
 front_twice end d e i h k = record { long = h.long; longer = k.longer; same = λ n lt. k.same n lt ∙ h.same n lt }
 
@@ -138,7 +138,7 @@ module _ {D : Type 0} (g : Ghosts D) (desk : Desk) (key : KeyOf) (old : D) (fits
       let e = at_end g mid new _ k i now in
       Successors.blank_apart key _ _ _ e.0 i (omega (arith, fits.sound.known)) e.2 (blank e.0 e.1)
 
-  -- the text, at the slot's place
+  -- the text, at the slot's offset
   text_here : (i : List ℕ) → HasAreas desk i → text_at i (place_in desk.base (last_number desk)) ≡ link_text (public_key key) → text_of i (slot_here desk (last_number desk)) ≡ link_text (public_key key)
   text_here i areas is = ap (λ (p : ℕ). text_at i p) (place_here desk i (last_number desk) areas) ∙ is
 

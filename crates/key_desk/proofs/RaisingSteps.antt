@@ -1,4 +1,4 @@
--- The writes of a succession at the places that the code computes.
+-- The writes of a succession at the offsets that the code computes.
 use Rattle.std.proofs.Common.{◌≡◌, ◌+◌, ◌-◌, ◌<◌, ◌≤◌, List, ℕ, arith, sym, ◌∙◌, ap, subst, length, take, refl}
 use Rattle.road_io.specs.declared.disk.Disk.{Ghosts}
 use Rattle.road_io.specs.Moments.{Image, EachImage, AtEachMoment}

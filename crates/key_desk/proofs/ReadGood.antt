@@ -67,7 +67,7 @@ module _ (desk : Desk) (c : List ℕ) (sound : IsSound desk) (areas : HasAreas d
   pub not_bad : IsBadBlock c → ⊥
   not_bad bad = faulty bad.area (open_upto c (length desk.earlier) bad.area areas.current bad.is_open) bad.fault
 
--- the areas of a desk begin behind an open key gate
+-- the areas of a desk begin after an open key gate
 pub opens : (desk : Desk) (c : List ℕ) → HasAreas desk c → IsOpen c
 opens desk c areas =
     let first = areas.keys 0 (omega arith) in

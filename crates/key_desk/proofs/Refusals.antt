@@ -75,7 +75,7 @@ called desk name SameSecret h = h
 called desk name DiskFault h = tt
 called desk name Memory h = tt
 
--- a fault of the disk and want of memory are always allowed
+-- a fault of the disk and out of memory are always allowed
 pub called_else : (desk : Desk) (name : List ℕ) (e : SucceedError) → (e ≡ DiskFault) ⊎ (e ≡ Memory) → IsDeskCalledFor desk name e
 called_else desk name e (inl is) = subst (IsDeskCalledFor desk name) (sym is) tt
 called_else desk name e (inr is) = subst (IsDeskCalledFor desk name) (sym is) tt

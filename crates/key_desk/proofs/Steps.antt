@@ -116,7 +116,7 @@ module _ {D : Type 0} (g : Ghosts D) (old : Desk) (before after : D) (q : ℕ) (
   own : IsSlotOf old (slot_here old q)
   own = own_here old q (omega arith)
 
-  -- a change of octets at places of the current area, as one of the slot
+  -- a change of octets at offsets of the current area, as one of the slot
   at_place : (from to : ℕ) → AtEachMoment g before after (AgreesOutside (place_in old.base q + from) (place_in old.base q + to)) → AtEachMoment g before after (λ d i. AgreesOutside (place_of d (slot_here old q) + from) (place_of d (slot_here old q) + to) d i)
   at_place from to m = weaker g before after _ (λ d i. AgreesOutside (place_of d (slot_here old q) + from) (place_of d (slot_here old q) + to) d i) m
       (λ d i now h. subst (λ (p : ℕ). AgreesOutside (p + from) (p + to) d i) (sym (place_here old d q (fits.areas d now))) h)

@@ -188,7 +188,7 @@ module _ (desk : Desk) (some : 0 < slots_of desk.key.kind) (d e : List ℕ) (are
 pub blank_shut : (key : KeyOf) (base : ℕ) (d : List ℕ) → IsBlankArea key base d → (number : ℕ) → number < slots_of key.kind → gate_at d (place_in base number) ≡ 0
 blank_shut key base d blank number lt = blank.zero (place_in base number) (omega arith) (omega (arith, lt))
 
--- a blank area behind a range in which an image changes stays blank
+-- a blank area after a range in which an image changes stays blank
 pub blank_apart : (key : KeyOf) (base from to : ℕ) (d e : List ℕ) → to ≤ base → AgreesOutside from to d e → IsBlankArea key base d → IsBlankArea key base e
 blank_apart key base from to d e le h blank = record {
   block = record {

@@ -18,7 +18,7 @@ opening_calls desk = 3 + areas_calls desk.earlier + area_calls desk.counts
 abbrev pub most_opening_calls : ℕ
 most_opening_calls = 16395
 
--- with how many a desk is opened and the next key added behind it, by the areas before the new one.
+-- with how many a desk is opened and the next key added after it, by the areas before the new one.
 -- The opening reads no text in the slot that the link is then put into. The zeros of the new area, its
 -- block, the link text and the gate before it take a write and a sync each.
 abbrev pub succession_calls : List AreaView → ℕ

@@ -86,7 +86,7 @@ Refuses image name DiskFault = ⊥
 Refuses image name Memory = ⊥
 
 -- A refusal is the one that what the disk holds calls for. This says nothing of a fault of the disk
--- or of want of memory.
+-- or of memory that ran out.
 abbrev pub IsCalledFor : Option (List ℕ) → List ℕ → SucceedError → Type 0
 IsCalledFor content name DiskFault = Unit {0}
 IsCalledFor content name Memory = Unit {0}

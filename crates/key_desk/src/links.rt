@@ -19,8 +19,8 @@ pub enum LinksError {
     /// The disk failed before: the desk must be opened again.
     #[error("The desk is closed since its disk failed, and must be opened again.")]
     Closed,
-    /// No memory was found.
-    #[error("No memory was found.")]
+    /// Out of memory.
+    #[error("Out of memory.")]
     Memory,
 }
 
@@ -99,7 +99,7 @@ impl Desk {
         Ok(self.key_in(area))
     }
 
-    // The link from the key of an area to that of the area behind it.
+    // The link from the key of an area to that of the area after it.
     fn link_from(&self, alloc: Global, area: u32) -> Result<Link, LinksError>
         requires known { area < length self.now.earlier }
         requires few { area < 7 }
@@ -114,7 +114,7 @@ impl Desk {
         link_to(alloc, self.key_in(area), next)
     }
 
-    /// The links from the first key to the current one, in order: for each key behind another the key, and the
+    /// The links from the first key to the current one, in order: for each key after another the key, and the
     /// signature of its link text by the last one-time key of the one before it. They are the same octets at each
     /// call.
     pub fn links(&self, alloc: Global) -> Result<Vec<Link>, LinksError>

@@ -1,4 +1,4 @@
-//! The next key: a new area behind all others, which the last slot of the current one signs.
+//! The next key: a new area after all others, which the last slot of the current one signs.
 ghost use Rattle.std.specs.Prelude.{◌≡◌, ◌≢◌, ◌⊎◌, ◌+◌, ◌*◌, ◌^◌, ◌↔◌, ◌<◌, ◌≤◌, ◌-◌, List, ℕ, suc, Err, length, take, replicate, IfOk, OnOk, OnErr, IfErr, IsErrOf, IsErr, true, false};
 ghost use Rattle.std.specs.Option.{ForSome};
 ghost use Rattle.road_io.specs.Causes.{HasCause, Rose, RoseBy};
@@ -99,8 +99,8 @@ pub enum SucceedError {
     /// The disk failed.
     #[error("The disk failed.")]
     DiskFault,
-    /// No memory was found.
-    #[error("No memory was found.")]
+    /// Out of memory.
+    #[error("Out of memory.")]
     Memory,
 }
 

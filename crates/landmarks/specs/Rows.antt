@@ -22,7 +22,7 @@ rows_of dist ids chosen = map (row_of dist ids) chosen
 abbrev pub nearest_row : (ℕ → ℕ → Option ℕ) → List ℕ → List ℕ → List (Option ℕ)
 nearest_row dist ids chosen = map (nearest dist chosen) ids
 
--- the lesser of two lengths at each place
+-- the lesser of two lengths at each index
 abbrev pub lessers : List (Option ℕ) → List (Option ℕ) → List (Option ℕ)
 lessers (d ∷ more) (e ∷ es) = lesser d e ∷ lessers more es
 lessers _ _ = []
@@ -31,16 +31,16 @@ lessers _ _ = []
 abbrev pub greatest_row : List (List (Option ℕ)) → ℕ
 greatest_row rows = fold (λ m row. max m (greatest_of row)) 0 rows
 
--- the code of the length at a place
+-- the code of the length at an index
 abbrev pub code_in : ℕ → ℕ → List (Option ℕ) → ℕ
 code_in step place row = code_of step (slice_index_or row place None)
 
--- a length at a place whose code is not that of none
+-- a length at an index whose code is not that of none
 pub record IsCodable (step place : ℕ) (row : List (Option ℕ)) : Type 0 where
   pub within : place < length row
   pub below : IfSome (slice_index_or row place None) (λ d. d / step < no_code)
 
--- all lengths of so many places
+-- all lengths of so many indices
 abbrev pub AreCodable : ℕ → ℕ → List (List (Option ℕ)) → Type 0
 AreCodable step count rows = (k place : ℕ) (row : List (Option ℕ)) → place < count →
     slice_get rows k ≡ Some row → IsCodable step place row

@@ -28,8 +28,8 @@ pub enum CodeError {
     /// The bits of a code are not 1 to 16.
     #[error("A code cannot have so many bits.")]
     Bits,
-    /// No memory was found.
-    #[error("No memory was found.")]
+    /// Out of memory.
+    #[error("Out of memory.")]
     Memory,
 }
 
@@ -76,7 +76,7 @@ fn code_for(step: u64, length: Option<u64>) -> u16
     }
 }
 
-/// The code of the length at a place.
+/// The code of the length at an index.
 fn code_at(step: u64, row: &[Option<u64>], place: usize) -> u16
     requires step { 0 < step }
     requires codable { IsCodable step place row.now }
@@ -85,7 +85,7 @@ fn code_at(step: u64, row: &[Option<u64>], place: usize) -> u16
     code_for(step, row[place])
 }
 
-/// The codes at a place, one from each row.
+/// The codes at an index, one from each row.
 fn codes_at(alloc: Global, step: u64, rows: &[Lengths], place: usize) -> Result<Codes, NoMemory>
     requires step { 0 < step }
     requires codable { (k : ℕ) (row : List (Option ℕ)) → slice_get rows.now k ≡ Some row →
@@ -134,7 +134,7 @@ fn table_of(alloc: Global, ids: &[u32], rows: &[Lengths], bits: u8) -> Result<Co
     Ok(CodeTable::new(step, codes))
 }
 
-/// The distances from some nodes to all, by rising id, a row for each. One search for each row, over
+/// The distances from some nodes to all, by ascending id, a row for each. One search for each row, over
 /// the whole map; all use the same room.
 fn rows_from(alloc: Global, map: &Map, chosen: &[u32]) -> Result<Vec<Lengths>, NoMemory>
     requires { (id : ℕ) → Contains chosen.now id → Knows map.now.parts id }

@@ -11,7 +11,7 @@ ghost use Rattle.book_model.specs.Books.{landmarks};
 
 /// A map has as many landmarks as are asked for, up to the number of its nodes.
 ///
-/// Over rising ids, the farthest is the one that may be chosen, than which no other that may be is
+/// Over ascending ids, the farthest is the one that may be chosen, than which no other that may be is
 /// farther, and that has the least id of those as far. There is none exactly where all are chosen.
 pub fn landmark_laws()
     ensures count { (parts : Parts) (count : ℕ) → IsMap parts → count ≤ length parts.nodes →

@@ -37,7 +37,7 @@ impl Lengths {
     }
 }
 
-/// The ids of a map's nodes, rising.
+/// The ids of a map's nodes, ascending.
 pub fn ids_of(alloc: Global, map: &Map) -> Result<Vec<u32>, NoMemory>
     ensures { IfOk result (λ ids. ids.items ≡ by_id map.now.parts.nodes) }
 {
@@ -58,7 +58,7 @@ pub fn no_lengths(alloc: Global, ids: &[u32]) -> Result<Lengths, NoMemory>
     Ok(Lengths { items })
 }
 
-/// The lengths that a survey has measured to all nodes, by rising id.
+/// The lengths that a survey has measured to all nodes, by ascending id.
 fn lengths_of(alloc: Global, survey: &Survey<'_>, count: u32) -> Result<Lengths, NoMemory>
     requires { length survey.now.map.order ≡ count }
     ensures { IfOk result (λ lengths. (f : ℕ → Option ℕ) → Gives survey.now f →
@@ -71,7 +71,7 @@ fn lengths_of(alloc: Global, survey: &Survey<'_>, count: u32) -> Result<Lengths,
     Ok(Lengths { items })
 }
 
-/// The distances from a node to all nodes, by rising id.
+/// The distances from a node to all nodes, by ascending id.
 pub fn lengths_from(
     alloc: Global,
     map: &Map,

@@ -23,8 +23,8 @@ pub enum PickError {
     /// The count is 0, above 64, or above the number of nodes.
     #[error("There cannot be so many landmarks.")]
     Count,
-    /// No memory was found.
-    #[error("No memory was found.")]
+    /// Out of memory.
+    #[error("Out of memory.")]
     Memory,
 }
 
@@ -83,7 +83,7 @@ fn next(ids: &[u32], near: &[Option<u64>], chosen: &[u32]) -> Option<u32>
     best.map(|b| b.0)
 }
 
-/// Landmarks as they are picked, and lengths to all nodes by rising id.
+/// Landmarks as they are picked, and lengths to all nodes by ascending id.
 #[derive(Drop)]
 pub struct Picked {
     /// The landmarks, in the order in which they were picked.

@@ -7,7 +7,7 @@ use octet_text::NoMemory;
 use road_map::MapError;
 use std::alloc::{AllocError, Global};
 
-// The two octets that a text spells, which is put into a library.
+// The two octets that a text encodes, which is put into a library.
 fn spelled(
     alloc: Global,
     library: &mut MemLibrary,

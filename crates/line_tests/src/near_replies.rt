@@ -19,7 +19,7 @@ const NEAREST: [Mark; 3] = [
     Mark { id: 4, distance: 3 },
 ];
 
-// The front of a reply, and what follows it.
+// The prefix of a reply, and what follows it.
 fn behind_front(alloc: Global, rest: &[u8]) -> Result<Vec<u8>, AllocError> {
     let mut octets = Vec::from_slice(alloc, &FRONT)?;
     octets.extend_from_slice(rest)?;

@@ -1,6 +1,6 @@
 //! Octets of signed replies, worked out by another program: five nodes and the roads 1-2 of length 4,
 //! 2-3 of 5, 1-4 of 3 and 4-3 of 7, under DIJ with order 0, fan-out 2 and version 3, signed with the
-//! first one-time key of the key of height 5 whose secret is 48 zeros. Behind the front stand the items
+//! first one-time key of the key of height 5 whose secret is 48 zeros. After the front stand the items
 //! and the cover of one reply or another.
 
 /// The public key.
@@ -10,7 +10,7 @@ pub const PUBLIC: [u8; 56] = [
     0xe7, 0x34, 0x97, 0x9f, 0x53, 0x51, 0x39, 0xca, 0xbe, 0x33, 0xcd, 0x69, 0x4f,
 ];
 
-/// The front of each reply: its name, the signed header, and the signature.
+/// The prefix of each reply: its name, the signed header, and the signature.
 pub const FRONT: [u8; 1402] = [
     0x52, 0x50, 0x4e, 0x31, 0x52, 0x50, 0x46, 0x31, 0x01, 0, 0x02, 0, 0, 0, 0, 0, 0, 0, 0, 0x03, 0,
     0, 0, 0x05, 0x1a, 0xdf, 0xf7, 0xe4, 0xb8, 0x27, 0xb0, 0xae, 0xa5, 0xb9, 0x91, 0xda, 0x79, 0xe1,
@@ -162,7 +162,7 @@ pub const WITH_5: [u8; 172] = [
     0xea, 0x57, 0xf3, 0xcc, 0x40, 0x22, 0x93, 0xae, 0xc9, 0xb9,
 ];
 
-/// The leaf of node 1 at its own place and at that of node 2.
+/// The leaf of node 1 at its own index and at that of node 2.
 pub const TWO_WITH_ONE_ID: [u8; 146] = [
     0, 0, 0, 0x02, 0, 0, 0, 0, 0, 0x1f, 0x4e, 0, 0, 0, 0x01, 0, 0, 0, 0, 0, 0, 0, 0, 0, 0x02, 0, 0,
     0, 0x02, 0, 0, 0, 0x04, 0, 0, 0, 0x04, 0, 0, 0, 0x03, 0, 0, 0, 0x01, 0, 0x1f, 0x4e, 0, 0, 0,

@@ -24,7 +24,7 @@ fn words_of(rt: &impl Abort, alloc: Global, line: &str) -> Result<Words, Fail> {
     Ok(words)
 }
 
-// What is told of words that are wrong.
+// What is told of arguments that are wrong.
 fn told_of(alloc: Global, words: &Words) -> Result<String, Fail> {
     match wrong_words(words) {
         None => Err(Fail::from("no word is wrong")),
@@ -39,15 +39,15 @@ static WRONG: [(&str, &str); 12] = [
     ),
     (
         "route map.roads 1",
-        "road_proof: route: It takes 3 words behind it, and here are 2.",
+        "road_proof: route: It takes 3 arguments, and here are 2.",
     ),
     (
         "desk owner.desk",
-        "road_proof: desk: It takes 0 words behind it, and here are 1.",
+        "road_proof: desk: It takes 0 arguments, and here are 1.",
     ),
     (
         "serve",
-        "road_proof: serve: It takes 1 words behind it, or up to two more, and here are 0.",
+        "road_proof: serve: It takes 1 arguments, or up to two more, and here are 0.",
     ),
     (
         "route map.roads -1 3",
@@ -112,7 +112,7 @@ fn a_commands_line_is_printed(rt: HostRuntime) -> Result<(), Fail> {
 #[test]
 fn the_table_of_commands_is_printed(rt: HostRuntime) -> Result<(), Fail> {
     let text = told_of(rt.alloc(), &Words::new(rt.alloc()))?;
-    let start = "road_proof: words: There are none.\ncommands:\n  route ROADS S T\n";
+    let start = "road_proof: arguments: There are none.\ncommands:\n  route ROADS S T\n";
     assert_row(&rt, text.as_str(), text.starts_with(start), true);
     Ok(())
 }
@@ -276,13 +276,13 @@ static DIGITS: [(&str, Option<usize>, &str); 6] = [
     (
         "0a0g",
         Some(4),
-        "The octet at place 3 is no hex digit, \
+        "The octet at offset 3 is no hex digit, \
          and the file must be 4 of them and at most one line end.",
     ),
     (
         "0a0b\n\n",
         Some(4),
-        "The octet at place 4 is no hex digit, \
+        "The octet at offset 4 is no hex digit, \
          and the file must be 4 of them and at most one line end.",
     ),
     (
@@ -293,7 +293,7 @@ static DIGITS: [(&str, Option<usize>, &str); 6] = [
     (
         "0a 0",
         None,
-        "The octet at place 2 is no hex digit, \
+        "The octet at offset 2 is no hex digit, \
          and the file must be an even number of them and at most one line end.",
     ),
 ];
@@ -401,7 +401,7 @@ static NEARS: [(NearError, &str); 2] = [
     (
         NearError::Malformed(0),
         "The nodes are not to be used: \
-         the file is no reply on a radius, and can't be read from place 0 on.",
+         the file is no reply to a range query, and can't be read from offset 0 on.",
     ),
     (
         NearError::MissingTuple(4),

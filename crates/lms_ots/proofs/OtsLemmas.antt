@@ -96,7 +96,7 @@ length-pieces g l from (suc n) =
     let rest = flat_map g (range_with_len (from + 1) n) in
     omega (arith, length-append (g from) rest, l from, length-pieces g l (from + 1) n)
 
--- the piece at a place, where all have 32 octets
+-- the piece at an index, where all have 32 octets
 pub piece-at : (g : ℕ → List ℕ) → ((a : ℕ) → length (g a) ≡ 32) → (from n at : ℕ) → at < n → take 32 (drop (32 * at) (flat_map g (range_with_len from n))) ≡ g (from + at)
 piece-at g l from zero at h = absurd (omega (arith, h))
 piece-at g l from (suc n) zero h =

@@ -1,8 +1,8 @@
--- Octets that were written at a place.
+-- Octets that were written at an offset.
 use Rattle.std.proofs.Common.{◌≡◌, ℕ, ◌+◌, ◌≤◌, ◌++◌, List, length, take, drop, sym, ap, ◌∙◌, arith}
 use Rattle.std.proofs.lemmas.List.{take_all, take-take, drop_at, length-take-le, take-append-le}
 
--- what stands before the place stays
+-- what stands before the offset stays
 pub take-written : (old new a : List ℕ) (n at k : ℕ) → n ≤ at → at ≤ length old → take (at + k) new ≡ take at old ++ a → take n new ≡ take n old
 take-written old new a n at k l w e =
     let size : length (take at old) ≡ at = length-take-le at old w in

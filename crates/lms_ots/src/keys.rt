@@ -8,7 +8,7 @@ use crate::places::{array_at, write_array};
 use octet_text::{Digest32, Hasher, Sha};
 use sha2::{Digest, Sha256};
 
-// The place of a hashed text that names the hash of a public key (D_PBLC, § 4.3).
+// The number in a hashed text that marks the hash of a public key (D_PBLC, § 4.3).
 pub(crate) const D_PBLC: u16 = 0x8080;
 
 // The number that a secret value is hashed with, which no step of a chain has (Appendix A).

@@ -6,10 +6,10 @@ use crate::keys::{D_PBLC, SECRET, chain, prefixed, secret};
 use crate::places::{array_at, write_array};
 use octet_text::{Digest32, Hasher};
 
-// The place of a hashed text that names the hash of a signed text (D_MESG, § 4.5).
+// The number in a hashed text that marks the hash of a signed text (D_MESG, § 4.5).
 const D_MESG: u16 = 0x8181;
 
-// The place of a hashed text that names the randomiser of a one-time key.
+// The number in a hashed text that marks the randomiser of a one-time key.
 const RANDOMISER: u16 = 0xfffd;
 
 // The type LMOTS_SHA256_N32_W8 (§ 4.1).

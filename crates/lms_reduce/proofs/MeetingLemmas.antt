@@ -18,12 +18,12 @@ use Rattle.lms_reduce.specs.declared.comparing.Clash.{Clash}
 use Rattle.lms_reduce.proofs.RootLemmas.{take-inside, path-is}
 use Rattle.lms_reduce.proofs.WayLemmas.{raised-climbed, walked-chain_of}
 
--- what is compared at a place collides nowhere else
+-- what is compared at an index collides nowhere else
 pub none-here : (hash : List ℕ → List ℕ) (a b x y left right : List ℕ) → a ≡ x → b ≡ y → left ≡ hash a → right ≡ hash b → (left ≡ right → a ≡ b) → ¬ AreCollision hash x y
 none-here hash a b x y left right ea eb ha hb none c =
     c.differ (sym ea ∙ none (ha ∙ ap hash ea ∙ c.one_digest ∙ sym (ap hash eb) ∙ sym hb) ∙ eb)
 
--- what holds of all before a place and there
+-- what holds of all before an index and there
 pub one-more : (P : ℕ → Type 0) (from n : ℕ) → ((b : ℕ) → from ≤ b → b < n → P b) → P n → (b : ℕ) → from ≤ b → b < n + 1 → P b
 one-more P from n before here b lo hi = elim (cases_eq b n) [
   | inl same ↦ subst P (sym same) here

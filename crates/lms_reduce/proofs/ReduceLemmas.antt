@@ -15,7 +15,7 @@ value-at at sig l =
     let e : 4 + (36 + 32 * at) ≡ 40 + 32 * at = omega arith in
     take-inside (36 + 32 * at) 32 1124 (drop 4 sig) (omega (arith, l)) ∙ ap (take 32) (drop-drop (36 + 32 * at) 4 sig ∙ ap (λ n. drop n sig) e)
 
--- the first place at which the slot has not released what is shown
+-- the first index at which the slot has not released what is shown
 shows-first : (key : KeyOf) (spent : Option (List ℕ)) (text sig digits : List ℕ) (q at : ℕ) → at < 34 → q ≡ number_at sig 0 → digits ≡ claimed_digits key text sig → ShowsOwn key.i q key.seed (claimed_digits key text sig) (take 1124 (drop 4 sig)) → IsUnreleased key q spent at (get_or digits at 0) → ((b : ℕ) → b < 34 → IsUnreleased key q spent b (get_or digits b 0) → at ≤ b) → ShowsUnreleased key spent text sig q at (get_or digits at 0) (take 32 (drop (40 + 32 * at) sig))
 shows-first key spent text sig digits q at l slot d own free first =
     let step : get_or digits at 0 ≡ get_or (claimed_digits key text sig) at 0 = ap (λ (x : List ℕ). get_or x at 0) d in

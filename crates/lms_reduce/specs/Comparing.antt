@@ -12,7 +12,7 @@ pub record ShowsOwn (i : List ℕ) (q : ℕ) (seed digits ots : List ℕ) : Type
       take 32 (drop (36 + 32 * at) ots) ≡ chain_of i q at 0 (slice_index digits at)
       (secret_of i q seed at)
 
--- the first place at which a list of 34 digits has a lesser one than another
+-- the first index at which a list of 34 digits has a lesser one than another
 pub record IsFirstLesser (digits others : List ℕ) (at : ℕ) : Type 0 where
   pub place : at < 34
   pub lesser : slice_index digits at < slice_index others at

@@ -91,7 +91,7 @@ shown_step i q digits ots at number =
     let digit = slice_index digits at in step_text i q at number
     (chain_of i q at digit (number - digit) (take 32 (drop (36 + 32 * at) ots)))
 
--- a step of a chain, the first behind the digit at which the two collide
+-- a step of a chain, the first after the digit at which the two collide
 pub record MeetInChain (i : List ℕ) (q : ℕ) (seed digits ots left right : List ℕ) : Type 0 where
   pub at : ℕ
   pub place : at < 34

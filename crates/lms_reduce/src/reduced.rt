@@ -35,7 +35,7 @@ pub enum ReduceError {
     /// The slot with this number has signed this very text.
     #[error("Slot {0} has signed this text.")]
     Signed(u32),
-    /// No memory was found.
+    /// Out of memory.
     #[error("There is no memory for the two texts.")]
     Memory,
 }

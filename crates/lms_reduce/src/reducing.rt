@@ -28,7 +28,7 @@ fn is_signed(spent: Option<&[u8]>, text: &[u8]) -> bool
     }
 }
 
-// The first place at which a list of digits has a lesser one than another.
+// The first index at which a list of digits has a lesser one than another.
 fn first_lesser(digits: &[u8; 34], others: &[u8; 34]) -> Option<u16>
     ensures found { IfSome result (IsFirstLesser digits.now others.now) }
     ensures none { IfNone result (HasNoLesser digits.now others.now) }
@@ -41,7 +41,7 @@ fn first_lesser(digits: &[u8; 34], others: &[u8; 34]) -> Option<u16>
     None
 }
 
-// A value that a signature shows, of the chain at a place.
+// A value that a signature shows, of the chain at an index.
 fn chain_at(q: u32, at: u16, digits: &[u8; 34], sig: &[u8]) -> Reduced
     requires place { at < 34 }
     requires size { 1132 ≤ length sig.now }

@@ -1,4 +1,4 @@
--- A chain file is read as it is spelled.
+-- A chain file is read as it is encoded.
 use Rattle.std.proofs.Common.{◌≡◌, ◌⊎◌, inl, inr, ℕ, zero, suc, ◌+◌, ◌-◌, ◌<◌, ◌≤◌, ◌==◌, Bool, true, false, cond, List, [], ◌∷◌, ◌++◌, length, get_or, Result, Ok, Err, refl, sym, ap, subst, ◌∙◌, append_assoc, append-nil, length-append, arith, nat_eq}
 use Rattle.std.specs.List.{flat_map}
 use Rattle.std.specs.Int.{w16, to_be_bytes}
@@ -64,7 +64,7 @@ module _ {A : Type 0} (f : Format A) where
         subst (Found (suc n) left) (one_ok (b.0.0 ∷ c.0.0, c.0.1) (xs, rest) c.2) (all, (few, (o.1, r.1.1)))
   ]
 
-  -- values whose spelling has an octet are read again
+  -- values whose encoding has an octet are read again
   many_again : IsExact f → ((x : A) → f.Fits x → 0 < length (f.spell x)) → (n : ℕ) (xs : List A) (at : ℕ) → length xs ≤ n → RowsFit (λ _. f) (λ _. 0) 0 xs
       → many_at f n (record { at = at; text = flat_map f.spell xs }) ≡ Ok (xs, record { at = at + length (flat_map f.spell xs); text = [] })
   many_again ex some zero [] at few fits = ap (λ (p : ℕ). Ok ([], record { at = p; text = [] })) (omega arith)
@@ -190,7 +190,7 @@ whole_fails text left (errors.Malformed m) at is h = told_whole text left (Err m
 ended_here : (links : List Link) (rest : Left) (b : Bool) → nat_eq (length rest.text) 0 ≡ b → ended (links, rest) ≡ cond b (Ok links) (Err rest.at)
 ended_here links rest b is = ap (λ (t : Bool). cond t (Ok links) (Err rest.at)) is
 
--- octets are left behind seven links
+-- octets are left after seven links
 pub whole_left : (text : List ℕ) (left : Left) (links : List Link) (rest : Left) → left.at ≡ 0 → left.text ≡ text → many_at link_row 7 left ≡ Ok (links, rest) → nat_eq (length rest.text) 0 ≡ false → whole chain_file text ≡ Err rest.at
 whole_left text left links rest at is h some = told_whole text left (Ok (links, rest)) at is h ∙ ended_here links rest false some
 

@@ -1,5 +1,5 @@
--- Chain files: the links of a chain, one behind the other, with nothing between them and nothing
--- behind.
+-- Chain files: the links of a chain, one after the other, with nothing between them and nothing
+-- after.
 use Rattle.std.specs.Prelude.{◌≡◌, ℕ, zero, suc, ◌≤◌, ◌==◌, List, [], ◌∷◌, length, if◌then◌else◌, Result, Ok}
 use Rattle.std.specs.List.{flat_map}
 use Rattle.octet_text.specs.Left.{Left}
@@ -16,7 +16,7 @@ make_link p = record { key = p.0; signature = p.1 }
 abbrev pub link_parts : Link → List ℕ × List ℕ
 link_parts link = (link.key, link.signature)
 
--- a link: RPL1, the next key, and the signature of its link text, at most 1,452 octets behind their
+-- a link: RPL1, the next key, and the signature of its link text, at most 1,452 octets after their
 -- length
 abbrev pub link_row : Format Link
 link_row = behind link_name (mapped make_link link_parts

@@ -69,7 +69,7 @@ fn read_key(cursor: &mut Cursor<'_>) -> Result<[u8; 56], Short>
     Ok(key)
 }
 
-// A signature behind its length.
+// A signature after its length.
 fn read_signature(alloc: Global, cursor: &mut Cursor<'_>) -> Result<Octets, ReadError>
     ensures { Gives (λ x. x) result cursor.new ((string (u16 (between 0 1452))).read cursor.old) }
 {

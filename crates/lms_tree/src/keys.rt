@@ -78,7 +78,7 @@ pub enum KeyError {
     /// The type is neither 5 nor 6.
     #[error("The type of tree is unknown.")]
     Kind,
-    /// No memory was found.
+    /// Out of memory.
     #[error("There is no memory for the nodes of the tree.")]
     Memory,
 }
@@ -170,7 +170,7 @@ impl Key {
         self.write_path(q, out);
     }
 
-    // Writes the path of leaf q behind what a signature has before it.
+    // Writes the path of leaf q after what a signature has before it.
     fn write_path(&self, q: u32, out: &mut [u8])
         requires slot { q < 2 ^ height_of self.now.kind }
         requires room { length out.old ≡ seal_len (height_of self.now.kind) }

@@ -33,7 +33,7 @@ plain_leaf parts node = record {
 abbrev pub plain_texts : Parts → List Node → List (List ℕ)
 plain_texts parts order = map (λ node. node_leaf_text (plain_leaf parts node)) order
 
--- the text of the plain leaf at this place among the nodes by rising id
+-- the text of the plain leaf at this index among the nodes by ascending id
 pub record IsPlainTextAt (map : Charted) (place : ℕ) (text : List ℕ) : Type 0 where
   pub node : Node
   pub here : slice_get map.order place ≡ Some node
@@ -44,7 +44,7 @@ abbrev pub root_line : ℕ → List ℕ → List ℕ
 root_line count root = decimal count ++ codes " " ++ encode_lower root ++ codes "\n"
 
 -- the line of how many nodes there are, and of the root of the tree over their plain leaves by
--- rising id
+-- ascending id
 pub record IsRootLine (parts : Parts) (fan : ℕ) (text : List ℕ) : Type 0 where
   pub order : List Node
   pub by_id : IsById parts.nodes order

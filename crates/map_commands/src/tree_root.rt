@@ -52,8 +52,8 @@ fn root_line(alloc: Global, map: &Map, fan: u8) -> Result<Vec<u8>, NoMemory>
     Ok(line)
 }
 
-/// The root of the tree over the plain leaves of a map's nodes, by rising id, of which one at a time is
-/// spelled.
+/// The root of the tree over the plain leaves of a map's nodes, by ascending id, of which one at a time is
+/// encoded.
 fn plain_root(alloc: Global, map: &Map, fan: u8) -> Result<Digest32, NoMemory>
     requires least { 2 ≤ fan }
     requires most { fan ≤ 32 }

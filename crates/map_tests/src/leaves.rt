@@ -47,7 +47,7 @@ fn a_leaf_says_what_it_refers_to(rt: HostRuntime) -> Result<(), Fail> {
     Ok(())
 }
 
-// The text of the leaf that a text spells.
+// The text of the leaf that a text encodes.
 fn text_again(alloc: Global, text: &[u8], kind: LeafKind) -> Result<Vec<u8>, LeafError> {
     let leaf = NodeLeaf::read(alloc, text, kind)?;
     let mut out = Vec::new(alloc);

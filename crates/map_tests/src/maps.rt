@@ -158,7 +158,7 @@ static PRINTED: [(MapError, &str); 7] = [
         MapError::Crowded(7),
         "The node 7 has more than 255 neighbours.",
     ),
-    (MapError::Memory, "No memory was found."),
+    (MapError::Memory, "Out of memory."),
 ];
 
 #[test]

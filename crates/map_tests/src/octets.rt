@@ -128,7 +128,7 @@ fn puts_append_big_endian(rt: HostRuntime) {
     assert_same(&rt, out.as_slice(), PUT.as_slice());
 }
 
-// The spelling of 1 and 258.
+// The encoding of 1 and 258.
 const TWO: [u8; 4] = [0, 1, 1, 2];
 
 #[test]
@@ -156,10 +156,10 @@ fn rows_are_read(rt: HostRuntime) -> Result<(), ReadError> {
 #[test]
 fn refusals_are_whole_sentences(rt: HostRuntime) -> Result<(), AllocError> {
     let short = Short { at: 3 };
-    let wanted = "Too few octets are left at place 3.";
+    let wanted = "Too few octets are left at offset 3.";
     assert_printed(&rt, rt.alloc(), short, wanted)?;
     let read = ReadError::Malformed(Malformed { at: 4 });
-    let wanted = "The field at place 4 can't be read.";
+    let wanted = "The field at offset 4 can't be read.";
     assert_printed(&rt, rt.alloc(), read, wanted)?;
-    assert_printed(&rt, rt.alloc(), NoMemory, "No memory was found.")
+    assert_printed(&rt, rt.alloc(), NoMemory, "Out of memory.")
 }

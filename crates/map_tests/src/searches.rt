@@ -9,7 +9,7 @@ use std::process::Abort;
 use std::test::Fail;
 use test_maps::{NODES, ROADS, apart, map_of, parts_of};
 
-/// A ground whose ids are places in a list; one id bars walks from a length on.
+/// A ground whose ids are indices in a list; one id bars walks from a length on.
 #[derive(Drop)]
 struct Barred<'a> {
     rows: &'a [Arcs],
@@ -365,7 +365,7 @@ fn shortest_routes_are_those_of_the_maps(rt: HostRuntime) -> Result<(), Fail> {
 
 const SIX: [(u32, u32, u32); 4] = [(1, 2, 4), (2, 3, 0), (2, 4, 5), (1, 6, 0)];
 
-/// Two ends, the length between them, a length, and the ids that are at most so far, rising.
+/// Two ends, the length between them, a length, and the ids that are at most so far, ascending.
 type Near = (u32, u32, Option<u64>, u64, &'static [u32]);
 
 static NEAR_ENDS: [Near; 4] = [

@@ -17,7 +17,7 @@ written_there : (at : ℕ) (octets before : List ℕ) (x : ℕ) → at ≤ lengt
 written_there at octets before x fits (inl low) = grind (arith, places)
 written_there at octets before x fits (inr high) = grind (arith, places)
 
--- an entry that covers a place fills it
+-- an entry that covers an offset fills it
 covered_here : (fill : ℕ) (e : Entry) (content before : List ℕ) (x : ℕ) → entry_at e ≤ length before → Covers e x → get_or (filled fill e content before) x 0 ≡ fill
 covered_here fill Sync content before x fits here = absurd here
 covered_here fill (Write p) content before x fits here = written_here p.at p.len fill before x fits here.0 here.1
@@ -33,7 +33,7 @@ covered_before fill (Write p) content before k last j x from lt fits is = elim (
   ]
 ]
 
--- a place that an entry doesn't cover keeps its octet
+-- an offset that an entry doesn't cover keeps its octet
 apart_here : (fill : ℕ) (e : Entry) (octets content before : List ℕ) (x : ℕ) → entry_at e ≤ length before → entry_end e ≤ length octets → length before ≡ length content
     → (Covers e x → ⊥) → ((p : Piece) → e ≡ Write p → get_or before x 0 ≡ get_or content x 0) → get_or (filled fill e (after e octets content) before) x 0 ≡ get_or (after e octets content) x 0
 apart_here fill Sync octets content before x fits end same apart was = refl
@@ -52,7 +52,7 @@ by_entry_earlier : (e : Entry) (k last j : ℕ) → by_entry e (suc k) last ≤ 
 by_entry_earlier Sync k last j from lt = absurd (omega arith)
 by_entry_earlier (Write p) k last j from lt = from
 
--- an entry that covers a place is no sync
+-- an entry that covers an offset is no sync
 by_entry_covers : (e : Entry) (x k last : ℕ) → last ≤ k → Covers e x → by_entry e (suc k) last ≤ k
 by_entry_covers Sync x k last le covers = absurd covers
 by_entry_covers (Write p) x k last le covers = le

@@ -205,7 +205,7 @@ module _ (base : List ℕ) (entries : List Entry) (octets : List ℕ) where
     is_write_after Sync k m le is = omega arith
     is_write_after (Write p) k m le is = cc
 
-    -- behind the last sync there is none
+    -- after the last sync there is none
     pub no_sync : (n k : ℕ) → last_sync entries n ≤ k → k < n → get_or entries k Sync ≡ Sync → ⊥
     no_sync zero k from to is = omega arith
     no_sync (suc n) k from to is = elim (cases_lt k n) [

@@ -47,23 +47,23 @@ abbrev pub last_sync : List Entry → ℕ → ℕ
 last_sync entries zero = 0
 last_sync entries (suc k) = by_entry (get_or entries k Sync) (suc k) (last_sync entries k)
 
--- the content with one octet in each place that this entry wrote
+-- the content with one octet at each offset that this entry wrote
 abbrev pub filled : ℕ → Entry → List ℕ → List ℕ → List ℕ
 filled fill Sync content before = content
 filled fill (Write p) content before = written p.at (replicate p.len fill) before
 
--- the content at a moment, with one octet in each place that was written since the last sync
+-- the content at a moment, with one octet at each offset that was written since the last sync
 abbrev pub filled_at : ℕ → List ℕ → List Entry → List ℕ → ℕ → List ℕ
 filled_at fill base entries octets zero = base
 filled_at fill base entries octets (suc k) = filled fill (get_or entries k Sync)
     (content_at base entries octets (suc k)) (filled_at fill base entries octets k)
 
--- an entry has written the octet at a place
+-- an entry has written the octet at an offset
 abbrev pub Covers : Entry → ℕ → Type 0
 Covers Sync x = ⊥
 Covers (Write p) x = (p.at ≤ x) × (x < p.at + p.len)
 
--- of the entries before a moment, one behind the last sync has written the octet at a place
+-- of the entries before a moment, one after the last sync has written the octet at an offset
 pub record Covered (entries : List Entry) (moment x : ℕ) : Type 0 where
   pub entry : ℕ
   pub behind : last_sync entries moment ≤ entry

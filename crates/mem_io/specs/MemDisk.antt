@@ -23,11 +23,11 @@ disk_image_at disk k i = LeftAt disk.base.items disk.entries.items disk.octets.i
 abbrev pub MayBeLeft : MemDisk → List ℕ → Type 0
 MayBeLeft disk i = disk_image_at disk (disk_clock disk) i
 
--- the octet at a place was written since the last sync
+-- the octet at an offset was written since the last sync
 abbrev pub IsUnsynced : MemDisk → ℕ → Type 0
 IsUnsynced disk x = Covered disk.entries.items (length disk.entries.items) x
 
--- the content, but with one octet in each place that was written since the last sync
+-- the content, but with one octet at each offset that was written since the last sync
 pub record FillsUnsynced (octet : ℕ) (disk : MemDisk) (image : List ℕ) : Type 0 where
   pub long : length image ≡ length (disk_content disk)
   pub filled : (x : ℕ) → IsUnsynced disk x → get_or image x 0 ≡ octet
@@ -47,7 +47,7 @@ pub record CanSync (disk : MemDisk) : Type 0 where
   pub can_call : CanCall disk
   pub journal_room : journal_taken disk + 16 ≤ disk.journal
 
--- the next call may be a write of so many octets at a place
+-- the next call may be a write of so many octets at an offset
 pub record CanWrite (disk : MemDisk) (at count : ℕ) : Type 0 where
   pub can_call : CanCall disk
   pub disk_room : at + count ≤ disk.room

@@ -141,7 +141,7 @@ impl MemDisk {
     }
 }
 
-/// What a crash leaves of what was written since the last sync: nothing, all, or an octet in each place
+/// What a crash leaves of what was written since the last sync: nothing, all, or an octet at each offset
 /// that was written.
 #[derive(Clone, Copy, Debug, PartialEq, Eq)]
 pub enum Pick {
@@ -239,7 +239,7 @@ fn pick_content(
     }
 }
 
-// One octet in each place that was written since the last sync, which was at this moment.
+// One octet at each offset that was written since the last sync, which was at this moment.
 fn fill_writes(
     content: &mut Vec<u8>,
     base: &[u8],

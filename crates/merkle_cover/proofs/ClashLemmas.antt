@@ -1,4 +1,4 @@
--- Where a tree and a fold hash different texts to one digest.
+-- Where a tree and a recomputed root hash different texts to one digest.
 use Rattle.std.proofs.Common.{◌≡◌, ◌≢◌, ℕ, suc, zero, ◌+◌, ◌-◌, ◌*◌, ◌/◌, ◌^◌, ◌<◌, ◌≤◌, min, Bool, true, false, ◌&&◌, List, [], ◌∷◌, ◌++◌, replicate, length, get_or, take, drop, refl, sym, ap, ◌∙◌, subst, arith, inl, inr, Fits, w32, w64}
 use Rattle.std.specs.Bool.{OnTrue, OnFalse}
 use Rattle.std.specs.List.{range_with_len, sum_by, flat_map}
@@ -42,7 +42,7 @@ range-split a (suc m) r =
     let e' : (a + 1) + m ≡ a + suc m = omega arith in
     ap (range_with_len a) e ∙ ap (λ l. a ∷ l) (range-split (a + 1) m r ∙ ap (λ x. range_with_len (a + 1) m ++ range_with_len x r) e')
 
--- one more place is within a range
+-- one more position is within a range
 range-at : (a m c : ℕ) → m < c → range_with_len a c ≡ range_with_len a m ++ (a + m) ∷ range_with_len (a + m + 1) (c - m - 1)
 range-at a m c l =
     let e : c ≡ m + suc (c - m - 1) = omega arith in
@@ -87,7 +87,7 @@ pub record SameSoFar (hash : List ℕ → List ℕ) (leaves : List (List ℕ)) (
   pub texts : (q : ℕ) → item ≤ q → q < next → get_or given q [] ≡ get_or leaves (get_or chosen q 0) []
   pub covers : take (sum_by (need (length leaves) f chosen j) (range_with_len first m)) (drop start cover) ≡ flat_map (cover_below (digest hash leaves f) (length leaves) f chosen j) (range_with_len first m)
 
--- ---- digests left of a place
+-- ---- digests left of a position
 
 pub left-top : (n f : ℕ) (chosen : List ℕ) (k p : ℕ) → 0 ≡ left_of n f chosen 0 k p
 unfolding left_of
@@ -271,7 +271,7 @@ module _ (hash : List ℕ → List ℕ) (leaves : List (List ℕ)) (f : ℕ) (ch
       let two = append_inj a b d (digest hash leaves f j child) (la ∙ sym lb) (h ∙ sym more) in
       ne two.0 two.1
 
--- the text of a place above the leaves
+-- the text of a position above the leaves
 pub hashed_text-above : (hash : List ℕ → List ℕ) (leaves : List (List ℕ)) (f k j p end : ℕ) → k ≡ suc j → end ≡ min (p * f + f) (places_at (length leaves) f j) → 1 ∷ flat_map (digest hash leaves f j) (range_with_len (p * f) (end - p * f)) ≡ hashed_text hash leaves f k p
 unfolding hashed_text
 hashed_text-above hash leaves f k j p end e ee =
@@ -303,7 +303,7 @@ CanRead-small {leaves} {f} {k} {p} {w} q =
     let low : p < 2 ^ 32 = omega (arith, mul-le p 1 p w (le_refl p) pos, q.place, q.count) in
     (low, omega (arith, mul-le p f (2 ^ 32 - 1) 32 (omega (arith, low)) q.fan_max), places_at-lt-mul (length leaves) f k p (omega (arith, q.fan)) (subst (λ x. p * x < length leaves) q.span q.place))
 
--- the numbers on the way to a place fit their types
+-- the numbers on the way to a position fit their types
 pub CanRead-fits : {hash : List ℕ → List ℕ} {leaves : List (List ℕ)} {f : ℕ} {levels : List (List (List ℕ))} {k p w : ℕ} → CanRead hash leaves f levels k p w → Fits w32 p × Fits w64 (p * f) × Fits w64 (p * f + f)
 CanRead-fits q =
     let small = CanRead-small q in

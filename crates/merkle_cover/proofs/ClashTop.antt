@@ -1,4 +1,4 @@
--- A whole tree against what was folded.
+-- A whole tree against what was recomputed.
 use Rattle.std.proofs.Common.{◌≡◌, ℕ, suc, zero, ◌+◌, ◌*◌, ◌^◌, ◌<◌, ◌≤◌, Bool, true, false, cond, ltb, List, [], ◌∷◌, ◌++◌, length, get_or, drop, refl, sym, ap, ◌∙◌, subst, arith, inl, inr, Option, None, Some, Result, Ok, Err}
 use Rattle.std.proofs.lemmas.Bool.{cases_lt}
 use Rattle.std.proofs.lemmas.Bool.Decides.{nat_tests}
@@ -18,7 +18,7 @@ use Rattle.merkle_cover.proofs.WalkLemmas.{walk-some}
 use Rattle.merkle_cover.proofs.ClashLemmas.{left-top}
 use Rattle.merkle_cover.proofs.ShapeLemmas.{places_at-lt-mul}
 
--- ---- what a good fold says
+-- ---- what a recomputed root says
 
 after-ok : (o : Option ℕ) (r : Result (List ℕ) FoldError) (d : List ℕ) → after_fault o r ≡ Ok d → (o ≡ None) × (r ≡ Ok d)
 after-ok None r d e = (refl, e)
@@ -85,7 +85,7 @@ CanCompare-start hash leaves f places given cover levels k w d f2 f32 n1 n32 p1 
 
 -- ---- the end
 
--- texts that are the leaves at the places, one by one
+-- texts that are the leaves at the positions, one by one
 pub chosen_texts-each : (leaves given : List (List ℕ)) (places : List ℕ) → length given ≡ length places → ((q : ℕ) → q < length places → get_or given q [] ≡ get_or leaves (get_or places q 0) []) → given ≡ chosen_texts leaves places
 chosen_texts-each leaves given places l each =
     same_lists given (chosen_texts leaves places) (l ∙ sym (length-map places (λ c. get_or leaves c [])))
@@ -129,7 +129,7 @@ CanRead-clash c = record {
   digests = c.at.digests;
 }
 
--- a clash is two texts that are hashed at one place
+-- a clash is two texts that are hashed at one position
 pub AreHashed-clash : (hash : List ℕ → List ℕ) (leaves : List (List ℕ)) (f : ℕ) (places : List ℕ) (given cover : List (List ℕ)) (levels : List (List (List ℕ))) (whole : List (List ℕ)) (k p w item start : ℕ) (left right : List ℕ) → IsClash hash leaves f places given cover levels whole k p w item start → length levels ≡ top (length leaves) f + 1 → left ≡ hashed_text hash leaves f k p → right ≡ folded_text hash (length leaves) f places given k p (drop start cover) → AreHashed hash leaves f places given cover left right
 AreHashed-clash hash leaves f places given cover levels whole k p w item start left right c count el er = record {
   k = k;

@@ -20,7 +20,7 @@ sum_by-most g a (suc n) m h =
     let more = sum_by-most g (a + 1) n m h in
     omega (arith, sum_by-cons g a (range_with_len (a + 1) n), one, more)
 
--- a place needs at most as many digests as it has room for leaves
+-- a position needs at most as many digests as it has room for leaves
 pub need-most : (n f : ℕ) (chosen : List ℕ) (k p : ℕ) → 0 < f → need n f chosen k p ≤ f ^ k
 unfolding need children
 need-most n f chosen zero p pos =
@@ -34,7 +34,7 @@ need-most n f chosen (suc k) p pos =
     let power : f ^ suc k ≡ f ^ k * f = pow-suc f k in
     elim (has_chosen f chosen (suc k) p) as (λ b. cond b (sum_by (need n f chosen k) (range_with_len (p * f) kids)) 1 ≤ f ^ suc k) [ true ↦ omega (arith, all, wide, power) | false ↦ one ]
 
--- the top level's place has room for fewer leaves than there are, times the fan-out
+-- the top level's position has room for fewer leaves than there are, times the fan-out
 top-room : (n f t : ℕ) → 2 ≤ f → 1 ≤ n → t ≡ top n f → f ^ t < n * f
 unfolding top
 top-room n f zero f2 n1 e =

@@ -1,4 +1,4 @@
--- Covers, and what they fold to.
+-- Covers, and what they recompute.
 use Rattle.std.proofs.Common.{◌≡◌, ℕ, suc, zero, ◌+◌, ◌-◌, ◌*◌, ◌^◌, ◌<◌, ◌≤◌, min, Bool, true, false, ◌||◌, List, [], ◌∷◌, ◌++◌, length, get_or, drop, refl, sym, ap, ◌∙◌, arith, cond, inl, inr, ◌⊎◌, ltb, Result, Ok, Err, None}
 use Rattle.std.specs.List.{range_with_len, sum_by, list_any, flat_map}
 use Rattle.std.proofs.lemmas.Bool.{cases_eq}
@@ -13,7 +13,7 @@ use Rattle.merkle_cover.specs.Covers.{is_below, has_chosen, need, cover_below, c
 use Rattle.merkle_cover.specs.declared.folds.FoldError.{FoldError}
 use Rattle.merkle_cover.specs.declared.folds.FoldError.TheVariants.{CoverShort, CoverLong}
 
--- ---- lists made over a range of places
+-- ---- lists made over a range of positions
 
 flat_map-range-same : {X : Type 0} (g h : ℕ → List X) (a c : ℕ) → ((i : ℕ) → a ≤ i → i < a + c → g i ≡ h i) → flat_map g (range_with_len a c) ≡ flat_map h (range_with_len a c)
 flat_map-range-same g h a zero e = refl
@@ -27,7 +27,7 @@ sum_by-same g h (x ∷ xs) e = omega (arith, sum_by-cons g x xs, sum_by-cons h x
 
 -- ---- covers
 
--- a cover reads the digests of places that are there
+-- a cover reads the digests of positions that are there
 pub cover_below-same : (at at' : ℕ → ℕ → List ℕ) (n f : ℕ) (chosen : List ℕ) (k p : ℕ) → p < places_at n f k → ((j q : ℕ) → j ≤ k → q < places_at n f j → at j q ≡ at' j q) → cover_below at n f chosen k p ≡ cover_below at' n f chosen k p
 unfolding cover_below children
 cover_below-same at at' n f chosen zero p l e = ap (λ d. cond (has_chosen f chosen 0 p) [] (d ∷ [])) (e 0 p (omega arith) l)
@@ -60,7 +60,7 @@ pub cover_below-above : (at : ℕ → ℕ → List ℕ) (n f : ℕ) (chosen : Li
 unfolding cover_below
 cover_below-above at n f chosen j p h = rw h refl
 
--- ---- the fold of a cover is the digest
+-- ---- what is recomputed of a cover is the digest
 
 pub bool_cases : (b : Bool) → (b ≡ true) ⊎ (b ≡ false)
 bool_cases true = inl refl
@@ -103,7 +103,7 @@ or_right : (a b : Bool) → (a || b) ≡ true → a ≡ false → b ≡ true
 or_right true b h e = cc
 or_right false b h e = h
 
--- only the leaf itself lies at a leaf's place
+-- only the leaf itself lies at a leaf's position
 apart : (f c p : ℕ) → (c ≡ p → ⊥) → is_below f 0 p c ≡ false
 apart f c p ne =
     let one : f ^ 0 ≡ 1 = pow-zero f in
@@ -130,7 +130,7 @@ pub AreTheirs-chosen_texts : (hash : List ℕ → List ℕ) (texts : List (List 
 unfolding AreTheirs has_chosen
 AreTheirs-chosen_texts hash texts f chosen p h = text_for-chosen_texts texts f chosen p h
 
--- a cover of chosen leaves and their texts fold to the root
+-- a cover of chosen leaves and their texts recompute the root
 pub fold_of-cover_of : (hash : List ℕ → List ℕ) (texts : List (List ℕ)) (f c : ℕ) (cs : List ℕ) → first_fault (length texts) (c ∷ cs) ≡ None → fold_of hash (length texts) f (c ∷ cs) (chosen_texts texts (c ∷ cs)) (cover_of hash texts f (c ∷ cs)) ≡ Ok (root hash texts f)
 unfolding root
 fold_of-cover_of hash texts f c cs e =

@@ -68,7 +68,7 @@ pub get_or-level : (hash : List ℕ → List ℕ) (texts : List (List ℕ)) (f k
 unfolding level
 get_or-level hash texts f k p d l = get_or-map-range_with_len (digest hash texts f k) 0 (places_at (length texts) f k) p p d l (omega arith)
 
--- a level with one place is the top
+-- a level with one position is the top
 pub top-single : (n f k : ℕ) → 2 ≤ f → k ≤ top n f → places_at n f k ≤ 1 → k ≡ top n f
 unfolding top
 top-single n f k h le l =

@@ -5,7 +5,7 @@ use Rattle.merkle_cover.specs.Trees.{digest}
 use Rattle.merkle_cover.specs.Rising.{end_of, HoldsLevel}
 use Rattle.merkle_cover.specs.declared.spots.Spot.{Spot}
 
--- On the way, at a place of a level that the leaf makes whole: the levels below have one text more.
+-- On the way, at a position of a level that the leaf makes whole: the levels below have one text more.
 -- The cover has it up to another level.
 pub record IsOnItsWay (hash : List ℕ → List ℕ) (texts : List (List ℕ)) (n f m : ℕ)
     (waiting : List (List ℕ)) (spots : List Spot) (cover : List (List ℕ)) (level from place : ℕ)

@@ -24,7 +24,7 @@ use Rattle.merkle_cover.proofs.ShapeLemmas.{places_at-lt-mul, mul-lt-places_at, 
 use Rattle.merkle_cover.proofs.CoverLemmas.{sum_by-same}
 use Rattle.merkle_cover.proofs.SpotLemmas.{Ranged, Ranged-at, Ranged-next, Ranged-spots_of, cover_of-spots}
 
--- ---- where places end
+-- ---- where positions end
 
 -- a group ends where its last child does, or where the leaves do
 pub closes-up : (n f w p s g m : ℕ) → p ≡ g * f + s → s < f → min n ((p + 1) * w) ≡ m + 1 → (f ≤ s + 1) ⊎ (m + 1 ≡ n) → min n ((g + 1) * (w * f)) ≡ m + 1
@@ -47,7 +47,7 @@ starts-up f w p s g m ep low =
     let wide : (g * f) * w ≡ g * (w * f) = omega arith in
     omega (arith, more, wide, low)
 
--- two places of a level that end with the same leaf are one
+-- two positions of a level that end with the same leaf are one
 same-place : (n w p q m : ℕ) → 0 < w → m < n → p * w ≤ m → q * w < n → min n ((p + 1) * w) ≡ m + 1 → min n ((q + 1) * w) ≡ m + 1 → q ≡ p
 same-place n w p q m pos inside low there closes closes' =
     elim (cases_lt q p) [
@@ -61,7 +61,7 @@ same-place n w p q m pos inside low there closes closes' =
       ]
     ]
 
--- no place above a group that is not whole ends with the leaf
+-- no position above a group that is not whole ends with the leaf
 no-multiple : (f w p s g x : ℕ) → 0 < w → p ≡ g * f + s → s + 1 < f → x * (w * f) ≡ (p + 1) * w → ⊥
 no-multiple f w p s g x pos ep less e =
     elim (cases_lt g x) [
@@ -134,7 +134,7 @@ group-digest hash texts f k p s g m waiting d pos ep within low inside closes ho
 
 -- ---- the levels
 
--- a level with one text more, where no place of it ends with that
+-- a level with one text more, where no position of it ends with that
 holds-later : (hash : List ℕ → List ℕ) (texts : List (List ℕ)) (f m j : ℕ) (waiting : List (List ℕ)) → ((q : ℕ) → end_of (length texts) f j q ≡ m + 1 → ⊥) → HoldsLevel hash texts f m j waiting → HoldsLevel hash texts f (m + 1) j waiting
 holds-later hash texts f m j waiting none holds = record {
   digests = λ g i l below above.
@@ -387,7 +387,7 @@ way-is-whole hash texts n f m b waiting spots cover k p d count f2 low inside at
       whole = λ e. way.digest_is ∙ ap (digest hash texts f k) first ∙ ap (λ x. digest hash texts f x 0) (at ∙ ap (λ x. top x f) (sym count));
     }
 
--- the digest of a place is kept for the cover, where it is its next
+-- the digest of a position is kept for the cover, where it is its next
 pub way-taken : (hash : List ℕ → List ℕ) (texts : List (List ℕ)) (places : List ℕ) (n f m : ℕ) (waiting : List (List ℕ)) (spots spots' : List Spot) (cover cover' : List (List ℕ)) (k p : ℕ) (d : List ℕ) → 0 < f → m < n → spots ≡ spots_of n f places → spots' ≡ spots
     → p * f ^ k ≤ m → end_of n f k p ≡ m + 1
     → (slice_get spots (length cover) ≡ Some (record { level = k; place = p }) → cover' ≡ cover ++ d ∷ [])

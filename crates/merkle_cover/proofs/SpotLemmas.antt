@@ -1,4 +1,4 @@
--- The places of a cover's digests.
+-- The positions of a cover's digests.
 use Rattle.std.proofs.Common.{◌≡◌, ℕ, suc, zero, ◌+◌, ◌-◌, ◌*◌, ◌^◌, ◌<◌, ◌≤◌, min, true, false, List, [], ◌∷◌, ◌++◌, map, length, slice_get, Some, None, refl, sym, ap, ◌∙◌, subst, arith, cond}
 use Rattle.std.specs.List.{range_with_len, flat_map}
 use Rattle.std.proofs.lemmas.List.{map-append}
@@ -49,7 +49,7 @@ cover_of-spots hash texts f (c ∷ cs) = cover_below-spots (digest hash texts f)
 
 -- ---- spots stand from left to right
 
--- from one leaf up to another stand these spots, none of whose places begins behind the last of n leaves, nor is
+-- from one leaf up to another stand these spots, none of whose positions begins after the last of n leaves, nor is
 -- above a level
 pub Ranged : ℕ → ℕ → ℕ → ℕ → ℕ → List Spot → Type 0
 Ranged n f t a b [] = a ≤ b
@@ -98,7 +98,7 @@ Ranged-spots_below n f chosen (suc k) p pos l =
     let whole = subst (λ x. Ranged n f (suc k) x ((p + 1) * f ^ suc k) (flat_map (spots_below n f chosen k) (range_with_len (p * f) c))) first (Ranged-wide n f k (suc k) ((p * f) * f ^ k) ((p * f + c) * f ^ k) ((p + 1) * f ^ suc k) (flat_map (spots_below n f chosen k) (range_with_len (p * f) c)) all wide (omega arith)) in
     elim (has_chosen f chosen (suc k) p) as (λ b. Ranged n f (suc k) (p * f ^ suc k) ((p + 1) * f ^ suc k) (cond b (flat_map (spots_below n f chosen k) (range_with_len (p * f) c)) (record { level = suc k; place = p } ∷ []))) [ true ↦ whole | false ↦ Ranged-one n f (suc k) p there ]
 
--- a spot's place is there, and is no higher than the top
+-- a spot's position is there, and is no higher than the top
 pub Ranged-at : (n f t a b : ℕ) (ss : List Spot) → Ranged n f t a b ss → (i : ℕ) (s : Spot) → slice_get ss i ≡ Some s → (a ≤ s.place * f ^ s.level) × (s.place * f ^ s.level < n) × (s.level ≤ t)
 unfolding Ranged
 Ranged-at n f t a b [] h i s e = cc
@@ -109,7 +109,7 @@ Ranged-at n f t a b (x ∷ xs) h (suc i) s e =
     let rest = Ranged-at n f t ((x.place + 1) * f ^ x.level) b xs h.3 i s e in
     (omega (arith, rest.0, h.0), rest.1, rest.2)
 
--- the next spot begins where one ends, or behind
+-- the next spot begins where one ends, or after
 pub Ranged-next : (n f t a b : ℕ) (ss : List Spot) → Ranged n f t a b ss → (i : ℕ) (s s' : Spot) → slice_get ss i ≡ Some s → slice_get ss (i + 1) ≡ Some s' → (s.place + 1) * f ^ s.level ≤ s'.place * f ^ s'.level
 unfolding Ranged
 Ranged-next n f t a b [] h i s s' e e' = cc

@@ -3,7 +3,7 @@ use Rattle.std.proofs.Common.{◌≡◌, ℕ, suc, zero, ◌+◌, ◌-◌, ◌<�
 use Rattle.std.proofs.lemmas.List.{take-append-le, drop-append-le, take_all, drop_at}
 use Rattle.merkle_cover.specs.Texts.{total_length, texts_of, EndsAt}
 
--- the ends rise
+-- the ends ascend
 pub EndsAt-le : (start : ℕ) (ends : List ℕ) (last : ℕ) → EndsAt start ends last → start ≤ last
 EndsAt-le start [] last h = omega (arith, h)
 EndsAt-le start (end ∷ ends) last h = omega (arith, h.0, EndsAt-le end ends last h.1)
@@ -12,7 +12,7 @@ pub length-texts_of : (octets : List ℕ) (start : ℕ) (ends : List ℕ) → le
 length-texts_of octets start [] = refl
 length-texts_of octets start (end ∷ ends) = ap suc (length-texts_of octets end ends)
 
--- all octets from the place on are those of the texts
+-- all octets from the offset on are those of the texts
 pub total_length-texts_of : (octets : List ℕ) (start : ℕ) (ends : List ℕ) → EndsAt start ends (length octets) → total_length (texts_of octets start ends) + start ≡ length octets
 total_length-texts_of octets start [] h = omega (arith, h)
 total_length-texts_of octets start (end ∷ ends) h =

@@ -12,7 +12,7 @@ unfolding places_at
 leaf_count-tree_of hash texts f =
     ap (λ (l : List (List (List ℕ))). length (get_or l 0 [])) (levels-tree_of hash texts f) ∙ ap (λ (l : List (List ℕ)). length l) (get_or-levels_to hash texts f (top (length texts) f) 0 [] (omega arith)) ∙ length-level hash texts f 0
 
--- a tree's levels have the digests of its places
+-- a tree's levels have the digests of its positions
 pub digest_in-tree_of : (hash : List ℕ → List ℕ) (texts : List (List ℕ)) (f k p : ℕ) → k ≤ top (length texts) f → p < places_at (length texts) f k → digest_in (tree_of hash texts f).levels k p ≡ digest hash texts f k p
 digest_in-tree_of hash texts f k p le l =
     ap (λ (ls : List (List (List ℕ))). get_or (get_or ls k []) p []) (levels-tree_of hash texts f)

@@ -1,4 +1,4 @@
--- What each step of a walk over a tree's places does.
+-- What each step of a walk over a tree's positions does.
 use Rattle.std.proofs.Common.{◌≡◌, ℕ, suc, ◌+◌, ◌-◌, ◌*◌, ◌/◌, ◌^◌, ◌<◌, ◌≤◌, min, true, false, List, [], ◌∷◌, ◌++◌, length, get_or, sym, ap, ◌∙◌, subst, arith, Fits, w32, w64}
 use Rattle.std.specs.Int.{div_ceil}
 use Rattle.std.specs.List.{range_with_len, flat_map}
@@ -46,7 +46,7 @@ module _ {n f : ℕ} {places : List ℕ} {k p w item : ℕ} (q : CanWalk n f pla
   pub walk-fan : 0 < f
   walk-fan = fan-divides f q.fan
 
-  -- the place is one of the leaves', and each number on the way fits its type
+  -- the position is one of the leaves', and each number on the way fits its type
   pub walk-there : p < n
   walk-there = omega (arith, (CanWalk-room q).1, q.place)
 
@@ -100,14 +100,14 @@ module _ {n f : ℕ} {places : List ℕ} {k p w item : ℕ} (q : CanWalk n f pla
       let wide = CanWalk-wide q j b e eb in
       places_at-lt-mul n f j (p * f) (omega (arith, q.fan)) (omega (arith, q.place, ap (λ x. p * x) wide, ap (λ x. (p * f) * x) eb))
 
-  -- behind the last child
+  -- after the last child
   pub walk-behind : (j b end item' : ℕ) → k ≡ suc j → b ≡ f ^ j → end ≡ min (p * f + f) (places_at n f j) → SplitsAt places (end * b) item' → SplitsAt places ((p + 1) * w) item'
   walk-behind j b end item' e eb ee s =
       let s1 : SplitsAt places (end * f ^ j) item' = subst (λ x. SplitsAt places (end * x) item') eb s in
       let s2 : SplitsAt places ((p + 1) * f ^ suc j) item' = SplitsAt-children n f places j p item' end (omega (arith, q.fan)) q.rising ee s1 in
       subst (λ x. SplitsAt places ((p + 1) * x) item') (let room : f ^ suc j ≡ w = sym (q.span ∙ ap (λ x. f ^ x) e) in room) s2
 
-  -- behind a chosen leaf
+  -- after a chosen leaf
   pub walk-leaf : k ≡ 0 → item < length places → get_or places item 0 < (p + 1) * w → SplitsAt places ((p + 1) * w) (item + 1)
   walk-leaf z l b =
       let one : w ≡ 1 = q.span ∙ ap (λ x. f ^ x) z ∙ pow-zero f in
@@ -117,7 +117,7 @@ module _ {n f : ℕ} {places : List ℕ} {k p w item : ℕ} (q : CanWalk n f pla
       subst (λ x. SplitsAt places x (item + 1)) (let m : p + 1 ≡ (p + 1) * w = rw one (omega arith) in m) (SplitsAt-leaf n places p item q.rising at' l (omega (arith, b1)))
 
 module _ {n f : ℕ} {places : List ℕ} {given : List (List ℕ)} {k p w item start : ℕ} (q : CanFold n f places given k p w item start) where
-  -- a digest or a text is there to take, and the next place fits its type
+  -- a digest or a text is there to take, and the next position fits its type
   pub fits-taken : Fits w64 (start + 1)
   fits-taken = omega (arith, q.taken, q.walk.place, q.walk.leaves)
 
@@ -136,7 +136,7 @@ flat_map-child g first child before now l e =
     ∙ ap (λ x. before ++ (flat_map g (range_with_len first m) ++ x)) (ap g here)
     ∙ ap (λ x. before ++ x) (sym more ∙ ap (λ i. flat_map g (range_with_len first i)) count)
 
--- a place above the leaves has a child
+-- a position above the leaves has a child
 pub child-there : (n f j k p : ℕ) → 0 < f → k ≡ suc j → p < places_at n f k → p * f < places_at n f j
 unfolding places_at
 child-there n f j k p h e l =

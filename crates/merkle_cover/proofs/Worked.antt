@@ -29,14 +29,14 @@ too_many_leaves = refl
 
 -- ---- a tree of five leaves and a fan-out of 2
 
--- of three texts one pair is whole, and of all five each place is
+-- of three texts one pair is whole, and of all five each position is
 pairs_of_three : whole_places 5 2 3 1 ≡ 1
 pairs_of_three = refl
 
 all_of_five : whole_places 5 2 5 1 ≡ places_at 5 2 1
 all_of_five = refl
 
--- the second pair ends behind the fourth leaf, and the third where the leaves do
+-- the second pair ends after the fourth leaf, and the third where the leaves do
 end_of_the_second : end_of 5 2 1 1 ≡ 4
 end_of_the_second = refl
 

@@ -1,4 +1,4 @@
--- Chosen leaves, the cover of all others, and the fold of texts at chosen places and a cover.
+-- Chosen leaves, the cover of all others, and the root recomputed of texts at chosen positions and a cover.
 use Rattle.std.specs.Prelude.{ℕ, zero, suc, ◌+◌, ◌-◌, ◌*◌, ◌/◌, ◌^◌, ◌<◌, ◌==◌, ◌&&◌, Bool, List, [], ◌∷◌, ◌++◌, length, map, drop, replicate, slice_index, slice_index_or, nat_le, nat_lt, if◌then◌else◌, Option, None, Some, Result, Ok, Err}
 use Rattle.std.specs.List.{flat_map, list_any, range_with_len, sum_by}
 use Rattle.merkle_cover.specs.Shape.{children, top}
@@ -6,12 +6,12 @@ use Rattle.merkle_cover.specs.Trees.{digest}
 use Rattle.merkle_cover.specs.declared.folds.FoldError.{FoldError}
 use Rattle.merkle_cover.specs.declared.folds.FoldError.TheVariants.{Place, CoverShort, CoverLong}
 
--- places that rise and are below n
+-- positions that rise and are below n
 pub record IsRising (n : ℕ) (places : List ℕ) : Type 0 where
   pub rises : (q r : ℕ) → q < r → r < length places → slice_index places q < slice_index places r
   pub below : (q : ℕ) → q < length places → slice_index places q < n
 
--- the leaf lies below place p of level k, or is that place
+-- the leaf lies below position p of level k, or is that position
 abbrev pub is_below : ℕ → ℕ → ℕ → ℕ → Bool
 is_below f k p leaf = nat_le (p * f ^ k) leaf && nat_lt leaf ((p + 1) * f ^ k)
 
@@ -19,8 +19,8 @@ is_below f k p leaf = nat_le (p * f ^ k) leaf && nat_lt leaf ((p + 1) * f ^ k)
 unfoldable pub has_chosen : ℕ → List ℕ → ℕ → ℕ → Bool
 has_chosen f chosen k p = list_any (is_below f k p) chosen
 
--- the cover below place p of level k, over n leaves: from left to right, the digests (by level and
--- place) of the highest places there that have no chosen leaf below them
+-- the cover below position p of level k, over n leaves: from left to right, the digests (by level and
+-- position) of the highest positions there that have no chosen leaf below them
 unfoldable pub cover_below : (ℕ → ℕ → List ℕ) → ℕ → ℕ → List ℕ → ℕ → ℕ → List (List ℕ)
 cover_below at n f chosen zero p = if has_chosen f chosen 0 p then [] else at 0 p ∷ []
 cover_below at n f chosen (suc k) p =
@@ -37,14 +37,14 @@ cover_of hash texts f (c ∷ cs) =
 abbrev pub chosen_texts : List (List ℕ) → List ℕ → List (List ℕ)
 chosen_texts texts chosen = map (λ c. slice_index_or texts c []) chosen
 
--- how many digests the cover below place p of level k has, over n leaves
+-- how many digests the cover below position p of level k has, over n leaves
 unfoldable pub need : ℕ → ℕ → List ℕ → ℕ → ℕ → ℕ
 need n f chosen zero p = if has_chosen f chosen 0 p then 0 else 1
 need n f chosen (suc k) p =
     if has_chosen f chosen (suc k) p then sum_by (need n f chosen k) (children n f k p) else 1
 
--- how many digests of the cover, over n leaves, stand left of a place of level k that has a chosen
--- leaf and lies d levels below the top: those left of its parent, and those of the places before it
+-- how many digests of the cover, over n leaves, stand left of a position of level k that has a chosen
+-- leaf and lies d levels below the top: those left of its parent, and those of the positions before it
 -- below that parent
 unfoldable pub left_of : ℕ → ℕ → List ℕ → ℕ → ℕ → ℕ → ℕ
 left_of n f chosen zero k p = 0
@@ -52,7 +52,7 @@ left_of n f chosen (suc d) k p =
     left_of n f chosen d (suc k) (p / f) + sum_by (need n f chosen k)
     (range_with_len (p / f * f) (p - p / f * f))
 
--- the text that is given for a place
+-- the text that is given for a position
 unfoldable pub text_for : List ℕ → List (List ℕ) → ℕ → List ℕ
 text_for [] texts p = []
 text_for (c ∷ cs) [] p = []
@@ -62,15 +62,15 @@ text_for (c ∷ cs) (text ∷ texts) p = if c == p then text else text_for cs te
 abbrev pub next_digest : List (List ℕ) → List ℕ
 next_digest cover = slice_index_or cover 0 (replicate 32 0)
 
--- the digests of places from left to right, each from the front of what is left of the cover
+-- the digests of positions from left to right, each from the front of what is left of the cover
 unfoldable pub folded_in_turn : (ℕ → ℕ) → (ℕ → List (List ℕ) → List ℕ) → List ℕ → List (List ℕ) →
     List ℕ
 folded_in_turn taken folded [] cover = []
 folded_in_turn taken folded (p ∷ ps) cover = folded p cover ++ folded_in_turn taken folded ps
     (drop (taken p) cover)
 
--- the digest of place p of level k: a place with no chosen leaf takes the next digest of the cover,
--- a chosen leaf has the digest of its text, and any other place that of its children's digests
+-- the digest of position p of level k: a position with no chosen leaf takes the next digest of the cover,
+-- a chosen leaf has the digest of its text, and any other position that of its children's digests
 unfoldable pub folded : (List ℕ → List ℕ) → ℕ → ℕ → List ℕ → List (List ℕ) → ℕ → ℕ → List (List ℕ) →
     List ℕ
 folded hash n f chosen texts zero p cover =
@@ -80,17 +80,17 @@ folded hash n f chosen texts (suc k) p cover =
     (1 ∷ folded_in_turn (need n f chosen k) (folded hash n f chosen texts k)
     (children n f k p) cover) else next_digest cover
 
--- the first index whose place is not below n or below the least that is allowed there
+-- the first index whose position is not below n or below the least that is allowed there
 abbrev pub fault_from : ℕ → ℕ → ℕ → List ℕ → Option ℕ
 fault_from n least i [] = None
 fault_from n least i (p ∷ ps) = if nat_le least p && nat_lt p n then fault_from n (p + 1)
     (i + 1) ps else Some i
 
--- the first index whose place is not below n or does not exceed the one before
+-- the first index whose position is not below n or does not exceed the one before
 abbrev pub first_fault : ℕ → List ℕ → Option ℕ
 first_fault n places = fault_from n 0 0 places
 
--- the fold of a cover that has as many digests as the places need, or too few or too many
+-- what is recomputed of a cover that has as many digests as the positions need, or too few or too many
 abbrev pub fold_exact : (List ℕ → List ℕ) → ℕ → ℕ → List ℕ → List (List ℕ) → List (List ℕ) →
     Result (List ℕ) FoldError
 fold_exact hash n f places texts cover =
@@ -104,7 +104,7 @@ abbrev pub after_fault : Option ℕ → Result (List ℕ) FoldError → Result (
 after_fault None r = r
 after_fault (Some i) r = Err (Place i)
 
--- the fold: a faulty place first, then the cover's length, then the digest of the top level's place
+-- the recomputed root: a faulty position first, then the cover's length, then the digest of the top level's position
 abbrev pub fold_of : (List ℕ → List ℕ) → ℕ → ℕ → List ℕ → List (List ℕ) → List (List ℕ) →
     Result (List ℕ) FoldError
 fold_of hash n f places texts cover = after_fault (first_fault n places)

@@ -10,7 +10,7 @@ use Rattle.merkle_cover.specs.declared.spots.Spot.{Spot}
 use Rattle.merkle_cover.specs.declared.rising.RisingError.{RisingError}
 use Rattle.merkle_cover.specs.declared.rising.RisingError.TheVariants.{Fan, Empty, TooMany, Place}
 
--- the first refusal that holds, over n leaves and chosen places
+-- the first refusal that holds, over n leaves and chosen positions
 abbrev pub first_rising_refusal : ℕ → ℕ → List ℕ → Option RisingError
 first_rising_refusal n fan places =
     if nat_lt fan 2 || nat_lt 32 fan then Some Fan
@@ -19,7 +19,7 @@ first_rising_refusal n fan places =
     (first_fault n places)))
 
 -- What contracts see of a tree that rises: its leaves and its fan-out, how many texts it has taken,
--- the digests that wait for their group, each at its level and its place in the group, where the
+-- the digests that wait for their group, each at its level and its position in the group, where the
 -- cover's digests stand, those of them that are made, and the digest that was made last.
 pub record Growth : Type 0 where
   pub leaves : ℕ
@@ -30,27 +30,27 @@ pub record Growth : Type 0 where
   pub cover : List (List ℕ)
   pub newest : List ℕ
 
--- how many places of level k are whole, with m of n texts
+-- how many positions of level k are whole, with m of n texts
 abbrev pub whole_places : ℕ → ℕ → ℕ → ℕ → ℕ
 whole_places n f m k = if m == n then places_at n f k else m / f ^ k
 
--- how many digests wait: those of whole places that are no children of whole places
+-- how many digests wait: those of whole positions that are no children of whole positions
 abbrev pub count_waiting : ℕ → ℕ → ℕ → ℕ
 count_waiting n f m =
     sum_by (λ k. whole_places n f m k - f * whole_places n f m (suc k)) (range_with_len 0 (top n f))
 
--- behind which of n leaves those below place p of level k end
+-- after which of n leaves those below position p of level k end
 abbrev pub end_of : ℕ → ℕ → ℕ → ℕ → ℕ
 end_of n f k p = min n ((p + 1) * f ^ k)
 
--- with m texts, each whole place of level k stands in its slot until its group is whole
+-- with m texts, each whole position of level k stands in its slot until its group is whole
 pub record HoldsLevel (hash : List ℕ → List ℕ) (texts : List (List ℕ)) (f m k : ℕ)
     (waiting : List (List ℕ)) : Type 0 where
   pub digests : (g i : ℕ) → i < f → end_of (length texts) f k (g * f + i) ≤ m →
       m < end_of (length texts) f (suc k) g
       → slice_index_or waiting (k * f + i) [] ≡ digest hash texts f k (g * f + i)
 
--- the digests of the cover that are made are the first, and the next is of a place that is not
+-- the digests of the cover that are made are the first, and the next is of a position that is not
 -- whole
 pub record HoldsCover (hash : List ℕ → List ℕ) (texts : List (List ℕ)) (f m : ℕ) (spots : List Spot)
     (cover : List (List ℕ)) : Type 0 where
@@ -59,7 +59,7 @@ pub record HoldsCover (hash : List ℕ → List ℕ) (texts : List (List ℕ)) (
   pub next : (s : Spot) → slice_get spots (length cover) ≡ Some s →
       m < end_of (length texts) f s.level s.place
 
--- It was given the first of these texts, in a tree with this fan-out and with these chosen places.
+-- It was given the first of these texts, in a tree with this fan-out and with these chosen positions.
 pub record Takes (hash : List ℕ → List ℕ) (fan : ℕ) (places : List ℕ) (texts : List (List ℕ))
     (r : Growth) : Type 0 where
   pub count : length texts ≡ r.leaves

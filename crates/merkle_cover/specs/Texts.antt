@@ -11,13 +11,13 @@ pub record HasRoom (texts : List (List ℕ)) (text : List ℕ) : Type 0 where
   pub count : length texts < 2 ^ 32 - 1
   pub octets : total_length texts + length text < 2 ^ 32
 
--- the texts of a buffer from a place on, each up to the next of the ends
+-- the texts of a buffer from an offset on, each up to the next of the ends
 abbrev pub texts_of : List ℕ → ℕ → List ℕ → List (List ℕ)
 texts_of octets start [] = []
 texts_of octets start (end ∷ ends) = take (end - start)
     (drop start octets) ∷ texts_of octets end ends
 
--- the ends rise from a place to the last one
+-- the ends ascend from an offset to the last one
 abbrev pub EndsAt : ℕ → List ℕ → ℕ → Type 0
 EndsAt start [] last = start ≡ last
 EndsAt start (end ∷ ends) last = (start ≤ end) × EndsAt end ends last

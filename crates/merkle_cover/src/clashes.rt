@@ -1,4 +1,4 @@
-//! Two texts with one digest, where a fold goes astray.
+//! Two texts with one digest, where a recomputed root goes astray.
 ghost use Rattle.std.specs.Prelude.{◌≡◌, ◌≢◌, ℕ, ◌+◌, ◌*◌, ◌^◌, ◌<◌, ◌≤◌, ◌↔◌, ◌&&◌, Bool, List, [], ◌∷◌, ◌++◌, length, drop, slice_index, slice_index_or, IfOk, IfErr, IfSome, IsNone, Ok};
 ghost use Rattle.std.specs.Bool.{OnTrue, OnFalse};
 ghost use Rattle.merkle_cover.specs.Clashes.{CanCompare, CanRead, IsClash, SameBelow, AreHashed, hashed_text, folded_text};
@@ -14,7 +14,7 @@ use crate::trees::Tree;
 use octet_text::{Digest32, Digests, Hasher, NoMemory, Octets, put_octets, put_u8};
 use std::alloc::Global;
 
-// Where a tree and a fold hash different texts to one digest.
+// Where a tree and a recomputed root hash different texts to one digest.
 #[derive(Clone, Copy)]
 struct ClashPlace {
     level: u32,
@@ -50,7 +50,7 @@ fn both(left: bool, right: bool) -> bool
     left && right
 }
 
-// Whether each text is the leaf at its place.
+// Whether each text is the leaf at its position.
 fn are_chosen(leaves: &Texts, places: &[u32], texts: &CutTexts<'_>) -> bool
     requires places { IsRising (length leaves.now) places.now }
     requires texts { length texts.now ≡ length places.now }
@@ -88,7 +88,7 @@ fn are_own<H: Hasher>(
     Ok(same_covers(whole.as_slice(), cover))
 }
 
-// Folds what is given at a place and compares it with the tree, or finds where the two clash.
+// Recomputes what is given at a position and compares it with the tree, or finds where the two clash.
 fn compare_place<H: Hasher>(
     given: &Brought<'_>,
     levels: &[Digests],
@@ -178,7 +178,7 @@ fn compare_place<H: Hasher>(
     Ok(all)
 }
 
-// The text that the tree hashes at a place.
+// The text that the tree hashes at a position.
 fn tree_text<H: Hasher>(
     alloc: Global,
     levels: &[Digests],
@@ -207,7 +207,7 @@ fn tree_text<H: Hasher>(
     Ok(text)
 }
 
-// The text that is hashed at a place with a chosen leaf, by what is given.
+// The text that is hashed at a position with a chosen leaf, by what is given.
 fn given_text<H: Hasher>(
     alloc: Global,
     given: &Brought<'_>,
@@ -255,10 +255,10 @@ pub struct TwoTexts {
     pub right: Octets,
 }
 
-/// Two different texts with one digest, from a tree and from texts and a cover that fold to its
-/// root. `None` exactly where each given text is the leaf at its place, and the cover is the tree's.
+/// Two different texts with one digest, from a tree and from texts and a cover that recompute its
+/// root. `None` exactly where each given text is the leaf at its position, and the cover is the tree's.
 ///
-/// Compares octets first, and hashes, in the time of a fold, only where some differ.
+/// Compares octets first, and hashes, in the time of recomputing the root, only where some differ.
 pub fn clash<H: Hasher>(
     alloc: Global,
     tree: &Tree<H>,

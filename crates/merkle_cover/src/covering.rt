@@ -31,7 +31,7 @@ impl Covering {
         digests
     }
 
-    // Keeps a place's digest, where it is the next of the cover.
+    // Keeps a position's digest, where it is the next of the cover.
     pub(crate) fn take(&mut self, spot: Spot, digest: &Digest32)
         ensures spots { self.new.spots ≡ self.old.spots }
         ensures taken { slice_get self.old.spots.items (length self.old.digests.items) ≡ Some spot

@@ -1,4 +1,4 @@
-//! The cover of some leaves: the digests that their fold lacks.
+//! The cover of some leaves: the digests that recomputing the root takes beside them.
 ghost use Rattle.std.specs.Prelude.{◌≡◌, ℕ, ◌+◌, ◌*◌, ◌^◌, ◌<◌, ◌≤◌, List, [], ◌∷◌, ◌++◌, length, slice_index, slice_index_or, IfOk, OnOk};
 ghost use Rattle.merkle_cover.specs.Covers.{cover_below};
 ghost use Rattle.merkle_cover.specs.Folding.{CanWalk, SplitsAt, HasLevels, digest_in};
@@ -15,7 +15,7 @@ pub(crate) struct CoverWalk<'a> {
     pub(crate) places: &'a [u32],
 }
 
-// The digest of a place.
+// The digest of a position.
 pub(crate) fn digest_of(levels: &[Digests], level: usize, place: usize) -> Digest32
     requires level { level < length levels.now }
     requires place { place < length (slice_index_or levels.now level []) }
@@ -25,7 +25,7 @@ pub(crate) fn digest_of(levels: &[Digests], level: usize, place: usize) -> Diges
     digests.as_slice()[place]
 }
 
-// Appends the cover below a place, and answers the index of the next chosen leaf.
+// Appends the cover below a position, and answers the index of the next chosen leaf.
 pub(crate) fn cover_place(
     walk: &CoverWalk<'_>,
     level: u32,

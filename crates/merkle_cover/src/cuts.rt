@@ -7,7 +7,7 @@ ghost use Rattle.merkle_cover.specs.Cuts.{cut_from, AreIn};
 use crate::texts::between;
 use std::marker::Model;
 
-/// Where a text stands in octets: from one place up to another.
+/// Where a text stands in octets: from one offset up to another.
 #[derive(Clone, Copy, Debug, PartialEq, Eq)]
 pub struct Cut {
     pub start: u32,

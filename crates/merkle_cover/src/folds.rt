@@ -1,4 +1,4 @@
-//! Folds: the digest that some leaves and the cover of the others give.
+//! Recomputed roots: the digest that some leaves and the cover of the others give.
 ghost use Rattle.std.specs.Prelude.{◌≡◌, ℕ, ◌+◌, ◌*◌, ◌^◌, ◌<◌, ◌≤◌, ◌↔◌, List, [], ◌∷◌, length, IsTrue, slice_index, slice_index_or, replicate, MatchResult, Option, Ok, Err};
 ghost use Rattle.std.specs.Bool.{OnTrue, OnFalse};
 ghost use Rattle.merkle_cover.specs.Covers.{IsRising, first_fault, fold_of};
@@ -9,16 +9,16 @@ use crate::cuts::CutTexts;
 use octet_text::{Digest32, Hasher};
 use thiserror::Error;
 
-/// Why places and a cover don't fold.
+/// Why no root can be recomputed of positions and a cover.
 #[derive(Clone, Copy, Debug, PartialEq, Eq, Error)]
 pub enum FoldError {
-    /// The place at this index is not below the leaf count, or does not exceed the one before.
+    /// The position at this index is not below the leaf count, or does not exceed the one before.
     #[error("The place at index {0} is no leaf, or does not exceed the one before.")]
     Place(u32),
-    /// The cover has fewer digests than the places need.
+    /// The cover has fewer digests than the positions need.
     #[error("The cover has too few digests.")]
     CoverShort,
-    /// The cover has more digests than the places need.
+    /// The cover has more digests than the positions need.
     #[error("The cover has too many digests.")]
     CoverLong,
 }
@@ -33,7 +33,7 @@ pub fn leaf_digest<H: Hasher>(text: &[u8]) -> Digest32
     hasher.end()
 }
 
-/// The first index whose place is not below the leaf count or does not exceed the one before.
+/// The first index whose position is not below the leaf count or does not exceed the one before.
 pub fn fault_of(leaves: u32, places: &[u32]) -> Option<u32>
     ensures { result ≡ first_fault leaves places.now }
 {
@@ -49,14 +49,14 @@ pub fn fault_of(leaves: u32, places: &[u32]) -> Option<u32>
     None
 }
 
-/// Tells whether places rise strictly and lie below the leaf count.
+/// Tells whether positions strictly ascend and lie below the leaf count.
 pub fn are_rising(leaves: u32, places: &[u32]) -> bool
     ensures { IsTrue result ↔ IsRising leaves places.now }
 {
     fault_of(leaves, places).is_none()
 }
 
-/// The top level of a tree of so many leaves, and how many leaves its place has room for.
+/// The top level of a tree of so many leaves, and how many leaves its position has room for.
 pub fn top_of(leaves: u64, fan: u64) -> (u32, u64)
     requires fan { 2 ≤ fan }
     requires fan_max { fan ≤ 32 }
@@ -75,7 +75,7 @@ pub fn top_of(leaves: u64, fan: u64) -> (u32, u64)
     (level, span)
 }
 
-// What is folded: texts for places among the leaves, and a cover.
+// What a root is recomputed of: texts for positions among the leaves, and a cover.
 #[derive(Drop)]
 pub(crate) struct Brought<'a> {
     pub(crate) leaves: u64,
@@ -85,7 +85,7 @@ pub(crate) struct Brought<'a> {
     pub(crate) cover: &'a [Digest32],
 }
 
-// The digest of a place, the index of the next given text, and the number of cover digests taken.
+// The digest of a position, the index of the next given text, and the number of cover digests taken.
 #[derive(Drop)]
 pub(crate) struct Folded {
     pub(crate) digest: Digest32,
@@ -93,7 +93,7 @@ pub(crate) struct Folded {
     pub(crate) taken: usize,
 }
 
-/// Tells whether there is a place at an index, and it is below this one.
+/// Tells whether there is a position at an index, and it is below this one.
 pub fn is_next_below(places: &[u32], item: usize, end: u64) -> bool
     ensures next { OnTrue result ((item < length places.now) ×
         (slice_index places.now item < end)) }
@@ -102,7 +102,7 @@ pub fn is_next_below(places: &[u32], item: usize, end: u64) -> bool
     item < places.len() && u64::from(places[item]) < end
 }
 
-// The digest at an index, or zeros behind the last.
+// The digest at an index, or zeros after the last.
 pub(crate) fn digest_at(digests: &[Digest32], index: usize) -> Digest32
     ensures value { result ≡ slice_index_or digests.now index (replicate 32 0) }
     ensures size { length result ≡ 32 }
@@ -114,7 +114,7 @@ pub(crate) fn digest_at(digests: &[Digest32], index: usize) -> Digest32
     }
 }
 
-// Folds what is given at a place.
+// Recomputes what is given at a position.
 pub(crate) fn fold_place<H: Hasher>(
     given: &Brought<'_>,
     level: u32,
@@ -163,7 +163,7 @@ pub(crate) fn fold_place<H: Hasher>(
     }
 }
 
-/// The digest of a tree of so many leaves, by the texts of some places and the cover of the others.
+/// The digest of a tree of so many leaves, by the texts of some positions and the cover of the others.
 pub fn fold<H: Hasher>(
     leaves: u32,
     fan: u8,

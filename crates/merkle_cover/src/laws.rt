@@ -1,9 +1,9 @@
-//! What holds of covers and folds.
+//! What holds of covers and recomputed roots.
 ghost use Rattle.std.specs.Prelude.{◌≡◌, ℕ, ◌*◌, ◌<◌, ◌≤◌, List, length, Ok, All};
 ghost use Rattle.merkle_cover.specs.Covers.{IsRising, cover_of, chosen_texts, fold_of};
 ghost use Rattle.merkle_cover.specs.Trees.{root};
 
-/// The texts of chosen leaves and the cover of all others fold to the root, by any hash; a cover has
+/// The texts of chosen leaves and the cover of all others recompute the root, by any hash; a cover has
 /// fewer digests than there are leaves times the fan-out; and where each digest of the hash has 32
 /// octets, the root has, and each digest of a cover.
 pub fn cover_laws()

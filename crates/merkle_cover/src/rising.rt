@@ -28,18 +28,18 @@ pub enum RisingError {
     /// There are more than 2,097,152 leaves.
     #[error("A tree has at most 2,097,152 leaves.")]
     TooMany,
-    /// The place at this index is not below the leaf count, or does not exceed the one before.
+    /// The position at this index is not below the leaf count, or does not exceed the one before.
     #[error("The place at index {0} is no leaf, or does not exceed the one before.")]
     Place(u32),
-    /// No memory was found.
-    #[error("No memory was found.")]
+    /// Out of memory.
+    #[error("Out of memory.")]
     Memory,
 }
 
 /// A tree's root, and the cover of the chosen leaves.
 #[derive(Debug, Drop)]
 pub struct Risen {
-    /// The digest of the top level's place.
+    /// The digest of the top level's position.
     pub root: Digest32,
     /// The cover, and no digest where no leaf is chosen.
     pub cover: Digests,
@@ -53,7 +53,7 @@ struct Outline {
     top: u32,
 }
 
-// So many digests from a place on.
+// So many digests from an offset on.
 fn group(waiting: &[Digest32], first: usize, count: usize) -> &[Digest32]
     requires { first + count ≤ length waiting.now }
     ensures { result.now ≡ take count (drop first waiting.now) }
@@ -191,7 +191,7 @@ impl<H: Hasher> Rising<H> {
     ///
     /// The first that holds is refused: `Fan` where the fan-out is not 2 to 32, `Empty` where there
     /// is no leaf, `TooMany` where there are more than 2,097,152, `Place` with the first index whose
-    /// place is not below the leaf count or does not exceed the one before. Each is told whatever memory
+    /// position is not below the leaf count or does not exceed the one before. Each is told whatever memory
     /// there is.
     pub fn new(
         alloc: Global,

@@ -8,7 +8,7 @@ use crate::folds::{is_next_below, top_of};
 use octet_text::NoMemory;
 use std::alloc::Global;
 
-// A place of a level.
+// A position of a level.
 #[derive(Clone, Copy, PartialEq, Eq)]
 pub(crate) struct Spot {
     pub(crate) level: u32,
@@ -23,7 +23,7 @@ struct Chosen<'a> {
     places: &'a [u32],
 }
 
-// Appends the spots of the cover below a place, and answers the index of the next chosen leaf.
+// Appends the spots of the cover below a position, and answers the index of the next chosen leaf.
 fn spots_at(
     chosen: &Chosen<'_>,
     level: u32,

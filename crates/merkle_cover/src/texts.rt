@@ -88,7 +88,7 @@ impl Texts {
     }
 }
 
-// The octets from one place up to another.
+// The octets from one offset up to another.
 pub(crate) fn between(octets: &[u8], start: usize, end: usize) -> &[u8]
     requires order { start ≤ end }
     requires within { end ≤ length octets.now }

@@ -27,12 +27,12 @@ pub enum TreeError {
     /// There are more than 2,097,152 leaves.
     #[error("A tree has at most 2,097,152 leaves.")]
     TooMany,
-    /// No memory was found.
-    #[error("No memory was found.")]
+    /// Out of memory.
+    #[error("Out of memory.")]
     Memory,
 }
 
-/// A tree over texts, with the digests of all its places.
+/// A tree over texts, with the digests of all its positions.
 #[derive(Drop)]
 pub struct Tree<H: Hasher> {
     fan: u8,
@@ -144,7 +144,7 @@ fn tree_over<H: Hasher>(alloc: Global, leaves: &Texts, fan: u8) -> Result<Tree<H
 }
 
 impl<H: Hasher> Tree<H> {
-    /// The tree over the leaves, which it hashes once each, as each place above them.
+    /// The tree over the leaves, which it hashes once each, as each position above them.
     ///
     /// The first that holds is refused: `Fan` where the fan-out is not 2 to 32, `Empty` where there
     /// is no leaf, `TooMany` where there are more than 2,097,152. Each is told whatever memory there is.
@@ -173,7 +173,7 @@ impl<H: Hasher> Tree<H> {
         }
     }
 
-    /// The digest of the top level's place.
+    /// The digest of the top level's position.
     pub fn root(&self) -> Digest32
         ensures { result ≡ self.now.root }
     {

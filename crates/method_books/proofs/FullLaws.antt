@@ -30,7 +30,7 @@ use Rattle.proof_method.specs.Gathering.{Lists, Wanted, AreEnds, IsPairAt, IsWan
 use Rattle.proof_method.specs.Apart.{IsEnd, WantedApart, IsFoundApart}
 use Rattle.method_books.specs.PlainBooks.{plain_book}
 
--- ---- ids that rise
+-- ---- ids that ascend
 
 less_between : (x y : ℕ) → is_lt (nat_cmp y x) ≡ false → nat_eq x y ≡ false → nat_cmp x y ≡ Less
 less_between x y h k = grind (arith, h, k)
@@ -123,7 +123,7 @@ none_listed P none = record { rising = tt; same = λ n. (λ c. absurd (Contains-
 not_before_itself : (a b : ℕ) → is_before a b a b ≡ true → ⊥
 not_before_itself a b h = grind (arith, h)
 
--- leaves that rise have two ids at one place at most
+-- leaves that ascend have two ids at one place at most
 one_place : (pairs : List PairLeaf) → PairsRise pairs → (a b m n : ℕ) → StandsAt pairs a b m → StandsAt pairs a b n → m ≡ n
 one_place pairs rise a b m n h k = elim (order m n) [
   | inl lt ↦ absurd (apart m n h k lt)

@@ -48,7 +48,7 @@ order_of m n = grind arith
 not_before_itself : (a b : ℕ) → is_before a b a b ≡ true → ⊥
 not_before_itself a b h = grind (arith, h)
 
--- leaves that rise have two ids at one place at most
+-- leaves that ascend have two ids at one place at most
 pub one_place : (pairs : List PairLeaf) → PairsRise pairs → (a b m n : ℕ) → StandsAt pairs a b m → StandsAt pairs a b n → m ≡ n
 one_place pairs rise a b m n h k = elim (order_of m n) [
   | inl lt ↦ absurd (apart m n h k lt)
@@ -79,7 +79,7 @@ max_flips a b = omega arith
 least : (a b : ℕ) → a < b → (min a b ≡ a) × (max a b ≡ b)
 least a b lt = (omega (arith, lt), omega (arith, lt))
 
--- the table over rising ids has the pairs of all of them
+-- the table over ascending ids has the pairs of all of them
 pub table_has : (dist : ℕ → ℕ → Option ℕ) (ids : List ℕ) (pairs : List PairLeaf) → pairs ≡ pairs_of dist ids → IsStrictlySortedBy nat_cmp ids → HasPairs pairs ids
 table_has dist ids pairs all sorted = record { there = λ a b ca cb apart. by_order a b ca cb apart (order_of a b) }
   where

@@ -30,7 +30,7 @@ fn add_ids(set: &mut BTreeSet<u32>, ids: &[u32]) -> Result<(), AllocError>
 }
 
 /// The ids on a route, and those to which one of two searches gives a length up to this one, by
-/// rising id.
+/// ascending id.
 pub fn wanted_nodes(
     alloc: Global,
     route: &Ids,
@@ -51,7 +51,7 @@ pub fn wanted_nodes(
     Ok(Ids::from_vec(in_order(alloc, ids)?))
 }
 
-/// The borders that inner walks lead to, by rising id, each with its least length.
+/// The borders that inner walks lead to, by ascending id, each with its least length.
 pub fn reached(
     alloc: Global,
     borders: &[u32],
@@ -150,7 +150,7 @@ fn add_rows(
     Ok(())
 }
 
-/// The numbers of a set, rising.
+/// The numbers of a set, ascending.
 fn in_order(alloc: Global, set: BTreeSet<u32>) -> Result<Vec<u32>, AllocError>
     ensures keys { IfOk result (λ v. v.items ≡ set.keys) }
     ensures ordered { tree_set.IsOrdered nat_cmp set }
@@ -160,7 +160,7 @@ fn in_order(alloc: Global, set: BTreeSet<u32>) -> Result<Vec<u32>, AllocError>
 }
 
 /// The places of the pairs of a border near the start and another near the end whose lengths are
-/// together below the limit, rising.
+/// together below the limit, ascending.
 pub fn wanted_pairs(
     alloc: Global,
     pairs: &[PairLeaf],

@@ -18,7 +18,7 @@ use pair_dist::{PairError, pair_leaves};
 use road_map::{Ids, Map};
 use std::alloc::Global;
 
-/// A map with a grid of cells, its border nodes by rising id, and the leaves of all pairs of these.
+/// A map with a grid of cells, its border nodes by ascending id, and the leaves of all pairs of these.
 #[derive(Drop)]
 pub struct HypBook {
     pub map: Map,
@@ -52,7 +52,7 @@ pub fn first_parameter(settings: &Settings) -> Option<u8>
     None
 }
 
-/// The border nodes of a map in a grid, by rising id.
+/// The border nodes of a map in a grid, by ascending id.
 pub fn borders(alloc: Global, map: &Map, grid: &Grid) -> Result<Ids, NoMemory>
     requires { IsGridOf map.now.parts.nodes grid.now }
     ensures { IfOk result (λ ids. ids ≡ borders_in map.now.parts grid.now.columns grid.now.rows) }

@@ -24,7 +24,7 @@ fn has_length(labels: &Labels, id: u32) -> bool
     labels.get(id).is_some()
 }
 
-/// Adds the nodes that walks lead to, by rising id.
+/// Adds the nodes that walks lead to, by ascending id.
 fn add_reached(ids: &mut Vec<u32>, map: &Map, labels: &Labels) -> Result<(), AllocError>
     ensures { OnOk result (ids.new.items ≡ ids.old.items ++ filter
         (λ id. is_some (length_at labels.now id)) (ids_of map.now.order)) }
@@ -62,7 +62,7 @@ fn with_references(alloc: Global, book: &LdmBook, ids: &[u32]) -> Result<Vec<u32
 }
 
 /// The nodes on a route, or the two ends of none, and those that walks lead to, with the nodes whose
-/// codes stand for theirs, each once, by rising id.
+/// codes stand for theirs, each once, by ascending id.
 pub fn needed(alloc: Global, book: &LdmBook, route: &Ids, labels: &Labels) -> Result<Ids, NoMemory>
     ensures { IfOk result (Lists (IsNeeded book.now.map.order book.now.extras.entries route.now
         (length_at labels.now))) }

@@ -15,7 +15,7 @@ use road_map::{Ids, Map, map_laws};
 use road_search::{Labels, WholeMap, search};
 use std::alloc::Global;
 
-/// The ids to which a walk of at most this length leads, by rising id.
+/// The ids to which a walk of at most this length leads, by ascending id.
 pub fn near(alloc: Global, labels: &Labels, most: u64) -> Result<Ids, NoMemory>
     ensures { IfOk result (Lists (λ id. IsTrue (is_within most (length_at labels.now id)))) }
 {
@@ -24,7 +24,7 @@ pub fn near(alloc: Global, labels: &Labels, most: u64) -> Result<Ids, NoMemory>
     Ok(Ids::from_vec(ids))
 }
 
-/// The ids to which a walk leads from the start, and the end, to which none does, by rising id.
+/// The ids to which a walk leads from the start, and the end, to which none does, by ascending id.
 pub fn component(alloc: Global, map: &Map, query: Query) -> Result<Ids, NoMemory>
     requires { AreUnjoined map.now.parts query }
     ensures { IfOk result (Lists (λ id. IsEnd query id ⊎

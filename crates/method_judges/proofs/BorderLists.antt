@@ -9,7 +9,7 @@ use Rattle.method_judges.specs.Scans.{AreRising, border_length}
 abbrev pub Marked : List NodeLeaf → (ℕ → ℕ → Type 0) → ℕ → ℕ → Type 0
 Marked nodes P b p = IsTrue (marks (item_at nodes b)) × IsLeast (P b) (Some p)
 
--- all ids with their lengths of which a fact holds, by rising id
+-- all ids with their lengths of which a fact holds, by ascending id
 pub record AreBorders (At : ℕ → ℕ → Type 0) (bs : List (ℕ × ℕ)) : Type 0 where
   pub rising : AreRising bs
   pub all : (b p : ℕ) → Contains bs (b, p) ↔ At b p

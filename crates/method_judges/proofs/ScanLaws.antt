@@ -194,7 +194,7 @@ abbrev pub scanned : ℕ → Option Refusal → Verdict
 scanned most None = Ok most
 scanned most (Some e) = Err e
 
--- the verdict on border pairs behind a route, by the scan of all borders
+-- the verdict on border pairs after a route, by the scan of all borders
 pub scan_tests : (g : Items) (q : Query) (most : ℕ) (near far : ℕ → Option ℕ) → ((v : ℕ) → IsLeastPassing (inner_ways (item_at g.nodes)) q.from most v (near v)) → ((v : ℕ) → IsLeastPassing (inner_ways (item_at g.nodes)) q.to most v (far v)) → (o : Option Refusal) → IsScan (pair_fault g.pairs most) most g.nodes near far o → PairTests g q most (scanned most o)
 scan_tests g q most near far near_is far_is o s =
     by_first o (first_same (AreFaulty (pair_fault g.pairs most) most Near Far) (PairFails g q most) o

@@ -1,4 +1,4 @@
--- The scan of border pairs, by rising ids.
+-- The scan of border pairs, by ascending ids.
 use Rattle.std.specs.Prelude.{◌≡◌, ℕ, ◌+◌, ◌^◌, ◌<◌, ◌↔◌, nat_lt, Option, None, Some, if◌then◌else◌, List, [], ◌∷◌, Contains}
 use Rattle.std.specs.Option.{option_or}
 use Rattle.road_map.specs.Least.{IsLeast}
@@ -37,7 +37,7 @@ AreRising (b ∷ bs) = AboveAll b.0 bs
 abbrev pub border_length : List NodeLeaf → (ℕ → Option ℕ) → ℕ → Option ℕ
 border_length nodes len id = if marks (item_at nodes id) then len id else None
 
--- the borders among items by rising id, each with its length
+-- the borders among items by ascending id, each with its length
 pub record IsBorderList (nodes : List NodeLeaf) (len : ℕ → Option ℕ)
     (bs : List (ℕ × ℕ)) : Type 0 where
   pub rising : AreRising bs

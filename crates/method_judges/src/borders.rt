@@ -55,7 +55,7 @@ fn borders(
     Ok(near)
 }
 
-/// The borders by rising id.
+/// The borders by ascending id.
 fn in_order(alloc: Global, near: BTreeMap<u32, u64>) -> Result<Vec<(u32, u64)>, AllocError>
     ensures entries { IfOk result (λ v. v.items ≡ near.entries) }
     ensures ordered { IsOrdered nat_cmp near }
@@ -64,7 +64,7 @@ fn in_order(alloc: Global, near: BTreeMap<u32, u64>) -> Result<Vec<(u32, u64)>, 
     near.into_iter().collect(alloc)
 }
 
-/// All borders by rising id, each with its least inner length.
+/// All borders by ascending id, each with its least inner length.
 pub fn listed(
     alloc: Global,
     nodes: &[NodeLeaf],

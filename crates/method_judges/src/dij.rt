@@ -40,7 +40,7 @@ impl Judge for Dij {
     }
 }
 
-/// The tests behind the route, which has this length.
+/// The tests after the route, which has this length.
 fn tests(alloc: Global, by_id: &NodesById<'_>, query: Query, length: u64) -> Result<u64, Refusal>
     ensures { UnlessMemory (DijTests by_id.now query length) result }
 {

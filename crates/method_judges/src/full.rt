@@ -38,7 +38,7 @@ impl Judge for Full {
     }
 }
 
-/// The tests behind the route, which has this length: the pair of the two ends says how far apart
+/// The tests after the route, which has this length: the pair of the two ends says how far apart
 /// they are.
 fn tests(pairs: &[PairLeaf], query: Query, length: u64) -> Result<u64, Refusal>
     ensures { result ≡ full_judged pairs.now query length }

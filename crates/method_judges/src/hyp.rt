@@ -22,7 +22,7 @@ use std::alloc::Global;
 /// The method that signs the distances of all pairs of border nodes of a grid of cells, so that the
 /// client searches the cells of the two ends alone.
 ///
-/// Behind the tests that all methods share come an inner walk to an id without an item, a shorter
+/// After the tests that all methods share come an inner walk to an id without an item, a shorter
 /// inner walk to the end, and a shorter walk over two borders; where no route is shown, any inner
 /// walk to the end, and any walk over two borders.
 pub struct Hyp;
@@ -94,7 +94,7 @@ fn lesser_of(a: Option<u32>, b: Option<u32>) -> Option<u32>
     }
 }
 
-/// The tests behind the route, which has this length.
+/// The tests after the route, which has this length.
 fn tests(
     alloc: Global,
     items: &Items,

@@ -53,7 +53,7 @@ fn below(found: Option<u64>, limit: u64) -> Option<u64>
     found.filter(|length| *length < limit)
 }
 
-/// The tests behind the route, which has this length.
+/// The tests after the route, which has this length.
 fn tests(
     alloc: Global,
     by_id: &NodesById<'_>,

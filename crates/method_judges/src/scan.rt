@@ -1,4 +1,4 @@
-//! The pairs of a border near the start and a border near the end, by rising ids.
+//! The pairs of a border near the start and a border near the end, by ascending ids.
 
 ghost use Rattle.std.specs.Prelude.{nat_lt, ◌≡◌, ◌+◌, ◌<◌, ℕ, None, IfOk, if◌then◌else◌};
 ghost use Rattle.road_search.specs.Labelling.{length_at};
@@ -121,7 +121,7 @@ fn first_fault<F: Faults>(faults: &F, near: &[(u32, u64)], far: &[(u32, u64)]) -
     None
 }
 
-/// The first fault of a border that one search leads to with one that the other leads to, by rising
+/// The first fault of a border that one search leads to with one that the other leads to, by ascending
 /// ids.
 pub fn scanned<F: Faults>(
     alloc: Global,

@@ -28,7 +28,7 @@ module _ {M : Type 0} (octets : M → Option (List ℕ)) (label handed puts room
   Begun-gone count piece old done gone m rest h p kept more s =
       subst (λ k. Spreads octets label handed puts room count piece old (done ++ kept) k) (sym (append_assoc gone (label m ∷ []) more)) (h kept (label m ∷ more) (inr (more, refl, p, s)))
 
-  -- the mirror at a place took the piece
+  -- the mirror at an index took the piece
   pub Begun-kept_at : (count : ℕ) (piece : List ℕ) (old items : List M) (gone : List ℕ) (at : ℕ) (m n : M) → at < length items → m ≡ get_or items at m
       → Begun count piece old (take at items) gone (drop at items) → Took octets label handed puts room count piece m n
       → Begun count piece old (take (at + 1) (set items at n)) gone (drop (at + 1) (set items at n))
@@ -40,7 +40,7 @@ module _ {M : Type 0} (octets : M → Option (List ℕ)) (label handed puts room
       (subst (λ r. Begun count piece old (take at items ++ n ∷ []) gone r) (sym (drop-set-lt (at + 1) items at n below))
       (Begun-kept count piece old (take at items) gone m n (drop (at + 1) items) begun t))
 
-  -- the mirror at a place is gone
+  -- the mirror at an index is gone
   pub Begun-gone_at : (count : ℕ) (piece : List ℕ) (old items : List M) (gone : List ℕ) (at : ℕ) (m n : M) (l : ℕ) (left : List M) → at < length items → m ≡ get_or items at m
       → left ≡ remove (set items at n) at → l ≡ label m
       → Begun count piece old (take at items) gone (drop at items) → PromisedLess count piece (puts m) (room m)

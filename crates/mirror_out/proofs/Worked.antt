@@ -12,7 +12,7 @@ one_put_short : (count : ℕ) (text : List ℕ) (room : ℕ) → PromisedLess (c
 one_put_short count text room = inl (omega arith)
 
 module _ {M : Type 0} (octets : M → Option (List ℕ)) (label handed puts room : M → ℕ) (count : ℕ) (text : List ℕ) where
-  -- a mirror that took the text has it behind what it held, under its label, and promises that much less
+  -- a mirror that took the text has it after what it held, under its label, and promises that much less
   holds_it : (old new : M) → Took octets label handed puts room count text old new → Appends (octets old) (octets new) text
   holds_it old new h = h.holds
 

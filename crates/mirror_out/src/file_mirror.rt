@@ -8,8 +8,8 @@ use std::fs::File;
 use std::io::Write;
 
 /// A file, which takes each piece where it was left. It promises nothing. It tells the pieces that it was
-/// answered to have taken, which stand behind what the file held before. A put that fails may leave a
-/// front of its piece, of which nothing is told.
+/// answered to have taken, which stand after what the file held before. A put that fails may leave a
+/// prefix of its piece, of which nothing is told.
 #[derive(Drop)]
 pub struct FileMirror {
     label: u32,

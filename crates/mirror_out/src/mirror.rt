@@ -7,7 +7,7 @@ ghost use Rattle.mirror_out.specs.Mirrors.{PromisedLess};
 
 use road_io::Failed;
 
-/// A further place that takes what is written, and keeps it behind what it held.
+/// A further place that takes what is written, and keeps it after what it held.
 pub trait Mirror: Drop {
     /// The octets that it holds, where it tells them.
     ghost octets: { Self → Option (List ℕ) };
@@ -31,7 +31,7 @@ pub trait Mirror: Drop {
     fn label(&self) -> u32
         ensures { result ≡ named self.now };
 
-    /// Takes a piece, behind what it holds. It fails only where it promised no put, or fewer octets
+    /// Takes a piece, after what it holds. It fails only where it promised no put, or fewer octets
     /// than the piece has.
     fn put(&mut self, piece: &[u8]) -> Result<(), Failed>
         ensures ok { OnOk result (Appends (octets self.old) (octets self.new) piece.now) }

@@ -1,4 +1,4 @@
--- What is accepted is accepted under lower least versions, by keys alone, and with a route for one
+-- What is accepted is accepted under lower minimum versions, by keys alone, and with a route for one
 -- query.
 use Rattle.std.proofs.Common.{◌≡◌, ℕ, ◌+◌, ◌≤◌, ◌==◌, Bool, true, false, cond, not, List, [], ◌∷◌, length, Option, Some, None, is_some, Result, Ok, Err, refl, sym, ap, subst, arith, ◌∙◌}
 use Rattle.std.proofs.lemmas.Bool.Decides.{nat_tests}
@@ -34,7 +34,7 @@ use Rattle.route_client.specs.declared.accepted.Checked.TheVariants.{Route, Apar
 use Rattle.route_client.specs.Verdicts.{Accepts}
 use Rattle.near_proof.specs.Acceptance.{LowerVersionsAccept, OnlyKeysAccept, RoutesAnswerOneQuery, TrueAnswersAgree, HeadersAreNoLinks}
 
--- ---- least versions
+-- ---- minimum versions
 
 pub lower : LowerVersionsAccept
 lower hash key links octets query least low x at is = record {

@@ -16,7 +16,7 @@ use Rattle.near_proof.specs.DeskKeys.{LinksLead}
 count_of_links : (desk : Desk) → length (links_of desk) ≡ length desk.earlier
 count_of_links desk = length-map (range_with_len 0 (length desk.earlier)) (link_from desk) ∙ length-range_with_len 0 (length desk.earlier)
 
--- the key of an area behind another is that of a link
+-- the key of an area after another is that of a link
 key_behind : (desk : Desk) (area : ℕ) → area < length desk.earlier → Contains (map (λ (l : Link). l.key) (links_of desk)) (public_key (key_of desk (suc area)))
 key_behind desk area before =
     let within : area < length (links_of desk) = omega (arith, before, count_of_links desk) in

@@ -87,7 +87,7 @@ module _ (hash sha : List ℕ → List ℕ) (p : Publication) (q : Query) (kind 
       (subst (λ (n : ℕ). IsRising n a.node_places) (sym node_count) over.answer.rising)
       (ap (λ (h : Header). h.node_root) over.header ∙ ap (λ (f : ℕ). root_or_zeros hash f (node_texts (leaves_of b order))) (sym same))
 
-  -- the places of pairs rise, and their leaves are brought
+  -- the places of pairs ascend, and their leaves are brought
   pub pairs_rising : MethodLaws → IsRising (length b.pairs) a.pair_places
   pairs_rising laws =
       let order = leaf_order sha p.parts p.settings in

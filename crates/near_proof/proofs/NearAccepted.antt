@@ -1,4 +1,4 @@
--- What is accepted on a radius is accepted under lower least versions, by keys alone, and for no
+-- What is accepted for a range query is accepted under lower minimum versions, by keys alone, and for no
 -- route.
 use Rattle.std.proofs.Common.{◌≡◌, ℕ, zero, suc, ◌+◌, ◌≤◌, ◌<◌, Bool, true, false, cond, List, [], ◌∷◌, length, take, drop, Result, Ok, Err, refl, sym, ap, arith, ◌∙◌, nat_lt}
 use Rattle.std.specs.Prelude.{get_or}
@@ -63,7 +63,7 @@ route_octet text y read first rest is =
     let here : between 0 3 first ≡ true = ap (λ (t : List ℕ). between 0 3 (from_be_bytes w8 (take 1 t))) (sym is) ∙ test in
     grind (arith, nat_tests, here)
 
--- one on a radius with a letter
+-- one to a range query with a letter
 near_octet : (text : List ℕ) (y : List ℕ × Left) → octets_at 4 (bytes_eq near_name) (record { at = 0; text = text }) ≡ Ok y → get_or text 0 0 ≡ 0x52
 near_octet text y read =
     let same : near_name ≡ take 4 text = (bytes_eq-Decides near_name (take 4 text)).0 (passed _ _ _ _ y read) in

@@ -20,7 +20,7 @@ use Rattle.proof_octets.specs.declared.marks.Mark.{Mark}
 use Rattle.proof_octets.specs.declared.query.NearQuery.{NearQuery}
 use Rattle.proof_octets.specs.Radius.{marked_ids, IsNear, AreWithin}
 
--- ---- ids that rise
+-- ---- ids that ascend
 
 all_less : (x : ℕ) (xs : List ℕ) → AllByRecursion (λ y. x < y) xs → AllByRecursion (λ y. nat_cmp x y ≡ Less) xs
 all_less x [] h = tt

@@ -16,7 +16,7 @@ use Rattle.route_client.specs.declared.accepted.Checked.TheVariants.{Route, Apar
 use Rattle.route_client.specs.Truth.{HoldsIn}
 use Rattle.route_client.specs.Verdicts.{Accepts}
 
--- what is accepted under a least version is accepted under each lower one
+-- what is accepted under a minimum version is accepted under each lower one
 abbrev pub LowerVersionsAccept : Type 0
 LowerVersionsAccept = (hash : List ℕ → List ℕ) (key : List ℕ) (links : List Link)
     (octets : List ℕ) (query : Query) (least lower : ℕ) (x : Checked) → lower ≤ least →
@@ -29,7 +29,7 @@ OnlyKeysAccept = (hash : List ℕ → List ℕ) (key : List ℕ) (links : List L
     ¬ Accepts hash key links octets query least x
 
 -- Octets that are accepted with a route are accepted for no other query, whatever the keys, the
--- chains and the least versions are. (Octets by which no route exists may be accepted for several
+-- chains and the minimum versions are. (Octets by which no route exists may be accepted for several
 -- queries: the proof of one pair of ends can serve another.)
 abbrev pub RoutesAnswerOneQuery : Type 0
 RoutesAnswerOneQuery = (hash : List ℕ → List ℕ) (key other_key : List ℕ)

@@ -1,4 +1,4 @@
--- What holds of whatever a client accepts on a radius, honest or not.
+-- What holds of whatever a client accepts for a range query, honest or not.
 -- Source: the order of a client's tests, which is this program's profile; RFC 8554, § 5.4.2, for what
 -- a public key is.
 use Rattle.std.specs.Prelude.{◌≡◌, ℕ, ◌≤◌, List, false}
@@ -14,7 +14,7 @@ use Rattle.proof_octets.specs.Radius.{AreWithin}
 use Rattle.route_client.specs.declared.within.Within.{Within}
 use Rattle.route_client.specs.NearVerdicts.{NearAccepts}
 
--- what is accepted under a least version is accepted under each lower one
+-- what is accepted under a minimum version is accepted under each lower one
 abbrev pub LowerVersionsAccept : Type 0
 LowerVersionsAccept = (hash : List ℕ → List ℕ) (key : List ℕ) (links : List Link)
     (octets : List ℕ) (query : NearQuery) (least lower : ℕ) (x : Within) → lower ≤ least →
@@ -27,8 +27,8 @@ OnlyKeysAccept = (hash : List ℕ → List ℕ) (key : List ℕ) (links : List L
     (octets : List ℕ) (query : NearQuery) (least : ℕ) (x : Within) → is_key key ≡ false →
     ¬ NearAccepts hash key links octets query least x
 
--- no octets are accepted both as a reply to a query for a route and as one on a radius, whatever the
--- keys, the chains, the queries and the least versions are
+-- no octets are accepted both as a reply to a query for a route and as one to a range query, whatever the
+-- keys, the chains, the queries and the minimum versions are
 abbrev pub NoOctetsAnswerBoth : Type 0
 NoOctetsAnswerBoth = (hash : List ℕ → List ℕ) (key near_key : List ℕ)
     (links near_links : List Link) (octets : List ℕ) (query : Query) (near : NearQuery)

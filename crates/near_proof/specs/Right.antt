@@ -30,7 +30,7 @@ HonestRepliesAreRight = (hash sha : List ℕ → List ℕ) (key first : List ℕ
     Leads first links key → AreKnown p.parts q → IsHonest hash sha p q octets →
     AreRight routes hash sha first links octets q p
 
--- and so are those on a radius
+-- and so are those to a range query
 abbrev pub HonestReachesAreRight : Type 0
 HonestReachesAreRight = (hash sha : List ℕ → List ℕ) (key first : List ℕ) (links : List Link)
     (octets : List ℕ) (p : Publication) (q : NearQuery) → IsSigned hash sha key p →

@@ -132,7 +132,7 @@ pub not_opened : (DiskFailed : Type 0) (content : Option (List ℕ)) (s : Settin
 not_opened DiskFailed content s parts =
     why_map DiskFailed DiskFailed (EndsOpening content NoEnd) (EndsPublish content s parts) (λ x. x) (shut content (EndsBuilding parts s (EndsSigning content parts s)))
 
--- parts and settings that have no book, behind a desk that opened
+-- parts and settings that have no book, after a desk that opened
 pub not_built : (DiskFailed : Type 0) (content : Option (List ℕ)) (s : Settings) (parts : Parts) (e : BuildError) → ForSome content IsUsable → Makes sha256 sha256 parts s (Err e)
     → WhyNot DiskFailed (EndsPublish content s parts) (fault_of_build e)
 not_built DiskFailed content s parts e usable h =

@@ -31,7 +31,7 @@ use Rattle.owner_commands.proofs.NameLemmas.{held_in, names_on}
 use Rattle.owner_commands.specs.Signing.{OnWriting}
 use Rattle.owner_commands.specs.StandingKeys.{last_of, next_text, KeysStand, FollowsAnother, IsStandingChain, ChainsWhatItWrites}
 
--- the link to the key behind an area's stands in an image that has a desk's areas
+-- the link to the key after an area's stands in an image that has a desk's areas
 link_stands : (desk : Desk) (i : List ℕ) → HasAreas desk i → (area : ℕ) → area < length desk.earlier → IsSigned i (last_of (key_of desk) area) (next_text (key_of desk) area)
 link_stands desk i areas area lt =
     let is_open = open_down i (suc area) (length desk.earlier) lt areas.current.is_open in
@@ -96,7 +96,7 @@ files_written Sink P h = absurd h
 files_written MirrorLost P h = absurd h
 files_written f P h = tt
 
--- a chain that was written, or a front of it
+-- a chain that was written, or a prefix of it
 pub chain_written : {D : Type 0} (g : Ghosts D) (disk : D) (old new : Option (List ℕ)) (k k' : ℕ) (o : Result Conclusion Fault) (text chain : List ℕ) → text ≡ chain → IsStandingChain g disk chain → Writes (Ok Done) text old new k k' o
     → ChainsWhatItWrites g disk old new o
 chain_written g disk old new k k' o text chain same stands (inl whole) =

@@ -66,7 +66,7 @@ pub unrefused : {X : Type 0} (content : Option (List ℕ)) (secret : List ℕ) (
     → ForSome content (λ c. (e : SucceedError) → Refuses c (take 16 secret) e → ⊥)
 unrefused content secret desk else_so c is e h = elim (else_so c is e h) [ inl x ↦ cc | inr other ↦ elim other [ inl x ↦ cc | inr x ↦ cc ] ]
 
--- the line of the key that follows, behind no refusal
+-- the line of the key that follows, after no refusal
 pub next_line : {X : Type 0} (content : Option (List ℕ)) (kind number : ℕ) (secret line public : List ℕ) (desk : X) (key : KeyOf) → number ≡ kind → key ≡ key_from number secret → public ≡ public_key key
     → line ≡ encode_lower public ++ codes "\n"
     → ForSome content (λ c. (e : SucceedError) → Refuses c (take 16 secret) e → (given desk ≡ Err e) ⊎ ((given desk ≡ Err why.DiskFault) ⊎ (given desk ≡ Err why.Memory)))

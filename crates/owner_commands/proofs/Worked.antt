@@ -87,7 +87,7 @@ module _ {D : Type 0} (g : Ghosts D) (old new : D) where
 -- ---- what was written
 
 module _ {D : Type 0} (g : Ghosts D) (old new : D) (taken_before taken_now : Option (List ℕ)) where
-  -- all of a publication, also where a mirror was lost, and a front where the sink failed
+  -- all of a publication, also where a mirror was lost, and a prefix where the sink failed
   whole : (w : WroteSealed g old new taken_before taken_now (Ok Done)) → Appends taken_before taken_now (publication_text w.publication)
   whole w = w.written
 
@@ -103,7 +103,7 @@ module _ {D : Type 0} (g : Ghosts D) (old new : D) (taken_before taken_now : Opt
   sealed_when_cut : SealsWhatItWrites g old new taken_before taken_now (Err Sink) → WroteSealed g old new taken_before taken_now (Err Sink)
   sealed_when_cut h = h
 
-  -- all of a chain, and a front where the sink failed
+  -- all of a chain, and a prefix where the sink failed
   whole_chain : (w : WroteChain g new taken_before taken_now (Ok Done)) → Appends taken_before taken_now w.text
   whole_chain w = w.written
 

@@ -14,7 +14,7 @@ use Rattle.command_desks.specs.Opening.{EndsOpening}
 use Rattle.command_files.specs.Endings.{Ending}
 use Rattle.command_files.specs.declared.ended.Conclusion.TheVariants.{Done}
 
--- the link from the key of an area of the disk to that of the area behind it
+-- the link from the key of an area of the disk to that of the area after it
 abbrev pub link_on : List ℕ → ℕ → Link
 link_on image area = link_of (key_at image (base_of image area))
     (public_key (key_at image (base_of image (suc area))))

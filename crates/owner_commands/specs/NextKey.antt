@@ -79,7 +79,7 @@ pub record LinksFile {D : Type 0} (g : Ghosts D) (old new : D) (files : Option F
 
 -- A key is added where none of the refusals holds, and no image changes but by its link. The keys of
 -- the areas that are open stay. Where a line may have been written, no slot of the new key is spent,
--- and it stands behind another, which has signed its link text. What is refused leaves every image. The
+-- and it stands after another, which has signed its link text. What is refused leaves every image. The
 -- calls of the disk are so many at most.
 pub record AddsKey {D : Type 0} (g : Ghosts D) (old new : D) (files : Option Folder) (name : List ℕ)
     (kind : ℕ) (outcome : Result Conclusion Fault) : Type 0 where

@@ -29,7 +29,7 @@ header_release key area p = record {
   octets = p.signature;
 }
 
--- the signature on the link text of the key behind an area's, by that area's last one-time key
+-- the signature on the link text of the key after an area's, by that area's last one-time key
 abbrev pub link_release : (ℕ → KeyOf) → ℕ → Release
 link_release keys area = record {
   key = keys area;

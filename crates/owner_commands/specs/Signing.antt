@@ -64,7 +64,7 @@ SignsAtMostHeader g old new parts s = AtEachMoment g old new Stays ⊎
 -- ---- a run
 
 -- what was written is all of a text where the work was done, though a mirror may be lost, and a
--- front of it where the sink failed; this is said of no other end
+-- prefix of it where the sink failed; this is said of no other end
 abbrev pub Wrote : Result Conclusion Fault → Option (List ℕ) → Option (List ℕ) → List ℕ → Type 0
 Wrote (Ok verdict) old new text = Appends old new text
 Wrote (Err MirrorLost) old new text = Appends old new text
@@ -103,7 +103,7 @@ OnNoWriting (Err fault) P = P
 module _ {M : Type 0} (octets : M → Option (List ℕ)) (label handed puts room : M → ℕ) where
   -- The mirrors that stay took all of a text, each of the others had promised less: all stay where
   -- the work was done, and not all where one is said to be lost. Where the sink failed, those that
-  -- stay took a front of it, no longer than the sink's.
+  -- stay took a prefix of it, no longer than the sink's.
   abbrev pub Mirrored : Result Conclusion Fault → List ℕ → Option (List ℕ) → Option (List ℕ) →
       List M → List M → Type 0
   Mirrored (Ok verdict) text before now old kept = Mirrors octets label handed puts room

@@ -25,7 +25,7 @@ use Rattle.owner_commands.specs.Signing.{Wrote, OnWriting}
 abbrev pub last_of : (ℕ → KeyOf) → ℕ → SlotId
 last_of keys area = record { area = area; number = slots_of (keys area).kind - 1 }
 
--- the link text that names the key behind the one of an area
+-- the link text that names the key after the one of an area
 abbrev pub next_text : (ℕ → KeyOf) → ℕ → List ℕ
 next_text keys area = link_text (public_key (keys (suc area)))
 
@@ -34,7 +34,7 @@ abbrev pub link_by : (ℕ → KeyOf) → ℕ → Link
 link_by keys area = link_of (keys area) (public_key (keys (suc area)))
 
 -- In every image these are the keys of the areas up to the last open one, no two of one identifier,
--- and the last slot of each earlier area has signed the link text of the key behind it.
+-- and the last slot of each earlier area has signed the link text of the key after it.
 pub record KeysStand {D : Type 0} (g : Ghosts D) (disk : D) (last : ℕ)
     (keys : ℕ → KeyOf) : Type 0 where
   pub current : EachImage g disk (λ i. IsCurrent i last)
@@ -45,7 +45,7 @@ pub record KeysStand {D : Type 0} (g : Ghosts D) (disk : D) (last : ℕ)
 
 -- ---- a new key
 
--- a key stands behind another, which has signed its link text
+-- a key stands after another, which has signed its link text
 pub record FollowsAnother {D : Type 0} (g : Ghosts D) (disk : D) (key : KeyOf) : Type 0 where
   pub before : ℕ
   pub keys : ℕ → KeyOf

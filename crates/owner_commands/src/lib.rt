@@ -1,4 +1,4 @@
-//! The owner's commands: a key is made, and the next one behind it, what is left is told, publications are signed, and
+//! The owner's commands: a key is made, and the next one after it, what is left is told, publications are signed, and
 //! the links between keys are handed out.
 #![tactic(auto)]
 

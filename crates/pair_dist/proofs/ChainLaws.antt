@@ -1,4 +1,4 @@
--- A walk between two places is a chain of walks that stop at walls.
+-- A walk between two positions is a chain of walks that stop at walls.
 use Rattle.std.proofs.Common.{◌≡◌, ℕ, ◌+◌, ◌<◌, ◌≤◌, ◌==◌, ◌||◌, not, Bool, true, false, IsTrue, None, Some, List, [], ◌∷◌, ◌++◌, inl, inr, length, slice_get, get_or, refl, arith, ap, sym, ◌∙◌, subst}
 use Rattle.std.specs.Option.{unwrap_or}
 use Rattle.std.proofs.lemmas.Bool.{cases_eq}
@@ -57,7 +57,7 @@ module _ (rows : List (List Arc)) (walls : List Bool) (places : List ℕ) (chain
       }
 
   -- ---- and for each walk over the rows the chain has one that is no longer
-  -- a walk from a place so far, that may go on
+  -- a walk from a position so far, that may go on
   record Inner (p u e : ℕ) : Type 0 where
     walk : List Arc
     passes : Passes (walled_ways rows walls p) p 0 walk
@@ -96,7 +96,7 @@ module _ (rows : List (List Arc)) (walls : List Bool) (places : List ℕ) (chain
   one_place : (i p q : ℕ) → slice_get places i ≡ Some p → slice_get places i ≡ Some q → p ≡ q
   one_place i p q a b = cc
 
-  -- a link to another place
+  -- a link to another position
   link : (i p j q e : ℕ) → slice_get places i ≡ Some p → slice_get places j ≡ Some q → Inner p q e → e < too_long → Way chain i j e
   link i p j q e at to h lt = elim (cases_eq j i) [
     | inl same ↦ record { links = []; passes = λ k. tt; ends = sym same; near = omega arith }

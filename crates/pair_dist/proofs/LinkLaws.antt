@@ -1,4 +1,4 @@
--- Links are added place by place, and their rows make the chain.
+-- Links are added position by position, and their rows make the chain.
 use Rattle.std.proofs.Common.{◌≡◌, ℕ, ◌+◌, ◌<◌, ◌≤◌, ◌==◌, Bool, true, false, cond, Option, None, Some, List, [], ◌∷◌, ◌++◌, ◌⊎◌, inl, inr, length, slice_get, set, refl, arith, ap, sym, ◌∙◌, subst, length-append}
 use Rattle.std.specs.List.{Contains}
 use Rattle.std.proofs.lemmas.List.Elements.{Contains-append_left, Contains-append_right, Contains-append_cases}
@@ -28,7 +28,7 @@ module _ (rows : List (List Arc)) (walls : List Bool) (places : List ℕ) (i p :
     all = λ j q d lt. absurd (omega (arith, lt));
   }
 
-  -- none to the place itself
+  -- none to the position itself
   pub own_link : (n : ℕ) (row : List Arc) → n ≡ i → IsLinkBelow rows walls places i p n row → IsLinkBelow rows walls places i p (n + 1) row
   own_link n row own h = record {
     walks = h.walks;
@@ -80,7 +80,7 @@ chain_more rows walls places n p chain new row at pushed link h = subst (IsChain
   ],
 )
 
--- a wall at one place more
+-- a wall at one position more
 pub wall_more : (places : List ℕ) (walls : List Bool) (i p : ℕ) → slice_get places i ≡ Some p → p < length walls → AreWalls places walls → AreWalls places (set walls p true)
 wall_more places walls i p at lt h = λ q wall. by_test q (p == q) refl wall
   where

@@ -33,7 +33,7 @@ leaf_with a b d = record { a = a; b = b; distance = d }
 pub leaf_found : (dist : ℕ → ℕ → Option ℕ) (found : ℕ → Option ℕ) (a b p d : ℕ) → found p ≡ dist a b → d ≡ said (found p) → leaf_with a b d ≡ pair_leaf dist a b
 leaf_found dist found a b p d e is = ap (leaf_with a b) (is ∙ ap said e)
 
--- a place is one of a node
+-- a position is one of a node
 pub place_within : (order : List Node) (chosen places : List ℕ) (i p : ℕ) → ArePlaces order chosen places → slice_get places i ≡ Some p → p < length order
 place_within order chosen places i p h at =
     let lt : i < length places = slice_get_within places i p at in

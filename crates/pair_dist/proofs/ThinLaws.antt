@@ -99,7 +99,7 @@ pub record IsNeededBelow (row : List Arc) (lengths : List ℕ) (n : ℕ) (thin :
   pub among : (a : Arc) → Contains thin a → Contains row a
   pub rest : (k : ℕ) (a : Arc) → k < n → slice_get row k ≡ Some a → Contains thin a ⊎ IsNeedless lengths a
 
--- one arc more is put behind the others, or is needless
+-- one arc more is put after the others, or is needless
 pub needed_more : (row : List Arc) (lengths : List ℕ) (n : ℕ) (old new : List Arc) (a : Arc) → slice_get row n ≡ Some a → (new ≡ old ++ a ∷ []) ⊎ ((new ≡ old) × IsNeedless lengths a) → IsNeededBelow row lengths n old → IsNeededBelow row lengths (n + 1) new
 needed_more row lengths n old new a at (inl put) h = subst (IsNeededBelow row lengths (n + 1)) (sym put) (record {
   among = λ b c. elim (Contains-append_cases old (a ∷ []) b c) [

@@ -1,4 +1,4 @@
-//! The chain of chosen places: an arc from each to each that a walk leads to past no third.
+//! The chain of chosen positions: an arc from each to each that a walk leads to past no third.
 
 ghost use Rattle.std.specs.Prelude.{◌≡◌, ◌<◌, ◌≤◌, ◌+◌, ℕ, true, IfOk, IfSome, Some, length, slice_get};
 ghost use Rattle.std.specs.Option.{option_copied};
@@ -14,7 +14,7 @@ use road_search::{Ground, Marks, Numbered, search_in};
 use std::alloc::{AllocError, Global};
 use std::marker::Model;
 
-/// The arcs out of each place, at its number, each to the number of a place.
+/// The arcs out of each position, at its number, each to the number of a position.
 #[derive(Drop)]
 pub struct Chain {
     pub(crate) rows: Vec<Arcs>,
@@ -65,7 +65,7 @@ impl Ground for Chain {
     ghost lets_shorter = { λ c id short long le h. h };
 }
 
-/// A wall at each of some places, among so many positions.
+/// A wall at each of some positions, among so many positions.
 pub fn walls_at(alloc: Global, count: u32, places: &[u32]) -> Result<Vec<bool>, AllocError>
     requires { (i p : ℕ) → slice_get places.now i ≡ Some p → p < count }
     ensures { IfOk result (λ walls. AreWalls places.now walls.items) }
@@ -87,7 +87,7 @@ pub fn length_of<T: Marks>(marks: &T, position: u32) -> Option<u64>
     }
 }
 
-/// Adds the arc to one place more, where a walk leads there past no other. It answers no where that is too long.
+/// Adds the arc to one position more, where a walk leads there past no other. It answers no where that is too long.
 fn add_link<T: Marks, R: Rows>(
     row: &mut Vec<Arc>,
     walled: &Walled<'_, R>,
@@ -122,7 +122,7 @@ fn add_link<T: Marks, R: Rows>(
     Ok(true)
 }
 
-/// The arcs from one of the places to others, as a search has found them, unless one is too long.
+/// The arcs from one of the positions to others, as a search has found them, unless one is too long.
 fn link<T: Marks, R: Rows>(
     alloc: Global,
     walled: &Walled<'_, R>,
@@ -146,7 +146,7 @@ fn link<T: Marks, R: Rows>(
     Ok(Some(Arcs::from_vec(row.as_slice().to_vec(alloc)?)))
 }
 
-/// The chain of some places, by a search from each that goes on from no other, unless an arc of it
+/// The chain of some positions, by a search from each that goes on from no other, unless an arc of it
 /// is too long or there are more than so many.
 pub fn chain_of<R: Rows>(
     alloc: Global,

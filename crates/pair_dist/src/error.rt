@@ -13,8 +13,8 @@ pub enum PairError {
     /// More than 2,048 nodes were chosen.
     #[error("More than 2,048 nodes are too many for a table of their pairs.")]
     TooMany,
-    /// No memory was found.
-    #[error("No memory was found.")]
+    /// Out of memory.
+    #[error("Out of memory.")]
     Memory,
 }
 

@@ -1,8 +1,8 @@
-//! More places than were chosen, along the lines of a grid.
+//! More positions than were chosen, along the lines of a grid.
 //!
-//! A search that goes on from no other chosen place still covers all that these shut off. Over a large
-//! map searches between places along finer lines cover less, and over their links the chosen ones are
-//! a few steps apart. Which places these are changes no distance.
+//! A search that goes on from no other chosen position still covers all that these shut off. Over a large
+//! map searches between positions along finer lines cover less, and over their links the chosen ones are
+//! a few steps apart. Which positions these are changes no distance.
 
 ghost use Rattle.std.specs.Prelude.{◌≡◌, ℕ, ◌<◌, ◌≤◌, ◌+◌, ◌*◌, ◌^◌, Some, IfOk, IfSome, length, slice_get};
 ghost use Rattle.std.specs.Option.{unwrap_or};
@@ -70,7 +70,7 @@ fn crosses(net: &Net, cells: &[u32], position: u32) -> bool {
     false
 }
 
-/// Some places, and behind them the other positions from where an arc crosses a line.
+/// Some positions, and after them the other positions from where an arc crosses a line.
 fn places_along(
     alloc: Global,
     net: &Net,
@@ -94,11 +94,11 @@ fn places_along(
     Ok(finer)
 }
 
-/// Some places of a large map, and behind them others along the lines of a grid whose cells would
+/// Some positions of a large map, and after them others along the lines of a grid whose cells would
 /// have 1,024 nodes each, where searches from these pay.
 ///
-/// They do where so large a map has so many places that a search from each covers much of it. The
-/// links of the finer places are some ten for each node of the map, so the places have more pairs.
+/// They do where so large a map has so many positions that a search from each covers much of it. The
+/// links of the finer positions are some ten for each node of the map, so the positions have more pairs.
 pub fn finer_places(
     alloc: Global,
     map: &Map,

@@ -52,7 +52,7 @@ fn numbers(alloc: Global, count: u32) -> Result<Vec<u32>, AllocError>
     Ok(found)
 }
 
-/// Adds the leaves of one id, from whose station a search has gone, with each of these from a place on.
+/// Adds the leaves of one id, from whose station a search has gone, with each of these from an offset on.
 fn add_row<T: Marks>(
     leaves: &mut Vec<PairLeaf>,
     chart: &Map,
@@ -100,7 +100,7 @@ fn leaves_over<G: Ground>(
     Ok(leaves)
 }
 
-/// A chain of some places, among so many numbers of rows, that keeps their distances, unless an arc of
+/// A chain of some positions, among so many numbers of rows, that keeps their distances, unless an arc of
 /// it is too long or there are more than so many.
 fn chain_over<R: Rows>(
     alloc: Global,
@@ -120,8 +120,8 @@ fn chain_over<R: Rows>(
     }
 }
 
-/// A chain of some places over the chain of finer ones, of which they are the first, or over the net where
-/// the finer chain would have more arcs than the places have pairs.
+/// A chain of some positions over the chain of finer ones, of which they are the first, or over the net where
+/// the finer chain would have more arcs than the positions have pairs.
 fn chain_by_steps(
     alloc: Global,
     net: &Net,
@@ -145,7 +145,7 @@ fn chain_by_steps(
     }
 }
 
-/// A chain of some places that keeps their distances, unless an arc of it is too long or the places are
+/// A chain of some positions that keeps their distances, unless an arc of it is too long or the positions are
 /// all that there are.
 fn chain_at(alloc: Global, map: &Map, net: &Net, places: &[u32]) -> Result<Option<Chain>, NoMemory>
     requires within { (i p : ℕ) → slice_get places.now i ≡ Some p → p < length map.now.order }
@@ -162,7 +162,7 @@ fn chain_at(alloc: Global, map: &Map, net: &Net, places: &[u32]) -> Result<Optio
     }
 }
 
-/// The leaves of all pairs of some nodes at these places: over their chain, or over the whole map where
+/// The leaves of all pairs of some nodes at these positions: over their chain, or over the whole map where
 /// they have none.
 fn leaves_at(
     alloc: Global,
@@ -190,7 +190,7 @@ fn leaves_at(
 ///
 /// One search for each id that goes on from no other of them, and one over the lengths that these have
 /// found. Where a large map has many of them, the first go over lengths that searches between more
-/// places have found. `TooMany` comes before any search, exactly where more than 2,048 nodes are chosen.
+/// positions have found. `TooMany` comes before any search, exactly where more than 2,048 nodes are chosen.
 pub fn pair_leaves(alloc: Global, map: &Map, chosen: &[u32]) -> Result<PairLeaves, PairError>
     requires { (id : ℕ) → Contains chosen.now id → Knows map.now.parts id }
     ensures leaves { IfOk result (λ leaves. leaves ≡ pairs_of (distance map.now.parts) chosen.now) }

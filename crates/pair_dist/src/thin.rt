@@ -70,7 +70,7 @@ fn is_needless(lengths: &[u64], arc: Arc) -> bool
     }
 }
 
-/// Puts an arc behind others, unless it is needless.
+/// Puts an arc after others, unless it is needless.
 fn put_needed(thin: &mut Vec<Arc>, lengths: &[u64], arc: Arc) -> Result<(), AllocError>
     ensures { OnOk result ((thin.new.items ≡ thin.old.items ++ arc ∷ []) ⊎
         ((thin.new.items ≡ thin.old.items) × IsNeedless lengths.now arc)) }

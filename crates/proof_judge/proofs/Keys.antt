@@ -62,7 +62,7 @@ pub is_none-place : (nodes xs : List NodeLeaf) (id : ℕ) (o : Option ℕ) → P
 is_none-place nodes xs id None h = ap is_none (sym h)
 is_none-place nodes xs id (Some p) h = ap is_none (sym h.2)
 
--- places, when one more item comes in
+-- indices, when one more item comes in
 pub places_turn : (nodes xs : List NodeLeaf) (n : NodeLeaf) (i : ℕ) (old new : ℕ → Option ℕ) → slice_get nodes i ≡ Some n → ArePlaces nodes xs old → ((q : ℕ) → new q ≡ option_or (old q) (cond (n.id == q) (Some i) None)) → ArePlaces nodes (xs ++ n ∷ []) new
 places_turn nodes xs n i old new at h is q = subst (PlaceSays nodes (xs ++ n ∷ []) q) (sym (is q)) (by_old (old q) (h q) (n.id == q) refl)
   where

@@ -90,7 +90,7 @@ pub record BordersFail (g : Items) (q : Query) (b c : ℕ) (e : Refusal) : Type 
   pub far : IsBorderFrom g.nodes q.to c r
   pub fault : joined_fault g.pairs b c (p + r) ≡ Some e
 
--- the border pairs, by rising pairs
+-- the border pairs, by ascending pairs
 abbrev pub BorderTests : Items → Query → ApartVerdict → Type 0
 BorderTests g q (Ok _) = NoneFails (BordersFail g q)
 BorderTests g q (Err e) = FirstFails (BordersFail g q) e

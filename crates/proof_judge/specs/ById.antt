@@ -1,17 +1,17 @@
--- Places of node items by id, and pair items by their two ids.
+-- Indices of node items by id, and pair items by their two ids.
 use Rattle.std.specs.Prelude.{◌≡◌, ◌==◌, ◌&&◌, ℕ, Bool, Option, None, Some, List, slice_get, find}
 use Rattle.std.specs.HashMap.{HashMap, get}
 use Rattle.road_leaf.specs.declared.leaf.NodeLeaf.{NodeLeaf}
 use Rattle.road_leaf.specs.declared.pair.PairLeaf.{PairLeaf}
 use Rattle.proof_judge.specs.ItemWalks.{item_at}
 
--- the place, among all nodes, of the first of some of them with an id
+-- the index, among all nodes, of the first of some of them with an id
 abbrev pub PlaceSays : List NodeLeaf → List NodeLeaf → ℕ → Option ℕ → Type 0
 PlaceSays nodes some id None = item_at some id ≡ None
 PlaceSays nodes some id (Some p) = (n : NodeLeaf) × (slice_get nodes p ≡ Some n) ×
     (item_at some id ≡ Some n)
 
--- each id of these nodes has its place
+-- each id of these nodes has its index
 abbrev pub ArePlaces : List NodeLeaf → List NodeLeaf → (ℕ → Option ℕ) → Type 0
 ArePlaces nodes some place = (id : ℕ) → PlaceSays nodes some id (place id)
 

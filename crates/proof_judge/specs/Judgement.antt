@@ -58,12 +58,12 @@ abbrev pub Then : {A : Type 0} → (ℕ → Refusal) → (Result A Refusal → T
 Then refuse next None v = next v
 Then refuse next (Some n) v = v ≡ Err (refuse n)
 
--- a test, which refuses by the least number of which P holds, and what comes behind it
+-- a test, which refuses by the least number of which P holds, and what comes after it
 abbrev pub Tests : {A : Type 0} → (ℕ → Type 0) → (ℕ → Refusal) → (Result A Refusal → Type 0) →
     Result A Refusal → Type 0
 Tests P refuse next v = (o : Option ℕ) × IsLeast P o × Then refuse next o v
 
--- what comes behind the walk of the route
+-- what comes after the walk of the route
 abbrev pub OnRoute : Verdict → (ℕ → Verdict → Type 0) → Verdict → Type 0
 OnRoute (Ok d) next v = next d v
 OnRoute (Err e) next v = v ≡ Err e
@@ -112,7 +112,7 @@ pub record PairFails (g : Items) (q : Query) (most b c : ℕ) (e : Refusal) : Ty
   pub below : p + r < most
   pub fault : pair_fault g.pairs most b c (p + r) ≡ Some e
 
--- pairs of borders by rising first and then second border
+-- pairs of borders by ascending first and then second border
 abbrev pub NotBefore : ℕ → ℕ → ℕ → ℕ → Type 0
 NotBefore b c b' c' = (b < b') ⊎ ((b ≡ b') × (c ≤ c'))
 
@@ -120,12 +120,12 @@ NotBefore b c b' c' = (b < b') ⊎ ((b ≡ b') × (c ≤ c'))
 abbrev pub NoneFails : (ℕ → ℕ → Refusal → Type 0) → Type 0
 NoneFails Fails = (b c : ℕ) (e : Refusal) → ¬ Fails b c e
 
--- the first pair of borders that fails, by rising pairs, does so by this refusal
+-- the first pair of borders that fails, by ascending pairs, does so by this refusal
 abbrev pub FirstFails : (ℕ → ℕ → Refusal → Type 0) → Refusal → Type 0
 FirstFails Fails e = (b : ℕ) × (c : ℕ) × Fails b c e ×
     ((b' c' : ℕ) (e' : Refusal) → Fails b' c' e' → NotBefore b c b' c')
 
--- the border pairs, by rising pairs
+-- the border pairs, by ascending pairs
 abbrev pub PairTests : Items → Query → ℕ → Verdict → Type 0
 PairTests g q most (Ok d) = (d ≡ most) × NoneFails (PairFails g q most)
 PairTests g q most (Err e) = FirstFails (PairFails g q most) e
@@ -148,7 +148,7 @@ HypTests g q d =
     Lacks (inner_ways (item_at g.nodes)) q.to d id) MissingTuple
     (Tests (Reaches (inner_ways (item_at g.nodes)) q.from d q.to) Shorter (PairTests g q d))
 
--- what each method tests behind the route, whose length is d
+-- what each method tests after the route, whose length is d
 abbrev pub OwnTests : Kind → Numbers → Items → Query → ℕ → Verdict → Type 0
 OwnTests Dij n g q d v = DijTests g.nodes q d v
 OwnTests Full n g q d v = v ≡ full_judged g.pairs q d

@@ -21,7 +21,7 @@ HopSays nodes index r q (Ok l) = (l < 2 ^ 32) ×
 HopSays nodes index r q (Err e) = (rest : Verdict) →
     by_item index r q (item_at nodes r) rest ≡ Err e
 
--- what a verdict meets, unless memory is short
+-- what a verdict meets, unless memory runs out
 abbrev pub UnlessMemory : {A : Type 0} → (Result A Refusal → Type 0) → Result A Refusal → Type 0
 UnlessMemory P (Err Memory) = Unit {0}
 UnlessMemory P v = P v

@@ -13,7 +13,7 @@ use std::alloc::{AllocError, Global};
 use std::collections::HashMap;
 use std::marker::Model;
 
-/// Node items, and the place of each id among them.
+/// Node items, and the index of each id among them.
 #[derive(Drop)]
 pub struct NodesById<'a> {
     nodes: &'a [NodeLeaf],
@@ -46,7 +46,7 @@ fn note_repeated(repeated: Option<u32>, id: u32, new: bool) -> Option<u32>
     }
 }
 
-/// Notes the place of an id, unless it has one, and answers whether it was new.
+/// Notes the index of an id, unless it has one, and answers whether it was new.
 fn add_place(places: &mut HashMap<u32, usize>, id: u32, place: usize) -> Result<bool, AllocError>
     ensures new { IfOk result (λ new. new ≡ is_none (get nat_eq places.old id)) }
     ensures places { OnOk result ((q : ℕ) →

@@ -29,8 +29,8 @@ pub enum Refusal {
     /// The pair of the two ends says this distance, which the route does not have.
     #[error("The pair of the two ends says the distance {0}.")]
     Disagrees(u64),
-    /// No memory was found.
-    #[error("No memory was found.")]
+    /// Out of memory.
+    #[error("Out of memory.")]
     Memory,
 }
 

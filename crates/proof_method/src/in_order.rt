@@ -9,7 +9,7 @@ use octet_text::NoMemory;
 use road_map::Ids;
 use std::alloc::Global;
 
-/// The same ids, each once, by rising id.
+/// The same ids, each once, by ascending id.
 pub fn rising(mut ids: Vec<u32>) -> Ids
     ensures { Lists (Contains ids.items) result }
 {
@@ -18,7 +18,7 @@ pub fn rising(mut ids: Vec<u32>) -> Ids
     Ids::from_vec(ids)
 }
 
-/// The ids of the two ends, by rising id.
+/// The ids of the two ends, by ascending id.
 pub fn ends(alloc: Global, query: Query) -> Result<Ids, NoMemory>
     ensures { IfOk result (Lists (IsEnd query)) }
 {

@@ -25,7 +25,7 @@ at_first left octets at text =
     ap (λ (n : ℕ). let l : Left = record { at = n; text = left.text } in l) at ∙
     ap (λ (t : List ℕ). let l : Left = record { at = 0; text = t } in l) text
 
--- where memory is short, no such reply stands before the end
+-- where memory runs out, no such reply stands before the end
 pub short_of_bare : (left : Left) (octets : List ℕ) (P : Type 0) → left.at ≡ 0 → left.text ≡ octets →
     (P → (r : Reply) (rest : Left) → BringsNone r → reply.read left ≢ Ok (r, rest)) →
     P → (r : Reply) → BringsNone r → whole reply octets ≢ Ok r

@@ -1,4 +1,4 @@
--- Lists of marks by rising id are the same where they have the same marks.
+-- Lists of marks by ascending id are the same where they have the same marks.
 use Rattle.std.proofs.Common.{◌≡◌, ℕ, ◌<◌, List, [], ◌∷◌, ◌⊎◌, inl, inr, map, refl, arith, ap, sym, ◌∙◌, subst}
 use Rattle.std.specs.List.{Contains, AllByRecursion}
 use Rattle.std.specs.List.Sorted.{IsStrictlySortedBy}
@@ -13,7 +13,7 @@ use Rattle.proof_octets.specs.Radius.{marked_ids, ListsMarks}
 less : (x y : ℕ) → nat_cmp x y ≡ Less → x < y
 less x y h = grind (arith, h)
 
--- the marks behind the first have greater ids
+-- the marks after the first have greater ids
 behind : (x m : Mark) (xs : List Mark) → IsStrictlySortedBy nat_cmp (marked_ids (x ∷ xs)) → Contains xs m → x.id < m.id
 behind x m xs sorted c =
     less x.id m.id (all_contain (λ (y : ℕ). nat_cmp x.id y ≡ Less) (marked_ids xs) m.id (sorted_head nat_cmp x.id (marked_ids xs) sorted) (Contains-map (λ (k : Mark). k.id) xs m c))
@@ -23,7 +23,7 @@ one_head x y xs ys up down (inl e) there = sym e
 one_head x y xs ys up down (inr c) (inl e) = e
 one_head x y xs ys up down (inr c) (inr d) = absurd (omega (arith, behind y x ys down c, behind x y xs up d))
 
--- what stands in a list with the same first mark stands behind it, if it does so in the other
+-- what stands in a list with the same first mark stands after it, if it does so in the other
 in_rest : (x y m : Mark) (xs ys : List Mark) → IsStrictlySortedBy nat_cmp (marked_ids (x ∷ xs)) → x ≡ y → Contains xs m → Contains (y ∷ ys) m → Contains ys m
 in_rest x y m xs ys up same c d = elim (Contains-cases y m ys d) [
   | inr there ↦ there

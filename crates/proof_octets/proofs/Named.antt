@@ -1,4 +1,4 @@
--- What is read behind a name began with it.
+-- What is read after a name began with it.
 use Rattle.std.proofs.Common.{◌≡◌, ℕ, Bool, true, false, cond, List, length, take, Result, Ok, Err, refl, sym}
 use Rattle.std.specs.Prelude.{nat_lt}
 use Rattle.std.specs.Str.{bytes_eq}
@@ -32,7 +32,7 @@ read_named octets a e =
     let first = first_of (octets_at 4 (bytes_eq near_name) left) _ _ a e in
     begun left near_name first.0 first.1
 
--- and so does what spells it
+-- and so does what encodes it
 pub spelled_named : (a : NearReply) → IsNamed (near_reply.spell a)
 unfolding near_reply
 spelled_named a = refl

@@ -1,4 +1,4 @@
--- The reply's format is exact; which replies it spells, how its writer spells them, and how long they are.
+-- The reply's format is exact; which replies it encodes, how its writer encodes them, and how long they are.
 use Rattle.std.proofs.Common.{◌≡◌, ◌++◌, ◌+◌, ℕ, ◌^◌, ◌<◌, ◌≤◌, List, length, map, refl, sym, ap, subst, arith}
 use Rattle.std.specs.Prelude.{All}
 use Rattle.std.specs.List.{AllByRecursion, flat_map}

@@ -34,6 +34,6 @@ module _ (parts : Parts) (q : NearQuery) (m : Mark) where
   none_else : AreWithin parts q (m ∷ []) → IsNear parts q m
   none_else h = (h.same m).0 (Contains-here m [])
 
--- marks stand by rising id
+-- marks stand by ascending id
 rising : (P : Mark → Type 0) (marks : List Mark) → ListsMarks P marks → IsStrictlySortedBy nat_cmp (marked_ids marks)
 rising P marks h = h.rising

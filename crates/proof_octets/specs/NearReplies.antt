@@ -1,4 +1,4 @@
--- The format of the reply to a query for what lies within a radius, and which replies octets spell.
+-- The format of the reply to a query for what lies within a radius, and which replies octets encode.
 use Rattle.std.specs.Prelude.{◌≡◌, ℕ, ◌≤◌, List, [], ◌∷◌, take, length, All}
 use Rattle.octet_text.specs.Format.{Format, behind, seq, mapped}
 use Rattle.road_leaf.specs.declared.leaf.NodeLeaf.{NodeLeaf}
@@ -41,7 +41,7 @@ near_reply = behind near_name (mapped near_of near_parts
     seq (node_items (leaf_kind h)) λ _.
     digests))
 
--- each value and each length is in its range, and places rise
+-- each value and each length is in its range, and places ascend
 pub record IsGoodNear (a : NearReply) : Type 0 where
   pub header : IsGoodHeader a.header
   pub signature : length a.signature ≤ 1452

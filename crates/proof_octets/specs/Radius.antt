@@ -13,7 +13,7 @@ use Rattle.proof_octets.specs.declared.query.NearQuery.{NearQuery}
 abbrev pub marked_ids : List Mark → List ℕ
 marked_ids marks = map (λ m. m.id) marks
 
--- exactly the marks of which P holds, by rising id, none twice
+-- exactly the marks of which P holds, by ascending id, none twice
 pub record ListsMarks (P : Mark → Type 0) (marks : List Mark) : Type 0 where
   pub rising : IsStrictlySortedBy nat_cmp (marked_ids marks)
   pub same : (m : Mark) → Contains marks m ↔ P m
@@ -27,6 +27,6 @@ pub record IsNear (parts : Parts) (q : NearQuery) (m : Mark) : Type 0 where
   pub distance_is : distance parts q.from m.id ≡ Some m.distance
   pub within : m.distance ≤ q.radius
 
--- exactly the nodes within the radius, each with its distance, by rising id
+-- exactly the nodes within the radius, each with its distance, by ascending id
 abbrev pub AreWithin : Parts → NearQuery → List Mark → Type 0
 AreWithin parts q marks = ListsMarks (IsNear parts q) marks

@@ -6,7 +6,7 @@ ghost use Rattle.octet_text.specs.Exact.{IsExact};
 ghost use Rattle.proof_octets.specs.declared.near_reply.NearReply.{NearReply};
 ghost use Rattle.proof_octets.specs.NearReplies.{near_reply, IsGoodNear};
 
-/// Each reply that fits has one spelling, and each spelling is read as the reply that it spells.
+/// Each reply that fits has one encoding, and each encoding is read as the reply that it encodes.
 pub fn near_format_laws()
     ensures { IsExact near_reply }
 {}

@@ -21,7 +21,7 @@ pub struct NearReply {
     pub header: Header,
     /// The owner's signature of the header's octets.
     pub signature: Octets,
-    /// The places of the leaves in the node tree, by rising place.
+    /// The places of the leaves in the node tree, by ascending place.
     pub places: Places,
     /// The leaves at these places.
     pub nodes: NodeLeaves,
@@ -47,7 +47,7 @@ fn read_near(alloc: Global, cursor: &mut Cursor<'_>) -> Result<NearReply, ReadEr
     })
 }
 
-// The reply that octets spell, all of them.
+// The reply that octets encode, all of them.
 fn read_whole(alloc: Global, octets: &[u8]) -> Result<NearReply, ReadError>
     requires { length octets.now < 2 ^ 32 }
     ensures reads { Reads (λ r. r) result (whole near_reply octets.now) }
@@ -75,7 +75,7 @@ fn put_near(alloc: Global, out: &mut Vec<u8>, reply: &NearReply) -> Result<(), N
 }
 
 impl NearReply {
-    /// The reply that octets spell, all of them, or the place of the first field that can't be read.
+    /// The reply that octets encode, all of them, or the offset of the first field that can't be read.
     ///
     /// A count that the octets left can't hold reserves no memory. Octets that don't begin with the name
     /// of such a reply are refused whatever memory there is.

@@ -38,7 +38,7 @@ numbers_step b i len buffer past is text within =
       end = λ none. absurd (omega (arith, none, is));
     }
 
--- a row of a list, and those behind it
+-- a row of a list, and those after it
 row : {X : Type 0} (spell : X → List ℕ) (xs : List X) (i : ℕ) (x : X) → i < length xs → x ≡ get_or xs i x → flat_map spell (drop i xs) ≡ spell x ++ flat_map spell (drop (i + 1) xs)
 row spell xs i x l is =
     let up : suc i ≡ i + 1 = omega arith in

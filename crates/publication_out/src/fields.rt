@@ -19,7 +19,7 @@ pub enum Part {
     Roads,
 }
 
-/// How many octets of a buffer a field has, and what comes behind it: a part, from an index on.
+/// How many octets of a buffer a field has, and what comes after it: a part, from an index on.
 #[derive(Clone, Copy)]
 pub struct Step {
     pub len: usize,
@@ -85,7 +85,7 @@ fn write_road(buffer: &mut [u8], item: Road) -> usize
     12
 }
 
-// The front of some octets, as much as there is room for.
+// The prefix of some octets, as much as there is room for.
 fn write_front(buffer: &mut [u8], octets: &[u8]) -> usize
     requires { 0 < length buffer.old }
     ensures within { (result ≤ length buffer.old) × (result ≤ length octets.now) }

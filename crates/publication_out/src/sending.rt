@@ -19,7 +19,7 @@ const PIECE: usize = 4096;
 /// Hands the octets of a publication to a sink and to mirrors, in pieces of 4,096 octets, the last with
 /// what is left, each as it is made: to the sink first. Takes no memory.
 ///
-/// Where the sink fails, it has taken a front of the octets, and the mirrors that stay a front that is no
+/// Where the sink fails, it has taken a prefix of the octets, and the mirrors that stay a prefix that is no
 /// longer.
 pub fn send<K: Sink, M: Mirror>(
     publication: &Publication,

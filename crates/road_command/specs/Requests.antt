@@ -1,4 +1,4 @@
--- What words ask for: the command line's grammar.
+-- What arguments ask for: the command line's grammar.
 use Rattle.std.specs.Prelude.{ℕ, nat_le, ◌&&◌, List, [], ◌∷◌, codes, if◌then◌else◌, Option, Some, None}
 use Rattle.std.specs.List.{slice_index_or}
 use Rattle.std.specs.Str.{bytes_eq}
@@ -7,7 +7,7 @@ use Rattle.book_model.specs.declared.items.Query.{Query}
 use Rattle.book_model.specs.declared.settings.Settings.{Settings}
 use Rattle.proof_octets.specs.declared.query.NearQuery.{NearQuery}
 
--- a command with its words read; a name stands as its octets
+-- a command with its arguments read; a name stands as its octets
 pub data Request : Type 0 where
   Route : List ℕ → ℕ → ℕ → Request
   Root : List ℕ → ℕ → Request
@@ -28,7 +28,7 @@ pub data Request : Type 0 where
   AuditReach : List ℕ → List ℕ → List ℕ → NearQuery → Option (List ℕ) → Request
   Reduce : List ℕ → List ℕ → List ℕ → Request
 
--- ---- single words
+-- ---- single arguments
 
 -- a fan-out, from 2 to 32
 abbrev pub fan_of : List ℕ → Option ℕ
@@ -123,9 +123,9 @@ survey_of width seed method queries = do
   queries ← queries_of queries
   Some (Survey width seed method queries)
 
--- ---- the words behind a command's name
+-- ---- the arguments after a command's name
 
--- the word at an index, from 0
+-- the argument at an index, from 0
 abbrev pub word_at : List (List ℕ) → ℕ → List ℕ
 word_at words index = slice_index_or words index []
 
@@ -197,7 +197,7 @@ serve_words (publication ∷ key ∷ []) = Some (ServeSigned publication key Non
 serve_words (publication ∷ key ∷ chain ∷ []) = Some (ServeSigned publication key (Some chain))
 serve_words _ = None
 
--- the names of files of a public key and of a reply, the ids of both ends, and the least version
+-- the names of files of a public key and of a reply, the ids of both ends, and the minimum version
 -- that is taken; and a chain file's name, where one is given
 abbrev pub check_of : List ℕ → List ℕ → List ℕ → List ℕ → List ℕ → Option (List ℕ) → Option Request
 check_of key reply from to least chain = do
@@ -273,7 +273,7 @@ abbrev pub reduce_words : List (List ℕ) → Option Request
 reduce_words (key ∷ text ∷ signature ∷ []) = Some (Reduce key text signature)
 reduce_words _ = None
 
--- the command that words ask for, if they fit one
+-- the command that arguments ask for, if they fit one
 abbrev pub request_of : List (List ℕ) → Option Request
 request_of [] = None
 request_of (verb ∷ words) =

@@ -1,4 +1,4 @@
--- A command as what was asked for, without where its words lie in memory.
+-- A command as what was asked for, without where its arguments lie in memory.
 use Rattle.std.specs.Prelude.{ℕ, ◌≤◌, ⊤}
 use Rattle.std.specs.Option.{option_map}
 use Rattle.road_command.specs.Requests.{Request}

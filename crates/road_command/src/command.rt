@@ -1,4 +1,4 @@
-//! The commands, and which of them words ask for.
+//! The commands, and which of them arguments ask for.
 
 ghost use Rattle.std.specs.Prelude.{◌≡◌, ◌<◌, ◌≤◌, length, drop, IfSome};
 ghost use Rattle.std.specs.Option.{option_map};
@@ -13,7 +13,7 @@ use book_model::{Query, Settings};
 use proof_octets::NearQuery;
 use road_reader::{natural, wide_natural};
 
-/// A command, with its words read.
+/// A command, with its arguments read.
 #[derive(Clone, Copy, Debug, PartialEq, Eq)]
 pub enum Command<'a> {
     /// Write a shortest route between two nodes of a file's map.
@@ -67,7 +67,7 @@ pub enum Command<'a> {
         key: &'a str,
         chain: Option<&'a str>,
     },
-    /// Check a reply to a query with a public key, a least version that is taken, and a chain file where
+    /// Check a reply to a query with a public key, a minimum version that is taken, and a chain file where
     /// one is named, and write the verdict.
     Check {
         key: &'a str,
@@ -92,7 +92,7 @@ pub enum Command<'a> {
         publication: &'a str,
         query: NearQuery,
     },
-    /// Check a reply on a radius with a public key, a least version that is taken, and a chain file where
+    /// Check a reply to a range query with a public key, a minimum version that is taken, and a chain file where
     /// one is named, and write the verdict.
     CheckReach {
         key: &'a str,
@@ -101,7 +101,7 @@ pub enum Command<'a> {
         least: u64,
         chain: Option<&'a str>,
     },
-    /// Find out what an accepted reply on a radius is evidence of, with the owner's disk, a publication,
+    /// Find out what an accepted reply to a range query is evidence of, with the owner's disk, a publication,
     /// and a chain file where one is named.
     AuditReach {
         key: &'a str,
@@ -118,7 +118,7 @@ pub enum Command<'a> {
     },
 }
 
-/// The command that the words ask for, if they fit one.
+/// The command that the arguments ask for, if they fit one.
 pub fn command_of(words: &Words) -> Option<Command<'_>>
     ensures is { option_map shown result ≡ request_of words.now }
     ensures fan { IfSome result HasFan }

@@ -54,7 +54,7 @@ wrong_octets = refl
 never_again : reads world (wrote 0 (1 ∷ []) ∷ counted 3 ∷ counted 4 ∷ []) ≡ None
 never_again = refl
 
--- a write that failed has put a front of what the world names, no longer than the write
+-- a write that failed has put a prefix of what the world names, no longer than the write
 torn_short : reads world (tore 0 (4 ∷ []) ∷ []) ≡ Some (7 ∷ 2 ∷ 3 ∷ [])
 torn_short = refl
 

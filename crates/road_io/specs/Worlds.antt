@@ -12,7 +12,7 @@ use Rattle.std.proofs.Common.{inl, subst, sym}
 use Rattle.std.proofs.Math.Nat.{sub_self}
 use Rattle.road_io.specs.Disk.{written, Torn}
 
--- what was asked, as a code and a place or a length, and the octets
+-- what was asked, as a code and an offset or a length, and the octets
 abbrev pub Call : Type 0
 Call = List ℕ × List ℕ
 
@@ -42,7 +42,7 @@ after_call (suc (suc (suc (suc zero)))) at octets left h = Some (record {
 })
 after_call _ at octets left h = Some (record { content = h.nearest left; nearest = h.nearest })
 
--- a write as it is noted, by its answer: a place and the octets
+-- a write as it is noted, by its answer: an offset and the octets
 abbrev pub noted_write : {T E : Type 0} → Result T E → ℕ → List ℕ → Call
 noted_write (Ok done) at octets = (2 ∷ at ∷ [], octets)
 noted_write (Err failed) at octets = (3 ∷ at ∷ [], octets)

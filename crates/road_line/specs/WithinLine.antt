@@ -1,4 +1,4 @@
--- The lines of a client's verdict on a reply on a radius.
+-- The lines of a client's verdict on a reply to a range query.
 use Rattle.std.specs.Prelude.{ℕ, List, ◌++◌, codes, length}
 use Rattle.std.specs.Fmt.{decimal}
 use Rattle.std.specs.List.{flat_map}

@@ -8,7 +8,7 @@ use octet_text::NoMemory;
 use route_client::NearError;
 use std::alloc::{AllocError, Global};
 
-/// The line of a refused reply on a radius: the name of the test that it did not pass, with its fields.
+/// The line of a refused reply to a range query: the name of the test that it did not pass, with its fields.
 pub fn line_of_refused_near(alloc: Global, why: NearError) -> Result<Vec<u8>, NoMemory>
     ensures { IfOk result (λ text. text.items ≡ refused_near_line why) }
 {

@@ -1,4 +1,4 @@
--- The ids of a map's nodes, rising, and the places of ids.
+-- The ids of a map's nodes, ascending, and the indices of ids.
 use Rattle.std.proofs.Common.{◌≡◌, ◌≢◌, ℕ, ◌+◌, ◌<◌, ◌≤◌, Option, None, Some, IfSome, IfNone, IsSome, List, [], ◌∷◌, ◌++◌, refl, arith, ap, sym, ◌∙◌, subst, length, take, take_all, slice_get, get_or}
 use Rattle.std.specs.List.{Contains}
 use Rattle.std.proofs.lemmas.List.{length-map}
@@ -20,7 +20,7 @@ one_more order i n before after is so_far pushed =
 pub all_ids : (order : List Node) (i : ℕ) (found : List ℕ) → found ≡ take i (ids order) → length order ≤ i → found ≡ ids order
 all_ids order i found is ends = is ∙ take_all i (ids order) (omega (arith, length-map order (λ (n : Node). n.id), ends))
 
--- a known id has a place
+-- a known id has an index
 pub known_at : (nodes order : List Node) (id : ℕ) → IsById nodes order → Contains (ids nodes) id → (p : ℕ) × IsPlace order id p
 known_at nodes order id by c =
     let n : (n : Node) × Contains nodes n × (n.id ≡ id) = Contains-from_map (λ (m : Node). m.id) nodes id c in
@@ -37,10 +37,10 @@ pub at_some : {X : Type 0} (P : X → Type 0) (o : Option X) (x : X) → o ≡ S
 at_some P None x e h = cc
 at_some P (Some y) x e h = subst P (let same : y ≡ x = cc in same) h
 
--- a place is one of the order
+-- an index is one of the order
 pub place_within : (order : List Node) (id p : ℕ) → IsPlace order id p → p < length order
 place_within order id p h = slice_get_within order p h.0 h.1
 
--- the node at the place of an id
+-- the node at the index of an id
 pub node_id : (order : List Node) (id p : ℕ) (n : Node) → IsPlace order id p → slice_get order p ≡ Some n → n.id ≡ id
 node_id order id p n h is = let same : Some h.0 ≡ Some n = sym h.1 ∙ is in let node : h.0 ≡ n = cc in sym (ap (λ (m : Node). m.id) node) ∙ h.2

@@ -20,7 +20,7 @@ use Rattle.road_map.proofs.WalkLaws.{hop_end-known}
 abbrev node_of : NodeArcs → Node
 node_of row = row.node
 
--- one item stands at a place
+-- one item stands at an index
 pub one_item : {X : Type 0} (xs : List X) (p : ℕ) (x y : X) → slice_get xs p ≡ Some x → slice_get xs p ≡ Some y → x ≡ y
 one_item xs p x y a b = let same : Some x ≡ Some y = sym a ∙ b in cc
 
@@ -30,7 +30,7 @@ arc_known parts m u a c =
     let o : HopOf parts.roads u a = arcs_out-sound parts.roads u a c in
     subst (Knows parts) o.leads (hop_end-known parts (roads_known parts m.joined) o.hop.road o.hop.back o.among)
 
--- a known id has a row, and the place of a row is that of its node
+-- a known id has a row, and the index of a row is that of its node
 pub row_there : (parts : Parts) (rows : List NodeArcs) → IsChart parts rows → (id : ℕ) → Knows parts id → HasRow rows id
 row_there parts rows chart id known =
     let at : (p : ℕ) × IsPlace (map node_of rows) id p = known_at parts.nodes (map node_of rows) id chart.by_id known in

@@ -25,7 +25,7 @@ struct Branch {
 }
 
 /// The ids in the order of a depth-first walk from each that was not visited, the least first,
-/// which goes to neighbours by rising id.
+/// which goes to neighbours by ascending id.
 pub fn depth_ids(alloc: Global, map: &Map) -> Result<Ids, NoMemory>
     ensures { IfOk result (λ ids. ids ≡ depth map.now.parts) }
 {

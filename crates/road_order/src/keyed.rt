@@ -8,7 +8,7 @@ use octet_text::NoMemory;
 use road_map::Ids;
 use std::alloc::{AllocError, Global};
 
-/// The ids by rising key, and by rising id where keys are equal.
+/// The ids by ascending key, and by ascending id where keys are equal.
 pub fn ids_by_key<K: Ord + Copy>(alloc: Global, mut keyed: Vec<(K, u32)>) -> Result<Ids, NoMemory>
     requires { (x y : K) → K.cmp x y ≡ Equal → x ≡ y }
     ensures { IfOk result (λ ids. ids ≡ map (λ p. p.1) (sorted_by (keyed_cmp K.cmp) keyed.items)) }

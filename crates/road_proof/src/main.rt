@@ -22,7 +22,7 @@ use std::io::ErrorKind;
 use std::process::ExitCode;
 use std::time::Instant;
 
-/// The words after the program's name, or the status of a run that can't have them.
+/// The arguments after the program's name, or the status of a run that can't have them.
 fn words_of(rt: HostRuntime, alloc: Global) -> Result<Words, u8> {
     let mut words = Words::new(alloc);
     let arguments = match env::args(&rt) {
@@ -41,8 +41,8 @@ fn words_of(rt: HostRuntime, alloc: Global) -> Result<Words, u8> {
 /// Says why a run could not begin, and answers its status.
 fn not_begun(rt: HostRuntime, status: u8) -> ExitCode {
     let _ = match status {
-        9 => eprintln!(rt; "road_proof: memory: There is not enough of it."),
-        _ => eprintln!(rt; "road_proof: words: One of them is no text in UTF-8."),
+        9 => eprintln!(rt; "road_proof: memory: Out of memory."),
+        _ => eprintln!(rt; "road_proof: arguments: One of them is no text in UTF-8."),
     };
     ExitCode::from(status)
 }

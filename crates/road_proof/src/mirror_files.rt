@@ -8,7 +8,7 @@ use std::fs::OpenOptions;
 /// The greatest label of a mirror.
 const MOST: u32 = 8;
 
-/// A mirror in each of the files that exists, labelled by its number. What it takes goes behind what the file
+/// A mirror in each of the files that exists, labelled by its number. What it takes goes after what the file
 /// held.
 fn mirrors_here(rt: HostRuntime, alloc: Global) -> Result<Vec<FileMirror>, NoMemory> {
     let mut mirrors: Vec<FileMirror> = Vec::new(alloc);

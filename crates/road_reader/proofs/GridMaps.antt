@@ -140,7 +140,7 @@ few_ends : (width : ℕ) (xs : List ℕ) → length (flat_map (ends_of width) xs
 few_ends width [] = omega arith
 few_ends width (i ∷ xs) = omega (arith, length-append (ends_of width i) (flat_map (ends_of width) xs), length-append (right_of width i) (below_of width i), at_most_one (nat_lt (i % width + 1) width) (i + 1, i + 2), at_most_one (nat_lt (i / width + 1) width) (i + 1, i + 1 + width), few_ends width xs)
 
--- arcs by rising id lead to different ids
+-- arcs by ascending id lead to different ids
 same_number : (x y : ℕ) → nat_eq x y ≡ true → x ≡ y
 same_number x y h = grind (arith, h)
 
@@ -163,7 +163,7 @@ rises_distinct : (arcs : List Arc) → Rise arcs → IsDistinct nat_eq (map (λ 
 rises_distinct [] h = distinct_none
 rises_distinct (a ∷ arcs) h = IsDistinct-cons nat_eq a.to (map (λ (b : Arc). b.to) arcs) (apart_all a.to a.to arcs (omega arith) h) (above_distinct a.to arcs h)
 
--- no id stands twice among nodes of rising places
+-- no id stands twice among nodes of ascending places
 pub record AtMostOnce (width a n id : ℕ) : Type 0 where
   pub most : count_by (is_at id) (map (grid_node width) (range_with_len a n)) ≤ 1
   pub none : id ≤ a → count_by (is_at id) (map (grid_node width) (range_with_len a n)) ≡ 0

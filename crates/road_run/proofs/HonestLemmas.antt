@@ -36,14 +36,14 @@ use Rattle.client_commands.specs.NearChecking.{EndsCheckReach, ends_check_reach}
 use Rattle.client_commands.proofs.OneNearCheck.{OneNearVerdict}
 use Rattle.route_audit.proofs.RadiusLemmas.{AcceptsVerdict as NearAcceptsVerdict}
 
--- octets have one verdict at most, and what is accepted has it, for routes and for radii
+-- octets have one verdict at most, and what is accepted has it, for routes and for range queries
 pub record Verdicts : Type 0 where
   pub one : OneVerdict
   pub accepted : AcceptsVerdict
   pub near_one : OneNearVerdict
   pub near_accepted : NearAcceptsVerdict
 
--- honest replies are accepted, on routes and on radii
+-- honest replies are accepted, for routes and for range queries
 pub record AcceptedLaws : Type 0 where
   pub answers : AnswersAreAccepted
   pub near_replies : NearRepliesAreAccepted
@@ -74,7 +74,7 @@ module _ (one : OneVerdict) (verdict : AcceptsVerdict) (laws : AnswersAreAccepte
   says : IsVerdict sha256 file.key file.links file.octets q least (Ok accepted.accepted)
   says = verdict sha256 file.key file.links file.octets q least accepted.accepted accepted.accepts
 
-  -- the end over what the files spell
+  -- the end over what the files encode
   ends : (o : Result Conclusion Fault) (text : List ℕ) → ends_check key reply q least chain folder o text → EndsCheck file.key file.links file.octets q least o text
   ends o text h = of_files (λ k links octets. EndsCheck k links octets q least) folder key reply chain file.key file.links file.octets file.key_read file.reply_read file.chain_read o text h
 
@@ -103,7 +103,7 @@ module _ (one : OneNearVerdict) (verdict : NearAcceptsVerdict) (laws : NearRepli
   near_says : IsNearVerdict sha256 file.key file.links file.octets q least (Ok near_accepted.accepted)
   near_says = verdict sha256 file.key file.links file.octets q least near_accepted.accepted near_accepted.accepts
 
-  -- the end over what the files spell
+  -- the end over what the files encode
   near_ends : (o : Result Conclusion Fault) (text : List ℕ) → ends_check_reach key reply q least chain folder o text → EndsCheckReach file.key file.links file.octets q least o text
   near_ends o text h = of_files (λ k links octets. EndsCheckReach k links octets q least) folder key reply chain file.key file.links file.octets file.key_read file.reply_read file.chain_read o text h
 

@@ -33,7 +33,7 @@ module _ {M : Type 0} (octets : M → Option (List ℕ)) (label handed puts room
       → given_by octets label handed puts room g old new (Some (Succeed secret kind)) files tb tn before now (Ok Done) d m ≡ link_release d.follows.follows.keys d.follows.follows.before ∷ []
   succeed_gives secret kind d m = refl
 
-  -- the links of a chain, also where the sink took a front of it
+  -- the links of a chain, also where the sink took a prefix of it
   links_give : (d : OnDisk g old new Links files tb tn (Err Sink)) (m : OnMirrors octets label handed puts room g old new (Some Links) tb tn before now (Err Sink))
       → given_by octets label handed puts room g old new (Some Links) files tb tn before now (Err Sink) d m ≡ map (link_release d.1.chain.keys) (range_with_len 0 d.1.chain.last)
   links_give d m = refl

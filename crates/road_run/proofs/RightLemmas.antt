@@ -123,7 +123,7 @@ module _ {Q A X E : Type 0} (kind : ReplyKind Q A X E) (line : E → List ℕ) (
   abbrev Whole : Ending
   Whole = ends_audit kind line content key_name publication_name reply_name q chain_name folder
 
-  -- over the files, and what they spell
+  -- over the files, and what they encode
   over_files : (o : Result Conclusion Fault) (t : List ℕ) → EndsAudit kind line content key links p octets q o t → Whole o t
   over_files o t h =
       reads (public_key_at folder key_name) key OverPublication o t key_read

@@ -55,7 +55,7 @@ use Rattle.near_proof.specs.Honest.{UnknownNodesAreTold}
 use Rattle.road_run.proofs.TakenLemmas.{replies_taken}
 
 module _ {D : Type 0} (g : Ghosts D) (old new : D) (asked : Option Request) (files : Option Folder) (l l' : ℕ) (taken_before taken_now : Option (List ℕ)) (k k' : ℕ) (o : Result Conclusion Fault) where
-  -- what is promised of a request is promised of the words that ask for it
+  -- what is promised of a request is promised of the arguments that ask for it
   pub run_promises : (request : Request) → Some request ≡ asked → Promises (Ends (still_told g old new) request) (TellsClient request) (Rose (g.faults old) (g.faults new)) (files_for request files) l l' taken_before taken_now k k' o
       → OnDisk g old new request files taken_before taken_now o → KeepsStanding g old new → RunPromises g old new asked files l l' taken_before taken_now k k' o
   run_promises request is promised on_disk stands = subst (λ (a : Option Request). RunPromises g old new a files l l' taken_before taken_now k k' o) is (record {
@@ -80,7 +80,7 @@ module _ {D : Type 0} (g : Ghosts D) (disk : D) (asked : Option Request) (files 
       (beside_disk (Ends (still_told g disk disk) request) (TellsClient request) (Rose (g.faults disk) (g.faults disk)) (files_for request files) l l' k k' taken_before taken_now o promised)
       (on_disk (no_moment g disk)) (no_step g disk)
 
--- words that ask for nothing
+-- arguments that ask for nothing
 pub run_nothing : {D : Type 0} (g : Ghosts D) (disk : D) (asked : Option Request) (files : Option Folder) (l : ℕ) (taken : Option (List ℕ)) (k : ℕ) → None ≡ asked → RunPromises g disk disk asked files l l taken taken k k (Err Words)
 run_nothing g disk asked files l taken k is = subst (λ (a : Option Request). RunPromises g disk disk a files l l taken taken k k (Err Words)) is (record {
   words = (λ e. refl, λ e. refl);
@@ -166,21 +166,21 @@ module _ {D : Type 0} (g : Ghosts D) (old new : D) (asked : Option Request) (fil
 
 -- ---- the source
 
--- what is taken for a request is taken for the words that ask for it
+-- what is taken for a request is taken for the arguments that ask for it
 pub run_takes : (asked : Option Request) (files : Option Folder) (left rest : Option (List ℕ)) (s s' : ℕ) (taken_before taken_now : Option (List ℕ)) (o : Result Conclusion Fault) (request : Request) → Some request ≡ asked
     → IfServe (Some request) (λ named. ServesFrames named files left rest s s' taken_before taken_now o) → UnlessServe (Some request) (rest ≡ left) → (o ≡ Err Source → Rose s s')
     → RunTakes asked files left rest s s' taken_before taken_now o
 run_takes asked files left rest s s' taken_before taken_now o request is serves kept source =
     subst (λ (a : Option Request). RunTakes a files left rest s s' taken_before taken_now o) is (record { serves = serves; kept = kept; source = source })
 
--- what the source of a request gave is what that of the words gave that ask for it
+-- what the source of a request gave is what that of the arguments gave that ask for it
 pub run_gave : (asked : Option Request) (files : Option Folder) (given given' : List ℕ) (Ended : Type 0) (s s' : ℕ) (taken_before taken_now : Option (List ℕ)) (o : Result Conclusion Fault) (request : Request) → Some request ≡ asked
     → IfServe (Some request) (λ named. Gave given given' (λ octets. ServesFrames named files (Some octets) (Some []) s s' taken_before taken_now o)) → IfServe (Some request) (λ named. HasEnded named o Ended) → UnlessServe (Some request) (given' ≡ given)
     → RunGave asked files given given' Ended s s' taken_before taken_now o
 run_gave asked files given given' Ended s s' taken_before taken_now o request is serves ended nothing =
     subst (λ (a : Option Request). RunGave a files given given' Ended s s' taken_before taken_now o) is (record { serves = serves; ended = ended; nothing = nothing })
 
--- words that ask for nothing had nothing given
+-- arguments that ask for nothing had nothing given
 pub run_gave_nothing : (asked : Option Request) (files : Option Folder) (given : List ℕ) (Ended : Type 0) (s : ℕ) (taken_before taken_now : Option (List ℕ)) → None ≡ asked → RunGave asked files given given Ended s s taken_before taken_now (Err Words)
 run_gave_nothing asked files given Ended s taken_before taken_now is =
     subst (λ (a : Option Request). RunGave a files given given Ended s s taken_before taken_now (Err Words)) is (record { serves = tt; ended = tt; nothing = refl })
@@ -199,20 +199,20 @@ has_ended_signed file key chain (Ok conclusion) Ended whole cut = tt
 has_ended_signed file key chain (Err TruncatedFrame) Ended whole cut = cut refl
 has_ended_signed file key chain (Err fault) Ended whole cut = tt
 
--- what a request has no use for, words have none for that ask for it
+-- what a request has no use for, arguments have none for that ask for it
 pub unused : (asked : Option Request) (library source sink disk : Type 0) (request : Request) → Some request ≡ asked → LeavesUnused (Some request) library source sink disk → LeavesUnused asked library source sink disk
 unused asked library source sink disk request is h = subst (λ (a : Option Request). LeavesUnused a library source sink disk) is h
 
--- words that ask for nothing use nothing
+-- arguments that ask for nothing use nothing
 pub nothing_used : (asked : Option Request) (library source sink disk : Type 0) → None ≡ asked → library × source × sink × disk → LeavesUnused asked library source sink disk
 nothing_used asked library source sink disk is h = subst (λ (a : Option Request). LeavesUnused a library source sink disk) is h
 
--- words that ask for nothing take nothing
+-- arguments that ask for nothing take nothing
 pub run_takes_nothing : (asked : Option Request) (files : Option Folder) (left : Option (List ℕ)) (s : ℕ) (taken_before taken_now : Option (List ℕ)) → None ≡ asked → RunTakes asked files left left s s taken_before taken_now (Err Words)
 run_takes_nothing asked files left s taken_before taken_now is =
     subst (λ (a : Option Request). RunTakes a files left left s s taken_before taken_now (Err Words)) is (record { serves = tt; kept = refl; source = λ e. absurd (cc) })
 
--- the words that ask for serving over files of these names
+-- the arguments that ask for serving over files of these names
 abbrev pub serve_by : List ℕ → Option (List ℕ × Option (List ℕ)) → Request
 serve_by publication None = Serve publication
 serve_by publication (Some guard) = ServeSigned publication guard.0 guard.1
@@ -228,7 +228,7 @@ files_served named files = by named.guard
     by None = refl
     by (Some guard) = refl
 
--- what follows where words ask for serving
+-- what follows where arguments ask for serving
 pub serve_then : (asked : Option Request) (P Q : ServeFiles → Type 0) → ((named : ServeFiles) → asked ≡ Some (serve_request named) → P named → Q named) → IfServe asked P → IfServe asked Q
 serve_then (Some (Serve file)) P Q step h = step (unguarded file) refl h
 serve_then (Some (ServeSigned file key chain)) P Q step h = step (guarded file key chain) refl h
@@ -275,7 +275,7 @@ module _ {D : Type 0} (g : Ghosts D) (old new : D) (makings : OneMaking) (asked 
       serve_then asked (λ named. Gave given given' (λ octets. Served (Some octets) (Some []) named)) (λ named. Gave given given' (λ octets. IsExactServing named files (Some octets) o))
       (λ named is gave. record { octets = gave.octets; gave = gave.gave; is = exact_at (Some gave.octets) (Some []) r.command none n named is gave.is }) t.serves
 
--- words that ask for this ask for a front of its names
+-- arguments that ask for this ask for a prefix of its names
 pub asks : (asked : Option Request) (request : Request) (before now : List (List ℕ)) → Some request ≡ asked → AsksFront (files_named (Some request)) before now → AsksFront (files_named asked) before now
 asks asked request before now is h = subst (λ (a : Option Request). AsksFront (files_named a) before now) is h
 

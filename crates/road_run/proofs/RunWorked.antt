@@ -1,4 +1,4 @@
--- What the words of a run's promises say of small cases.
+-- What the arguments of a run's promises say of small cases.
 use Rattle.std.proofs.Common.{◌≡◌, ℕ, Bool, true, false, List, [], ◌∷◌, if◌then◌else◌, refl, sym, subst}
 use Rattle.std.specs.declared.option.Option.{Option}
 use Rattle.std.specs.declared.option.Option.TheVariants.{None, Some}
@@ -27,7 +27,7 @@ use Rattle.road_run.specs.Commands.{LeavesAll, LeavesUnused, IsTold, RunPromises
 use Rattle.road_run.specs.Complete.{PromisedEnough}
 use Rattle.road_run.specs.Sources.{RunTakes}
 
--- ---- words that ask for nothing
+-- ---- arguments that ask for nothing
 
 module _ {D : Type 0} (g : Ghosts D) (old new : D) where
   -- the sink takes nothing
@@ -67,7 +67,7 @@ module _ (hash sha : List ℕ → List ℕ) (first : State) (i : ℕ) (mine told
   alone : IsIsolated hash sha first (mine ∷ []) (reply ∷ []) → MayReply hash sha first mine reply
   alone h = h i [] [] mine [] reply [] refl refl refl own
 
-  -- also behind a body of another session
+  -- also after a body of another session
   behind_another : (other : List ℕ) → is_kept hash sha i first other ≡ false → IsIsolated hash sha first (other ∷ mine ∷ []) (told ∷ reply ∷ []) → MayReply hash sha first mine reply
   behind_another other strange h =
       subst (λ (b : Bool). MayReply hash sha (after hash sha first (if b then other ∷ [] else [])) mine reply) strange (h i (other ∷ []) [] mine (told ∷ []) reply [] refl refl refl own)
@@ -95,7 +95,7 @@ module _ (library source sink disk : Type 0) where
 
 -- ---- a command that loads no file
 
--- it ends as the disk lets it end, or as its words do, also over a library that tells nothing
+-- it ends as the disk lets it end, or as its arguments do, also over a library that tells nothing
 module _ {D : Type 0} (g : Ghosts D) (old new : D) (l l' k k' : ℕ) (before now : Option (List ℕ)) where
   links_without_a_library : RunPromises g old new (Some Links) None l l' before now k k' (Ok Done) → (text : List ℕ) × EndsLinks (still_told g old new) (Ok Done) text × Appends before now text
   links_without_a_library r = r.command.answered

@@ -31,7 +31,7 @@ use Rattle.road_run.specs.Commands.{Ends, files_for}
 use Rattle.road_run.specs.Accepting.{IsTaken, WritesReply, WritesNearReply, RepliesAreTaken}
 use Rattle.road_run.proofs.HonestLemmas.{AcceptedLaws}
 
--- ---- an end that comes only behind the installing
+-- ---- an end that comes only after the installing
 
 -- an end that no fault of installing is
 abbrev pub IsBehind : Result Conclusion Fault → Type 0

@@ -143,7 +143,7 @@ module _ {M : Type 0} (octets : M → Option (List ℕ)) (label handed puts room
       outcome
   WritesBehindSync g before now asked taken_before taken_now old kept outcome = Unit {0}
 
--- What a command has no use for is as it was, and words that ask for nothing use nothing. Each of
+-- What a command has no use for is as it was, and arguments that ask for nothing use nothing. Each of
 -- library, source, sink and disk says of one object that it is as before.
 abbrev pub LeavesUnused : Option Request → (library source sink disk : Type 0) → Type 0
 LeavesUnused None library source sink disk = library × source × sink × disk
@@ -161,13 +161,13 @@ LeavesUnused (Some (AuditReach key publication reply q chain)) library source si
 LeavesUnused (Some (Reduce key text signature)) library source sink disk = source
 LeavesUnused (Some request) library source sink disk = source × disk
 
--- words that ask for nothing leave everything as it is
+-- arguments that ask for nothing leave everything as it is
 pub record LeavesAll {D : Type 0} (g : Ghosts D) (old new : D)
     (taken_before taken_now : Option (List ℕ)) : Type 0 where
   pub silent : Keeps taken_before taken_now
   pub disk : AtEachMoment g old new Stays
 
--- what a run promises, by what its words ask for
+-- what a run promises, by what its arguments ask for
 pub record RunPromises {D : Type 0} (g : Ghosts D) (old new : D) (asked : Option Request)
     (files : Option Folder) (library_before library_now : ℕ)
     (taken_before taken_now : Option (List ℕ)) (sink_before sink_now : ℕ)

@@ -56,7 +56,7 @@ abbrev pub IsUnhindered : Ending → Type 0
 IsUnhindered Ends = (outcome : Result Conclusion Fault) (text : List ℕ) → Ends outcome text →
     ¬ Hinders (status_of outcome)
 
--- a status of work that was done (0, 1, 10, 11 and 14), or of want of memory (9)
+-- a status of work that was done (0, 1, 10, 11 and 14), or of memory that ran out (9)
 abbrev pub Answers : ℕ → Type 0
 Answers status = (status ≡ 0) ⊎ (status ≡ 1) ⊎ (status ≡ 10) ⊎ (status ≡ 11) ⊎ (status ≡ 14) ⊎
     (status ≡ 9)
@@ -72,12 +72,12 @@ PromisedEnough {M} puts room g old new (Publish roads settings) taken_before tak
     ¬ PromisedLess (pieces_in (publication_text p)) (publication_text p) (puts m) (room m)
 PromisedEnough puts room g old new request taken_before taken_now mirrors = Unit {0}
 
--- where nothing hinders it, and the mirrors promised enough, the work is done, or memory is short
+-- where nothing hinders it, and the mirrors promised enough, the work is done, or memory runs out
 abbrev pub IsComplete : Ending → Type 0 → Result Conclusion Fault → Type 0
 IsComplete Ends Enough outcome = IsUnhindered Ends → Enough → Answers (status_of outcome)
 
 -- over a publication file whose header is that of its map and settings, `prove` writes octets that
--- are accepted, where both ends are nodes, unless memory is short or an object outside fails
+-- are accepted, where both ends are nodes, unless memory runs out or an object outside fails
 abbrev pub ProvesKnown : Request → Option Folder → Option (List ℕ) → Option (List ℕ) →
     Result Conclusion Fault → Type 0
 ProvesKnown (Prove file q) (Some folder) old new outcome = (p : Publication) →

@@ -1,4 +1,4 @@
--- Whole lives of an owner's disk: runs of the program with any words, one after another, and
+-- Whole lives of an owner's disk: runs of the program with any arguments, one after another, and
 -- crashes inside or between them.
 use Rattle.std.specs.Prelude.{◌≡◌, ◌≢◌, ℕ, ◌≤◌, List, [], ◌∷◌, ◌++◌, map, IfSome}
 use Rattle.std.specs.List.{range_with_len}
@@ -36,7 +36,7 @@ EachTells g disk (state ∷ states) = (g.content disk ≢ None) × EachTells g s
 -- many pieces it was handed, and what it promises
 module _ {M : Type 0} (octets : M → Option (List ℕ)) (label handed puts room : M → ℕ) {D : Type 0}
     (g : Ghosts D) where
-  -- A run of the program from one disk to another: what its words ask for, its files, sink and
+  -- A run of the program from one disk to another: what its arguments ask for, its files, sink and
   -- mirrors, how it ended, and what `run` promises of that.
   pub record Run (old new : D) : Type 0 where
     pub asked : Option Request

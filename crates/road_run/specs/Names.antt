@@ -1,11 +1,11 @@
--- The names of files that words hold.
+-- The names of files that arguments hold.
 use Rattle.std.specs.Prelude.{ℕ, List, [], ◌∷◌}
 use Rattle.std.specs.declared.option.Option.{Option}
 use Rattle.std.specs.declared.option.Option.TheVariants.{Some}
 use Rattle.road_command.specs.Requests.{Request, Route, Root, Dimacs, Key, Succeed, Publish, Prove, Serve, ServeSigned, Check, Audit, Reach, CheckReach, AuditReach, Reduce}
 use Rattle.command_files.specs.Asking.{if_named}
 
--- the names of files that words hold, in their order, the owner's disk not among them
+-- the names of files that arguments hold, in their order, the owner's disk not among them
 abbrev pub files_named : Option Request → List (List ℕ)
 files_named (Some (Route roads from to)) = roads ∷ []
 files_named (Some (Root roads fan)) = roads ∷ []

@@ -17,19 +17,19 @@ use Rattle.command_files.specs.declared.ended.Conclusion.TheVariants.{Done}
 use Rattle.server_commands.specs.Guarding.{ServeFiles, guarded, unguarded}
 use Rattle.server_commands.specs.Serving.{ServesFrames, ends_serving, most_octets, most_frames}
 
--- this holds of a service's files, if words ask for serving
+-- this holds of a service's files, if arguments ask for serving
 abbrev pub IfServe : Option Request → (ServeFiles → Type 0) → Type 0
 IfServe (Some (Serve file)) P = P (unguarded file)
 IfServe (Some (ServeSigned file key chain)) P = P (guarded file key chain)
 IfServe asked P = Unit {0}
 
--- this holds, unless words ask for serving
+-- this holds, unless arguments ask for serving
 abbrev pub UnlessServe : Option Request → Type 0 → Type 0
 UnlessServe (Some (Serve file)) P = Unit {0}
 UnlessServe (Some (ServeSigned file key chain)) P = Unit {0}
 UnlessServe asked P = P
 
--- what a run takes from its source, by what its words ask for: `serve` alone takes anything
+-- what a run takes from its source, by what its arguments ask for: `serve` alone takes anything
 pub record RunTakes (asked : Option Request) (files : Option Folder)
     (left_before left_now : Option (List ℕ)) (source_before source_now : ℕ)
     (taken_before taken_now : Option (List ℕ)) (outcome : Result Conclusion Fault) : Type 0 where
@@ -47,7 +47,7 @@ HasEnded named (Ok conclusion) Ended = IfNone named.guard Ended
 HasEnded named (Err TruncatedFrame) Ended = Ended
 HasEnded named outcome Ended = Unit {0}
 
--- What the source of a run gave, by what its words ask for: `serve` alone took anything, and answered the
+-- What the source of a run gave, by what its arguments ask for: `serve` alone took anything, and answered the
 -- frames of exactly these octets.
 pub record RunGave (asked : Option Request) (files : Option Folder) (given_before given_now : List ℕ)
     (Ended : Type 0) (source_before source_now : ℕ) (taken_before taken_now : Option (List ℕ))

@@ -1,4 +1,4 @@
-//! The whole program as a function: `run` does what words ask for, over any library, source, sink,
+//! The whole program as a function: `run` does what arguments ask for, over any library, source, sink,
 //! disk and mirrors.
 //!
 //! Its contract joins what the commands of all parties promise. The law `no_key_signs_twice` says

@@ -128,7 +128,7 @@ pub fn run<L: Library, S: Source, K: Sink, D: Disk, M: Mirror>(
     Ended::of(work(alloc, words, library, source, sink, disk, mirrors))
 }
 
-/// Does what the words ask for.
+/// Does what the arguments ask for.
 fn work<L: Library, S: Source, K: Sink, D: Disk, M: Mirror>(
     alloc: Global,
     words: &Words,

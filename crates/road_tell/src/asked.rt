@@ -4,7 +4,7 @@ use crate::usage::{Commands, KIT, Usage, VERSION, usage_of};
 use road_command::Words;
 use std::fmt::{self, Display, Formatter};
 
-/// What words ask to be told of the program. It is the answer too.
+/// What arguments ask to be told of the program. It is the answer too.
 #[derive(Clone, Copy)]
 pub enum Asked {
     /// What the program is, and each command with what it does.
@@ -15,7 +15,7 @@ pub enum Asked {
     Version,
 }
 
-/// What words ask to be told of the program, if they do.
+/// What arguments ask to be told of the program, if they do.
 pub fn asked_of(words: &Words) -> Option<Asked> {
     match words.count() {
         1 => match words.word(0) {
@@ -28,7 +28,7 @@ pub fn asked_of(words: &Words) -> Option<Asked> {
     }
 }
 
-/// The command that two words ask to be told of, if they do.
+/// The command that two arguments ask to be told of, if they do.
 fn command_asked(first: &str, second: &str) -> Option<Asked> {
     let name = match (first, second) {
         ("help", name) => name,

@@ -15,7 +15,7 @@ pub enum Content {
 }
 
 impl Content {
-    /// What is known of a file that does not spell so many hex digits.
+    /// What is known of a file that does not encode so many hex digits.
     pub fn of_hex(text: &[u8], wanted: Option<usize>) -> Content {
         Content::Hex {
             wrong: WrongHex::of(text, wanted),

@@ -3,20 +3,21 @@
 use road_command::Command;
 use std::fmt::{self, Display, Formatter};
 
-/// How a text does not spell as many hex digits as are wanted, or, where no number is, an even number of them. It has
-/// counts and a place alone, and no octet of the text, which may be a secret.
+/// How a text does not encode as many hex digits as are wanted, or, where no number is, an even number of them. It
+/// has
+/// counts and an offset alone, and no octet of the text, which may be a secret.
 #[derive(Clone, Copy, Debug, PartialEq, Eq)]
 pub struct WrongHex {
     /// How many octets stand before the line end.
     found: usize,
-    /// The place of the first of them that is no hex digit.
+    /// The offset of the first of them that is no hex digit.
     place: Option<usize>,
     /// How many digits are wanted.
     wanted: Option<usize>,
 }
 
 impl WrongHex {
-    /// How this text does not spell so many hex digits.
+    /// How this text does not encode so many hex digits.
     pub fn of(text: &[u8], wanted: Option<usize>) -> WrongHex {
         let line = without_line_end(text);
         WrongHex {
@@ -33,11 +34,11 @@ impl Display for WrongHex {
         match (self.place, self.wanted) {
             (Some(place), Some(wanted)) => write!(
                 f,
-                "The octet at place {place} is no hex digit, and the file must be {wanted} of them and at most one line end."
+                "The octet at offset {place} is no hex digit, and the file must be {wanted} of them and at most one line end."
             ),
             (Some(place), None) => write!(
                 f,
-                "The octet at place {place} is no hex digit, and the file must be an even number of them and at most one line end."
+                "The octet at offset {place} is no hex digit, and the file must be an even number of them and at most one line end."
             ),
             (None, Some(wanted)) => {
                 write!(f, "There are {found} hex digits, and {wanted} are wanted.")

@@ -39,7 +39,7 @@ impl Display for Look {
             Look::RoadFile => "It looks like a road file.",
             Look::Publication => "It looks like a publication.",
             Look::Reply => "It looks like a reply on a route.",
-            Look::NearReply => "It looks like a reply on a radius.",
+            Look::NearReply => "It looks like a reply to a range query.",
             Look::Chain => "It looks like a chain file.",
         })
     }

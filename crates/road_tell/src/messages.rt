@@ -18,7 +18,7 @@ use road_reader::RoadError;
 use std::fmt::{self, Display, Formatter};
 use std::io::{self, ErrorKind};
 
-/// What is known of a run besides its words and its end.
+/// What is known of a run besides its arguments and its end.
 #[derive(Clone, Copy)]
 pub struct Facts<'a> {
     /// The name of the file that was asked for last.
@@ -45,7 +45,7 @@ pub struct Facts<'a> {
 const FEW: u32 = 3;
 
 /// What is said of a run: lines of the form `road_proof: WHAT: SENTENCE`, and the command's line where a
-/// word is wrong.
+/// argument is wrong.
 #[derive(Clone, Copy)]
 pub struct Message<'a> {
     words: &'a Words,
@@ -77,7 +77,7 @@ impl Display for Message<'_> {
         match self.ended.fault {
             None => self.verdict(f),
             Some(Fault::Words) => self.wrong_words(f),
-            Some(Fault::Memory) => f.write_str("road_proof: memory: There is not enough of it."),
+            Some(Fault::Memory) => f.write_str("road_proof: memory: Out of memory."),
             Some(Fault::Sink) => self.output(f),
             Some(fault) => {
                 let what = self.what(fault);
@@ -151,11 +151,11 @@ impl<'a> Message<'a> {
         )
     }
 
-    /// Which word is wrong, and why.
+    /// Which argument is wrong, and why.
     fn wrong_words<W: fmt::Write>(&self, f: &mut Formatter<W>) -> fmt::Result {
         match wrong_words(self.words) {
             Some(wrong) => write!(f, "{wrong}"),
-            None => write!(f, "road_proof: words: They fit no command.\n{Commands}"),
+            None => write!(f, "road_proof: arguments: They fit no command.\n{Commands}"),
         }
     }
 
@@ -258,7 +258,7 @@ impl<'a> Message<'a> {
                 let (kind, wanted) = self.malformed();
                 write!(
                     f,
-                    "It is no {kind}, and can't be read from place {place} on."
+                    "It is no {kind}, and can't be read from offset {place} on."
                 )?;
                 self.look(f, wanted)
             }
@@ -346,7 +346,7 @@ impl<'a> Message<'a> {
                 "A frame of it is announced with more than 4194304 octets, the most that are taken.",
             ),
             Fault::TooManyFrames => f.write_str(
-                "It goes on behind its 1000000th frame, the last that is taken.",
+                "It goes on after its 1000000th frame, the last that is taken.",
             ),
             _ => {
                 f.write_str("It can't be read")?;

@@ -62,7 +62,7 @@ fn bad_number_in(line: u32, octets: &[u8]) -> Option<BadNumber<'_>> {
     None
 }
 
-/// What the word at a place behind a line's kind must be, where it must be a number.
+/// What the word at an index after a line's kind must be, where it must be a number.
 fn range_of(kind: &[u8], place: u32, word: &[u8]) -> Option<Range> {
     let is_place = kind == b"node".as_slice() || kind == b"v".as_slice();
     if is_place && place > 0 {

@@ -5,11 +5,11 @@ use proof_judge::Refusal;
 use route_client::{CheckError, NearError};
 use std::fmt::{self, Display, Formatter};
 
-/// What is said of items that don't fold to a signed root.
+/// What is said of items that don't recompute a signed root.
 const COVER: &str = "the roads in the reply are not shown to be those that were signed.";
 
 /// What is said where memory ran out.
-const MEMORY: &str = "there was not enough memory to check it.";
+const MEMORY: &str = "the check ran out of memory.";
 
 /// The sentence on a reply that a client refused for this reason.
 #[derive(Clone, Copy)]
@@ -47,7 +47,7 @@ impl Unusable {
             ),
             CheckError::Malformed(place) => write!(
                 f,
-                "the file is no reply, and can't be read from place {place} on."
+                "the file is no reply, and can't be read from offset {place} on."
             ),
             CheckError::Stale(version) => write!(
                 f,
@@ -66,7 +66,7 @@ impl Unusable {
         match why {
             NearError::Malformed(place) => write!(
                 f,
-                "the file is no reply on a radius, and can't be read from place {place} on."
+                "the file is no reply to a range query, and can't be read from offset {place} on."
             ),
             NearError::Stale(version) => write!(
                 f,

@@ -118,7 +118,7 @@ fn is_blank(octet: u8) -> bool {
     octet == b' ' || octet == b'\t'
 }
 
-/// The first word of a line, and what stands behind it.
+/// The first word of a line, and what stands after it.
 fn split_word(line: &[u8]) -> (&[u8], &[u8]) {
     let start = line
         .iter()

@@ -34,7 +34,7 @@ pub struct Again {
     pub left: Option<u32>,
 }
 
-/// Looks at the files again that a run's end is said of. Want of memory leaves a fact out.
+/// Looks at the files again that a run's end is said of. Out of memory leaves a fact out.
 pub fn look_again<L: Library>(
     alloc: Global,
     library: &mut L,
@@ -99,7 +99,7 @@ struct Refused<'a> {
     key: &'a str,
     reply: &'a str,
     asked: Asked,
-    /// The least version that is taken.
+    /// The minimum version that is taken.
     least: u64,
     /// The chain file, where one is named.
     chain: Option<&'a str>,
@@ -187,7 +187,7 @@ fn load<L: Library>(alloc: Global, library: &mut L, name: &str) -> Vec<u8>
     }
 }
 
-/// The public key that 112 hex digits spell, and zeros where they don't.
+/// The public key that 112 hex digits encode, and zeros where they don't.
 fn key_in(text: &[u8]) -> [u8; 56] {
     let mut key = [0; 56];
     let digits = match text.get(..112) {

@@ -21,7 +21,7 @@ pub fn keys_left(image: &[u8]) -> Option<u32> {
     None
 }
 
-// How many slots the area at a place has before its last one.
+// How many slots the area at an offset has before its last one.
 fn early_slots_at(image: &[u8], base: usize) -> Option<u32>
     requires { base < 2 ^ 32 }
     ensures { IfSome result (λ n. n ≤ 1023) }
@@ -36,7 +36,7 @@ fn early_slots_at(image: &[u8], base: usize) -> Option<u32>
     }
 }
 
-// Whether the slot at a place is spent with a link text, if the slot is there.
+// Whether the slot at an offset is spent with a link text, if the slot is there.
 fn has_link(image: &[u8], place: usize) -> Option<bool>
     requires { place < 2 ^ 32 }
 {
@@ -48,7 +48,7 @@ fn has_link(image: &[u8], place: usize) -> Option<bool>
     Some(slot[0] != 0 && is_link(&slot[2..2 + length]))
 }
 
-// How many of the first slots of the area at a place are not spent.
+// How many of the first slots of the area at an offset are not spent.
 fn left_at(image: &[u8], base: usize, slots: u32) -> Option<u32>
     requires base { base < 2 ^ 32 }
     requires slots { slots ≤ 1023 }

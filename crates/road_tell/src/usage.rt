@@ -8,10 +8,10 @@ pub const VERSION: &str = "0.1.0";
 /// The toolchain and the logic that the program is proved with.
 pub const KIT: &str = "rattle-kit-13f logic dac8208d650f15bf";
 
-/// A command: its name and its words as they are typed, and what it does.
+/// A command: its name and its arguments as they are typed, and what it does.
 #[derive(Clone, Copy)]
 pub struct Usage {
-    /// The name, and a name for each word behind it; a last one in brackets may be left out.
+    /// The name, and a name for each argument after it; a last one in brackets may be left out.
     pub words: &'static str,
     /// What it does.
     pub does: &'static str,
@@ -57,7 +57,7 @@ pub const USAGES: [Usage; 17] = [
     },
     Usage {
         words: "serve PUB [PUBKEY [CHAIN]]",
-        does: "answers the frames of standard input over a publication, and over those that\n      are installed after it, for up to 16 sessions; with PUBKEY only over those that\n      are signed under it or along CHAIN, and on a radius too",
+        does: "answers the frames of standard input over a publication, and over those that\n      are installed after it, for up to 16 sessions; with PUBKEY only over those that\n      are signed under it or along CHAIN, and range queries too",
     },
     Usage {
         words: "check PUBKEY REPLY S T LEAST [CHAIN]",
@@ -81,11 +81,11 @@ pub const USAGES: [Usage; 17] = [
     },
     Usage {
         words: "reduce PUBKEY TEXT SIGNATURE",
-        does: "writes what a signature on a text that the desk never signed comes down to, by\n      owner.desk: a collision of SHA-256, or a value that the desk never released",
+        does: "writes what a signature on a text that the desk never signed reduces to, by\n      owner.desk: a collision of SHA-256, or a value that the desk never released",
     },
     Usage {
         words: "survey WIDTH SEED METHOD QUERIES",
-        does: "publishes a grid by a key in memory, answers drawn queries over it, checks each\n      reply, and writes how many were accepted, their lengths' total, and a digest",
+        does: "publishes a grid by a key in memory, answers random queries over it, checks each\n      reply, and writes how many were accepted, their lengths' total, and a digest",
     },
 ];
 
@@ -96,7 +96,7 @@ impl Display for Usage {
 }
 
 impl Usage {
-    /// How many of the last words may be left out.
+    /// How many of the last arguments may be left out.
     pub fn optional(&self) -> usize {
         self.words
             .split(' ')

@@ -1,24 +1,24 @@
-//! Words that fit no command.
+//! Arguments that fit no command.
 
 use crate::usage::{Commands, Usage, usage_of};
 use road_command::{Words, reading};
 use road_reader::{natural, wide_natural};
 use std::fmt::{self, Display, Formatter};
 
-/// Why words fit no command.
+/// Why arguments fit no command.
 #[derive(Clone, Copy)]
 pub enum WrongWords<'a> {
-    /// There are no words.
+    /// There are no arguments.
     None,
-    /// The first word is no command.
+    /// The first argument is no command.
     NoCommand(&'a str),
-    /// There are more or fewer words behind the command than it takes.
+    /// There are more or fewer arguments after the command than it takes.
     Count {
         usage: &'static Usage,
         wanted: usize,
         found: usize,
     },
-    /// This word can't stand in this place of the command.
+    /// This argument can't stand at this position of the command.
     Word {
         usage: &'static Usage,
         place: &'static str,
@@ -26,7 +26,7 @@ pub enum WrongWords<'a> {
     },
 }
 
-/// Why words fit no command, if that can be told.
+/// Why arguments fit no command, if that can be told.
 pub fn wrong_words(words: &Words) -> Option<WrongWords<'_>> {
     if words.count() == 0 {
         return Some(WrongWords::None);
@@ -41,7 +41,7 @@ pub fn wrong_words(words: &Words) -> Option<WrongWords<'_>> {
     }
 }
 
-/// The first word that can't stand in its place, where their count is right.
+/// The first argument that can't stand at its position, where their count is right.
 fn wrong_place<'a>(usage: &'static Usage, words: &'a Words) -> Option<WrongWords<'a>> {
     let most = usage.words.split(' ').count();
     let wanted = most.saturating_sub(usage.optional());
@@ -66,7 +66,7 @@ fn wrong_place<'a>(usage: &'static Usage, words: &'a Words) -> Option<WrongWords
     None
 }
 
-/// Whether a word can stand in a place.
+/// Whether an argument can stand at a position.
 fn fits(place: &str, word: &str) -> bool {
     match place {
         "S" | "T" => natural(word.as_bytes()).is_some(),
@@ -83,7 +83,7 @@ fn fits(place: &str, word: &str) -> bool {
     }
 }
 
-/// What may stand in a place.
+/// What may stand at a position.
 fn rule(place: &str) -> &'static str {
     match place {
         "S" | "T" => "a node's id, a whole number from 0 to 4294967295",
@@ -100,7 +100,7 @@ fn rule(place: &str) -> &'static str {
 impl Display for WrongWords<'_> {
     fn fmt<W: fmt::Write>(&self, f: &mut Formatter<W>) -> fmt::Result {
         match self {
-            WrongWords::None => write!(f, "road_proof: words: There are none.\n{Commands}"),
+            WrongWords::None => write!(f, "road_proof: arguments: There are none.\n{Commands}"),
             WrongWords::NoCommand(name) => write!(
                 f,
                 "road_proof: {name}: There is no such command. `road_proof help` lists them."
@@ -118,7 +118,7 @@ impl Display for WrongWords<'_> {
                 };
                 write!(
                     f,
-                    "road_proof: {name}: It takes {wanted} words behind it{more}, and here are {found}.\n{usage}"
+                    "road_proof: {name}: It takes {wanted} arguments{more}, and here are {found}.\n{usage}"
                 )
             }
             WrongWords::Word { usage, place, word } => {

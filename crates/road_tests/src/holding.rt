@@ -151,7 +151,7 @@ pub(crate) fn refusal_with(
     installed_with(alloc, &NODES, &ROADS, settings, header).err()
 }
 
-/// The answer that octets of a test's size spell.
+/// The answer that octets of a test's size encode.
 pub(crate) fn read_answer(alloc: Global, octets: &[u8]) -> Result<Answer, Fail> {
     if octets.len() > 10_000 {
         return Err(Fail::from("many octets"));
@@ -162,7 +162,7 @@ pub(crate) fn read_answer(alloc: Global, octets: &[u8]) -> Result<Answer, Fail> 
     }
 }
 
-/// The answer without a route that octets of a test's size spell.
+/// The answer without a route that octets of a test's size encode.
 pub(crate) fn read_apart(alloc: Global, octets: &[u8]) -> Result<Answer, Fail> {
     if octets.len() > 10_000 {
         return Err(Fail::from("many octets"));

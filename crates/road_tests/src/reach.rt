@@ -1,4 +1,4 @@
-//! Replies on radii: octets that an independent program computed, the reference
+//! Replies to range queries: octets that an independent program computed, the reference
 //! (`checks/sources.py`).
 
 use crate::holding::{CELLS, CODES, FULL, installed};
@@ -20,7 +20,7 @@ fn reply(alloc: Global, held: &Held<Sha>, from: u32, radius: u64) -> Result<Vec<
     answer_near(alloc, held, NearQuery { from, radius })
 }
 
-// What the book of the five nodes answers on a radius.
+// What the book of the five nodes answers to a range query.
 fn first_reply(
     alloc: Global,
     settings: &Settings,

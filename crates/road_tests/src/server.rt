@@ -63,8 +63,8 @@ fn the_roots_of_five_nodes_by_other_trees(rt: HostRuntime) -> Result<(), Fail> {
     Ok(())
 }
 
-// Settings, and the reply from 1 to 3: the places of its nodes and of its pairs, and the digest of
-// its octets, as another program spells them.
+// Settings, and the reply from 1 to 3: the indices of its nodes and of its pairs, and the digest of
+// its octets, as another program encodes them.
 type Replied = (Settings, &'static [u32], &'static [u32], &'static str);
 
 static REPLIES: [Replied; 5] = [
@@ -101,7 +101,7 @@ static REPLIES: [Replied; 5] = [
     ),
 ];
 
-// Asserts the route from 1 to 3, and the places of the nodes and pairs that the answer brings.
+// Asserts the route from 1 to 3, and the indices of the nodes and pairs that the answer brings.
 fn assert_items(rt: &impl Abort, answer: &Answer, nodes: &[u32], pairs: &[u32]) {
     assert_same(rt, answer.items.route.as_slice(), [1, 2, 3].as_slice());
     assert_same(rt, answer.node_places.as_slice(), nodes);
@@ -158,7 +158,7 @@ fn an_octet_tells_that_an_end_is_unknown(rt: HostRuntime) -> Result<(), Fail> {
     Ok(())
 }
 
-// Settings, and two ends that no walk joins: the places of the nodes and of the pairs that the reply
+// Settings, and two ends that no walk joins: the indices of the nodes and of the pairs that the reply
 // brings, and how many digests the cover of the nodes has.
 type Apart = (Settings, u32, u32, &'static [u32], &'static [u32], usize);
 
@@ -313,7 +313,7 @@ fn what_is_held_is_lent(rt: HostRuntime) -> Result<(), Fail> {
     assert_lent(&rt, &held)
 }
 
-// The text of the leaf at a place, of nodes (1) or of pairs (2), if there is one.
+// The text of the leaf at an index, of nodes (1) or of pairs (2), if there is one.
 fn text_at(held: &Held<Sha>, which: u8, place: u32) -> Option<&[u8]> {
     match held.leaves(which) {
         Some(leaves) if place < leaves.count() => Some(leaves.text(place)),

@@ -15,7 +15,7 @@ use Rattle.road_leaf.specs.Leaves.{node_leaf, node_leaf_text, pair_leaf}
 use Rattle.road_leaf.proofs.LeafLaws.{leaf_same, node_leaf_exact, pair_leaf_exact}
 use Rattle.merkle_cover.specs.Covers.{chosen_texts}
 
--- values that a format spells alike are the same
+-- values that a format encodes alike are the same
 spells_one : {A : Type 0} (f : Format A) → IsExact f → (x y : A) → f.Fits x → f.Fits y → f.spell x ≡ f.spell y → x ≡ y
 spells_one {A} f exact x y fits other e = same (sym (whole_again f exact x fits) ∙ ap (whole f) e ∙ whole_again f exact y other)
   where

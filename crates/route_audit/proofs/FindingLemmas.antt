@@ -56,7 +56,7 @@ module _ {Q A X E : Type 0} (kind : ReplyKind Q A X E) (hash : List ℕ → List
   not_installed_finds sha p a (Desk e) answer is = absurd is
   not_installed_finds sha p a OtherPublication answer is = absurd is
 
-  -- ---- answers behind the look
+  -- ---- answers after the look
 
   module _ (a : A) (answer : IsAnswerTo kind hash public chain reply q a) (k : Kept) (kept : IsKept k) where
     abbrev installed_at : IsInstalled kind hash sha256 look (at public chain reply q (publication_in hash k))
@@ -107,7 +107,7 @@ module _ {Q A X E : Type 0} (kind : ReplyKind Q A X E) (laws : AreReplies kind) 
       (laws.spelled hash u.public u.chain u.reply u.query 0 it.taken it.answer it.accepts) (laws.spelled hash u.public u.chain u.reply u.query c.least c.taken c.answer c.accepts) in
       λ e. finds.other (ap (λ (a : A). kind.header a) same ∙ e)
 
--- no answer behind the look is one before it
+-- no answer after the look is one before it
 pub found_late : {Q A X E : Type 0} (kind : ReplyKind Q A X E) (hash sha : List ℕ → List ℕ) (look : Look) (key : List ℕ) (links : List Link) (k : Kept) (q : Q) (a : A) (r : Result Finding (AuditError E)) (P : Type 0)
     → FindsIn kind hash sha look key links k q a r → BeforeLook r P
 found_late kind hash sha look key links k q a (Ok Right) P found = tt

@@ -1,4 +1,4 @@
--- What is brought of a tree and folds to its root.
+-- What is brought of a tree and recomputes its root.
 use Rattle.std.proofs.Common.{◌≡◌, ℕ, ◌≤◌, Bool, true, false, cond, Option, None, Some, List, [], ◌∷◌, length, Result, Ok, Err, nat_eq, refl, sym, ap, subst, arith, ◌∙◌}
 use Rattle.std.specs.Prelude.{◌↔◌, IfOk, IfSome, IsNone}
 use Rattle.std.specs.Option.{option_map}
@@ -31,7 +31,7 @@ matched_ok tree top (Ok d) is = by_test (bytes_eq d top) refl is
     by_test true e h = ap (λ (x : List ℕ). Ok x) ((bytes_eq-Decides d top).0 e)
     by_test false e h = absurd cc
 
--- where there is no place, there is no cover
+-- where there is no index, there is no cover
 pub no_cover : (hash : List ℕ → List ℕ) (which : ℕ) (part : Part) → FoldsUnder hash which part → part.places ≡ [] → part.cover ≡ []
 no_cover hash which part folds none =
     by_cover part.cover (subst (λ (places : List ℕ). covered hash which (length part.leaves) part.fan places part.texts part.cover (root_or_zeros hash part.fan part.leaves) ≡ Ok tt) none folds)
@@ -56,7 +56,7 @@ own_of_none hash which part folds one_each none = record {
     no_text [] e = refl
     no_text (t ∷ texts) e = absurd (omega (arith, e))
 
--- where there is a place, there are leaves, and they fold to their root
+-- where there is an index, there are leaves, and they recompute their root
 pub record FoldsToRoot (hash : List ℕ → List ℕ) (part : Part) : Type 0 where
   pub some : 1 ≤ length part.leaves
   pub value : fold_of hash (length part.leaves) part.fan part.places part.texts part.cover ≡ Ok (root_or_zeros hash part.fan part.leaves)

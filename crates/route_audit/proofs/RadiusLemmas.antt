@@ -30,7 +30,7 @@ OneVerdict = (hash : List ℕ → List ℕ) (key : List ℕ) (links : List Link)
 abbrev pub AcceptsVerdict : Type 0
 AcceptsVerdict = (hash : List ℕ → List ℕ) (key : List ℕ) (links : List Link) (octets : List ℕ) (q : NearQuery) (least : ℕ) (x : Within) → NearAccepts hash key links octets q least x → IsNearVerdict hash key links octets q least (Ok x)
 
--- octets spell one reply
+-- octets encode one reply
 one_spelled : (a b : NearReply) (r : Result NearReply ℕ) → r ≡ Ok a → r ≡ Ok b → a ≡ b
 one_spelled a b r is other = cc
 
@@ -40,7 +40,7 @@ same_taken x y e = cc
 not_both_ends : (x : Within) (e : NearError) → ◌≡◌ {A = Result Within NearError} (Ok x) (Err e) → ⊥
 not_both_ends x e is = cc
 
--- acceptance with any least version is acceptance
+-- acceptance with any minimum version is acceptance
 abbrev any_least : (hash : List ℕ → List ℕ) (key : List ℕ) (links : List Link) (octets : List ℕ) (q : NearQuery) (least : ℕ) (x : Within) → NearAccepts hash key links octets q least x → NearAccepts hash key links octets q 0 x
 any_least hash key links octets q least x is = record {
   reply = is.reply;
@@ -56,7 +56,7 @@ any_least hash key links octets q least x is = record {
   header = is.header;
 }
 
--- what spells a reply and is accepted is accepted as that reply
+-- what encodes a reply and is accepted is accepted as that reply
 pub accepts_as : (hash : List ℕ → List ℕ) (key : List ℕ) (links : List Link) (octets : List ℕ) (q : NearQuery) (x : Within) (a : NearReply) → NearAccepts hash key links octets q 0 x → whole near_reply octets ≡ Ok a → NearAcceptsAs hash key links octets q 0 x a
 accepts_as hash key links octets q x a accepts is = record { accepts = accepts; is = one_spelled accepts.reply a (whole near_reply octets) accepts.spelled is }
 

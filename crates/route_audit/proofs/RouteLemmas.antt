@@ -37,7 +37,7 @@ OneVerdict = (hash : List ℕ → List ℕ) (key : List ℕ) (links : List Link)
 abbrev pub AcceptsVerdict : Type 0
 AcceptsVerdict = (hash : List ℕ → List ℕ) (key : List ℕ) (links : List Link) (octets : List ℕ) (q : Query) (least : ℕ) (x : Checked) → Accepts hash key links octets q least x → IsVerdict hash key links octets q least (Ok x)
 
--- octets spell one answer
+-- octets encode one answer
 one_read : (a b : answers.Answer) (r : Result Reply ℕ) → (r ≡ Ok (replies.Answer a)) ⊎ (r ≡ Ok (replies.Apart a)) → (r ≡ Ok (replies.Answer b)) ⊎ (r ≡ Ok (replies.Apart b)) → a ≡ b
 one_read a b r (inl is) (inl other) = cc
 one_read a b r (inl is) (inr other) = absurd cc
@@ -47,17 +47,17 @@ one_read a b r (inr is) (inr other) = cc
 one_spelled : (octets : List ℕ) (a b : answers.Answer) → SpellsAnswer octets a → SpellsAnswer octets b → a ≡ b
 one_spelled octets a b is other = one_read a b (whole formats.reply octets) is other
 
--- what is accepted is spelled
+-- what is accepted is encoded
 spelled_by : (octets : List ℕ) (x : Checked) (a : answers.Answer) → whole formats.reply octets ≡ Ok (reply_by x a) → SpellsAnswer octets a
 spelled_by octets (Route x) a is = inl is
 spelled_by octets (Apart version header) a is = inr is
 
--- the reply that a route makes spells its answer
+-- the reply that a route makes encodes its answer
 pub spells_with : (octets route : List ℕ) (a : answers.Answer) → whole formats.reply octets ≡ Ok (formats.reply_with route a) → SpellsAnswer octets a
 spells_with octets [] a is = inr is
 spells_with octets (id ∷ ids) a is = inl is
 
--- octets that spell an answer are the text of its reply
+-- octets that encode an answer are the text of its reply
 pub text_of : (octets : List ℕ) (a : answers.Answer) → IsBytes octets → SpellsAnswer octets a → octets ≡ formats.reply_text (formats.reply_of a)
 text_of octets a bytes (inl is) =
     let both = whole_found formats.reply reply_exact octets (replies.Answer a) bytes is in
@@ -82,7 +82,7 @@ same_taken x y e = cc
 not_both_ends : (x : Checked) (e : CheckError) → ◌≡◌ {A = Result Checked CheckError} (Ok x) (Err e) → ⊥
 not_both_ends x e is = cc
 
--- acceptance with any least version is acceptance
+-- acceptance with any minimum version is acceptance
 abbrev any_least : (hash : List ℕ → List ℕ) (key : List ℕ) (links : List Link) (octets : List ℕ) (q : Query) (least : ℕ) (x : Checked) → Accepts hash key links octets q least x → Accepts hash key links octets q 0 x
 any_least hash key links octets q least x is = record {
   answer = is.answer;
@@ -97,7 +97,7 @@ any_least hash key links octets q least x is = record {
   says = is.says;
 }
 
--- what spells an answer and is accepted is accepted as that answer
+-- what encodes an answer and is accepted is accepted as that answer
 pub accepts_as : (hash : List ℕ → List ℕ) (key : List ℕ) (links : List Link) (octets : List ℕ) (q : Query) (x : Checked) (a : answers.Answer) → Accepts hash key links octets q 0 x → SpellsAnswer octets a → AcceptsAs hash key links octets q 0 x a
 accepts_as hash key links octets q x a accepts is = record { accepts = accepts; is = one_spelled octets accepts.answer a (spelled_by octets x accepts.answer accepts.spelled) is }
 

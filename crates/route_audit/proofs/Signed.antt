@@ -1,4 +1,4 @@
--- What folds to a signed root folds to that of the held book whose header is signed.
+-- What recomputes a signed root recomputes that of the held book whose header is signed.
 use Rattle.std.proofs.Common.{◌≡◌, ℕ, List, length, Ok, sym, ap, ◌∙◌}
 use Rattle.std.proofs.lemmas.List.{length-map}
 use Rattle.road_leaf.specs.Leaves.{node_leaf_text, pair_leaf}

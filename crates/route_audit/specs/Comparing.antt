@@ -25,7 +25,7 @@ part_under k which places texts cover =
       cover = cover;
     }
 
--- it folds to the tree's root
+-- it recomputes the tree's root
 abbrev pub FoldsUnder : (List ℕ → List ℕ) → ℕ → Part → Type 0
 FoldsUnder hash which part =
     covered hash which (length part.leaves) part.fan part.places part.texts part.cover

@@ -1,6 +1,6 @@
 -- What an answer shows over a publication's own trees.
 -- Source: Merkle, A Digital Signature Based on a Conventional Encryption Function, CRYPTO 1987:
--- what folds to a tree's root and is not the tree's own shows two texts with one digest.
+-- what recomputes a tree's root and is not the tree's own shows two texts with one digest.
 use Rattle.std.specs.Prelude.{◌≡◌, ◌⊎◌, ℕ, List, length}
 use Rattle.octet_text.specs.Collisions.{AreCollision}
 use Rattle.book_model.specs.declared.items.Query.{Query}
@@ -17,7 +17,7 @@ use Rattle.route_server.specs.Headers.{node_texts, pair_texts, IsBook}
 
 -- ---- the parts of an answer
 
--- what is brought of a tree over these leaves: places, the texts of the leaves there, and the cover
+-- what is brought of a tree over these leaves: indices, the texts of the leaves there, and the cover
 -- of the others
 pub record Part : Type 0 where
   pub leaves : List (List ℕ)
@@ -48,7 +48,7 @@ pair_part p book a = record {
 
 -- ---- right answers
 
--- each text is that of the leaf at its place, and the cover is the tree's; where there is no place,
+-- each text is that of the leaf at its index, and the cover is the tree's; where there is no index,
 -- it is empty
 pub record IsTreesOwn (hash : List ℕ → List ℕ) (part : Part) : Type 0 where
   pub rising : IsRising (length part.leaves) part.places
@@ -78,8 +78,8 @@ two_texts left right = record { left = left; right = right }
 
 -- ---- collisions
 
--- what is brought is not the tree's own, and at one place the tree hashes the left text, and the
--- fold of what is brought the right one
+-- what is brought is not the tree's own, and at one position the tree hashes the left text, and the
+-- root recomputed of what is brought the right one
 pub record Clashes (hash : List ℕ → List ℕ) (part : Part) (two : TwoTexts) : Type 0 where
   pub not_own : ¬ IsTreesOwn hash part
   pub hashed : AreHashed hash part.leaves part.fan part.places part.texts part.cover two.left

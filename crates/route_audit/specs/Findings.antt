@@ -71,7 +71,7 @@ pub record IsOther {Q A X E : Type 0} (kind : ReplyKind Q A X E) (hash sha : Lis
   pub other : kind.header installed.reply.answer ≢ u.publication.header
 
 -- What an audit answers: the first of these that holds. Each asks that the earlier steps were
--- passed. Want of memory may come at any time behind the first step, so that a key that is none of
+-- passed. Out of memory may come at any time after the first step, so that a key that is none of
 -- the owner's has one answer.
 abbrev pub Finds : {Q A X E : Type 0} → ReplyKind Q A X E → (List ℕ → List ℕ) →
     (List ℕ → List ℕ) → Look → Audited Q → Result Finding (AuditError E) → Type 0
@@ -92,7 +92,7 @@ Finds kind hash sha look u (Err Memory) = look.Owns u.public
 
 -- ---- one always comes
 
--- octets that the client accepts under one of the owner's keys and a chain, with any least version,
+-- octets that the client accepts under one of the owner's keys and a chain, with any minimum version,
 -- and a publication that can be installed, of whatever header
 pub record IsAuditable {Q A X E : Type 0} (kind : ReplyKind Q A X E) (hash sha : List ℕ → List ℕ)
     (look : Look) (u : Audited Q) : Type 0 where

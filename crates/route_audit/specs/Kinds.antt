@@ -12,12 +12,12 @@ use Rattle.proof_octets.specs.Headers.{header_text}
 
 -- a kind of replies
 pub record ReplyKind (Query Answer Taken Refusal : Type 0) : Type 1 where
-  -- the octets spell the answer, which has a header and the signature of its octets
+  -- the octets encode the answer, which has a header and the signature of its octets
   pub Spells : List ℕ → Answer → Type 0
   pub header : Answer → Header
   pub signature : Answer → List ℕ
-  -- over a hash, a client with a key, links from it and a least version accepts octets as a reply
-  -- to a query, and takes this of the answer that they spell
+  -- over a hash, a client with a key, links from it and a minimum version accepts octets as a reply
+  -- to a query, and takes this of the answer that they encode
   pub Accepts : (List ℕ → List ℕ) → List ℕ → List Link → List ℕ → Query → ℕ → Taken → Answer →
       Type 0
   -- or it refuses them, whatever their version
@@ -46,14 +46,14 @@ pub record AreReplies {Query Answer Taken Refusal : Type 0}
       (q : Query) (least : ℕ) (x : Taken) (a : Answer)
       → kind.Accepts hash key links octets q least x a
       → verified_along key links (header_text (kind.header a)) (kind.signature a) ≡ Ok tt
-  -- it is spelled by its octets, and what is taken has its header
+  -- it is encoded by its octets, and what is taken has its header
   pub spelled : (hash : List ℕ → List ℕ) (key : List ℕ) (links : List Link) (octets : List ℕ)
       (q : Query) (least : ℕ) (x : Taken) (a : Answer)
       → kind.Accepts hash key links octets q least x a → kind.Spells octets a
   pub same_header : (hash : List ℕ → List ℕ) (key : List ℕ) (links : List Link) (octets : List ℕ)
       (q : Query) (least : ℕ) (x : Taken) (a : Answer)
       → kind.Accepts hash key links octets q least x a → kind.taken_header x ≡ kind.header a
-  -- it is accepted with a lower least version too, it is one, and it is not refused
+  -- it is accepted with a lower minimum version too, it is one, and it is not refused
   pub any_least : (hash : List ℕ → List ℕ) (key : List ℕ) (links : List Link) (octets : List ℕ)
       (q : Query) (least : ℕ) (x : Taken) (a : Answer)
       → kind.Accepts hash key links octets q least x a → kind.Accepts hash key links octets q 0 x a

@@ -1,5 +1,5 @@
 -- What a reply shows over a publication's own node tree.
--- Source: Merkle, CRYPTO 1987 (what folds to a tree's root and is not the tree's own shows two
+-- Source: Merkle, CRYPTO 1987 (what recomputes a tree's root and is not the tree's own shows two
 -- texts with one digest), and Papadias, Zhang, Mamoulis and Tao, VLDB 2003 (range search in a road
 -- network).
 use Rattle.std.specs.Prelude.{◌≡◌, ◌≢◌, ℕ, Some, List, Contains}

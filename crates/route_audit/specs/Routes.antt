@@ -15,7 +15,7 @@ use Rattle.route_client.specs.Verdicts.{Accepts, IsVerdict, header_in}
 use Rattle.route_audit.specs.Evidence.{Collides, IsRight}
 use Rattle.route_audit.specs.Kinds.{ReplyKind}
 
--- the octets spell the answer, with its route or without one
+-- the octets encode the answer, with its route or without one
 abbrev pub SpellsAnswer : List ℕ → answers.Answer → Type 0
 SpellsAnswer octets a = (whole formats.reply octets ≡ Ok (replies.Answer a)) ⊎
     (whole formats.reply octets ≡ Ok (replies.Apart a))

@@ -15,7 +15,7 @@ use Rattle.route_audit.specs.declared.errors.AuditError.TheVariants.{Refused, In
 use Rattle.route_audit.specs.declared.finding.Finding.{Finding}
 use Rattle.route_audit.specs.declared.finding.Finding.TheVariants.{Right, Collision, Forged}
 
--- the answer that octets spell is accepted, whatever its version
+-- the answer that octets encode is accepted, whatever its version
 abbrev pub IsAnswerTo : {Q A X E : Type 0} → ReplyKind Q A X E → (List ℕ → List ℕ) → List ℕ →
     List Link → List ℕ → Q → A → Type 0
 IsAnswerTo {Q} {A} {X} {E} kind hash key links octets q a =

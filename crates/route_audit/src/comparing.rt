@@ -17,7 +17,7 @@ use route_client::leaf_cuts;
 use route_server::Held;
 use std::alloc::Global;
 
-// What the tree and the fold hash, where they clash.
+// What the tree and the recomputed root hash, where they clash.
 fn clash_in<H: Hasher>(
     alloc: Global,
     held: &Held<H>,
@@ -49,7 +49,7 @@ fn clash_in<H: Hasher>(
 }
 
 /// Two texts with one digest, where what is brought of a tree of a book, 1 that of nodes or 2 that of pairs,
-/// folds to the tree's root and is not the tree's own.
+/// recomputes the tree's root and is not the tree's own.
 pub fn clash_under<H: Hasher>(
     alloc: Global,
     held: &Held<H>,

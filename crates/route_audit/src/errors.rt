@@ -5,7 +5,7 @@ use route_server::InstallError;
 use std::fmt::Display;
 use thiserror::Error;
 
-/// Why there is no finding, where a client refuses replies of this kind for an `E`. Want of memory is `Memory`
+/// Why there is no finding, where a client refuses replies of this kind for an `E`. Out of memory is `Memory`
 /// alone, never inside another.
 #[derive(Clone, Copy, Debug, PartialEq, Eq, Error)]
 #[error_bound(E: Display)]
@@ -25,7 +25,7 @@ pub enum AuditError<E> {
     /// The header that the reply carries is signed, but is not that of the publication.
     #[error("The reply is of another publication.")]
     OtherPublication,
-    /// No memory was found.
-    #[error("No memory was found.")]
+    /// Out of memory.
+    #[error("Out of memory.")]
     Memory,
 }

@@ -17,7 +17,7 @@ pub trait Replies {
     /// What is asked.
     type Query: Copy;
 
-    /// What octets spell.
+    /// What octets encode.
     type Answer: Drop;
 
     /// What a client takes of an answer.
@@ -29,7 +29,7 @@ pub trait Replies {
     // The kind.
     ghost kind: { ReplyKind Self.Query Self.Answer Self.Taken Self.Refusal };
 
-    /// The answer that octets spell, where the client accepts them as a reply to a query under a key and a
+    /// The answer that octets encode, where the client accepts them as a reply to a query under a key and a
     /// chain, whatever its version.
     fn accepted<H: Hasher>(
         alloc: Global,

@@ -102,7 +102,7 @@ pub checked_leaves : (hash : List ℕ → List ℕ) (key : List ℕ) (links : Li
     → UnlessMemory (IsVerdict hash key links octets query least) (taken (Ok c)) → IfSome c.length (λ _. HaveLeaves c.answer.items.nodes c.answer.items.route)
 checked_leaves hash key links octets query least c = by_way hash key links octets query least c.answer c.length
 
--- a verdict that accepts is no want of memory
+-- a verdict that accepts is not out of memory
 not_short : (P : Result Checked CheckError → Type 0) (a : answers.Answer) (o : Option ℕ) → UnlessMemory P (as_checked a (Ok o)) → P (as_checked a (Ok o))
 not_short P a None h = h
 not_short P a (Some d) h = h

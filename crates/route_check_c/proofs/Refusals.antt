@@ -19,7 +19,7 @@ use Rattle.route_check_c.specs.declared.verdict.Verdict.{Verdict}
 use Rattle.route_check_c.specs.Codes.{told, route_reason, reach_reason}
 use Rattle.route_check_c.specs.Telling.{NoMemory, TellsRefusal, Reasoned, Unreasoned, TellsRoute, TellsReach}
 
--- ---- a refusal for another reason than want of memory is a verdict
+-- ---- a refusal for another reason than out of memory is a verdict
 
 route_refused : (P : Result Checked CheckError → Type 0) (e : CheckError) → e ≢ errors.Memory → UnlessMemory P (Err e) → P (Err e)
 route_refused P errors.Memory not h = absurd (not refl)

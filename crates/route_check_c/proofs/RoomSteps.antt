@@ -3,7 +3,7 @@ use Rattle.std.proofs.Common.{◌≡◌, ℕ, ◌+◌, ◌<◌, List, [], ◌∷
 use Rattle.std.proofs.lemmas.List.{take_more, drop_more, length-take-le, append_assoc}
 use Rattle.std.proofs.Math.Seq.{set-append_seam}
 
--- the item at this place goes into the room
+-- the item at this index goes into the room
 pub put_next : {X : Type 0} (items old room : List X) (k : ℕ) (y : X) → k < length items → k < length old
     → room ≡ take k items ++ drop k old → y ≡ get_or items k y → set room k y ≡ take (k + 1) items ++ drop (k + 1) old
 put_next items old room k y lt lo is gives =

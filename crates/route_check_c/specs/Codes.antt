@@ -53,7 +53,7 @@ route_reason (errors.BadCover tree why) = told 8 tree (cover_number why)
 route_reason (errors.Judged why) = judged_reason why
 route_reason errors.Memory = told 16 0 0
 
--- the first test that the reply to a query for a radius fails
+-- the first test that the reply to a range query fails
 abbrev pub reach_reason : NearError → Reason
 reach_reason (near_errors.Malformed at) = told 4 at 0
 reach_reason (near_errors.Stale version) = told 5 version 0

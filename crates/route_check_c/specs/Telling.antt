@@ -26,7 +26,7 @@ use Rattle.route_check_c.specs.declared.verdict.Verdict.{Verdict}
 use Rattle.route_check_c.specs.Codes.{told, route_reason, reach_reason, accepted_numbers, apart_numbers, refused_numbers}
 use Rattle.route_check_c.specs.Placing.{HaveLeaves, HaveLeavesOf, route_nodes, reached_nodes}
 
--- a room that took as many of the items as it has places for, and is as it was behind them
+-- a room that took as many of the items as it has places for, and is as it was after them
 abbrev pub filled : {X : Type 0} → List X → List X → List X
 filled items room = take (length room) items ++ drop (length items) room
 
@@ -37,7 +37,7 @@ abbrev pub AreTooLong : List ℕ → List ℕ → Type 0
 AreTooLong chain reply = (2 ^ 32 ≤ length chain) ⊎ (2 ^ 32 ≤ length reply)
 
 -- The reply was not checked: memory was short, or the octets of the chain or of the reply are too
--- many, or the chain's spell none; the first field that can't be read begins at that place.
+-- many, or the chain's encode none; the first field that can't be read begins at that offset.
 pub data IsUnread (chain reply : List ℕ) (why : Reason) : Type 0 where
   NoMemory : why ≡ told 16 0 0 → IsUnread chain reply why
   TooLong : why ≡ told 17 0 0 → AreTooLong chain reply → IsUnread chain reply why
@@ -70,7 +70,7 @@ pub data TellsRefusal (IsShort : Type 0) (why : Reason) (text old_line new_line 
 abbrev pub IsSimple : List ℕ → Type 0
 IsSimple ids = AllPairs (λ x y. x ≢ y) ids
 
--- a route is wanted as far as no node may come twice, or it is refused for that, or memory is short
+-- a route is wanted as far as no node may come twice, or it is refused for that, or memory runs out
 abbrev pub Unwanted : ℕ → List ℕ → Result (Unit {0}) Reason → Type 0
 Unwanted simple ids (Ok _) = simple ≢ 0 → IsSimple ids
 Unwanted simple ids (Err why) = (why ≡ told 16 0 0) ⊎
@@ -101,7 +101,7 @@ abbrev pub TellsChecked : ℕ → CheckedAnswer → List RouteNode → List Rout
 TellsChecked simple checked old_room new_room v =
     TellsWay simple checked.answer checked.length old_room new_room v
 
--- The client accepts the reply under the chain, by the answer that its octets spell. Of that answer is
+-- The client accepts the reply under the chain, by the answer that its octets encode. Of that answer is
 -- what is told, and no line is written.
 pub record AcceptsRoute (IsVerdict : List Link → Result Checked CheckError → Type 0)
     (chain reply : List ℕ) (simple : ℕ) (old_room new_room : List RouteNode)
@@ -114,7 +114,7 @@ pub record AcceptsRoute (IsVerdict : List Link → Result Checked CheckError →
   pub told : TellsChecked simple checked old_room new_room v
   pub line : new_line ≡ old_line
 
--- The client refuses the reply under the chain, for another reason than want of memory, which is told
+-- The client refuses the reply under the chain, for another reason than out of memory, which is told
 -- as what is not checked; the line is in its room, and no node is written.
 pub record RefusesRoute (IsVerdict : List Link → Result Checked CheckError → Type 0)
     (chain : List ℕ) (old_room new_room : List RouteNode) (old_line new_line : List ℕ)
@@ -148,7 +148,7 @@ pub data TellsReached (checked : CheckedReply) (old_room new_room : List Reached
   ReachShort : v ≡ refused_numbers (told 16 0 0) 0 → new_room ≡ old_room →
       TellsReached checked old_room new_room v
 
--- The client accepts the nodes under the chain, by the reply that the octets spell. Of that reply is
+-- The client accepts the nodes under the chain, by the reply that the octets encode. Of that reply is
 -- what is told, and no line is written.
 pub record AcceptsReach (IsVerdict : List Link → Result Within NearError → Type 0)
     (chain reply : List ℕ) (old_room new_room : List ReachedNode) (old_line new_line : List ℕ)
@@ -161,7 +161,7 @@ pub record AcceptsReach (IsVerdict : List Link → Result Within NearError → T
   pub told : TellsReached checked old_room new_room v
   pub line : new_line ≡ old_line
 
--- The client refuses the reply under the chain, for another reason than want of memory; the line is in
+-- The client refuses the reply under the chain, for another reason than out of memory; the line is in
 -- its room, and no node is written.
 pub record RefusesReach (IsVerdict : List Link → Result Within NearError → Type 0)
     (chain : List ℕ) (old_room new_room : List ReachedNode) (old_line new_line : List ℕ)

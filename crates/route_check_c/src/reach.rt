@@ -1,4 +1,4 @@
-//! The check of a radius's reply.
+//! The check of a reply to a range query.
 ghost use Rattle.std.specs.Prelude.{◌≡◌};
 ghost use Rattle.sha2.specs.Sha256.{sha256};
 ghost use Rattle.route_client.specs.NearVerdicts.{IsNearVerdict};
@@ -35,7 +35,7 @@ fn tell(alloc: Global, checked: &CheckedReply, nodes: &mut [ReachedNode]) -> Ver
     }
 }
 
-/// The numbers of what is refused; its line goes into its room. Want of memory is told as what is not
+/// The numbers of what is refused; its line goes into its room. Out of memory is told as what is not
 /// checked, without a line.
 fn tell_refused(alloc: Global, error: NearError, line: &mut [u8]) -> Verdict
     ensures { TellsRefusal (error ≡ NearError.Memory) (reach_reason error) (refused_near_line error)
@@ -56,7 +56,7 @@ fn tell_refused(alloc: Global, error: NearError, line: &mut [u8]) -> Verdict
 /// Checks a reply to the query for the nodes within a radius under the owner's public key, and answers
 /// the verdict's code; `chain` and `least` are as in `gog_proved_route`.
 ///
-/// The accepted nodes go into `nodes`, by rising id, as many as there is room for, each as its leaf in
+/// The accepted nodes go into `nodes`, by ascending id, as many as there is room for, each as its leaf in
 /// the reply places it; of a refused reply the line goes into `line`. The other room stays as it was.
 #[unsafe(no_mangle)]
 pub extern "C" fn gog_proved_reach(

@@ -76,7 +76,7 @@ pub(crate) fn reason_of_route(why: CheckError) -> Reason
     }
 }
 
-/// The refusal of a radius's reply.
+/// The refusal of a reply to a range query.
 pub(crate) fn reason_of_reach(why: NearError) -> Reason
     ensures { result ≡ reach_reason why }
 {

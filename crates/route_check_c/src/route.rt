@@ -72,7 +72,7 @@ fn tell(alloc: Global, checked: &CheckedAnswer, simple: u32, nodes: &mut [RouteN
     }
 }
 
-/// The numbers of what is refused; its line goes into its room. Want of memory is told as what is not
+/// The numbers of what is refused; its line goes into its room. Out of memory is told as what is not
 /// checked, without a line.
 fn tell_refused(alloc: Global, error: CheckError, line: &mut [u8]) -> Verdict
     ensures { TellsRefusal (error ≡ CheckError.Memory) (route_reason error) (refused_line error)
@@ -92,7 +92,7 @@ fn tell_refused(alloc: Global, error: CheckError, line: &mut [u8]) -> Verdict
 
 /// Checks a reply to the query for a shortest route under the owner's public key, and answers the
 /// verdict's code. `chain` has the octets of a chain file that leads from the key to the owner's later
-/// ones, none for no link. `least` is the least version that is taken. Where `simple` is not 0, a route
+/// ones, none for no link. `least` is the minimum version that is taken. Where `simple` is not 0, a route
 /// that passes a node twice is refused.
 ///
 /// An accepted route's nodes go into `nodes`, as many as there is room for, each as its leaf in the reply

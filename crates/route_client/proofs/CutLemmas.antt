@@ -1,4 +1,4 @@
--- Where the texts of an answer's leaves stand in the octets that spell it.
+-- Where the texts of an answer's leaves stand in the octets that encode it.
 use Rattle.std.proofs.Common.{◌≡◌, ℕ, suc, ◌+◌, ◌-◌, ◌*◌, ◌^◌, ◌<◌, ◌≤◌, List, [], ◌∷◌, ◌++◌, length, map, take, drop, get_or, refl, sym, ap, subst, ◌∙◌, arith}
 use Rattle.std.specs.List.{AllByRecursion, flat_map}
 use Rattle.std.specs.Int.{w8, w16, w32, to_be_bytes}
@@ -26,7 +26,7 @@ use Rattle.route_client.specs.Cutting.{cuts_at, end_at, route_octets, nodes_at}
 
 -- ---- one text
 
--- a text that stands at a place behind a front of n octets
+-- a text that stands at an offset after a prefix of n octets
 record Stands (octets : List ℕ) (at n : ℕ) (text tail : List ℕ) : Type 0 where
   pub is : take (at + n + length text - (at + n)) (drop (at + n) octets) ≡ text
   pub rest : drop (at + n + length text) octets ≡ tail
@@ -45,13 +45,13 @@ stands octets at n front text tail size some is =
       within = omega (arith, long, some);
     }
 
--- ---- texts one behind the other
+-- ---- texts one after the other
 
 pub end_least : (n at : ℕ) (texts : List (List ℕ)) → at ≤ end_at n at texts
 end_least n at [] = omega arith
 end_least n at (text ∷ texts) = omega (arith, end_least n (at + n + length text) texts)
 
--- cuts of texts that stand there, behind which the octets end or go on with the rest
+-- cuts of texts that stand there, after which the octets end or go on with the rest
 pub record AreCut (octets : List ℕ) (n at : ℕ) (texts : List (List ℕ)) (rest : List ℕ) : Type 0 where
   pub stand : map (cut_from octets) (cuts_at n at texts) ≡ texts
   pub within : AllByRecursion (IsIn octets) (cuts_at n at texts)
@@ -182,12 +182,12 @@ behind_long k h g r c y z =
       length-append c y,
     )
 
--- octets from a place on, which they reach
+-- octets from an offset on, which they reach
 pub record From (octets : List ℕ) (at : ℕ) (rest : List ℕ) : Type 0 where
   pub is : drop at octets ≡ rest
   pub within : at ≤ length octets
 
--- what stands behind five pieces, of which the last says how many items there are
+-- what stands after five pieces, of which the last says how many items there are
 pub items_stand : (octets k h g r c y z : List ℕ) (at : ℕ) → octets ≡ k ++ (h ++ (g ++ (r ++ ((c ++ y) ++ z)))) → at ≡ length k + (length h + (length g + (length r + length c))) → From octets at (y ++ z)
 items_stand octets k h g r c y z at same first = record {
   is = ap (drop at) same ∙ ap (λ (n : ℕ). drop n (k ++ (h ++ (g ++ (r ++ ((c ++ y) ++ z)))))) first ∙ behind_five k h g r c y z;
@@ -275,7 +275,7 @@ pub pairs_shown : (a : answers.Answer) (octets : List ℕ) (cuts : List Cut) →
 pairs_shown a octets cuts good spelled is =
     shown octets 4 (pairs_at a) (map pair_leaf.spell a.items.pairs) (covers_text a) cuts (omega (arith, length-map a.items.pairs pair_leaf.spell, good.pairs.one_each, good.pairs.few)) (leaves_cut a octets good spelled).pairs is
 
--- where the items end, behind which the octets go on
+-- where the items end, after which the octets go on
 pub record ItemsEnd (a : answers.Answer) (octets : List ℕ) : Type 0 where
   pub nodes : end_at 6 (nodes_at a) (map node_leaf_text a.items.nodes) ≤ length octets
   pub between : pairs_at a ≤ length octets

@@ -25,7 +25,7 @@ folded : (tree : ℕ) (root : List ℕ) (r : Result (List ℕ) FoldError) → ma
 folded tree root (Ok digest) e = (digest, refl)
 folded tree root (Err why) e = absurd cc
 
--- a tree without items isn't folded, and any other is
+-- a tree without items isn't recomputed, and any other is
 folds : (none zero : Bool) (first m : Result (Unit {0}) CheckError) (e : CheckError) → cond none first (cond zero (Err e) m) ≡ Ok tt → (none ≡ true) ⊎ (m ≡ Ok tt)
 folds true zero first m e h = inl refl
 folds false true first m e h = absurd cc

@@ -27,12 +27,12 @@ use Rattle.route_client.specs.NearVerdicts.{spelled, items_covered, header_and_c
 
 -- ---- at most one verdict
 
--- what comes behind the ids that lack an item
+-- what comes after the ids that lack an item
 Then : List NodeLeaf → NearQuery → Option ℕ → Result (List Mark) NearError → Type 0
 Then nodes q (Some id) r = r ≡ Err (errors.MissingTuple id)
 Then nodes q None r = (marks : List Mark) × ListsMarks (IsReached nodes q) marks × (r ≡ Ok marks)
 
--- what comes behind the ids that stand twice
+-- what comes after the ids that stand twice
 After : List NodeLeaf → NearQuery → Option ℕ → Result (List Mark) NearError → Type 0
 unfolding Then
 After nodes q (Some id) r = r ≡ Err (errors.RepeatedNode id)
@@ -155,7 +155,7 @@ accepts_of hash key links octets q least x is =
       header = all.header;
     }
 
--- the reply that passes the tests before its items are walked is the one that the octets spell
+-- the reply that passes the tests before its items are walked is the one that the octets encode
 pub spelled_of : (hash : List ℕ → List ℕ) (key : List ℕ) (links : List Link) (octets : List ℕ) (least : ℕ) (a : NearReply) → near_passed hash key links octets least ≡ Ok a → whole near_reply octets ≡ Ok a
 unfolding near_passed
 spelled_of hash key links octets least a is = (passes_of hash key links least (whole near_reply octets) a is).spelled
@@ -236,7 +236,7 @@ failed a t (tests.Malformed at) is = tt
 failed a t (tests.Judged why) is = tt
 failed a t tests.Memory is = tt
 
--- octets that spell no reply are refused
+-- octets that encode no reply are refused
 pub unread : (hash : List ℕ → List ℕ) (key : List ℕ) (links : List Link) (octets : List ℕ) (least : ℕ) (e : NearError) → Meets {A = NearReply} (Err e) (spelled (whole near_reply octets)) → Meets {A = NearReply} (Err e) (near_passed hash key links octets least)
 unfolding near_passed
 unread hash key links octets least errors.Memory is = tt

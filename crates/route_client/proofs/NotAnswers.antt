@@ -17,7 +17,7 @@ begun (Ok replies.NoRoute) kind none e = none replies.NoRoute tt refl
 begun (Ok (replies.Apart a)) kind none e = cc
 begun (Err at) kind none e = cc
 
--- octets that spell no reply without an answer are not told to be one
+-- octets that encode no reply without an answer are not told to be one
 pub answer_begun : (octets : List ℕ) (kind : ℕ) → ((r : Reply) → BringsNone r → whole formats.reply octets ≡ Ok r → ⊥) → ¬ IsNotAnswer octets kind
 answer_begun octets kind none e = begun (whole formats.reply octets) kind none e
 
@@ -32,6 +32,6 @@ refused_at_once octets kind (errors.BadSignature why) is memory not = cc
 refused_at_once octets kind (errors.BadCover tree why) is memory not = cc
 refused_at_once octets kind (errors.Judged why) is memory not = cc
 
--- octets that spell an answer are not such octets
+-- octets that encode an answer are not such octets
 pub answer_read : {A : Type 0} (octets : List ℕ) (kind : ℕ) (a : answers.Answer) (r : Result A CheckError) → answered (whole formats.reply octets) ≡ Ok (formats.reply_of a) → IsNotAnswer octets kind → r ≡ Err (errors.NotAnswer kind)
 answer_read octets kind a r read not = absurd cc

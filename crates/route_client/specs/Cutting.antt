@@ -1,10 +1,10 @@
--- Where texts stand that stand one behind the other in octets, each behind a front of so many
+-- Where texts stand that stand one after the other in octets, each after a prefix of so many
 -- octets.
 use Rattle.std.specs.Prelude.{ℕ, ◌+◌, ◌*◌, List, [], ◌∷◌, length}
 use Rattle.merkle_cover.specs.declared.cuts.Cut.{Cut}
 use Rattle.proof_octets.specs.declared.reply.Answer as answers
 
--- from a place on
+-- from an offset on
 abbrev pub cuts_at : ℕ → ℕ → List (List ℕ) → List Cut
 cuts_at front at [] = []
 cuts_at front at (text ∷ texts) =

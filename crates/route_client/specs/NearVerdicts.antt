@@ -29,12 +29,12 @@ use Rattle.route_client.specs.declared.within.Within.{Within}
 
 -- ---- the tests before the items are walked
 
--- the octets spell a reply
+-- the octets encode a reply
 abbrev pub spelled : Result NearReply ℕ → Result NearReply NearError
 spelled (Ok a) = Ok a
 spelled (Err at) = Err (errors.Malformed at)
 
--- the items and the cover fold to the root of the node tree, which is tree 1
+-- the items and the cover recompute the root of the node tree, which is tree 1
 abbrev pub items_covered : (List ℕ → List ℕ) → NearReply → Result (Unit {0}) CheckError
 items_covered hash a = covered hash 1 a.header.nodes a.header.fan a.places
     (map node_leaf_text a.nodes) a.cover a.header.node_root
@@ -114,14 +114,14 @@ WalkedAfter (Err e) q v = v ≡ Err e
 WalkedAfter (Ok a) q v = (r : Result (List Mark) NearError) × Walked a.nodes q r ×
     (v ≡ as_within a r)
 
--- the verdict on octets, for a query and a least version, under a public key and a chain of links
+-- the verdict on octets, for a query and a minimum version, under a public key and a chain of links
 -- from it
 unfoldable pub IsNearVerdict : (List ℕ → List ℕ) → List ℕ → List Link → List ℕ → NearQuery → ℕ →
     Result Within NearError → Type 0
 IsNearVerdict hash key links octets q least v =
     WalkedAfter (near_passed hash key links octets least) q v
 
--- the octets spell a reply that passes each test, and this is what it says
+-- the octets encode a reply that passes each test, and this is what it says
 pub record NearAccepts (hash : List ℕ → List ℕ) (key : List ℕ) (links : List Link)
     (octets : List ℕ) (q : NearQuery) (least : ℕ) (x : Within) : Type 0 where
   pub reply : NearReply
@@ -138,7 +138,7 @@ pub record NearAccepts (hash : List ℕ → List ℕ) (key : List ℕ) (links : 
 
 -- ---- what a function answers
 
--- Want of memory may come at any time.
+-- Out of memory may come at any time.
 abbrev pub UnlessMemory : {A : Type 0} → (Result A NearError → Type 0) → Result A NearError → Type 0
 UnlessMemory P (Err errors.Memory) = Unit {0}
 UnlessMemory P r = P r

@@ -16,7 +16,7 @@ IsLimitAbove radius limit = (limit ≡ radius + 1) ⊎ ((radius + 1 ≡ 2 ^ 64) 
 abbrev pub AreLeast : Ways → ℕ → ℕ → Found → Type 0
 AreLeast w from limit found = (v : ℕ) → IsLeastPassing w from limit v (length_at found v)
 
--- exactly the ids that have a length of at most this one, by rising id
+-- exactly the ids that have a length of at most this one, by ascending id
 pub record RiseWithin (found : Found) (most : ℕ) (ids : List ℕ) : Type 0 where
   pub rising : IsStrictlySortedBy nat_cmp ids
   pub same : (id : ℕ) → Contains ids id ↔ IsTrue (is_within most (length_at found id))

@@ -1,4 +1,4 @@
-//! Where the texts of an answer's leaves stand in the octets that spell it.
+//! Where the texts of an answer's leaves stand in the octets that encode it.
 
 ghost use Rattle.std.specs.Prelude.{◌≡◌, ◌+◌, ◌<◌, ◌^◌, [], ◌∷◌, ◌++◌, length, map, IfOk, OnOk};
 ghost use Rattle.road_leaf.specs.Leaves.{node_leaf_text, pair_leaf};
@@ -13,7 +13,7 @@ use proof_octets::{Answer, text_length};
 use road_leaf::{NodeLeaf, PairLeaf};
 use std::alloc::Global;
 
-/// Where the texts of an answer's leaves stand in the octets that spell it.
+/// Where the texts of an answer's leaves stand in the octets that encode it.
 #[derive(Drop)]
 pub struct LeafCuts {
     pub nodes: Vec<Cut>,
@@ -32,8 +32,8 @@ fn push_cut(cuts: &mut Vec<Cut>, start: u32, length: u32) -> Result<u32, NoMemor
     Ok(end)
 }
 
-/// Adds the cuts of node items that stand one behind the other from a place on, each text behind its
-/// place in the tree and its length, and answers where they end.
+/// Adds the cuts of node items that stand one after the other from an offset on, each text after its
+/// index in the tree and its length, and answers where they end.
 pub fn push_nodes(cuts: &mut Vec<Cut>, at: u32, leaves: &[NodeLeaf]) -> Result<u32, NoMemory>
     requires { end_at 6 at (map node_leaf_text leaves.now) < 2 ^ 32 }
     ensures cuts { OnOk result (cuts.new.items ≡ cuts.old.items ++ cuts_at 6 at
@@ -47,7 +47,7 @@ pub fn push_nodes(cuts: &mut Vec<Cut>, at: u32, leaves: &[NodeLeaf]) -> Result<u
     Ok(next)
 }
 
-// The same of pair items, each text behind its place in the tree.
+// The same of pair items, each text after its index in the tree.
 fn push_pairs(cuts: &mut Vec<Cut>, at: u32, leaves: &[PairLeaf]) -> Result<u32, NoMemory>
     requires { end_at 4 at (map pair_leaf.spell leaves.now) < 2 ^ 32 }
     ensures cuts { OnOk result (cuts.new.items ≡ cuts.old.items ++ cuts_at 4 at
@@ -61,7 +61,7 @@ fn push_pairs(cuts: &mut Vec<Cut>, at: u32, leaves: &[PairLeaf]) -> Result<u32, 
     Ok(next)
 }
 
-// Where the first node item stands: behind the kind of the reply, the header, the signature, the route
+// Where the first node item stands: after the kind of the reply, the header, the signature, the route
 // where there is one, and how many items there are.
 fn nodes_at(answer: &Answer) -> u32
     requires { IsGood answer.now }
@@ -75,7 +75,7 @@ fn nodes_at(answer: &Answer) -> u32
     115 + signature + 4 * route.len() as u32
 }
 
-/// Where the texts of an answer's leaves stand in the octets that spell it.
+/// Where the texts of an answer's leaves stand in the octets that encode it.
 pub fn leaf_cuts(alloc: Global, octets: &[u8], answer: &Answer) -> Result<LeafCuts, NoMemory>
     requires good { IsGood answer.now }
     requires spelled { octets.now ≡ reply_text (reply_of answer.now) }

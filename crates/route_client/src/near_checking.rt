@@ -27,8 +27,8 @@ fn accept(alloc: Global, reply: NearReply, query: NearQuery) -> Result<CheckedRe
 }
 
 /// Checks a reply to a query for what lies within a radius under the owner's public key, where `least`
-/// is the least version that the client takes, and hands out the whole reply. `chain` leads from that key
-/// to the owner's later ones, by at most seven links. The tests are made in this order: the octets spell a
+/// is the minimum version that the client takes, and hands out the whole reply. `chain` leads from that key
+/// to the owner's later ones, by at most seven links. The tests are made in this order: the octets encode a
 /// reply, it is of that version or a later one, each link is signed under the key before it, the header is
 /// signed under one of the keys, the items stand under the node root, no two carry one id, and each walk
 /// over them that is no longer than the radius ends at an item. The first that fails is answered.

@@ -12,7 +12,7 @@ use thiserror::Error;
 /// The first test that a reply does not pass.
 #[derive(Clone, Copy, Debug, PartialEq, Eq, Error)]
 pub enum NearError {
-    /// The octets spell no reply; the first field that can't be read begins at this place.
+    /// The octets encode no reply; the first field that can't be read begins at this offset.
     #[error("The field at place {0} can't be read.")]
     Malformed(u32),
     /// The reply is of this version, which is older than the one asked for.
@@ -35,8 +35,8 @@ pub enum NearError {
     /// A walk that is no longer than the radius comes to this id, which has no item, the least such.
     #[error("The item of node {0} is missing.")]
     MissingTuple(u32),
-    /// No memory was found.
-    #[error("No memory was found.")]
+    /// Out of memory.
+    #[error("Out of memory.")]
     Memory,
 }
 

@@ -16,7 +16,7 @@ use octet_text::{Hasher, ReadError};
 use proof_octets::NearReply;
 use std::alloc::Global;
 
-// The reply that octets spell.
+// The reply that octets encode.
 fn read_reply(alloc: Global, octets: &[u8]) -> Result<NearReply, NearError>
     requires { length octets.now < 2 ^ 32 }
     ensures is { Meets result (spelled (whole near_reply octets.now)) }
@@ -31,7 +31,7 @@ fn read_reply(alloc: Global, octets: &[u8]) -> Result<NearReply, NearError>
     }
 }
 
-// Whether the items, as they stand in the octets, fold to the node root.
+// Whether the items, as they stand in the octets, recompute the node root.
 fn test_items<H: Hasher>(alloc: Global, octets: &[u8], reply: &NearReply) -> Result<(), CheckError>
     requires good { IsGoodNear reply.now }
     requires spelled { octets.now ≡ near_reply.spell reply.now }

@@ -25,7 +25,7 @@ fn limit_above(radius: u64) -> u64
     radius.saturating_add(1)
 }
 
-// The ids that have a length of at most this one, by rising id.
+// The ids that have a length of at most this one, by ascending id.
 fn ids_within(alloc: Global, labels: &Labels, most: u64) -> Result<Vec<u32>, NoMemory>
     ensures { IfOk result (λ ids. RiseWithin labels.now most ids.items) }
 {
@@ -49,7 +49,7 @@ fn marks_of(alloc: Global, labels: &Labels, ids: &[u32]) -> Result<Marks, NoMemo
     Ok(Marks::from_vec(marks))
 }
 
-// The ids that have a length of at most this one, by rising id, each with its length.
+// The ids that have a length of at most this one, by ascending id, each with its length.
 fn marks_within(alloc: Global, labels: &Labels, most: u64) -> Result<Marks, NoMemory>
     ensures { IfOk result (ListsMarks (IsLabelled labels.now most)) }
 {

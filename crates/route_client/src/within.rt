@@ -8,7 +8,7 @@ use proof_octets::{Header, Marks, NearReply};
 /// What a client takes from an accepted reply.
 #[derive(Debug, Drop)]
 pub struct Within {
-    /// The nodes within the radius, by rising id, each with its distance.
+    /// The nodes within the radius, by ascending id, each with its distance.
     pub nodes: Marks,
     /// The version of the publication that they are of.
     pub version: u64,
@@ -20,7 +20,7 @@ pub struct Within {
 #[derive(Debug, Drop)]
 pub struct CheckedReply {
     pub reply: NearReply,
-    /// The nodes that it shows to lie within the radius, by rising id, each with its distance.
+    /// The nodes that it shows to lie within the radius, by ascending id, each with its distance.
     pub nodes: Marks,
 }
 

@@ -80,6 +80,6 @@ module _ (makings : Makings) (hash : List ℕ → List ℕ) (parts : Parts) (s :
   book_refused b none (Desk DiskFault) is = absurd is
   book_refused b none Memory is = absurd is
 
--- want of memory answers any
+-- out of memory answers any
 pub memory_answers : {X : Type 0} (hash : List ℕ → List ℕ) (parts : Parts) (s : Settings) (desk : View) → AnswersRefusal {X = X} hash parts s desk (Err Memory)
 memory_answers hash parts s desk e is = inr refl

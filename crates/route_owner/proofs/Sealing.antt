@@ -43,7 +43,7 @@ signable hash parts left s h same has good widths version nodes roads = record {
   roads = roads;
 }
 
--- a signed header makes a publication that has a spelling
+-- a signed header makes a publication that has an encoding
 pub good_publication : (hash : List ℕ → List ℕ) (parts left : Parts) (s : Settings) (header : Header) (signature : List ℕ) → IsSignable hash parts s header left → length signature ≤ 1452
     → IsGoodPublication (publication_with header left s signature)
 unfolding header_of
@@ -72,7 +72,7 @@ pub fits_with : Ranges → (hash : List ℕ → List ℕ) (parts left : Parts) (
     → publication.Fits (publication_with header left s signature)
 fits_with ranges hash parts left s header signature is short = (ranges (publication_with header left s signature)).1 (good_publication hash parts left s header signature is short)
 
--- what a vector holds behind a write to all of it
+-- what a vector holds after a write to all of it
 pub all_written : (n : ℕ) (out items : List ℕ) → n ≡ length items → length out ≡ length items → take n (out ++ drop (length out) items) ≡ out
 all_written n out items whole same =
     let none : drop (length out) items ≡ [] = ap (λ k. drop k items) same ∙ drop-length items in

@@ -17,7 +17,7 @@ use Rattle.route_owner.specs.declared.errors.PublishError.{PublishError}
 use Rattle.route_owner.specs.declared.errors.PublishError.TheVariants.{Build, Desk, Memory}
 use Rattle.route_owner.specs.Published.{slot_of, IsPublication, IsSealed, OnSigning, OnNoSigning, SignsInSlot, SignsHeader, IsUsedUp, IsClosed, Refuses, AnswersRefusal, CanPublish}
 
--- ---- which answers come behind a signing
+-- ---- which answers come after a signing
 
 module _ (P : Type 0) where
   at_success : (p : Publication) → OnSigning (Ok p) P → P

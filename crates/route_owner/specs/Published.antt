@@ -127,7 +127,7 @@ pub record IsClosed (hash : List ℕ → List ℕ) (parts : Parts) (s : Settings
   pub has : HasHeader hash sha256 parts s header
   pub closed : desk.is_open ≡ false
 
--- why a publication is refused, but for want of memory and a fault of the disk
+-- why a publication is refused, unless memory runs out or the disk fails
 abbrev pub Refuses : (List ℕ → List ℕ) → Parts → Settings → View → PublishError → Type 0
 Refuses hash parts s desk (Build e) = IsNoBook hash parts s e
 Refuses hash parts s desk (Desk desk_errors.KeysUsedUp) = IsUsedUp hash parts s desk

@@ -4,7 +4,7 @@ use key_desk::DeskError;
 use route_server::BuildError;
 use thiserror::Error;
 
-/// Why nothing was published. Want of memory is `Memory` alone, never inside another.
+/// Why nothing was published. Out of memory is `Memory` alone, never inside another.
 #[derive(Clone, Copy, Debug, PartialEq, Eq, Error)]
 pub enum PublishError {
     /// The parts and the settings have no book, for this reason.
@@ -14,7 +14,7 @@ pub enum PublishError {
     /// signature was never made.
     #[error("{0}")]
     Desk(DeskError),
-    /// No memory was found. Nothing was signed.
-    #[error("No memory was found.")]
+    /// Out of memory. Nothing was signed.
+    #[error("Out of memory.")]
     Memory,
 }

@@ -1,4 +1,4 @@
--- Leaves at places of a book that is held.
+-- Leaves at indices of a book that is held.
 use Rattle.std.proofs.Common.{◌≡◌, ℕ, List, length, ap, sym, subst, ◌∙◌}
 use Rattle.std.specs.List.Sorted.{IsPermutation}
 use Rattle.book_model.specs.Books.{leaves_of}

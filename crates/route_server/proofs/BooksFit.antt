@@ -1,4 +1,4 @@
--- Each book that its method allows has a spelling.
+-- Each book that its method allows has an encoding.
 use Rattle.book_model.specs.Books.{Kind, Dij, Full, Ldm, Hyp}
 use Rattle.route_server.proofs.MethodFits.{BooksFit}
 use Rattle.route_server.proofs.DijFits.{dij_fits}

@@ -15,7 +15,7 @@ use Rattle.route_server.proofs.BooksFit.{books_fit}
 use Rattle.route_server.proofs.Brought.{most_pairs_few}
 use Rattle.route_server.proofs.Known.{length-leaves_of}
 
--- a book that was planned has a spelling
+-- a book that was planned has an encoding
 pub planned_fits : (kind : Kind) (parts : Parts) (s : Settings) (order : List ℕ) (b : Book) → IsMap parts → IsOrderOf parts order → kind_of s.method ≡ Some kind → own_fault (kind_of s.method) parts s ≡ None → IsBookOf kind parts s order b → FitsFormats kind b
 planned_fits kind parts s order b is_map lists method allowed book = books_fit kind parts s order b is_map lists (subst (λ (o : Option Kind). own_fault o parts s ≡ None) method allowed) book
 

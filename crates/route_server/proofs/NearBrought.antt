@@ -66,7 +66,7 @@ over hash k q ids b header signature br distinct same header_is signature_is = r
   };
 }
 
--- ---- it has a spelling
+-- ---- it has an encoding
 
 kind_is : (hash : List ℕ → List ℕ) (k : Kept) (kept : IsKept k) → leaf_kind (header_in hash k) ≡ kind_of_leaves kept.kind kept.book.numbers
 unfolding header_of

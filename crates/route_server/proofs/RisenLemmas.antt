@@ -1,4 +1,4 @@
--- Leaves that are spelled one at a time.
+-- Leaves that are encoded one at a time.
 use Rattle.std.proofs.Common.{◌≡◌, ℕ, zero, suc, ◌<◌, ◌≤◌, ◌^◌, Some, None, List, [], ◌∷◌, length, get_or, refl, arith, ◌∙◌, sym, subst}
 use Rattle.std.specs.List.{Contains}
 use Rattle.std.proofs.lemmas.List.{get_or-map, length-map}
@@ -39,7 +39,7 @@ length-leaves b order lists = length-leaves_of b order (λ id h. (lists.same id)
 pub length-node_texts : (b : Book) (order : List ℕ) → IsOrderOf b.parts order → length (node_texts (leaves_of b order)) ≡ length order
 length-node_texts b order lists = length-map (leaves_of b order) node_leaf_text ∙ length-leaves b order lists
 
--- the text at a place is that of the leaf of the id there
+-- the text at an index is that of the leaf of the id there
 pub text_at : (b : Book) (order : List ℕ) → ((x : ℕ) → Contains order x → Knows b.parts x) → (i : ℕ) (l : NodeLeaf) → i < length order → leaf b (get_or order i 0) ≡ Some l → get_or (node_texts (leaves_of b order)) i [] ≡ node_leaf_text l
 text_at b [] known i l within e = absurd (omega (arith, within))
 text_at b (id ∷ order) known zero l within e = rw e refl
@@ -48,7 +48,7 @@ text_at b (id ∷ order) known (suc i) l within e =
     let rest = text_at b order (λ x h. known x (Contains-there id x order h)) i l (omega (arith, within)) e in
     rw first.1 rest
 
--- the text at a place is that of the pair there
+-- the text at an index is that of the pair there
 pub pair_at : (pairs : List PairLeaf) (i : ℕ) (d : PairLeaf) (text : List ℕ) → i < length pairs → text ≡ pair_leaf.spell (get_or pairs i d) → get_or (pair_texts pairs) i [] ≡ text
 pair_at pairs i d text within e = get_or-map pair_leaf.spell pairs i d [] within ∙ sym e
 
@@ -65,7 +65,7 @@ header_so hash s nodes pairs numbers given count node_root pair_count pair_root 
 pub over_order : (kind : Kind) (parts : Parts) (s : Settings) (ids order : List ℕ) (b : Book) → ids ≡ order → IsBookOf kind parts s ids b → IsBookOf kind parts s order b
 over_order kind parts s ids order b same is = subst (λ (o : List ℕ). IsBookOf kind parts s o b) same is
 
--- has a spelling
+-- has an encoding
 pub order_fits : (kind : Kind) (parts : Parts) (s : Settings) (ids order : List ℕ) (b : Book) → ids ≡ order → IsMap parts → IsOrderOf parts order → kind_of s.method ≡ Some kind → own_fault (kind_of s.method) parts s ≡ None
     → IsBookOf kind parts s ids b → FitsFormats kind b
 order_fits kind parts s ids order b same is_map lists method allowed is = planned_fits kind parts s order b is_map lists method allowed (over_order kind parts s ids order b same is)

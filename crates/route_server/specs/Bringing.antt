@@ -16,7 +16,7 @@ use Rattle.route_server.specs.Honesty.{ids_at}
 use Rattle.route_server.specs.Keeping.{Kept, IsKept, cover_in}
 use Rattle.route_server.specs.LeafTrees.{Leaves}
 
--- the leaves of a book at these places of an order, and the cover of all other places of the tree
+-- the leaves of a book at these indices of an order, and the cover of all other indices of the tree
 pub record AreAt (hash : List ℕ → List ℕ) (kind : Kind) (book : Book) (order : List ℕ)
     (tree : Leaves) (chosen : List ℕ) (b : NodesBrought) : Type 0 where
   pub places : b.places ≡ chosen
@@ -25,7 +25,7 @@ pub record AreAt (hash : List ℕ → List ℕ) (kind : Kind) (book : Book) (ord
   pub fit : All (node_leaf (kind_of_leaves kind book.numbers)).Fits b.nodes
   pub cover : b.cover ≡ cover_of hash tree.texts tree.fan chosen
 
--- the pairs at these places, and the cover of all other places of the tree that may be there
+-- the pairs at these indices, and the cover of all other indices of the tree that may be there
 pub record ArePairsAt (hash : List ℕ → List ℕ) (table : List PairLeaf) (tree : Option Leaves)
     (chosen : List ℕ) (b : PairsBrought) : Type 0 where
   pub places : b.places ≡ chosen
@@ -35,7 +35,7 @@ pub record ArePairsAt (hash : List ℕ → List ℕ) (table : List PairLeaf) (tr
   pub fit : All pair_leaf.Fits b.pairs
   pub cover : b.cover ≡ cover_in hash tree chosen
 
--- exactly the leaves of these ids, by rising place, and the cover of all other places
+-- exactly the leaves of these ids, by ascending index, and the cover of all other indices
 pub record AreBrought (hash : List ℕ → List ℕ) (k : Kept) (ids : List ℕ)
     (b : NodesBrought) : Type 0 where
   pub kept : IsKept k

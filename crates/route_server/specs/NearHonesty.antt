@@ -20,7 +20,7 @@ use Rattle.route_server.specs.declared.near_errors.NearRefusal.{NearRefusal}
 use Rattle.route_server.specs.declared.near_errors.NearRefusal.TheVariants.{UnknownNode, Memory}
 
 -- a reply with this publication's header and signature: exactly the leaves of the nodes within the
--- radius, at their places, and the cover of these places
+-- radius, at their indices, and the cover of these indices
 pub record IsNearReply (hash : List ℕ → List ℕ) (order : List ℕ) (b : Book) (p : Publication)
     (q : NearQuery) (a : NearReply) : Type 0 where
   pub header : a.header ≡ p.header
@@ -31,7 +31,7 @@ pub record IsNearReply (hash : List ℕ → List ℕ) (order : List ℕ) (b : Bo
   pub nodes : a.nodes ≡ leaves_of b (ids_at order a.places)
   pub cover : a.cover ≡ cover_of hash (node_texts (leaves_of b order)) p.header.fan a.places
 
--- octets that spell the honest reply to a query from a known node, over the book of a publication
+-- octets that encode the honest reply to a query from a known node, over the book of a publication
 pub record IsNearHonest (hash sha : List ℕ → List ℕ) (p : Publication) (q : NearQuery)
     (octets : List ℕ) : Type 0 where
   pub known : Knows p.parts q.from
@@ -43,7 +43,7 @@ pub record IsNearHonest (hash sha : List ℕ → List ℕ) (p : Publication) (q 
   pub fits : near_reply.Fits reply
   pub spelled : octets ≡ near_reply.spell reply
 
--- why there is none. Want of memory may come at any time.
+-- why there is none. Out of memory may come at any time.
 abbrev pub WhyNot : Parts → NearQuery → NearRefusal → Type 0
 WhyNot parts q (UnknownNode id) = (id ≡ q.from) × ¬ Knows parts q.from
 WhyNot parts q Memory = Unit {0}

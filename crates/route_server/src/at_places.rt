@@ -1,4 +1,4 @@
-//! The leaves at places, and the cover of the others.
+//! The leaves at indices, and the cover of the others.
 ghost use Rattle.std.specs.Prelude.{◌≡◌, ℕ, ◌<◌, ◌^◌, IfOk, All, length, slice_get};
 ghost use Rattle.std.specs.List.{filter_map};
 ghost use Rattle.std.specs.Option.{option_copied};
@@ -21,7 +21,7 @@ use road_leaf::PairLeaf;
 use road_map::map_laws;
 use std::alloc::Global;
 
-/// The node leaves of a book at places of an order of its ids.
+/// The node leaves of a book at indices of an order of its ids.
 pub fn leaves_at<B: MethodBook>(
     alloc: Global,
     book: &B,
@@ -47,7 +47,7 @@ pub fn leaves_at<B: MethodBook>(
     Ok(NodeLeaves::from_vec(leaves))
 }
 
-/// The pair leaves at places of their list.
+/// The pair leaves at indices of their list.
 pub fn pairs_at(alloc: Global, pairs: &[PairLeaf], places: &[u32]) -> Result<PairLeaves, NoMemory>
     requires rising { IsRising (length pairs.now) places.now }
     requires ids { All (λ p. p.a < p.b) pairs.now }
@@ -64,7 +64,7 @@ pub fn pairs_at(alloc: Global, pairs: &[PairLeaf], places: &[u32]) -> Result<Pai
     Ok(PairLeaves::from_vec(leaves))
 }
 
-/// The cover of places in a tree that may be there.
+/// The cover of indices in a tree that may be there.
 pub fn cover_at<H: Hasher>(
     alloc: Global,
     tree: Option<&LeafTree<H>>,

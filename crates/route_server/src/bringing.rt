@@ -1,4 +1,4 @@
-//! Leaves, brought out of a publication's book with their places and their cover.
+//! Leaves, brought out of a publication's book with their indices and their cover.
 ghost use Rattle.std.specs.Prelude.{◌≡◌, ◌<◌, ◌^◌, IfOk, All, length, nat_eq};
 ghost use Rattle.std.specs.List.{IsDistinct};
 ghost use Rattle.std.specs.Option.{option_copied};
@@ -23,26 +23,26 @@ use std::alloc::Global;
 /// Leaves of nodes, and what shows that they stand under the root of the node tree.
 #[derive(Debug, Drop)]
 pub struct NodesBrought {
-    /// The places of the leaves in the node tree, by rising place.
+    /// The indices of the leaves in the node tree, by ascending index.
     pub places: Places,
-    /// The leaves at these places.
+    /// The leaves at these indices.
     pub nodes: NodeLeaves,
-    /// The cover of all other places.
+    /// The cover of all other indices.
     pub cover: Digests,
 }
 
 /// Leaves of pairs, and what shows that they stand under the root of the pair tree.
 #[derive(Drop)]
 pub(crate) struct PairsBrought {
-    /// The places of the leaves in the pair tree, by rising place.
+    /// The indices of the leaves in the pair tree, by ascending index.
     pub(crate) places: Places,
-    /// The leaves at these places.
+    /// The leaves at these indices.
     pub(crate) pairs: PairLeaves,
-    /// The cover of all other places.
+    /// The cover of all other indices.
     pub(crate) cover: Digests,
 }
 
-/// Ids and places have their width.
+/// Ids and indices have their width.
 pub(crate) fn numbers_fit(numbers: &[u32])
     ensures { All (λ n. n < 2 ^ 32) numbers.now }
 {
@@ -56,7 +56,7 @@ fn places_from(alloc: Global, places: &[u32]) -> Result<Places, NoMemory>
     Ok(Places::from_vec(places))
 }
 
-/// The node leaves of a book at places of an order of its ids, with the cover of all other places.
+/// The node leaves of a book at indices of an order of its ids, with the cover of all other indices.
 pub(crate) fn nodes_brought<H: Hasher, B: MethodBook>(
     alloc: Global,
     book: &B,
@@ -82,7 +82,7 @@ pub(crate) fn nodes_brought<H: Hasher, B: MethodBook>(
     })
 }
 
-/// The pair leaves at places of their list, with the cover of all other places.
+/// The pair leaves at indices of their list, with the cover of all other indices.
 pub(crate) fn pairs_brought<H: Hasher>(
     alloc: Global,
     pairs: &[PairLeaf],
@@ -103,7 +103,7 @@ pub(crate) fn pairs_brought<H: Hasher>(
 }
 
 impl<H: Hasher> Held<H> {
-    /// The leaves of some nodes, given in any order, with their places and their cover.
+    /// The leaves of some nodes, given in any order, with their indices and their cover.
     pub fn bring(&self, alloc: Global, ids: &[u32]) -> Result<NodesBrought, NoMemory>
         requires distinct { IsDistinct nat_eq ids.now }
         requires known { All (Knows self.now.map.parts) ids.now }

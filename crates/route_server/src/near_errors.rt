@@ -12,8 +12,8 @@ pub enum NearRefusal {
     /// No node of the map has this id, which was asked about.
     #[error("The map has no node {0}.")]
     UnknownNode(u32),
-    /// No memory was found.
-    #[error("No memory was found.")]
+    /// Out of memory.
+    #[error("Out of memory.")]
     Memory,
 }
 

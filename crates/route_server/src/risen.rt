@@ -1,4 +1,4 @@
-//! The roots of the trees over a book's leaves, which are spelled one at a time.
+//! The roots of the trees over a book's leaves, which are encoded one at a time.
 ghost use Rattle.std.specs.Prelude.{◌≡◌, ℕ, ◌≤◌, List, [], length, IfOk};
 ghost use Rattle.road_map.specs.Maps.{IsMap};
 ghost use Rattle.book_model.specs.Books.{leaves_of};

@@ -1,4 +1,4 @@
--- A book adds at each id what stands at its place: the book of parts and settings under any method.
+-- A book adds at each id what stands at its index: the book of parts and settings under any method.
 use Rattle.std.proofs.Common.{◌≡◌, ℕ, nat_eq, Bool, true, false, cond, if◌then◌else◌, List, [], ◌∷◌, length, map, refl, arith, ap, ◌∙◌}
 use Rattle.std.specs.List.{IsDistinct, AllByRecursion}
 use Rattle.std.proofs.lemmas.Bool.Decides.{nat_tests}
@@ -18,7 +18,7 @@ use Rattle.road_order.proofs.ListingLaws.{lists}
 use Rattle.route_server.proofs.Ordered.{order_from_moves}
 use Rattle.route_service.specs.Refusals.{numbers_of}
 
--- what stands at the place of an id
+-- what stands at the index of an id
 abbrev extra_at : List ℕ → List Extra → ℕ → Extra
 extra_at [] extras id = Plain
 extra_at (v ∷ order) [] id = Plain
@@ -27,7 +27,7 @@ extra_at (v ∷ order) (x ∷ extras) id = if nat_eq v id then x else extra_at o
 itself : (v : ℕ) → nat_eq v v ≡ true
 itself v = grind (arith, nat_tests)
 
--- ids that are not the first are looked for behind it
+-- ids that are not the first are looked for after it
 behind : (v : ℕ) (x : Extra) (order : List ℕ) (extras : List Extra) (ids : List ℕ) → AllByRecursion (λ y. nat_eq v y ≡ false) ids →
     map (extra_at (v ∷ order) (x ∷ extras)) ids ≡ map (extra_at order extras) ids
 behind v x order extras [] apart = refl

@@ -48,7 +48,7 @@ length_frame body = omega arith
 pub Consumes_alone : (octets : List ℕ) → Consumes (Some octets) (Some []) octets
 Consumes_alone octets = sym (append-nil octets)
 
--- and with more behind them, this is left
+-- and with more after them, this is left
 pub Consumes_before : (octets more text : List ℕ) → Consumes (Some octets) (Some []) text → Consumes (Some (octets ++ more)) (Some more) text
 Consumes_before octets more text is = ap (λ t. t ++ more) (is ∙ append-nil text)
 

@@ -11,7 +11,7 @@ use Rattle.proof_octets.specs.Headers.{header_text}
 use Rattle.route_service.specs.declared.guard.Guard.{Guard}
 use Rattle.route_service.specs.declared.guard.Guard.TheVariants.{Open, Signed}
 
--- a guarded service alone knows queries on a radius
+-- a guarded service alone knows range queries
 abbrev pub answers_near : Guard → Bool
 answers_near Open = false
 answers_near (Signed key links) = true

@@ -25,7 +25,7 @@ pub data Front : Type 0 where
   Short : Front
   WholeMap : (body rest : List ℕ) → Front
 
--- by the length, and the octets behind it
+-- by the length, and the octets after it
 abbrev pub front_at : ℕ → ℕ → List ℕ → Front
 front_at most size octets =
     if nat_lt most size then Long
@@ -73,7 +73,7 @@ module _ (hash sha : List ℕ → List ℕ) where
     pub isolated : IsIsolated hash sha first frames replies
     pub wrote : Appends old new (framed replies)
 
-  -- a front of the framed replies of a run over these frames is written
+  -- a prefix of the framed replies of a run over these frames is written
   pub record WritesFront (first : State) (frames : List (List ℕ))
       (old new : Option (List ℕ)) : Type 0 where
     pub last : State

@@ -1,4 +1,4 @@
--- What a service answers on a radius.
+-- What a service answers to a range query.
 use Rattle.std.specs.Prelude.{◌≡◌, ◌⊎◌, ℕ, List, [], ◌∷◌}
 use Rattle.road_map.specs.Walks.{Knows}
 use Rattle.proof_octets.specs.declared.publication.Publication.{Publication}

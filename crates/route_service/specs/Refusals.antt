@@ -1,4 +1,4 @@
--- Whether a publication can be installed, as functions: the octets spell one, its parts make a map,
+-- Whether a publication can be installed, as functions: the octets encode one, its parts make a map,
 -- the map has a book under its settings, and the book's header is the publication's.
 use Rattle.std.specs.Prelude.{ℕ, ◌==◌, Bool, true, ◌&&◌, if◌then◌else◌, Option, None, Some, Result, Ok, Err, List, [], ◌∷◌}
 use Rattle.std.specs.List.{cons_option}
@@ -20,13 +20,13 @@ use Rattle.proof_octets.specs.declared.publication.Publication.{Publication}
 use Rattle.proof_octets.specs.Publications.{publication}
 use Rattle.route_server.specs.Headers.{header_of}
 
--- ---- the octets spell a publication
+-- ---- the octets encode a publication
 
 abbrev pub as_spelled : Result Publication ℕ → Option Publication
 as_spelled (Ok p) = Some p
 as_spelled (Err at) = None
 
--- the publication that octets spell, all of them
+-- the publication that octets encode, all of them
 unfoldable pub spelled_publication : List ℕ → Option Publication
 spelled_publication text = as_spelled (whole publication text)
 

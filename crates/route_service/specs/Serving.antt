@@ -10,7 +10,7 @@ use Rattle.route_service.specs.Isolation.{IsIsolated}
 use Rattle.route_service.specs.declared.serving.ServeError.{ServeError}
 use Rattle.route_service.specs.declared.serving.ServeError.TheVariants.{FrameTooLong, TruncatedFrame, TooManyFrames, Source, Sink, Memory}
 
--- the octets behind the frames that were answered, where memory ran out: the length of a frame, for
+-- the octets after the frames that were answered, where memory ran out: the length of a frame, for
 -- whose body there was none, or a whole frame, for whose reply there was none
 abbrev pub IsUnanswered : ℕ → List ℕ → Type 0
 IsUnanswered most octets =

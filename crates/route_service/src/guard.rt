@@ -10,10 +10,10 @@ use proof_octets::Publication;
 /// What a service asks of the publications that it installs, and with it which bodies it knows.
 #[derive(Debug, Drop)]
 pub enum Guard {
-    /// Nothing but that they can be installed. Queries on a radius are not known.
+    /// Nothing but that they can be installed. Range queries are not known.
     Open,
     /// That their headers are signed under this key, or under one that the links lead to from it.
-    /// Queries on a radius are answered.
+    /// Range queries are answered.
     Signed { key: [u8; 56], links: List<Link> },
 }
 
@@ -29,7 +29,7 @@ fn cause_of(why: SealError) -> u8
 }
 
 impl Guard {
-    // Whether queries on a radius are known.
+    // Whether range queries are known.
     pub(crate) fn answers_near(&self) -> bool
         ensures { result ≡ answers_near self.now }
     {

@@ -28,7 +28,7 @@ pub enum FrameError {
 }
 
 /// Reads the body of the next frame into a buffer, in place of what it held, and answers whether there
-/// was one. A frame has at most `most` octets behind its length, and no more than one frame is taken
+/// was one. A frame has at most `most` octets after its length, and no more than one frame is taken
 /// from the source. The buffer's memory is used again.
 pub fn next_frame<S: Source>(
     source: &mut S,
@@ -122,7 +122,7 @@ fn read_head<S: Source>(source: &mut S) -> Result<Option<u32>, HeadError>
     }
 }
 
-// The number that four octets spell.
+// The number that four octets encode.
 fn size_of(a: u8, b: u8, c: u8, d: u8) -> u32
     ensures { to_be_bytes w32 result ≡ a ∷ b ∷ c ∷ d ∷ [] }
 {

@@ -22,7 +22,7 @@ pub enum ServeError {
     /// The input ends within a frame.
     #[error("the input ends within a frame")]
     TruncatedFrame,
-    /// The input goes on behind the last frame that is taken.
+    /// The input goes on after the last frame that is taken.
     #[error("there are too many frames")]
     TooManyFrames,
     /// The source failed.
@@ -31,7 +31,7 @@ pub enum ServeError {
     /// The sink failed.
     #[error("the sink failed")]
     Sink,
-    /// No memory was found.
+    /// Out of memory.
     #[error("no memory was found")]
     Memory,
 }

@@ -7,7 +7,7 @@ ghost use Rattle.route_service.specs.Frames.{frame_of};
 
 use road_io::{Failed, Sink, write_all};
 
-/// Writes a frame of this body, or fails with a front of it written. The body has fewer than 2^32
+/// Writes a frame of this body, or fails with a prefix of it written. The body has fewer than 2^32
 /// octets.
 #[tactic(auto, unfolding(crate::specs::Frames::frame_of))]
 pub fn write_frame<K: Sink>(sink: &mut K, body: &[u8]) -> Result<(), Failed>

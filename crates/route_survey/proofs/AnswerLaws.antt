@@ -27,7 +27,7 @@ use Rattle.book_model.specs.declared.items.Query.{Query}
 use Rattle.route_survey.specs.Surveys.{survey_key, IsSurveyed}
 use Rattle.route_survey.specs.Tallies.{IsAskable}
 
--- where a reply is accepted, no other verdict comes than for want of memory
+-- where a reply is accepted, no other verdict comes than out of memory
 pub refused_as : (e : CheckError) (x : Checked) → UnlessMemory {A = Checked} (λ r. r ≡ Ok x) (Err e) → e ≡ errors.Memory
 refused_as errors.Memory x h = refl
 refused_as e x h = cc

@@ -49,6 +49,6 @@ module _ (width seed method queries k k' : ℕ) (old : Option (List ℕ)) where
   not_surveyed e h files faults =
       refused (λ folder. EndsSurvey width seed method queries) TellsNone NoDisk files faults faults k k' old (EndsSurvey width seed method queries) (any files) (Plan e) h
 
-  -- want of memory
+  -- out of memory
   pub memory_short : PromisesWithoutFiles (EndsSurvey width seed method queries) NoDisk old old k k' (Err Memory)
   memory_short files faults = no_memory (λ folder. EndsSurvey width seed method queries) TellsNone NoDisk files faults faults k k' old

@@ -24,7 +24,7 @@ struct Answered {
     length: u64,
 }
 
-/// Want of memory, which is why an honest reply may not be accepted, and the only reason.
+/// Out of memory, which is why an honest reply may not be accepted, and the only reason.
 fn memory_of(error: CheckError) -> NoMemory
     requires { error ≡ CheckError.Memory }
 {

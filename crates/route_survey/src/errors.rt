@@ -4,14 +4,14 @@ use book_model::PlanError;
 use octet_text::NoMemory;
 use thiserror::Error;
 
-/// Why there is no survey. Want of memory is `Memory` alone, never inside another.
+/// Why there is no survey. Out of memory is `Memory` alone, never inside another.
 #[derive(Clone, Copy, Debug, PartialEq, Eq, Error)]
 pub enum SurveyError {
     /// The grid has no book under the method, for this reason.
     #[error("The method makes no book of the grid. {0}")]
     Plan(PlanError),
-    /// No memory was found.
-    #[error("No memory was found.")]
+    /// Out of memory.
+    #[error("Out of memory.")]
     Memory,
 }
 

@@ -29,7 +29,7 @@ const OTHER_KEY: &str =
 /// Publishes the road file in version 3 under DIJ.
 pub(crate) const PUBLISH: &str = "publish map.roads dij 3 id 0 2 0 0 0";
 
-/// The words of a line.
+/// The arguments of a line.
 pub(crate) fn words_of(rt: &impl Abort, alloc: Global, line: &str) -> Result<Words, Fail> {
     let mut words = Words::new(alloc);
     for word in line.split(' ') {

@@ -1,4 +1,4 @@
-//! The statuses of a run that no other test meets, and the faults behind them, over objects in
+//! The statuses of a run that no other test meets, and the faults after them, over objects in
 //! memory that fail as planned and over desks that were changed by hand.
 
 use crate::asserts::assert_same;
@@ -44,7 +44,7 @@ fn copied(alloc: Global, world: &mut World, fails: bool) -> Result<MemLibrary, F
     Ok(library)
 }
 
-/// How words end over a library, where another object may fail at its first call.
+/// How arguments end over a library, where another object may fail at its first call.
 fn ended(
     alloc: Global,
     words: &Words,

@@ -28,7 +28,7 @@ fn files(alloc: Global) -> Result<MemLibrary, Fail> {
     Ok(library)
 }
 
-/// How words end over those files and a desk without a key.
+/// How arguments end over those files and a desk without a key.
 fn ended(alloc: Global, words: &Words, library: &mut MemLibrary) -> Result<Ended, Fail> {
     let mut sink = MemSink::new(alloc, 1000, 1000, Vec::new(alloc))?;
     let mut disk = MemDisk::new(alloc, 4160, 10_000, Vec::new(alloc), None)?;
@@ -123,12 +123,12 @@ fn each_end_is_told(rt: HostRuntime) -> Result<(), Fail> {
         (
             "prove map.roads 1 3",
             "map.roads",
-            "road_proof: map.roads: It is no publication, and can't be read from place 0 on. It looks like a road file.",
+            "road_proof: map.roads: It is no publication, and can't be read from offset 0 on. It looks like a road file.",
         ),
         (
             "key map.roads h5",
             "map.roads",
-            "road_proof: map.roads: The octet at place 0 is no hex digit, and the file must be 96 of them and at most one line end. It looks like a road file.",
+            "road_proof: map.roads: The octet at offset 0 is no hex digit, and the file must be 96 of them and at most one line end. It looks like a road file.",
         ),
         (
             "desk",
@@ -326,7 +326,7 @@ fn ends_over_real_files_are_told(rt: HostRuntime) -> Result<(), Fail> {
             None,
             ErrorKind::Other,
             Some(Unusable::Route(CheckError::Malformed(0))),
-            "road_proof: r: The answer is not to be used: the file is no reply, and can't be read from place 0 on. It looks like a publication.",
+            "road_proof: r: The answer is not to be used: the file is no reply, and can't be read from offset 0 on. It looks like a publication.",
         ),
         (
             "check-reach k r 1 4 3",
@@ -334,7 +334,7 @@ fn ends_over_real_files_are_told(rt: HostRuntime) -> Result<(), Fail> {
             None,
             ErrorKind::Other,
             Some(Unusable::Nodes(NearError::Malformed(0))),
-            "road_proof: r: The nodes are not to be used: the file is no reply on a radius, and can't be read from place 0 on. It looks like a publication.",
+            "road_proof: r: The nodes are not to be used: the file is no reply to a range query, and can't be read from offset 0 on. It looks like a publication.",
         ),
         (
             "audit-reach k p r 1 4",
@@ -366,7 +366,7 @@ fn ends_over_real_files_are_told(rt: HostRuntime) -> Result<(), Fail> {
             Some(Fault::BadHex),
             ErrorKind::Other,
             None,
-            "road_proof: r: The octet at place 0 is no hex digit, and the file must be an even number of them and at most one line end. It looks like a publication.",
+            "road_proof: r: The octet at offset 0 is no hex digit, and the file must be an even number of them and at most one line end. It looks like a publication.",
         ),
         (
             "reach r 9 4",

@@ -19,7 +19,7 @@ use Rattle.command_files.proofs.Asked.{then_asked}
 use Rattle.command_files.proofs.Written.{over_both, moved}
 use Rattle.server_commands.specs.Guarding.{signed_of, guard_at}
 
--- one name that was asked for, and a front of others behind it
+-- one name that was asked for, and a prefix of others after it
 pub front_behind : (names old mid new : List (List ℕ)) (name : List ℕ) → mid ≡ old ++ name ∷ [] → AsksFront names mid new → AsksFront (name ∷ names) old new
 front_behind names old mid new name first h = record {
   n = suc h.n;

@@ -31,7 +31,7 @@ module _ (files : Option Folder) (name : List ℕ) (p : Publication) (q : NearQu
   pub reach_refused : (f : Fault) → WhyNot NoDisk (EndsReach q p) f → Promises (ends_reach name q) TellsNone NoDisk files l l' old old k k' (Err f)
   reach_refused f h = refused (ends_reach name q) TellsNone NoDisk files l l' k k' old (EndsReach q p) calls f h
 
--- ---- behind an installing
+-- ---- after an installing
 
 pub if_err : {T E : Type 0} (r : Result T E) (P Q : E → Type 0) → ((x : E) → P x → Q x) → IfErr r P → IfErr r Q
 if_err (Ok x) P Q f h = tt

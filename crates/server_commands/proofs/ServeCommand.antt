@@ -57,7 +57,7 @@ not_done e is = cc
 
 -- ---- a file of a publication or of a guard that can't be read
 
--- what serves behind the guard's file
+-- what serves after the guard's file
 abbrev behind_guard : ServeFiles → (Guard → Publication → Ending) → Folder → Publication → Ending
 behind_guard named Serves folder p = EndsReading (guard_at folder named.guard) (λ guard. EndsTesting (tested guard p) (Serves guard p))
 
@@ -73,7 +73,7 @@ serves_in : (Serves : Guard → Publication → Ending) (named : ServeFiles) (gu
 serves_in Serves named guard p passed folder h o text s =
     behind_tests Serves named guard p folder h o text (subst (λ (r : Result (Unit {0}) CheckError). EndsTesting r (Serves guard p) o text) (sym passed) s)
 
--- a file that spells no publication, and one that holds no guard
+-- a file that encodes no publication, and one that holds no guard
 pub no_publication : (Serves : Guard → Publication → Ending) (named : ServeFiles) (folder : Folder) (e : Fault) → publication_at folder named.publication ≡ Err e → EndsServing named Serves folder (failed e) []
 no_publication Serves named folder e read = subst (λ (r : Result Publication Fault). EndsReading r (behind_guard named Serves folder) (failed e) []) (sym read) (refl, refl)
 
@@ -102,7 +102,7 @@ unread read named input folder old e of ends is = absurd of
 none_taken : (left : Option (List ℕ)) → TookFrames left left
 none_taken left = record { frames = []; octets = []; took = Consumes-none left; few = omega arith }
 
--- a file that spells no publication leaves all of it
+-- a file that encodes no publication leaves all of it
 unread_leaves : (left : Option (List ℕ)) (e : Fault) → IsOfFiles e → LeavesInput left left (Err e)
 unread_leaves left Missing of = refl
 unread_leaves left too_long of = refl
@@ -136,7 +136,7 @@ unread_takes files named left old Library of = (refl, keeps_same old)
 unread_takes files named left old Memory of = inl (refl, keeps_same old)
 unread_takes files named left old e of = absurd of
 
--- frames that were served, and what was taken behind them
+-- frames that were served, and what was taken after them
 module _ (first last : State) (count : ℕ) (left rest old new : Option (List ℕ)) where
   took_then : (Is : List ℕ → Type 0) → ((octets : List ℕ) → Is octets → length octets ≤ 4 + most_octets) → Then sha256 sha256 first last most_octets count left rest old new Is → TookFrames left rest
   took_then Is few t = record {
@@ -399,7 +399,7 @@ module _ (files : Option Folder) (named : ServeFiles) (guard : Guard) (p : Publi
 
 -- ---- where no guard is asked for
 
--- a file that spells this publication holds it, and no guard
+-- a file that encodes this publication holds it, and no guard
 pub open_holds : (files : Option Folder) (name : List ℕ) (p : Publication) → IfSome files (λ folder. publication_at folder name ≡ Ok p) → IfSome files (Holds (unguarded name) Open p)
 open_holds files name p read = over files (λ folder. publication_at folder name ≡ Ok p) (Holds (unguarded name) Open p) (λ folder is. (is, refl)) read
 
@@ -469,7 +469,7 @@ unread_guard_promised files named p l mid l' k old e same read loads = record {
     of_files : (f : Fault) → failed e ≡ failed f → (IsOfFiles f → ⊥) → ⊥
     of_files f is not = not (subst IsOfFiles (same_fault e f is) loads.others)
 
--- want of memory
+-- out of memory
 pub memory_serves : (files : Option Folder) (named : ServeFiles) (left old : Option (List ℕ)) (s s' : ℕ) (e : Fault) → e ≡ Memory → ServesFrames named files left left s s' old old (Err e)
 memory_serves files named left old s s' e is = subst (λ f. ServesFrames named files left left s s' old old (Err f)) (sym is) (record {
   served = over_any files (λ folder. AnswersInput named left folder old old (Err Memory)) (λ folder. let i = some_input left in (i.0, i.1, inl (keeps_same old)));

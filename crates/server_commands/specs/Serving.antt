@@ -57,7 +57,7 @@ pub record EndsFrames (guard : Guard) (input : Input) (p : Publication) (outcome
 abbrev pub EndsServe : Guard → Input → Publication → Ending
 EndsServe guard input p = EndsInstalling p (EndsFrames guard input p)
 
--- `serve` over a publication and some input, behind whose frames the source may fail
+-- `serve` over a publication and some input, after whose frames the source may fail
 abbrev pub EndsServeSome : Guard → Publication → Ending
 EndsServeSome guard p (Err Source) text = (input : Input) × EndsServe guard input p (Ok Done) text
 EndsServeSome guard p outcome text = (input : Input) × EndsServe guard input p outcome text
@@ -134,7 +134,7 @@ pub record TookFrames (left rest : Option (List ℕ)) : Type 0 where
   pub took : Consumes left rest (framed frames ++ octets)
   pub few : length octets ≤ 4 + most_octets
 
--- What is left in the source, by the end of `serve`: what is behind the frames that it took, and all
+-- What is left in the source, by the end of `serve`: what is after the frames that it took, and all
 -- of it where it took none.
 abbrev pub LeavesInput : Option (List ℕ) → Option (List ℕ) → Result Conclusion Fault → Type 0
 LeavesInput left rest (Ok Done) = TookFrames left rest
@@ -151,7 +151,7 @@ LeavesInput left rest (Err fault) = rest ≡ left
 
 -- Serving over the first publication, which the guard's tests pass: which whole frames were taken,
 -- that the replies of a run over exactly these are written, but for the last of them where the sink
--- failed or memory ran out, and what was taken behind them. Where no files are told, it is served over
+-- failed or memory ran out, and what was taken after them. Where no files are told, it is served over
 -- some publication, and under some guard where a public key is named.
 pub record ServedOver (named : ServeFiles) (files : Option Folder)
     (left rest old new : Option (List ℕ)) (served : Result (Unit {0}) ServeError) : Type 0 where
@@ -207,7 +207,7 @@ AnswersTaken named files left rest old new (Err fault) = ServedNone left rest ol
 
 -- What `serve` does with its source, beside what each command promises: the sink has taken the
 -- replies to the frames of what was left in it; each whole frame that was taken is answered; a
--- source that is blamed has failed; what is left is behind the frames that were taken; and where the
+-- source that is blamed has failed; what is left is after the frames that were taken; and where the
 -- work was done, nothing is.
 pub record ServesFrames (named : ServeFiles) (files : Option Folder)
     (left_before left_now : Option (List ℕ)) (source_before source_now : ℕ)

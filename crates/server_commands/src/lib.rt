@@ -1,4 +1,4 @@
-//! The server's commands: the reply to a query over a publication, on a route or on a radius, and
+//! The server's commands: the reply to a query over a publication, for a route or a range, and
 //! the service over frames.
 #![tactic(auto)]
 

@@ -16,7 +16,7 @@ use road_io::{Library, Sink};
 use route_server::{Held, NearRefusal, answer_near};
 use std::alloc::Global;
 
-/// Writes the reply to a query on a radius over a publication.
+/// Writes the reply to a range query over a publication.
 pub fn reach<L: Library, K: Sink>(
     alloc: Global,
     library: &mut L,

@@ -8,7 +8,7 @@ use mirror_out::{FileMirror, Mirror};
 use road_io::{Failed, Sink, Source, StdSink, StdSource, write_all};
 use route_service::{FrameError, next_frame};
 
-/// Writes all octets to standard output, or fails with a front of them written.
+/// Writes all octets to standard output, or fails with a prefix of them written.
 pub fn print<R: Print + Drop>(sink: &mut StdSink<R>, octets: &[u8]) -> Result<(), Failed>
     ensures ok { OnOk result (Appends (⟦<StdSink<R> as Sink>⟧.taken sink.old)
         (⟦<StdSink<R> as Sink>⟧.taken sink.new) octets.now) }

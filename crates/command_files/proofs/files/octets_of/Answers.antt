@@ -6,7 +6,7 @@ use Rattle.command_files.specs.HexFiles.{as_octets}
 use Rattle.command_files.specs.declared.fault.Fault.TheVariants.{BadHex}
 use Rattle.command_files.proofs.files.octets_of.Goals as goal
 
--- digits that were not decoded, and not for want of memory
+-- digits that were not decoded, and not as memory ran out
 bad_hex : (digits : List ℕ) (why : FromHexError) → (why ≡ OutOfMemory) ⊎ (decode_of digits ≡ Err why) → why ≢ OutOfMemory → Err BadHex ≡ as_octets (decode_of digits)
 bad_hex digits why (inl is) other = absurd (other is)
 bad_hex digits why (inr is) other = sym (ap as_octets is)

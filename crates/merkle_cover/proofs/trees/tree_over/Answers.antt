@@ -6,7 +6,7 @@ use Rattle.merkle_cover.proofs.ShapeLemmas.{div_ceil-falls}
 use Rattle.merkle_cover.proofs.LevelLemmas.{level-leaves, level_over-level, length-level, get_or-level, levels_to-zero, levels_to-push, length-levels_to, get_or-levels_to, top-single, top-more, IsShaped-levels_to, tree_of-is, places_at-some}
 use Rattle.merkle_cover.proofs.trees.tree_over.Goals as goal
 
--- a level has fewer places than the one below
+-- a level has fewer positions than the one below
 falls : (n f k : ℕ) → 2 ≤ f → 1 < places_at n f k → places_at n f (k + 1) < places_at n f k
 unfolding places_at
 falls n f k h l = rw add-one (div_ceil-falls (places_at n f k) f h l)

@@ -16,7 +16,7 @@ use Rattle.route_server.proofs.heading.header_over.Goals.{In_ok-book}
 planned : (g : Over) (c : In_ok-book g) → IsBookOf (kind_in c.in_ok-book.book) c.args.map.parts c.args.settings.now c.in_ok-order.order (shown_in c.in_ok-book.book)
 planned g c = over_order _ _ _ _ _ _ c.as_slice-ids.ensures c.in_ok-book.ensures.book
 
--- has a spelling
+-- has an encoding
 fits : (g : Over) (c : In_ok-book g) → FitsFormats (kind_in c.in_ok-book.book) (shown_in c.in_ok-book.book)
 fits g c =
     order_fits _ _ _ _ _ _ c.as_slice-ids.ensures c.parts-parts.ensures.is_map c.in_ok-order.ensures.lists c.in_ok-book.ensures.method c.in_ok-book.ensures.allowed c.in_ok-book.ensures.book

@@ -34,7 +34,7 @@ module _ (g : Over) (c : After-put_text g) where
   frame : (i : List ℕ) → Image g.D.Disk c.put_text.new.disk i → (d : List ℕ) × Image g.D.Disk c.args.disk.now d × OutsideSlot (slot_here c.args.desk.now c.args.self) d i
   frame i now = let e = at_end g.D.Disk c.args.disk.now c.put_text.new.disk _ moments i now in (e.0, e.1, e.2.0)
 
-  -- the slot's place stays
+  -- the slot's offset stays
   place_is : (i : List ℕ) → Image g.D.Disk c.put_text.new.disk i → place_of i (slot_here c.args.desk.now c.args.self) ≡ place_in c.args.desk.now.base c.args.self
   place_is i now =
       let f = frame i now in

@@ -67,7 +67,7 @@ pub places_found-requires-clause-known : goal.places_found-requires-clause-known
 places_found-requires-clause-known g c =
     subst (λ (m : Charted). All (Knows m.parts) c.in-Some.found.nodes) (sym c.map.ensures.map) (facts g (goal.at.places_found-requires-clause-known g c).After-deref).all_known
 
--- each node has its place in the leaf order
+-- each node has its index in the leaf order
 has_places : (g : Over) (c : After-as_slice-order g) → HasPlaces c.map.result.now.order c.self.inside.order c.deref.result.now
 has_places g c =
     subst (λ (m : Charted). HasPlaces m.order c.self.inside.order c.deref.result.now) (sym c.map.ensures.map)
@@ -147,7 +147,7 @@ served g c =
       range = in_range (charted_in c.self.inside.book).parts c.self.inside.settings i.allowed;
     }
 
--- the answer has a spelling
+-- the answer has an encoding
 fits : (g : Over) (c : After-numbers_fit g) → FoundFacts (charted_in c.self.inside.book).parts (shown_in c.self.inside.book) c.in-Some.found → IsBrought g.H.Hasher.hash (kind_in c.self.inside.book) c.self.inside.settings c.self.inside.order (shown_in c.self.inside.book) c.in-Some.found (whole g c) → reply.Fits (reply_of (whole g c))
 fits g c known br =
     (c.range_laws.ensures.answer (whole g c)).1

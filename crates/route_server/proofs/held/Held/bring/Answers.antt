@@ -19,7 +19,7 @@ places_of-requires-clause-known g c =
     subst (λ (m : Charted). All (Knows m.parts) c.args.ids.now) (sym c.map.ensures.map)
     (subst (λ (m : Charted). All (Knows m.parts) c.args.ids.now) (sym (ap (λ (k : Kept). k.map) c.self.view_is)) c.requires.known)
 
--- each node has its place in the leaf order
+-- each node has its index in the leaf order
 has_places : (g : Over) (c : After-as_slice g) → HasPlaces c.map.result.now.order c.self.inside.order c.deref.result.now
 has_places g c =
     subst (λ (m : Charted). HasPlaces m.order c.self.inside.order c.deref.result.now) (sym c.map.ensures.map)

@@ -4,9 +4,9 @@
 Takes the commands behind `$ ` and the outputs under them out of README.md, docs/COMMANDS.md, docs/WALKTHROUGH.md
 and docs/OPERATING.md, or the documents that are named, types each document's commands into one shell in a fresh folder, and compares. A command's
 output is what stands under it, standard output and standard error together; its status is 0, or
-what an `echo $?` right behind it shows. The fresh folder has the program's crate as a clone has it
-(`crates/road_proof` with `data` and `out`, `tools`, `bindings` and the archive of the client), and `rt run --` and `rt try --` are stood in for by the
-built program, since a proof takes its time. Everything else is run as typed.
+what an `echo $?` right behind it shows. The fresh folder has what a clone has behind its first build (`out`, `crates/road_proof`
+with `data` and `out`, `tools`, `bindings` and the archive of the client). `./build` is stood in for by what it does there,
+nothing, and `rt run --` and `rt try --` by the built program, since a proof takes its time. Everything else is run as typed.
 
 A block one of whose commands names a tool that this machine lacks is skipped with the rest of its
 document, and said so. Ends with status 1 where an output or a status differs.
@@ -94,6 +94,11 @@ def fresh_folder(room, program):
     shutil.copyfile(program, f"{crate}/out/road_proof")
     os.chmod(f"{crate}/out/road_proof", 0o755)
     os.symlink(f"{crate}/out/road_proof", f"{room}/bin/road_proof")
+    os.makedirs(f"{room}/clone/out")
+    shutil.copy(f"{crate}/out/road_proof", f"{room}/clone/out/road_proof")
+    with open(f"{room}/clone/build", "w", encoding="utf-8") as file:
+        file.write("#!/bin/sh\n")
+    os.chmod(f"{room}/clone/build", 0o755)
     for folder in ("tools", "bindings"):
         shutil.copytree(f"{TOP}/{folder}", f"{room}/clone/{folder}", ignore=shutil.ignore_patterns("__pycache__"))
     if os.path.exists(f"{TOP}/{ARCHIVE}"):

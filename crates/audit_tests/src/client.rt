@@ -56,7 +56,8 @@ fn version_and_length(
 
 #[test]
 fn a_signed_answer_has_a_version_and_a_length(rt: HostRuntime) -> Result<(), Fail> {
-    let found = version_and_length(&rt, rt.alloc(), &PUBLIC, &REPLY)?;
+    let reply = octets_of(rt.alloc(), REPLY)?;
+    let found = version_and_length(&rt, rt.alloc(), &PUBLIC, &reply)?;
     assert_same(&rt, &found, &(3, Some(9)));
     Ok(())
 }

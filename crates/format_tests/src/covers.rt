@@ -157,16 +157,16 @@ fn covers_of_five_leaves_fold_to_the_root(rt: HostRuntime) -> Result<(), Fail> {
 fn second_and_fourth(rt: &impl Abort, alloc: Global) -> Result<(Digest32, Digest32), Fail> {
     let leaves = five_leaves(alloc)?;
     let tree = Tree::<Sha>::build(alloc, &leaves, 2)?;
-    let places = [1, 3];
-    assert!(rt; are_rising(tree.leaves(), &places));
-    let cover = tree.cover(alloc, &places)?;
+    let positions = [1, 3];
+    assert!(rt; are_rising(tree.leaves(), &positions));
+    let cover = tree.cover(alloc, &positions)?;
     // Whoever has the root believes these two of five texts, which stand in octets, by the cover.
     let octets = b"bcdef";
     let cuts = [Cut { start: 0, end: 2 }, Cut { start: 2, end: 5 }];
     assert!(rt; are_in(octets, &cuts));
     let texts = CutTexts::new(octets, &cuts);
-    assert!(rt; texts.count() as usize == places.len());
-    let root = fold::<Sha>(5, 2, &places, &texts, &cover)?;
+    assert!(rt; texts.count() as usize == positions.len());
+    let root = fold::<Sha>(5, 2, &positions, &texts, &cover)?;
     Ok((root, tree.root()))
 }
 

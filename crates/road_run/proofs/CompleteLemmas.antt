@@ -16,7 +16,7 @@ use Rattle.proof_octets.specs.declared.publication.Publication.{Publication}
 use Rattle.proof_octets.specs.Publications.{publication_text}
 use Rattle.mirror_out.specs.Mirrors.{PromisedLess, Mirrors}
 use Rattle.publication_out.specs.Sent.{pieces_in}
-use Rattle.road_command.specs.Requests.{Request, Route, Root, Dimacs, Key, Succeed, Links, Desk, Publish, Prove, Serve, ServeSigned, Check, Audit, Survey, Reach, CheckReach, AuditReach, Reduce}
+use Rattle.road_command.specs.Requests.{Request, Publish, Prove, Serve, ServeSigned}
 use Rattle.command_books.specs.Installing.{IsInstallable}
 use Rattle.command_books.proofs.OneBuilding.{OneMaking}
 use Rattle.command_files.specs.Reading.{publication_at}
@@ -160,24 +160,10 @@ module _ {D M : Type 0} (g : Ghosts D) (octets : M → Option (List ℕ)) (label
       by (Some (ServeSigned file key chain)) (Some folder) None p source m exact serving = λ told. absurd (told refl)
       by (Some (ServeSigned file key chain)) (Some folder) (Some text) p source m exact serving = λ told free enough.
           answers _ free o serving.called_for p.words (λ e. n.library_stays (p.library e)) (λ e. still (source e)) (λ e. n.sink_stays (p.sink e)) (λ e. n.disk_stays (p.disk e)) (λ e. p.mirror e)
-      by (Some (Route roads from to)) (Some folder) left p source m exact serving = λ told. plain (Route roads from to) folder p source (λ enough e. p.mirror e) (exact told)
-      by (Some (Root roads fan)) (Some folder) left p source m exact serving = λ told. plain (Root roads fan) folder p source (λ enough e. p.mirror e) (exact told)
-      by (Some (Dimacs graph places)) (Some folder) left p source m exact serving = λ told. plain (Dimacs graph places) folder p source (λ enough e. p.mirror e) (exact told)
-      by (Some (Key secret kind)) (Some folder) left p source m exact serving = λ told. plain (Key secret kind) folder p source (λ enough e. p.mirror e) (exact told)
-      by (Some (Succeed secret kind)) (Some folder) left p source m exact serving = λ told. plain (Succeed secret kind) folder p source (λ enough e. p.mirror e) (exact told)
-      by (Some Links) (Some folder) left p source m exact serving = λ told. plain Links folder p source (λ enough e. p.mirror e) (exact told)
-      by (Some Desk) (Some folder) left p source m exact serving = λ told. plain Desk folder p source (λ enough e. p.mirror e) (exact told)
       by (Some (Publish roads settings)) (Some folder) left p source m exact serving = λ told.
           plain (Publish roads settings) folder p source
           (λ enough e. none_lost octets label handed puts room g old new roads settings taken_before taken_now mirrors kept (subst (SealsWhatItMirrors octets label handed puts room g old new taken_before taken_now mirrors kept) e m) enough) (exact told)
-      by (Some (Prove publication q)) (Some folder) left p source m exact serving = λ told. plain (Prove publication q) folder p source (λ enough e. p.mirror e) (exact told)
-      by (Some (Check key reply q least chain)) (Some folder) left p source m exact serving = λ told. plain (Check key reply q least chain) folder p source (λ enough e. p.mirror e) (exact told)
-      by (Some (Audit key publication reply q chain)) (Some folder) left p source m exact serving = λ told. plain (Audit key publication reply q chain) folder p source (λ enough e. p.mirror e) (exact told)
-      by (Some (Survey width seed method queries)) (Some folder) left p source m exact serving = λ told. plain (Survey width seed method queries) folder p source (λ enough e. p.mirror e) (exact told)
-      by (Some (Reach publication q)) (Some folder) left p source m exact serving = λ told. plain (Reach publication q) folder p source (λ enough e. p.mirror e) (exact told)
-      by (Some (CheckReach key reply q least chain)) (Some folder) left p source m exact serving = λ told. plain (CheckReach key reply q least chain) folder p source (λ enough e. p.mirror e) (exact told)
-      by (Some (AuditReach key publication reply q chain)) (Some folder) left p source m exact serving = λ told. plain (AuditReach key publication reply q chain) folder p source (λ enough e. p.mirror e) (exact told)
-      by (Some (Reduce key text signature)) (Some folder) left p source m exact serving = λ told. plain (Reduce key text signature) folder p source (λ enough e. p.mirror e) (exact told)
+      by (Some request) (Some folder) left p source m exact serving = λ told. plain request folder p source (λ enough e. p.mirror e) (exact told)
 
 -- ---- `prove` over a publication that can be installed
 
@@ -201,21 +187,4 @@ proves_run makings laws told g old new asked files l l' taken_before taken_now k
         → IfSome asked (λ request. ProvesKnown request files taken_before taken_now o)
     by None files p = tt
     by (Some (Prove file q)) (Some folder) p = λ b read has known. proves makings laws told folder file q b read has known taken_before taken_now o p.answered (λ e. p.mirror e)
-    by (Some (Prove file q)) None p = tt
-    by (Some (Serve publication)) files p = tt
-    by (Some (ServeSigned publication key chain)) files p = tt
-    by (Some (Route roads from to)) files p = tt
-    by (Some (Root roads fan)) files p = tt
-    by (Some (Dimacs graph places)) files p = tt
-    by (Some (Key secret kind)) files p = tt
-    by (Some (Succeed secret kind)) files p = tt
-    by (Some Links) files p = tt
-    by (Some Desk) files p = tt
-    by (Some (Publish roads settings)) files p = tt
-    by (Some (Check key reply q least chain)) files p = tt
-    by (Some (Audit key publication reply q chain)) files p = tt
-    by (Some (Survey width seed method queries)) files p = tt
-    by (Some (Reach publication q)) files p = tt
-    by (Some (CheckReach key reply q least chain)) files p = tt
-    by (Some (AuditReach key publication reply q chain)) files p = tt
-    by (Some (Reduce key text signature)) files p = tt
+    by (Some request) files p = tt

@@ -13,7 +13,7 @@ use Rattle.route_client.specs.Truth.{HoldsIn}
 use Rattle.route_client.specs.declared.errors.CheckError.{CheckError}
 use Rattle.route_client.specs.Verdicts.{IsVerdict}
 use Rattle.near_proof.specs.Honest.{AnswersAreAccepted, AreAccepted}
-use Rattle.road_command.specs.Requests.{Request, Route, Root, Dimacs, Key, Succeed, Links, Desk, Publish, Prove, Serve, ServeSigned, Check, Audit, Survey, Reach, CheckReach, AuditReach, Reduce}
+use Rattle.road_command.specs.Requests.{Request, Check, CheckReach}
 use Rattle.command_files.specs.Endings.{Ending, Answered}
 use Rattle.client_commands.specs.Checking.{EndsCheck, ends_check}
 use Rattle.road_run.specs.Commands.{Ends, files_for, TellsClient}
@@ -129,22 +129,5 @@ module _ (one : OneNearVerdict) (verdict : NearAcceptsVerdict) (laws : NearRepli
 pub accepts_honest : Verdicts → AcceptedLaws → (request : Request) (files : Option Folder) (content : Option (List ℕ)) (old new : Option (List ℕ)) (o : Result Conclusion Fault)
     → IfSome (files_for request files) (λ folder. Answered (Ends content request folder) old new o) → (o ≡ Err MirrorLost → TellsClient request MirrorLost) → AcceptsHonest request files old new o
 accepts_honest verdicts laws (Check key reply q least chain) (Some folder) content old new o a lost = λ p file. writes verdicts.one verdicts.accepted laws.answers folder key reply q least chain p file old new o a lost
-accepts_honest verdicts laws (Check key reply q least chain) None content old new o a lost = tt
-accepts_honest verdicts laws (Route roads from to) files content old new o a lost = tt
-accepts_honest verdicts laws (Root roads fan) files content old new o a lost = tt
-accepts_honest verdicts laws (Dimacs graph places) files content old new o a lost = tt
-accepts_honest verdicts laws (Key secret kind) files content old new o a lost = tt
-accepts_honest verdicts laws (Succeed secret kind) files content old new o a lost = tt
-accepts_honest verdicts laws Links files content old new o a lost = tt
-accepts_honest verdicts laws Desk files content old new o a lost = tt
-accepts_honest verdicts laws (Publish roads settings) files content old new o a lost = tt
-accepts_honest verdicts laws (Prove publication q) files content old new o a lost = tt
-accepts_honest verdicts laws (Serve publication) files content old new o a lost = tt
-accepts_honest verdicts laws (ServeSigned publication key chain) files content old new o a lost = tt
-accepts_honest verdicts laws (Audit key publication reply q chain) files content old new o a lost = tt
-accepts_honest verdicts laws (Survey width seed method queries) files content old new o a lost = tt
-accepts_honest verdicts laws (Reach publication q) files content old new o a lost = tt
 accepts_honest verdicts laws (CheckReach key reply q least chain) (Some folder) content old new o a lost = λ p file. near_writes verdicts.near_one verdicts.near_accepted laws.near_replies folder key reply q least chain p file old new o a lost
-accepts_honest verdicts laws (CheckReach key reply q least chain) None content old new o a lost = tt
-accepts_honest verdicts laws (AuditReach key publication reply q chain) files content old new o a lost = tt
-accepts_honest verdicts laws (Reduce key text signature) files content old new o a lost = tt
+accepts_honest verdicts laws request files content old new o a lost = tt

@@ -26,7 +26,7 @@ use Rattle.road_line.specs.WithinLine.{refused_near_line}
 use Rattle.near_proof.specs.Right.{AreRight, HonestRepliesAreRight, HonestReachesAreRight}
 use Rattle.road_line.specs.EvidenceLine.{right_line}
 use Rattle.road_line.specs.VerdictLine.{refused_line}
-use Rattle.road_command.specs.Requests.{Request, Route, Root, Dimacs, Key, Succeed, Links, Desk, Publish, Prove, Serve, ServeSigned, Check, Audit, Survey, Reach, CheckReach, AuditReach, Reduce}
+use Rattle.road_command.specs.Requests.{Request, Audit, AuditReach}
 use Rattle.command_files.specs.Endings.{Ending, EndsReading, Answered, Promises}
 use Rattle.command_files.specs.Reading.{octets_at, publication_at, chain_at}
 use Rattle.command_files.specs.HexFiles.{public_key_at}
@@ -163,29 +163,12 @@ finds_honest makings verdicts answers reaches (Audit key publication reply q cha
     let d = h.desk in
     writes_right routes refused_line (route.are_replies verdicts.one verdicts.accepted) makings content folder key publication reply q chain p f.key f.links f.octets f.key_read h.publication_read f.reply_read f.chain_read d.image d.told d.usable d.owners d.signed f.signed.header
     (answers sha256 sha256 f.signer f.key f.links f.octets p q f.signed f.leads f.known f.honest) old new o a lost
-finds_honest makings verdicts answers reaches (Audit key publication reply q chain) None content old new o a lost = tt
 finds_honest makings verdicts answers reaches (AuditReach key publication reply q chain) (Some folder) content old new o a lost = λ p h.
     let f = h.file in
     let d = h.desk in
     writes_right radii refused_near_line (radius.are_replies verdicts.near_one verdicts.near_accepted) makings content folder key publication reply q chain p f.key f.links f.octets f.key_read h.publication_read f.reply_read f.chain_read d.image d.told d.usable d.owners d.signed f.signed.header
     (reaches sha256 sha256 f.signer f.key f.links f.octets p q f.signed f.leads f.honest) old new o a lost
-finds_honest makings verdicts answers reaches (AuditReach key publication reply q chain) None content old new o a lost = tt
-finds_honest makings verdicts answers reaches (Route roads from to) files content old new o a lost = tt
-finds_honest makings verdicts answers reaches (Root roads fan) files content old new o a lost = tt
-finds_honest makings verdicts answers reaches (Dimacs graph places) files content old new o a lost = tt
-finds_honest makings verdicts answers reaches (Key secret kind) files content old new o a lost = tt
-finds_honest makings verdicts answers reaches (Succeed secret kind) files content old new o a lost = tt
-finds_honest makings verdicts answers reaches Links files content old new o a lost = tt
-finds_honest makings verdicts answers reaches Desk files content old new o a lost = tt
-finds_honest makings verdicts answers reaches (Publish roads settings) files content old new o a lost = tt
-finds_honest makings verdicts answers reaches (Prove publication q) files content old new o a lost = tt
-finds_honest makings verdicts answers reaches (Serve publication) files content old new o a lost = tt
-finds_honest makings verdicts answers reaches (ServeSigned publication key chain) files content old new o a lost = tt
-finds_honest makings verdicts answers reaches (Check key reply q least chain) files content old new o a lost = tt
-finds_honest makings verdicts answers reaches (Survey width seed method queries) files content old new o a lost = tt
-finds_honest makings verdicts answers reaches (Reach publication q) files content old new o a lost = tt
-finds_honest makings verdicts answers reaches (CheckReach key reply q least chain) files content old new o a lost = tt
-finds_honest makings verdicts answers reaches (Reduce key text signature) files content old new o a lost = tt
+finds_honest makings verdicts answers reaches request files content old new o a lost = tt
 
 -- and for a run
 module _ {D : Type 0} (g : Ghosts D) (old new : D) (asked : Option Request) (files : Option Folder) (l l' : ℕ) (taken_before taken_now : Option (List ℕ)) (k k' : ℕ) (o : Result Conclusion Fault) where

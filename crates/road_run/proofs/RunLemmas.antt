@@ -232,23 +232,7 @@ files_served named files = by named.guard
 pub serve_then : (asked : Option Request) (P Q : ServeFiles → Type 0) → ((named : ServeFiles) → asked ≡ Some (serve_request named) → P named → Q named) → IfServe asked P → IfServe asked Q
 serve_then (Some (Serve file)) P Q step h = step (unguarded file) refl h
 serve_then (Some (ServeSigned file key chain)) P Q step h = step (guarded file key chain) refl h
-serve_then (Some (Route roads from to)) P Q step h = tt
-serve_then (Some (Root roads fan)) P Q step h = tt
-serve_then (Some (Dimacs graph places)) P Q step h = tt
-serve_then (Some (Key secret kind)) P Q step h = tt
-serve_then (Some (Succeed secret kind)) P Q step h = tt
-serve_then (Some Links) P Q step h = tt
-serve_then (Some Desk) P Q step h = tt
-serve_then (Some (Publish roads settings)) P Q step h = tt
-serve_then (Some (Prove publication q)) P Q step h = tt
-serve_then (Some (Check key reply q least chain)) P Q step h = tt
-serve_then (Some (Audit key publication reply q chain)) P Q step h = tt
-serve_then (Some (Survey width seed method queries)) P Q step h = tt
-serve_then (Some (Reach publication q)) P Q step h = tt
-serve_then (Some (CheckReach key reply q least chain)) P Q step h = tt
-serve_then (Some (AuditReach key publication reply q chain)) P Q step h = tt
-serve_then (Some (Reduce key text signature)) P Q step h = tt
-serve_then None P Q step h = tt
+serve_then asked P Q step h = tt
 
 module _ {D : Type 0} (g : Ghosts D) (old new : D) (makings : OneMaking) (asked : Option Request) (files : Option Folder) (l l' s s' : ℕ) (taken_before taken_now : Option (List ℕ)) (k k' : ℕ) (o : Result Conclusion Fault) where
   abbrev Served : Option (List ℕ) → Option (List ℕ) → ServeFiles → Type 0

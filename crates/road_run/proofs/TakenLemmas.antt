@@ -14,7 +14,7 @@ use Rattle.proof_octets.specs.declared.publication.Publication.{Publication}
 use Rattle.route_server.specs.declared.errors.BuildError.{BuildError}
 use Rattle.route_server.specs.declared.errors.BuildError.TheVariants as build
 use Rattle.near_proof.specs.Honest.{UnknownNodesAreTold}
-use Rattle.road_command.specs.Requests.{Request, Route, Root, Dimacs, Key, Succeed, Links, Desk, Publish, Prove, Serve, ServeSigned, Check, Audit, Survey, Reach, CheckReach, AuditReach, Reduce}
+use Rattle.road_command.specs.Requests.{Request, Prove, Reach}
 use Rattle.command_files.specs.Reading.{publication_at}
 use Rattle.command_files.specs.TwoEnds.{IsFirstUnknown}
 use Rattle.command_files.specs.Endings.{Ending, Answered}
@@ -93,22 +93,5 @@ module _ (laws : AcceptedLaws) (folder : Folder) (file : List ℕ) (q : NearQuer
 pub replies_taken : AcceptedLaws → UnknownNodesAreTold → (request : Request) (files : Option Folder) (content : Option (List ℕ)) (old new : Option (List ℕ)) (o : Result Conclusion Fault)
     → IfSome (files_for request files) (λ folder. Answered (Ends content request folder) old new o) → RepliesAreTaken request files old new o
 replies_taken laws told (Prove file q) (Some folder) content old new o a = λ p read. writes laws told folder file q p read old new o a
-replies_taken laws told (Prove file q) None content old new o a = tt
 replies_taken laws told (Reach file q) (Some folder) content old new o a = λ p read. near_writes laws folder file q p read old new o a
-replies_taken laws told (Reach file q) None content old new o a = tt
-replies_taken laws told (Route roads from to) files content old new o a = tt
-replies_taken laws told (Root roads fan) files content old new o a = tt
-replies_taken laws told (Dimacs graph places) files content old new o a = tt
-replies_taken laws told (Key secret kind) files content old new o a = tt
-replies_taken laws told (Succeed secret kind) files content old new o a = tt
-replies_taken laws told Links files content old new o a = tt
-replies_taken laws told Desk files content old new o a = tt
-replies_taken laws told (Publish roads settings) files content old new o a = tt
-replies_taken laws told (Serve publication) files content old new o a = tt
-replies_taken laws told (ServeSigned publication key chain) files content old new o a = tt
-replies_taken laws told (Check key reply q least chain) files content old new o a = tt
-replies_taken laws told (Audit key publication reply q chain) files content old new o a = tt
-replies_taken laws told (Survey width seed method queries) files content old new o a = tt
-replies_taken laws told (CheckReach key reply q least chain) files content old new o a = tt
-replies_taken laws told (AuditReach key publication reply q chain) files content old new o a = tt
-replies_taken laws told (Reduce key text signature) files content old new o a = tt
+replies_taken laws told request files content old new o a = tt

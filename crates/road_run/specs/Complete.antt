@@ -14,7 +14,7 @@ use Rattle.proof_octets.specs.declared.publication.Publication.{Publication}
 use Rattle.proof_octets.specs.Publications.{publication_text}
 use Rattle.owner_commands.specs.Signing.{StandsOnDisk}
 use Rattle.route_service.specs.Inputs.{split}
-use Rattle.road_command.specs.Requests.{Request, Publish, Prove, Serve, ServeSigned}
+use Rattle.road_command.specs.Requests.{Request, Prove}
 use Rattle.command_books.specs.Installing.{IsInstallable}
 use Rattle.command_files.specs.Reading.{publication_at}
 use Rattle.near_proof.specs.Honest.{AreKnown}
@@ -22,9 +22,10 @@ use Rattle.command_files.specs.Endings.{Ending, NoEnd}
 use Rattle.command_files.specs.Outcomes.{status_of}
 use Rattle.command_files.specs.declared.fault.Fault.{Fault}
 use Rattle.command_files.specs.declared.ended.Conclusion.{Conclusion}
-use Rattle.server_commands.specs.Guarding.{ServeFiles, guarded, unguarded}
+use Rattle.server_commands.specs.Guarding.{ServeFiles}
 use Rattle.server_commands.specs.Serving.{ends_serving, most_octets, most_frames}
-use Rattle.road_run.specs.Commands.{Ends, IsTold}
+use Rattle.road_run.specs.Forms.{Uses, FilesAndSource, ToMirrors, LeavesMirrors, HandsPublication, form_of}
+use Rattle.road_run.specs.Commands.{Ends, IsToldOver}
 use Rattle.road_run.specs.Accepting.{IsTaken, WritesAccepted}
 
 -- with which outcome the files of a service and what is left in the source call for an end of `serve`
@@ -32,19 +33,25 @@ abbrev pub ServesLeft : Option (List ℕ) → ServeFiles → Folder → Ending
 ServesLeft (Some text) named folder = ends_serving named (split most_octets most_frames text) folder
 ServesLeft None named folder = NoEnd
 
+-- the same of a command that uses these things, by how its files and the disk alone let it end
+abbrev pub CallsOver : Uses → Option (List ℕ) → Folder → Ending → Ending
+CallsOver (FilesAndSource named) left folder alone = ServesLeft left named folder
+CallsOver uses left folder alone = alone
+
 -- with which outcome the files, the disk and what is left in the source call for an end
 abbrev pub CallsFor : Option (List ℕ) → Option (List ℕ) → Request → Folder → Ending
-CallsFor content left (Serve file) folder = ServesLeft left (unguarded file) folder
-CallsFor content left (ServeSigned file key chain) folder = ServesLeft left (guarded file key chain)
-    folder
-CallsFor content left request folder = Ends content request folder
+CallsFor content left request folder = CallsOver (form_of request).uses left folder
+    (Ends content request folder)
+
+-- what the end rests on of a command that uses these things is told
+abbrev pub AreToldOver : Uses → Option (List ℕ) → Option (List ℕ) → Type 0
+AreToldOver (FilesAndSource named) content left = left ≢ None
+AreToldOver uses content left = IsToldOver uses content
 
 -- what an end rests on is told: what is left in the source under `serve`, and under other commands
 -- the disk's content where they use it
 abbrev pub AreTold : Option (List ℕ) → Option (List ℕ) → Request → Type 0
-AreTold content left (Serve file) = left ≢ None
-AreTold content left (ServeSigned file key chain) = left ≢ None
-AreTold content left request = IsTold request content
+AreTold content left request = AreToldOver (form_of request).uses content left
 
 -- a status that tells of what hinders the work: a file (3), one-time keys that are all used (8), a
 -- desk that doesn't open or takes no key (12), too many frames (13)
@@ -61,16 +68,21 @@ abbrev pub Answers : ℕ → Type 0
 Answers status = (status ≡ 0) ⊎ (status ≡ 1) ⊎ (status ≡ 10) ⊎ (status ≡ 11) ⊎ (status ≡ 14) ⊎
     (status ≡ 9)
 
--- Under `publish` no mirror had promised fewer puts or octets than the publication has: the one whose
--- header stands on the disk, and whose octets the sink took. Nothing is asked of a mirror under another
--- command.
-abbrev pub PromisedEnough : {M D : Type 0} → (M → ℕ) → (M → ℕ) → Ghosts D → D → D → Request →
+-- No mirror had promised fewer puts or octets than the publication has that is handed to it: the one
+-- whose header stands on the disk, and whose octets the sink took.
+abbrev pub PromisedFor : {M D : Type 0} → (M → ℕ) → (M → ℕ) → Ghosts D → D → D → ToMirrors →
     Option (List ℕ) → Option (List ℕ) → List M → Type 0
-PromisedEnough {M} puts room g old new (Publish roads settings) taken_before taken_now mirrors =
+PromisedFor puts room g old new LeavesMirrors taken_before taken_now mirrors = Unit {0}
+PromisedFor {M} puts room g old new HandsPublication taken_before taken_now mirrors =
     (p : Publication) → StandsOnDisk g old new p →
     Appends taken_before taken_now (publication_text p) → (m : M) → Contains mirrors m →
     ¬ PromisedLess (pieces_in (publication_text p)) (publication_text p) (puts m) (room m)
-PromisedEnough puts room g old new request taken_before taken_now mirrors = Unit {0}
+
+-- Under `publish` the mirrors had promised enough. Nothing is asked of a mirror under another command.
+abbrev pub PromisedEnough : {M D : Type 0} → (M → ℕ) → (M → ℕ) → Ghosts D → D → D → Request →
+    Option (List ℕ) → Option (List ℕ) → List M → Type 0
+PromisedEnough puts room g old new request taken_before taken_now mirrors =
+    PromisedFor puts room g old new (form_of request).to_mirrors taken_before taken_now mirrors
 
 -- where nothing hinders it, and the mirrors promised enough, the work is done, or memory runs out
 abbrev pub IsComplete : Ending → Type 0 → Result Conclusion Fault → Type 0

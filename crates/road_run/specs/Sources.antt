@@ -1,33 +1,42 @@
 -- What a run does with its source.
 use Rattle.std.specs.Prelude.{IfNone, ◌≡◌, ℕ, List, [], IfSome}
 use Rattle.std.specs.declared.option.Option.{Option}
-use Rattle.std.specs.declared.option.Option.TheVariants.{Some}
+use Rattle.std.specs.declared.option.Option.TheVariants.{None, Some}
 use Rattle.std.specs.declared.result.Result.{Result}
 use Rattle.std.specs.declared.result.Result.TheVariants.{Ok, Err}
 use Rattle.road_io.specs.Causes.{Rose}
 use Rattle.road_io.specs.Contents.{Folder}
 use Rattle.road_io.specs.Given.{Gave}
-use Rattle.road_command.specs.Requests.{Request, Serve, ServeSigned}
+use Rattle.road_command.specs.Requests.{Request}
 use Rattle.route_service.specs.Inputs.{split}
 use Rattle.command_files.specs.Exact.{IsExact}
 use Rattle.command_files.specs.declared.fault.Fault.{Fault}
 use Rattle.command_files.specs.declared.fault.Fault.TheVariants.{TruncatedFrame, Source}
 use Rattle.command_files.specs.declared.ended.Conclusion.{Conclusion}
 use Rattle.command_files.specs.declared.ended.Conclusion.TheVariants.{Done}
-use Rattle.server_commands.specs.Guarding.{ServeFiles, guarded, unguarded}
+use Rattle.server_commands.specs.Guarding.{ServeFiles}
 use Rattle.server_commands.specs.Serving.{ServesFrames, ends_serving, most_octets, most_frames}
+use Rattle.road_run.specs.Forms.{Uses, FilesAndSource, form_of}
+
+-- this holds of a service's files, if the source is among what is used
+abbrev pub IfSource : Uses → (ServeFiles → Type 0) → Type 0
+IfSource (FilesAndSource named) P = P named
+IfSource uses P = Unit {0}
+
+-- this holds, unless the source is among what is used
+abbrev pub UnlessSource : Uses → Type 0 → Type 0
+UnlessSource (FilesAndSource named) P = Unit {0}
+UnlessSource uses P = P
 
 -- this holds of a service's files, if arguments ask for serving
 abbrev pub IfServe : Option Request → (ServeFiles → Type 0) → Type 0
-IfServe (Some (Serve file)) P = P (unguarded file)
-IfServe (Some (ServeSigned file key chain)) P = P (guarded file key chain)
-IfServe asked P = Unit {0}
+IfServe None P = Unit {0}
+IfServe (Some request) P = IfSource (form_of request).uses P
 
 -- this holds, unless arguments ask for serving
 abbrev pub UnlessServe : Option Request → Type 0 → Type 0
-UnlessServe (Some (Serve file)) P = Unit {0}
-UnlessServe (Some (ServeSigned file key chain)) P = Unit {0}
-UnlessServe asked P = P
+UnlessServe None P = P
+UnlessServe (Some request) P = UnlessSource (form_of request).uses P
 
 -- what a run takes from its source, by what its arguments ask for: `serve` alone takes anything
 pub record RunTakes (asked : Option Request) (files : Option Folder)

@@ -21,6 +21,7 @@ over. `serve` is started anew before its frames end, and after any death. Debian
 
 import argparse
 import collections
+import contextlib
 import gzip
 import hashlib
 import json
@@ -64,8 +65,9 @@ NO_NODE = "The server says, and does not prove, that an end of the query is no n
 
 
 def tell(text):
-    """Writes a line for whoever operates the gateway."""
-    print(f"gateway: {text}", file=sys.stderr, flush=True)
+    """Writes a line for whoever operates the gateway. Where its disk has no room, the line is lost and nothing else."""
+    with contextlib.suppress(OSError):
+        os.write(2, f"gateway: {text}\n".encode())
 
 
 class Ended(Exception):

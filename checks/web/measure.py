@@ -1,5 +1,5 @@
 #!/usr/bin/python3
-"""Measures the gateway and its replicas, by hand: checks/web/measure.py PROGRAM speed | killed | old | roll | lies | alone
+"""Measures the gateway and its replicas, by hand: checks/web/measure.py PROGRAM speed | killed | old | roll | lies | install | full | alone
 
 speed    answers a second, the median and the 99th of a hundred: through the cache beside past it, with 1, 2 and 3
          replicas, over streets of 5,000 nodes and the grid of 65,536, under a skewed mix of asks
@@ -7,6 +7,8 @@ killed   10,000 asks of 50 clients, while a gateway, a `serve` and nginx are kil
 old      a replica is left at an older publication
 roll     a publication is rolled through three replicas, one by one, under load
 lies     one replica of three lies in one answer of ten, which the cache then keeps
+install  the longest wait of an ask while a publication under HYP over the grid of 65,536 is installed
+full     one gateway whose log lies on a disk without room
 alone    one gateway: slow and hostile clients for an hour (--minutes), with its memory and its open files
 
 Each reply is compared octet for octet with those of `prove` and `reach`. Prints lines for docs/BENCHMARKS.md, and ends with
@@ -26,7 +28,7 @@ import threading
 import time
 
 from parties import GRID, STREETS, Client, Gateway, Many, Owner, Place, replace, roads, serves_of
-from play import LIAR, newest_of, until
+from play import LIAR, faults, id_of, newest_of, until
 
 LOADERS, CONNECTIONS = 3, 6
 METHOD = "ldm"
@@ -166,7 +168,9 @@ def killed(program, given):
     def kill():
         for turn in range(20):
             for what in ("gateway", "serve", "nginx"):
-                number = started.number_of("nginx" if what == "nginx" else f"gateway-{turn % 3}")
+                # the gateway whose `serve` is killed is not the one that was killed just before
+                gateway = turn % 3 if what == "gateway" else (turn + 1) % 3
+                number = started.number_of("nginx" if what == "nginx" else f"gateway-{gateway}")
                 try:
                     for pid in serves_of(number) if what == "serve" else [number]:
                         os.kill(pid, signal.SIGKILL)
@@ -258,6 +262,55 @@ def lies(program, given):
     return counts["wrong"]
 
 
+def install(program, given):
+    owner, _ = prepared(program, roads(GRID, 256), ())
+    # two columns and two rows of cells, with 1,020 borders
+    names = [owner.publish(version, "hyp", "hilbert 0 2 2 2 0") for version in (3, 4)]
+    asked = pairs(owner, 4, random.Random(6), 40)
+    wanted = [owner.prove(names[0], *ends) for ends in asked]
+    gateway, installed, times, wrong = Gateway(owner, names[0]), threading.Event(), [], []
+    ids, here = [id_of(owner.path(name).read_bytes()) for name in names], gateway.newest()
+
+    def one(number):
+        place, draw = Place(gateway.address), random.Random(number)
+        while not installed.is_set():
+            at = draw.randrange(len(asked))
+            began = time.monotonic()
+            found = place.ask("/v1/p/{}/route?from={}&to={}".format(here, *asked[at]))[::2]
+            times.append(time.monotonic() - began)
+            if found != (200, wanted[at]):
+                wrong.append(asked[at])
+            time.sleep(0.01)
+
+    threads = [threading.Thread(target=one, args=(number,)) for number in range(4)]
+    for thread in threads:
+        thread.start()
+    time.sleep(1)
+    began = time.monotonic()
+    replace(gateway.folder / "map.pub", owner.path(names[1]).read_bytes())
+    until("installed", lambda: gateway.newest() == ids[1], 120)
+    took = time.monotonic() - began
+    installed.set()
+    for thread in threads:
+        thread.join()
+    print(f"install: {took:.1f} s, {len(times)} asks beside it, {len(wrong)} wrong, {max(times):.2f} s at worst; status {gateway.end()}")
+    return len(wrong) + (max(times) > 0.5)
+
+
+def full(program, given):
+    owner, (name,) = prepared(program, roads(STREETS, 900), method="dij")
+    gateway = Gateway(owner, name, "--log-requests", log="/dev/full")
+    here, asked = gateway.newest(), pairs(owner, given.asks, random.Random(7))
+    wrong = sum(gateway.place.ask("/v1/p/{}/route?from={}&to={}".format(here, *ends))[::2] != (200, owner.prove(name, *ends)) for ends in asked)
+    for pid in gateway.serves():
+        os.kill(pid, signal.SIGKILL)
+    until("serve is back", lambda: len(gateway.serves()) == 1 and Place(gateway.address).ask("/v1/ready")[0] == 200)
+    wrong += sum(gateway.place.ask("/v1/p/{}/route?from={}&to={}".format(here, *ends))[::2] != (200, owner.prove(name, *ends)) for ends in asked[:20])
+    status = gateway.end()
+    print(f"full: {len(asked) + 20} asks, {wrong} wrong, beside a log that takes nothing; status {status}")
+    return wrong + (status != 0)
+
+
 def alone(program, given):
     owner, (name,) = prepared(program, roads(STREETS, 5000), method="dij")
     gateway = Gateway(owner, name, "--reply-seconds", 20, "--request-seconds", 10)
@@ -292,12 +345,15 @@ def alone(program, given):
 def main(words):
     parser = argparse.ArgumentParser(description=__doc__.splitlines()[0])
     parser.add_argument("program")
-    parser.add_argument("what", choices=("speed", "killed", "old", "roll", "lies", "alone"))
+    parser.add_argument("what", choices=("speed", "killed", "old", "roll", "lies", "install", "full", "alone"))
     parser.add_argument("--seconds", type=float, default=20)
     parser.add_argument("--asks", type=int, default=200)
     parser.add_argument("--minutes", type=float, default=60)
     given = parser.parse_args(words)
-    return 1 if globals()[given.what](given.program, given) else 0
+    bad = globals()[given.what](given.program, given)
+    for fault in faults:
+        print("DIFFERS", fault)
+    return 1 if bad or faults else 0
 
 
 if __name__ == "__main__":

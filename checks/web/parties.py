@@ -52,10 +52,10 @@ class Owner:
         done = subprocess.run([self.program, *words.split()], cwd=self.folder, stdout=subprocess.PIPE, stderr=subprocess.DEVNULL, check=False)
         return done.returncode, done.stdout
 
-    def publish(self, version, method="dij"):
+    def publish(self, version, method="dij", settings=None):
         """The name of a publication."""
         name = f"{method}-{version}.pub"
-        self.keep(name, self.run(f"publish map.roads {method} {version} {METHODS[method]}"))
+        self.keep(name, self.run(f"publish map.roads {method} {version} {settings or METHODS[method]}"))
         return name
 
     def succeed(self):
@@ -179,7 +179,7 @@ class Started:
 class Gateway(Started):
     """A gateway over files of its own in an owner's folder."""
 
-    def __init__(self, owner, name, *more, program=None, wait=True):
+    def __init__(self, owner, name, *more, program=None, log=None, wait=True):
         self.folder = owner.folder / f"gateway-{free_port()}"
         self.folder.mkdir()
         for file, held in (("map.pub", name), ("owner.key", "owner.key"), ("owner.chain", "owner.chain")):
@@ -187,7 +187,7 @@ class Gateway(Started):
         self.address = f"http://127.0.0.1:{free_port()}"
         listen = self.address.removeprefix("http://")
         words = [PYTHON, TOP / "web/gateway.py", program or owner.program, "map.pub", "owner.key", "owner.chain", "--listen", listen, *more]
-        self.log = self.folder / "log"
+        self.log = log or self.folder / "log"
         super().__init__(words, self.folder, self.log)
         self.place = Place(self.address)
         if wait:

@@ -186,6 +186,12 @@ def wrong_key(key):
         return True
 
 
+def names(played):
+    """The short name of a key of a secret of zeros, as `desk` says it; by coreutils' sha256sum it is 29a0f89a."""
+    key = (played.folder / "owner.key").read_text().strip()
+    same("a short name", (gogbetiku.short_name(key), gogbetiku.short_name(bytes.fromhex(key))), ("29a0f89a", "29a0f89a"))
+
+
 def nulls(played):
     """Null pointers count as no octets and no room; a verdict of zeros is refused; a room may be too small."""
     calls = ctypes.CDLL(str(played.library))
@@ -335,7 +341,7 @@ def main(program, is_long):
     numbers_of_the_header()
     with tempfile.TemporaryDirectory() as name:
         played = Played(pathlib.Path(program).resolve(), pathlib.Path(name))
-        for part in (routes, places, radii, passes_twice, unknown_codes, nulls, sentences, buffers, floors, planted):
+        for part in (routes, places, radii, passes_twice, unknown_codes, names, nulls, sentences, buffers, floors, planted):
             part(played)
         if is_long:
             long_runs(played)

@@ -588,16 +588,19 @@ class Both:
 
     def __init__(self, program: str, folder: pathlib.Path):
         self.program, self.folder, self.counts = str(pathlib.Path(program).resolve()), folder, Counter()
-        self.slowest = 0.0
+        self.slowest, self.is_guarded, self.is_spent_first = 0.0, False, False
 
     def by_program(self, words: list[str], files: dict[str, bytes], source: bytes, disk: bytes) -> Ended:
         for name, text in files.items():
             (self.folder / name).write_bytes(text)
         desk = self.folder / "owner.desk"
+        desk.touch(mode=0o600)
         desk.write_bytes(disk)
         begun = time.monotonic()
         done = subprocess.run([self.program, *words], cwd=self.folder, input=source, capture_output=True, check=False)
         self.slowest = max(self.slowest, time.monotonic() - begun)
+        self.is_guarded = b"No run and no crash leaves that" in done.stderr
+        self.is_spent_first = b"counted as free and has the header" in done.stderr
         return Ended(done.returncode, done.stdout, desk.read_bytes())
 
     def by_reference(self, words: list[str], files: dict[str, bytes], source: bytes, disk: bytes) -> Ended:
@@ -616,6 +619,12 @@ class Both:
         wanted, seen = self.by_reference(*step), self.by_program(*step)
         self.counts[words[0] if words[0] in FORMS else "other words"] += 1
         self.counts["steps"] += 1
+        if self.is_guarded and (seen.status, seen.output, seen.disk) == (12, b"", disk):
+            self.counts["a desk that no run leaves, not signed over"] += 1
+            return None
+        if self.is_spent_first:
+            self.counts["a one-time key spent first, since a text stood in it"] += 1
+            return None
         if (seen.status, seen.output, seen.disk) == (wanted.status, wanted.output, wanted.disk):
             if words[0].startswith("check") and seen.status == 0:
                 self.counts["accepted and true"] += 1

@@ -65,6 +65,7 @@ class Program:
         desk = self.folder / "owner.desk"
         desk.unlink(missing_ok=True)
         if disk is not None:
+            desk.touch(mode=0o600)
             desk.write_bytes(disk)
         self.runs += 1
         done = subprocess.run(
@@ -75,6 +76,14 @@ class Program:
     def disk(self) -> bytes:
         desk = self.folder / "owner.desk"
         return desk.read_bytes() if desk.exists() else b""
+
+
+def is_guarded(program: Program, ended: tuple[int, bytes, str], image: bytes) -> bool:
+    """Whether a command that signs was kept from a desk that no run and no crash leaves, which stays as it was."""
+    if "No run and no crash leaves that" not in ended[2]:
+        return False
+    same("a desk that no run leaves", (ended[:2], program.disk()), ((USED_WRONG, b""), image))
+    return True
 
 
 def faulty(what: str, ended: tuple[int, bytes, str], fault: str, status: int = FAULTY) -> None:
@@ -379,16 +388,22 @@ def placed(ended: tuple[int, bytes, str]) -> int | None:
 def desk(program: Program, given: Fields, result: Fields) -> None:
     image = owners.image_in(given["image"])
     ended = program.run("desk", disk=image)
+    links = program.run("links", disk=image)
+    guarded = is_guarded(program, links, image)
     if "fault" in result:
-        faulty("links", program.run("links", disk=image), result["fault"], USED_WRONG)
+        if not guarded:
+            faulty("links", links, result["fault"], USED_WRONG)
         return faulty("desk", ended, result["fault"], USED_WRONG)
     same("desk", ended[:2], (0, f"{result['keys'][-1]} {result['left']} {result['total']}\n".encode()))
-    same("links", program.run("links", disk=image)[:2], (0, octets(result["links"])))
+    if not guarded:
+        same("links", links[:2], (0, octets(result["links"])))
 
 
 def desk_change(program: Program, given: Fields, result: Fields) -> None:
     image = owners.image_in(given["image"])
     ended = program.run(given["do"], "secret", given["kind"], secret=given["secret"].encode(), disk=image)
+    if is_guarded(program, ended, image):
+        return
     if "fault" in result:
         same("owner.desk", program.disk(), image)
         return faulty(given["do"], ended, result["fault"], USED_WRONG)

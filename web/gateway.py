@@ -21,6 +21,7 @@ over. `serve` is started anew before its frames end, and after any death. Debian
 
 import argparse
 import collections
+import concurrent.futures
 import contextlib
 import gzip
 import hashlib
@@ -203,6 +204,7 @@ class Line:
     def __init__(self, options, publications, key, chain):
         """Builds their books, by rising version."""
         self.lock, self.options, self.publications, self.ended = threading.Lock(), options, {}, False
+        self.shared, self.under_way = threading.Lock(), {}
         first, *later = publications
         self.child = Child(options.program, first.octets, key, *([chain] if chain else []))
         try:
@@ -233,13 +235,34 @@ class Line:
             raise Refused(f"serve does not install version {publication.version}: {reply[:16].hex()}")
 
     def ask(self, publication, code, words):
-        """The reply to a query."""
-        session = self.publications[publication]
+        """The reply to a query. Whoever asks the same while it is under way gets the same octets, or the same end."""
+        body = bytes([code, self.publications[publication]]) + words
+        with self.shared:
+            answer = self.under_way.get(body)
+            is_first = answer is None
+            if is_first:
+                answer = self.under_way[body] = concurrent.futures.Future()
+        if is_first:
+            self._answer(body, answer)
+        return answer.result()
+
+    def _answer(self, body, answer):
+        """Asks `serve`, and hands the reply to all who wait for it."""
+        try:
+            answer.set_result(self._reply(body))
+        except BaseException as error:
+            answer.set_exception(error)
+        finally:
+            with self.shared:
+                del self.under_way[body]
+
+    def _reply(self, body):
+        """What `serve` says to a body, in its turn."""
         with self.lock:
             if self.ended:
                 raise Ended("serve was ended")
-            reply = self.child.told(bytes([code, session]) + words, self.options.ask_seconds)
-        if reply[:2] != bytes([0x80 + code, session]):
+            reply = self.child.told(body, self.options.ask_seconds)
+        if reply[:2] != bytes([0x80 + body[0], body[1]]):
             raise Ended(f"serve says {reply[:16].hex()}")
         return reply[2:]
 

@@ -160,6 +160,7 @@ def main():
     program, first = sys.argv[1], int(sys.argv[2]) if len(sys.argv) > 2 else 1000
     more, word = int(sys.argv[3]) if len(sys.argv) > 3 else 60, sys.argv[4] if len(sys.argv) > 4 else ""
     wrong = 0
+    os.umask(0o077)
     with tempfile.TemporaryDirectory() as path:
         folder = Folder(program, path)
         prepared(folder)

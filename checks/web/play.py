@@ -4,6 +4,7 @@
 examples  what web/openapi.json shows, with its statuses, headers and octets beside `prove` and `reach`
 files     publications and chains moved into their places: new, broken, old, another owner's, and a key's successor
 killed    `serve` is killed while clients ask
+shared    ten ask the same while `serve` stands still, which then goes on, or is killed
 odd       octets that are no HTTP, requests in a row, 200 connections held open, clients that read nothing
 limits    asks by address, behind a proxy that is named and without one
 stopped   a stop while clients ask
@@ -210,6 +211,34 @@ def killed(owner, draw):
     until("one serve stays", lambda: len(gateway.serves()) == 1)
     same("end", gateway.end(), 0)
     return f"{late} of {len(asked)} put off"
+
+
+def shared(owner, _draw):
+    """Whoever asks what is under way already shares its answer, and its end."""
+    gateway = Gateway(owner, "dij-3.pub")
+    here, ends = gateway.newest(), (owner.ids[0], owner.ids[-1])
+    wanted = owner.prove("dij-3.pub", *ends)
+
+    def one(_):
+        return Place(gateway.address).ask("/v1/p/{}/route?from={}&to={}".format(here, *ends))[::2]
+
+    before = frames_of(gateway)
+    for number in (signal.SIGCONT, signal.SIGKILL):
+        (pid,) = gateway.serves()
+        os.kill(pid, signal.SIGSTOP)
+        with concurrent.futures.ThreadPoolExecutor(10) as pool:
+            asked = pool.map(one, range(10))
+            time.sleep(0.5)
+            os.kill(pid, number)
+            same("asks at once", list(asked), [(200, wanted)] * 10)
+        if number == signal.SIGCONT:
+            same("their frames", frames_of(gateway) - before, 1)
+    same("end", gateway.end(), 0)
+
+
+def frames_of(gateway):
+    """How many frames the `serve` that runs has taken."""
+    return int(re.search(rb"^road_gateway_serve_frames (\d+)$", gateway.place.ask("/metrics")[2], re.MULTILINE)[1])
 
 
 def raw(gateway, octets, seconds=3):
@@ -427,7 +456,7 @@ def main(program):
     owner.path("owner.chain").rename(owner.path("later.chain"))
     owner.keep("owner.chain", b"")
     owner.publish(6)
-    for part in (examples, files, killed, odd, limits, stopped, many, samples):
+    for part in (examples, files, killed, shared, odd, limits, stopped, many, samples):
         began = time.monotonic()
         said = part(owner, draw)
         print(f"{part.__name__}: {time.monotonic() - began:.1f} s{'; ' + said if said else ''}", flush=True)

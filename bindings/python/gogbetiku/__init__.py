@@ -11,6 +11,7 @@ from __future__ import annotations
 
 import ctypes
 import fcntl
+import hashlib
 import json
 import os
 import pathlib
@@ -23,6 +24,7 @@ __version__ = "0.1.0"
 __all__ = [
     "Client", "Route", "NoRoute", "Within", "Node", "ReachedNode", "Refused", "NotAnswer", "Malformed", "Stale",
     "BadChain", "BadSignature", "BadItems", "PassesTwice", "NoMemory", "TooLong", "MalformedChain", "Unknown",
+    "short_name",
 ]
 
 Octets = Union[bytes, bytearray, memoryview]
@@ -239,6 +241,11 @@ def _key_of(key: Octets | str) -> bytes:
     if len(octets) != _KEY_OCTETS:
         raise ValueError("a public key has 56 octets, or 112 hex digits")
     return octets
+
+
+def short_name(key: Octets | str) -> str:
+    """The first 8 hex digits of the SHA-256 of a public key, for people: it tells keys apart, and proves nothing."""
+    return hashlib.sha256(_key_of(key)).hexdigest()[:8]
 
 
 def _number(value: int, bits: int) -> int:

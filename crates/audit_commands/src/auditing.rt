@@ -60,7 +60,7 @@ pub fn audit<L: Library, K: Sink, D: Disk>(
 }
 
 /// The same of a reply of any kind.
-pub fn audit_files<T: Telling, L: Library, K: Sink, D: Disk>(
+pub(crate) fn audit_files<T: Telling, L: Library, K: Sink, D: Disk>(
     alloc: Global,
     library: &mut L,
     sink: &mut K,

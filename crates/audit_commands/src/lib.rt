@@ -3,7 +3,7 @@
 //! what a forgery comes down to.
 #![tactic(auto)]
 
-pub use auditing::{audit, audit_files};
+pub use auditing::audit;
 pub use near_auditing::audit_reach;
 pub use reducing::reduce;
 pub use telling::{RouteTelling, Telling};

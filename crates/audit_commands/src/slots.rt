@@ -12,7 +12,7 @@ ghost use Rattle.audit_commands.specs.Reducing.{HasSpent, IsNamed};
 
 use desk_areas::slots_of;
 use key_desk::{AreaError, Desk, DeskError};
-use lms_ots::array_at;
+use octet_text::array_at;
 use road_io::Disk;
 
 /// The open area whose key has this public key.

@@ -1,12 +1,14 @@
 -- What the writes of a new key leave.
-use Rattle.std.proofs.Common.{◌≡◌, ℕ, zero, suc, ◌+◌, ◌*◌, ◌<◌, ◌≤◌, List, length, get_or, take, drop, replicate, arith, sym, ◌∙◌, ap, subst}
-use Rattle.std.proofs.lemmas.List.{places, get_or-replicate, get_or-take, get_or-drop, drop-take, take-take, drop-drop}
+use Rattle.std.proofs.Common.{◌≡◌, ℕ, zero, suc, ◌+◌, ◌*◌, ◌^◌, ◌<◌, ◌≤◌, List, ◌++◌, length, get_or, take, drop, replicate, arith, sym, ◌∙◌, ap, subst}
+use Rattle.std.specs.Int.{w32, to_be_bytes, from_be_bytes}
+use Rattle.std.proofs.lemmas.List.{places, get_or-replicate, get_or-take, get_or-drop, drop-take, take-take, take_all, drop-drop}
+use Rattle.std.proofs.lemmas.Nat.{from_be_bytes-to_be_bytes_4}
 use Rattle.road_io.specs.Disk.{written}
 use Rattle.road_io.proofs.WrittenLaws.{written_inside, written_above, length-written}
 use Rattle.desk_areas.specs.Layout.{slots_of, place_in, kind_at, secret_at}
 use Rattle.desk_areas.specs.Keys.{key_from}
 use Rattle.desk_areas.specs.Blank.{IsZero, IsBlankArea}
-use Rattle.desk_areas.proofs.KeyLemmas.{key_from-secret}
+use Rattle.desk_areas.proofs.KeyLemmas.{four_octets, key_from-secret}
 
 pub cleared : (zeros c : List ℕ) → zeros ≡ replicate (length zeros) 0 → get_or c 0 0 ≡ 0 → 0 < length c → IsZero 0 (length zeros + 1) (written 1 zeros c)
 cleared zeros c are first some = record {
@@ -52,11 +54,15 @@ module _ (base : ℕ) (block d : List ℕ) (size : length block ≡ 52) (fits : 
       ∙ ap (λ (l : List ℕ). take 48 (drop 4 l)) inside
 
 -- a block over zeros makes a blank area
-pub blank_written : (base kind : ℕ) (secret block d : List ℕ) → length block ≡ 52 → ((get_or block 0 0 * 256 + get_or block 1 0) * 256 + get_or block 2 0) * 256 + get_or block 3 0 ≡ kind → take 48 (drop 4 block) ≡ secret
+pub blank_written : (base kind : ℕ) (secret block d : List ℕ) → kind < 2 ^ 32 → length secret ≡ 48 → block ≡ to_be_bytes w32 kind ++ secret
     → IsZero base (place_in 0 (slots_of kind)) d → IsBlankArea (key_from kind secret) base (written (base + 1) block d)
-blank_written base kind secret block d size kind_is secret_is clear =
+blank_written base kind secret block d high long_secret is clear =
+    let size : length block ≡ 52 = ap length is ∙ omega (arith, long_secret) in
     let fits : base + 53 ≤ length d = omega (arith, clear.long) in
     let long : length (written (base + 1) block d) ≡ length d = length-written (base + 1) block d (omega (arith, size, fits)) in
+    let kind_is : ((get_or block 0 0 * 256 + get_or block 1 0) * 256 + get_or block 2 0) * 256 + get_or block 3 0 ≡ kind =
+    sym (four_octets block) ∙ ap (from_be_bytes w32) is ∙ from_be_bytes-to_be_bytes_4 kind high in
+    let secret_is : take 48 (drop 4 block) ≡ secret = ap (λ (l : List ℕ). take 48 (drop 4 l)) is ∙ take_all 48 secret (omega (arith, long_secret)) in
     record {
       block = record {
         kind = block_kind base block d size fits ∙ kind_is;

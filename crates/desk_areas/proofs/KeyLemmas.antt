@@ -1,5 +1,6 @@
 -- The desk's key and that of the trees.
-use Rattle.std.proofs.Common.{◌≡◌, ◌⊎◌, ℕ, ◌^◌, ◌<◌, true, List, ◌++◌, length, take, drop, sym, ap, subst, ◌∙◌, arith, inl, inr}
+use Rattle.std.proofs.Common.{◌≡◌, ◌⊎◌, ℕ, ◌+◌, ◌*◌, ◌^◌, ◌<◌, true, List, ◌++◌, length, get_or, take, drop, sym, ap, subst, ◌∙◌, arith, inl, inr}
+use Rattle.std.specs.Int.{w32, from_be_bytes}
 use Rattle.std.proofs.lemmas.Bool.{cases_eq}
 use Rattle.std.proofs.lemmas.Bool.Decides.{nat_tests}
 use Rattle.std.proofs.lemmas.List.{take_all, take-append-drop, length-drop, length-take}
@@ -7,6 +8,10 @@ use Rattle.std.proofs.lemmas.Nat.{from_be_bytes-to_be_bytes_4}
 use Rattle.lms_tree.specs.Signatures.{KeyOf, height_of, is_kind, number_at, sealed}
 use Rattle.desk_areas.specs.Layout.{slots_of}
 use Rattle.desk_areas.specs.Keys.{key_from}
+
+-- the number that four octets encode
+pub four_octets : (octets : List ℕ) → from_be_bytes w32 octets ≡ ((get_or octets 0 0 * 256 + get_or octets 1 0) * 256 + get_or octets 2 0) * 256 + get_or octets 3 0
+four_octets octets = omega arith
 
 -- a kind with slots is known
 pub known_kind : (kind : ℕ) → 0 < slots_of kind → is_kind kind ≡ true

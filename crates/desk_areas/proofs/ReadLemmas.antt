@@ -1,5 +1,6 @@
 -- What is read of one area.
-use Rattle.std.proofs.Common.{◌≡◌, ℕ, ◌+◌, ◌-◌, ◌*◌, ◌<◌, ◌≤◌, List, ◌++◌, length, get_or, take, drop, Option, Some, None, IfSome, IfNone, is_some, true, arith, sym, ◌∙◌, ap, subst}
+use Rattle.std.proofs.Common.{◌≡◌, ℕ, ◌+◌, ◌-◌, ◌<◌, ◌≤◌, List, ◌++◌, length, get_or, take, drop, Option, Some, None, IfSome, IfNone, is_some, true, arith, sym, ◌∙◌, ap, subst}
+use Rattle.std.specs.Int.{w32, from_be_bytes}
 use Rattle.std.proofs.lemmas.List.{get_or-take, get_or-drop, drop-take, take-take, drop-drop, take_all, take-append-drop, length-drop}
 use Rattle.lms_tree.specs.Signatures.{KeyOf, public_key}
 use Rattle.lms_tree.specs.Links.{IsLink, link_mark, link_text, linked_key}
@@ -8,6 +9,7 @@ use Rattle.desk_areas.specs.Layout.{SlotId, slots_of, slots_at, place_in, base_o
 use Rattle.desk_areas.specs.Keys.{key_from, key_at}
 use Rattle.desk_areas.specs.Area.{AreaView, area_in}
 use Rattle.desk_areas.specs.Faults.{IsBadArea, StrayLink, IsFaulty, Alone, SameName, OtherKey, NinthKey, IsBadBlock}
+use Rattle.desk_areas.proofs.KeyLemmas.{four_octets}
 use Rattle.desk_areas.specs.Reading.{HasStray, HasGates, IsReadArea, IsLastLink, IsNamed, IsLinkBefore, HasRead}
 
 -- an octet that was read
@@ -15,12 +17,16 @@ module _ (base : ℕ) (x octets : List ℕ) (is : octets ≡ take 53 (drop base 
   octet_read : (k : ℕ) → k < 53 → get_or octets k 0 ≡ get_or x (base + k) 0
   octet_read k lt = ap (λ (l : List ℕ). get_or l k 0) is ∙ get_or-take 53 (drop base x) k 0 lt ∙ get_or-drop base x k 0
 
-  pub kind_read : ((get_or octets 1 0 * 256 + get_or octets 2 0) * 256 + get_or octets 3 0) * 256 + get_or octets 4 0 ≡ kind_at x base
+  kind_octet : (k : ℕ) → k < 4 → get_or (take 4 (drop 1 octets)) k 0 ≡ get_or x (base + (1 + k)) 0
+  kind_octet k lt = get_or-take 4 (drop 1 octets) k 0 lt ∙ get_or-drop 1 octets k 0 ∙ octet_read (1 + k) (omega (arith, lt))
+
+  pub kind_read : from_be_bytes w32 (take 4 (drop 1 octets)) ≡ kind_at x base
   kind_read =
-      let a = octet_read 1 (omega arith) in
-      let b = octet_read 2 (omega arith) in
-      let e = octet_read 3 (omega arith) in
-      let f = octet_read 4 (omega arith) in
+      let whole = four_octets (take 4 (drop 1 octets)) in
+      let a = kind_octet 0 (omega arith) in
+      let b = kind_octet 1 (omega arith) in
+      let e = kind_octet 2 (omega arith) in
+      let f = kind_octet 3 (omega arith) in
       cc
 
   pub secret_read : take 48 (drop 5 octets) ≡ secret_at x base

@@ -4,8 +4,8 @@ ghost use Rattle.desk_areas.specs.Keys.{key_from};
 ghost use Rattle.desk_areas.specs.Layout.{slots_of, place_in};
 
 use crate::errors::StartError;
-use lms_ots::array_at;
 use lms_tree::{Key, KeyError};
+use octet_text::array_at;
 use std::alloc::Global;
 use std::marker::Model;
 

@@ -1,5 +1,6 @@
 //! A new key's area: zeros first, then the key block, whose gate is opened last.
-ghost use Rattle.std.specs.Prelude.{◌≡◌, ◌≢◌, ◌⊎◌, ◌+◌, ◌*◌, ◌^◌, ◌<◌, ◌≤◌, Some, Err, length, take, drop, replicate, IfOk, OnOk, IsErrOf, IsErr, get_or};
+ghost use Rattle.std.specs.Prelude.{◌≡◌, ◌≢◌, ◌⊎◌, ◌+◌, ◌^◌, ◌<◌, ◌≤◌, ◌++◌, Some, Err, length, replicate, IfOk, OnOk, IsErrOf, IsErr};
+ghost use Rattle.std.specs.Int.{w32, to_be_bytes};
 ghost use Rattle.std.specs.Option.{ForSome};
 ghost use Rattle.road_io.specs.Causes.{HasCause, Rose, RoseBy};
 ghost use Rattle.road_io.specs.Disk.{Narrows, Torn, Stays};
@@ -11,6 +12,7 @@ ghost use Rattle.desk_areas.specs.Blank.{IsZero, IsBlankArea, IsBlank, IsFresh};
 
 use crate::errors::StartError;
 use crate::writing::{put, store};
+use octet_text::write_array;
 use road_io::{Disk, Failed};
 
 /// Whether a key stands on the disk; and how long the disk is.
@@ -136,16 +138,11 @@ pub fn put_block<D: Disk>(
 
 // The kind in four octets, and the secret.
 fn block_of(kind: u32, secret: &[u8; 48]) -> [u8; 52]
-    ensures kind { ((get_or result 0 0 * 256 + get_or result 1 0) * 256 + get_or result 2 0) * 256 +
-        get_or result 3 0 ≡ kind }
-    ensures secret { take 48 (drop 4 result) ≡ secret.now }
+    ensures { result ≡ to_be_bytes w32 kind ++ secret.now }
 {
     let mut block = [0u8; 52];
-    block[0] = (kind / 16777216) as u8;
-    block[1] = (kind / 65536 % 256) as u8;
-    block[2] = (kind / 256 % 256) as u8;
-    block[3] = (kind % 256) as u8;
-    (&mut block[4..52]).copy_from_slice(secret);
+    write_array(&mut block, 0, &kind.to_be_bytes());
+    write_array(&mut block, 4, secret);
     block
 }
 

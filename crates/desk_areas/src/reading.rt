@@ -14,8 +14,8 @@ ghost use Rattle.lms_tree.specs.Links.{IsLink};
 
 use crate::area::{Area, Count, build_key, place_in, slots_of};
 use crate::errors::StartError;
-use lms_ots::array_at;
 use lms_tree::{Key, is_link};
+use octet_text::array_at;
 use road_io::{Disk, Failed};
 use std::alloc::Global;
 
@@ -39,11 +39,10 @@ fn read_block<D: Disk>(disk: &mut D, base: u64) -> Result<Block, Failed>
 {
     let mut octets = [0u8; 53];
     disk.read_at(base, &mut octets)?;
-    let kind = ((octets[1] as u32 * 256 + octets[2] as u32) * 256 + octets[3] as u32) * 256
-        + octets[4] as u32;
-    let mut secret = [0u8; 48];
-    secret.copy_from_slice(&octets[5..53]);
-    Ok(Block { kind, secret })
+    Ok(Block {
+        kind: u32::from_be_bytes(array_at(&octets, 1)),
+        secret: array_at(&octets, 5),
+    })
 }
 
 /// Whether the gate at an offset is open.

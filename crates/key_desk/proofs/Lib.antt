@@ -14,6 +14,7 @@ pub mod Refusals
 pub mod RunLaws
 pub mod Runs
 pub mod SlotTexts
+pub mod Spending
 pub mod Standing
 pub mod Steps
 pub mod Successors

@@ -3,6 +3,7 @@ pub mod Desk
 pub mod Links
 pub mod Runs
 pub mod SlotTexts
+pub mod Spending
 pub mod Stands
 pub mod Succession
 pub mod View

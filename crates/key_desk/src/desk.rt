@@ -127,7 +127,7 @@ impl Desk {
     }
 
     // Where a slot of the current area begins.
-    fn place(&self, number: u32) -> u64
+    pub(crate) fn place(&self, number: u32) -> u64
         requires { number < slots_of self.now.key.kind }
         ensures place { result ≡ place_in self.now.base number }
         ensures low { result < 2 ^ 63 }
@@ -346,7 +346,7 @@ impl Desk {
 }
 
 // The lowest free slot that is not the last.
-fn first_free(counts: &[Count]) -> Option<u32>
+pub(crate) fn first_free(counts: &[Count]) -> Option<u32>
     requires { length counts.now ≤ 1024 }
     ensures some { IfSome result (λ s. (slice_index_or counts.now s Count.Spent ≡ Count.Free) ×
         (s + 1 < length counts.now)) }

@@ -20,6 +20,7 @@ mod find;
 mod laws;
 mod left;
 mod links;
+mod spend;
 mod start;
 mod succeed;
 mod texts;

@@ -1,14 +1,14 @@
 //! The keys of a desk, and the links from each of them to the next.
-ghost use Rattle.std.specs.Prelude.{◌≡◌, ◌+◌, ◌<◌, ◌≤◌, ◌↔◌, Ok, Err, false, length, IfOk, IsErr, IsErrOf};
+ghost use Rattle.std.specs.Prelude.{◌≡◌, ◌+◌, ◌<◌, ◌≤◌, ◌↔◌, Ok, Err, true, false, length, IfOk, IsErr, IsErrOf};
 ghost use Rattle.lms_tree.specs.ChainFiles.{chain_file, link_row};
 ghost use Rattle.lms_tree.specs.Chains.{chained};
 ghost use Rattle.lms_tree.specs.Links.{link_text};
-ghost use Rattle.lms_tree.specs.Signatures.{public_key, verified};
+ghost use Rattle.lms_tree.specs.Signatures.{height_of, public_key, seal_len, verified};
 ghost use Rattle.key_desk.specs.Links.{link_of};
 
 use crate::desk::{Desk, signature_len};
 use desk_areas::slots_of;
-use lms_tree::{Key, Link, link_text};
+use lms_tree::{Key, Link, link_text, verify};
 use octet_text::Octets;
 use std::alloc::{AllocError, AllocFailed, Global};
 use thiserror::Error;
@@ -136,6 +136,36 @@ impl Desk {
         }
         Ok(links)
     }
+
+    /// Whether the current key is linked to the one before it: the link is made anew, in no memory of the heap, and
+    /// verified. By its contract it is; a bit that turned in memory meanwhile shows here.
+    pub fn is_linked(&self) -> bool
+        requires { 0 < length self.now.earlier }
+        ensures { result ≡ true }
+    {
+        let earlier = self.earlier();
+        is_good_link(earlier[earlier.len() - 1].key(), &self.public())
+    }
+}
+
+// Signs the link text of the next key by a key's last one-time key.
+fn sign_link(key: &Key, next: &[u8; 56], signature: &mut [u8])
+    requires { length signature.old ≡ seal_len (height_of key.now.kind) }
+    ensures signature { signature.new ≡ (link_of key.now next.now).signature }
+    ensures verified { verified (public_key key.now) (link_text next.now) signature.new ≡ Ok tt }
+{
+    let last = slots_of(key.kind()).saturating_sub(1);
+    key.sign_into(last, &link_text(next), signature);
+}
+
+// Whether the signature of a link text by a key's last one-time key is verified under the key.
+fn is_good_link(key: &Key, next: &[u8; 56]) -> bool
+    ensures { result ≡ true }
+{
+    let mut octets = [0u8; 1452];
+    let signature = &mut octets[..signature_len(key.kind()) as usize];
+    sign_link(key, next, signature);
+    verify(&key.public(), &link_text(next), signature).is_ok()
 }
 
 // The link from a key to the next one: its last one-time key signs the link text.
@@ -146,10 +176,9 @@ fn link_to(alloc: Global, key: &Key, next: [u8; 56]) -> Result<Link, LinksError>
     ensures fits { IfOk result (λ link. link_row.Fits link) }
     ensures memory { IsErr result → result ≡ Err LinksError.Memory }
 {
-    let last = slots_of(key.kind()).saturating_sub(1);
     let length = signature_len(key.kind());
     let mut signature = vec![in alloc; 0u8; length as usize]?;
-    key.sign_into(last, &link_text(&next), &mut signature);
+    sign_link(key, &next, &mut signature);
     Ok(Link {
         key: next,
         signature: Octets::from_vec(signature),

@@ -21,8 +21,8 @@ use desk_areas::{
     Area, Count, StartError, build_key, clear_next, has_name, open_gate, place_in, put_block,
     put_text, slots_of,
 };
-use lms_ots::array_at;
 use lms_tree::{Key, link_text};
+use octet_text::array_at;
 use road_io::{Disk, Failed};
 use std::alloc::{AllocError, AllocFailed, Global};
 use thiserror::Error;

@@ -5,3 +5,4 @@ pub mod CodeLaws
 mod NearLaws
 pub mod CountLaws
 mod FarthestLaws
+pub mod IdPlaces

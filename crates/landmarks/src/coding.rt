@@ -1,11 +1,11 @@
 //! Codes of distances.
 
 ghost use Rattle.std.specs.Prelude.{◌≡◌, ◌↔◌, ℕ, ◌^◌, ◌/◌, ◌<◌, ◌≤◌, ◌⊎◌, Option, Some, List, Err, IfOk, OnOk, IfSome, Contains, map, length, nat_eq, slice_get};
-ghost use Rattle.std.specs.HashMap.{get};
 ghost use Rattle.std.specs.Map.{lookup};
 ghost use Rattle.road_map.specs.Walks.{Knows, distance};
+ghost use Rattle.road_map.specs.Places.{AreRising};
 ghost use Rattle.book_model.specs.Orders.{by_id};
-ghost use Rattle.book_model.specs.Landmarks.{no_code, step_of, code_of};
+ghost use Rattle.book_model.specs.Landmarks.{no_code, step_of, code_of, codes_of};
 ghost use Rattle.book_model.specs.Books.{landmarks};
 ghost use Rattle.landmarks.specs.Rows.{rows_of, row_of, greatest_row, code_in, IsCodable, AreCodable, AreShort};
 ghost use Rattle.landmarks.specs.Tables.{Codes as AreCodes, IsTable};
@@ -19,7 +19,6 @@ use road_leaf::Codes;
 use road_map::{Map, map_laws};
 use road_search::Survey;
 use std::alloc::Global;
-use std::collections::HashMap;
 use thiserror::Error;
 
 /// Why there are no codes.
@@ -99,39 +98,36 @@ fn codes_at(alloc: Global, step: u64, rows: &[Lengths], place: usize) -> Result<
     Ok(Codes::from_vec(codes))
 }
 
-/// The codes of all ids, from rows of the lengths to them.
-fn coded(
-    alloc: Global,
-    step: u64,
-    ids: &[u32],
-    rows: &[Lengths],
-) -> Result<HashMap<u32, Codes>, NoMemory>
+/// The codes of all ids in their order, from rows of the lengths to them.
+fn coded(alloc: Global, step: u64, ids: &[u32], rows: &[Lengths]) -> Result<Vec<Codes>, NoMemory>
     requires step { 0 < step }
     requires codable { AreCodable step (length ids.now) rows.now }
     ensures { IfOk result (λ codes. (dist : ℕ → ℕ → Option ℕ) (chosen : List ℕ) →
         rows.now ≡ rows_of dist ids.now chosen →
-        AreCodes dist step chosen ids.now (get nat_eq codes)) }
+        codes.items ≡ map (codes_of dist step chosen) ids.now) }
 {
-    let mut codes = HashMap::new(alloc);
-    for (place, id) in ids.iter().enumerate() {
-        codes.insert(*id, codes_at(alloc, step, rows, place)?)?;
+    let mut codes = Vec::with_capacity(alloc, ids.len())?;
+    for place in 0..ids.len() {
+        codes.push(codes_at(alloc, step, rows, place)?)?;
     }
     Ok(codes)
 }
 
-/// The table of the codes of all ids, from rows of the lengths to them.
-fn table_of(alloc: Global, ids: &[u32], rows: &[Lengths], bits: u8) -> Result<CodeTable, NoMemory>
+/// The table of the codes of ids that ascend, from rows of the lengths to them.
+fn table_of(alloc: Global, ids: Vec<u32>, rows: &[Lengths], bits: u8) -> Result<CodeTable, NoMemory>
     requires low { 1 ≤ bits }
     requires high { bits ≤ 16 }
-    requires short { AreShort (length ids.now) rows.now }
+    requires rise { AreRising ids.items }
+    requires short { AreShort (length ids.items) rows.now }
     ensures step { IfOk result (λ table. table.step ≡ step_of (greatest_row rows.now) bits) }
     ensures codes { IfOk result (λ table. (dist : ℕ → ℕ → Option ℕ) (chosen : List ℕ) →
-        rows.now ≡ rows_of dist ids.now chosen →
-        AreCodes dist table.step chosen ids.now (λ v. lookup (nat_eq v) table.entries)) }
+        rows.now ≡ rows_of dist ids.items chosen →
+        AreCodes dist table.step chosen ids.items (λ v. lookup (nat_eq v) table.entries)) }
 {
     let step = step_for(greatest_of_rows(rows), bits);
-    let codes = coded(alloc, step, ids, rows)?;
-    Ok(CodeTable::new(step, codes))
+    let codes = coded(alloc, step, ids.as_slice(), rows)?;
+    let table = CodeTable::new(alloc, step, ids, codes)?;
+    Ok(table)
 }
 
 /// The distances from some nodes to all, by ascending id, a row for each. One search for each row, over
@@ -165,7 +161,7 @@ pub fn codes(alloc: Global, map: &Map, chosen: &[u32], bits: u8) -> Result<CodeT
     let _parts = map.parts();
     let ids = ids_of(alloc, map)?;
     let rows = rows_from(alloc, map, chosen)?;
-    let table = table_of(alloc, &ids, &rows, bits)?;
+    let table = table_of(alloc, ids, &rows, bits)?;
     Ok(table)
 }
 
@@ -180,6 +176,6 @@ pub fn landmark_codes(alloc: Global, map: &Map, count: u32, bits: u8) -> Result<
     let _parts = map.parts();
     let ids = ids_of(alloc, map)?;
     let picked = picks(alloc, map, &ids, count)?;
-    let table = table_of(alloc, &ids, &picked.rows, bits)?;
+    let table = table_of(alloc, ids, &picked.rows, bits)?;
     Ok(table)
 }

@@ -3,6 +3,7 @@
 ghost use Rattle.std.specs.Prelude.{◌≡◌, ℕ, Option, None, IfOk, map, length};
 ghost use Rattle.road_map.specs.Least.{lesser};
 ghost use Rattle.road_map.specs.Walks.{Knows, distance, ids};
+ghost use Rattle.road_map.specs.Places.{AreRising};
 ghost use Rattle.book_model.specs.Orders.{by_id};
 ghost use Rattle.book_model.specs.Landmarks.{greatest_of};
 ghost use Rattle.landmarks.specs.Rows.{row_of, lessers, Gives};
@@ -10,7 +11,7 @@ ghost use Rattle.landmarks.specs.Rows.{row_of, lessers, Gives};
 use book_model::book_laws;
 use octet_text::NoMemory;
 use road_map::Map;
-use road_search::Survey;
+use road_search::{Survey, rising_ids};
 use std::alloc::Global;
 use std::marker::Model;
 
@@ -39,12 +40,13 @@ impl Lengths {
 
 /// The ids of a map's nodes, ascending.
 pub fn ids_of(alloc: Global, map: &Map) -> Result<Vec<u32>, NoMemory>
-    ensures { IfOk result (λ ids. ids.items ≡ by_id map.now.parts.nodes) }
+    ensures ids { IfOk result (λ ids. ids.items ≡ by_id map.now.parts.nodes) }
+    ensures rise { IfOk result (λ ids. AreRising ids.items) }
 {
     book_laws();
     let _parts = map.parts();
-    let ids = map.ids(alloc)?;
-    Ok(ids.into_vec())
+    let ids = rising_ids(alloc, map)?;
+    Ok(ids)
 }
 
 /// No length to any of these nodes.

@@ -5,6 +5,8 @@
 #[cfg(test)]
 mod chain_files;
 #[cfg(test)]
+mod desks;
+#[cfg(test)]
 mod hex_files;
 #[cfg(test)]
 mod near_lines;

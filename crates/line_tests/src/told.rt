@@ -5,12 +5,13 @@ use dimacs_reader::DimacsError;
 use lms_tree::SealError;
 use proof_judge::Refusal;
 use road_command::{MOST_WORDS, Words, command_of};
+use road_line::{line_of_refused, read_refused, read_refused_near};
 use road_map::MapError;
 use road_tell::{
-    Look, Unusable, WrongHex, asked_of, bad_number, faulty_file, keys_left, look_of, place_of,
-    plan_rule, setting_name, wrong_words,
+    Look, ShortName, Unusable, WrongHex, asked_of, bad_number, faulty_file, look_of, place_of,
+    plan_rule, setting_name, wrong_words, zero_roads,
 };
-use route_client::{CheckError, NearError};
+use route_client::{CheckError, CoverFault, NearError};
 use std::alloc::{AllocError, Global};
 use std::process::Abort;
 use std::test::Fail;
@@ -212,6 +213,12 @@ fn a_bad_number_is_told_by_its_word(rt: HostRuntime) -> Result<(), Fail> {
     Ok(())
 }
 
+#[test]
+fn roads_of_length_0_are_counted(rt: HostRuntime) {
+    let text = b"roads 1\nnode 0 0 0\nroad 1 2 0\r\n\troad 2 3 00\nroad 3 4 10\n# road 1 2 0\n";
+    assert_same(&rt, zero_roads(text), 2);
+}
+
 /// A road file with skipped lines, and a fault of each kind when its last lines are added.
 const ROADS: &str = "# a map\nroads 1\n\nnode 1 0 0\n\tnode  2 0 0\r\nroad 1 2 4\nroad 2 1 4\n";
 
@@ -301,7 +308,7 @@ static DIGITS: [(&str, Option<usize>, &str); 6] = [
 #[test]
 fn hex_is_told_by_its_digits(rt: HostRuntime) -> Result<(), AllocError> {
     for (text, wanted, message) in &DIGITS {
-        let wrong = WrongHex::of(text.as_bytes(), *wanted);
+        let wrong = WrongHex::of(text.as_bytes(), text.len(), *wanted);
         assert_printed(&rt, rt.alloc(), wrong, *message)?;
     }
     Ok(())
@@ -335,6 +342,16 @@ fn looks_and_settings_are_printed(rt: HostRuntime) -> Result<(), AllocError> {
     let wanted = "Under ldm it is the bits of a code, from 1 to 16.";
     assert_same(&rt, plan_rule(3, 4), wanted);
     Ok(())
+}
+
+#[test]
+fn hex_that_was_not_kept_whole_is_told_by_its_size(rt: HostRuntime) -> Result<(), AllocError> {
+    assert_printed(
+        &rt,
+        rt.alloc(),
+        WrongHex::of(b"0a0b", 6, Some(4)),
+        "It has 6 octets, which are more than are wanted.",
+    )
 }
 
 static ROUTES: [(CheckError, &str); 9] = [
@@ -418,16 +435,111 @@ fn refused_nodes_are_told_to_planners(rt: HostRuntime) -> Result<(), AllocError>
     Ok(())
 }
 
+/// Refusals on a route, with their lines as the specification of lines has them.
+static LINES: [(&[u8], CheckError); 13] = [
+    (b"refused NotAnswer 2\n", CheckError::NotAnswer(2)),
+    (
+        b"refused Malformed 4294967295\n",
+        CheckError::Malformed(4294967295),
+    ),
+    (
+        b"refused Stale 18446744073709551615\n",
+        CheckError::Stale(18446744073709551615),
+    ),
+    (
+        b"refused BadChain 6 BadForm\n",
+        CheckError::BadChain(6, SealError::BadForm),
+    ),
+    (
+        b"refused BadSignature BadKey\n",
+        CheckError::BadSignature(SealError::BadKey),
+    ),
+    (
+        b"refused BadCover 2 Place\n",
+        CheckError::BadCover(2, CoverFault::Place),
+    ),
+    (
+        b"refused BadCover 1 Differs\n",
+        CheckError::BadCover(1, CoverFault::Differs),
+    ),
+    (
+        b"refused RepeatedNode 7\n",
+        CheckError::Judged(Refusal::RepeatedNode(7)),
+    ),
+    (
+        b"refused BadRoute 3\n",
+        CheckError::Judged(Refusal::BadRoute(3)),
+    ),
+    (
+        b"refused MissingTuple 4\n",
+        CheckError::Judged(Refusal::MissingTuple(4)),
+    ),
+    (
+        b"refused MissingPair 4 5\n",
+        CheckError::Judged(Refusal::MissingPair(4, 5)),
+    ),
+    (
+        b"refused Shorter 9\n",
+        CheckError::Judged(Refusal::Shorter(9)),
+    ),
+    (
+        b"refused Disagrees 9\n",
+        CheckError::Judged(Refusal::Disagrees(9)),
+    ),
+];
+
 #[test]
-fn the_keys_of_a_file_are_counted(rt: HostRuntime) {
-    let mut image = [0; 4160];
-    assert_same(&rt, keys_left(&image), None);
-    image[0] = 1;
-    image[4] = 5;
-    image[64] = 1;
-    image[4032] = 1;
-    // The last slot is kept.
-    assert_same(&rt, keys_left(&image), Some(30));
-    image[4] = 6;
-    assert_same(&rt, keys_left(&image), None);
+fn a_refusal_is_read_back_from_its_line(rt: HostRuntime) -> Result<(), Fail> {
+    for (line, why) in &LINES {
+        let wanted = line_of_refused(rt.alloc(), *why)?;
+        assert_row(&rt, *why, wanted.as_slice(), *line);
+        assert_row(&rt, *why, read_refused(*line), Some(*why));
+    }
+    assert_row(
+        &rt,
+        "accepted none",
+        read_refused(b"accepted none\n").is_none(),
+        true,
+    );
+    Ok(())
+}
+
+/// Refusals to a range query, with their lines as the specification of lines has them.
+static NEAR_LINES: [(&[u8], NearError); 7] = [
+    (b"refused Malformed 0\n", NearError::Malformed(0)),
+    (b"refused Stale 3\n", NearError::Stale(3)),
+    (
+        b"refused BadChain 0 NoMatch\n",
+        NearError::BadChain(0, SealError::NoMatch),
+    ),
+    (
+        b"refused BadSignature NoMatch\n",
+        NearError::BadSignature(SealError::NoMatch),
+    ),
+    (
+        b"refused BadCover Long\n",
+        NearError::BadCover(CoverFault::Long),
+    ),
+    (b"refused RepeatedNode 5\n", NearError::RepeatedNode(5)),
+    (b"refused MissingTuple 4\n", NearError::MissingTuple(4)),
+];
+
+#[test]
+fn a_refusal_on_a_radius_is_read_back(rt: HostRuntime) {
+    for (line, why) in &NEAR_LINES {
+        assert_row(&rt, *why, read_refused_near(*line), Some(*why));
+    }
+}
+
+#[test]
+fn a_key_has_a_short_name(rt: HostRuntime) -> Result<(), Fail> {
+    // The key of a secret of zeros; the digits are of Python's hashlib.
+    let digits =
+        b"000000050000000400000000000000000000000000000000829887511085dc8b9946d97b20163fe2ab4385e734979f535139cabe33cd694f\n";
+    match ShortName::of_digits(digits) {
+        None => return Err(Fail::from("there is no name")),
+        Some(name) => assert_printed(&rt, rt.alloc(), name, "29a0f89a")?,
+    }
+    assert_same(&rt, ShortName::of_digits(b"00"), None);
+    Ok(())
 }

@@ -4,8 +4,7 @@ ghost use Rattle.sha2.specs.Sha256.{sha256};
 ghost use Rattle.octet_text.specs.Sha.{HoldsText};
 ghost use Rattle.lms_ots.specs.Chains.{prefix, secret_of, chain_of, public_of};
 
-use crate::places::{array_at, write_array};
-use octet_text::{Digest32, Hasher, Sha};
+use octet_text::{Digest32, Hasher, Sha, array_at, write_array};
 use sha2::{Digest, Sha256};
 
 // The number in a hashed text that marks the hash of a public key (D_PBLC, § 4.3).

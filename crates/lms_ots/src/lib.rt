@@ -7,9 +7,7 @@
 #![tactic(auto)]
 
 pub use keys::{chain, prefixed, public_hash, secret};
-pub use places::{array_at, write_array};
 pub use signatures::{candidate, digits, randomiser, sign_ots};
 
 mod keys;
-mod places;
 mod signatures;

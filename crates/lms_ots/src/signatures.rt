@@ -3,8 +3,7 @@ ghost use Rattle.std.specs.Prelude.{◌≡◌, ℕ, ◌+◌, ◌-◌, ◌*◌, L
 ghost use Rattle.lms_ots.specs.Chains.{public_of, randomiser_of, digits_of, signature_of, candidate_of, checksum};
 
 use crate::keys::{D_PBLC, SECRET, chain, prefixed, secret};
-use crate::places::{array_at, write_array};
-use octet_text::{Digest32, Hasher};
+use octet_text::{Digest32, Hasher, array_at, write_array};
 
 // The number in a hashed text that marks the hash of a signed text (D_MESG, § 4.5).
 const D_MESG: u16 = 0x8181;

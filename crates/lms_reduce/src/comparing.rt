@@ -12,9 +12,9 @@ ghost use Rattle.lms_reduce.specs.Texts.{message_text};
 
 use crate::texts::{digest_of, leaf_text, message_text, own_ends, shown_ends};
 use crate::ways::{highest_meeting, is_same, meeting};
-use lms_ots::{array_at, candidate, chain, digits, public_hash, secret, write_array};
+use lms_ots::{candidate, chain, digits, public_hash, secret};
 use lms_tree::Key;
-use octet_text::{Digest32, NoMemory, Octets, Sha, octet_law, put_octets};
+use octet_text::{Digest32, NoMemory, Octets, Sha, array_at, octet_law, put_octets, write_array};
 use std::alloc::Global;
 
 // Two different texts with one digest.

@@ -12,9 +12,9 @@ ghost use Rattle.lms_reduce.specs.declared.reduced.Reduced.TheVariants.{Chain};
 use crate::comparing::{Clash, compare, compare_messages};
 use crate::ways::is_same;
 use crate::{ReduceError, Reduced};
-use lms_ots::{array_at, digits, randomiser};
+use lms_ots::{digits, randomiser};
 use lms_tree::{Key, verify};
-use octet_text::NoMemory;
+use octet_text::{NoMemory, array_at};
 use std::alloc::Global;
 
 // Whether a slot has signed a text.

@@ -3,8 +3,8 @@ ghost use Rattle.std.specs.Prelude.{◌≡◌, length, IfOk};
 ghost use Rattle.lms_ots.specs.Chains.{prefix, ended_value, public_value};
 ghost use Rattle.lms_reduce.specs.Texts.{inner_text, leaf_text, message_text, parent_text, step_text, values_text};
 
-use lms_ots::{array_at, chain, secret, write_array};
-use octet_text::{Digest32, Hasher, NoMemory, Octets, put_octets};
+use lms_ots::{chain, secret};
+use octet_text::{Digest32, Hasher, NoMemory, Octets, array_at, put_octets, write_array};
 use std::alloc::Global;
 
 // What names the hash of a public key, of a signed text, of a leaf and of an inner node (§ 4.3, § 4.5, § 5.3).

@@ -7,8 +7,7 @@ ghost use Rattle.lms_reduce.specs.Meetings.{IsFirstMeeting, IsHighestMeeting};
 ghost use Rattle.lms_reduce.specs.Ways.{raised, walked};
 
 use crate::texts::{digest_of, parent_text, step_text};
-use lms_ots::array_at;
-use octet_text::{Digest32, Hasher};
+use octet_text::{Digest32, Hasher, array_at};
 
 /// What a step of a chain hashes, of two values.
 #[derive(Clone, Copy)]

@@ -4,8 +4,8 @@ ghost use Rattle.lms_tree.specs.Nodes.{HasNodes};
 
 use crate::hashes::{inner, leaf};
 use crate::kinds::{LMOTS_SHA256_N32_W8, height, is_kind};
-use lms_ots::{array_at, public_hash, sign_ots, write_array};
-use octet_text::{Digest32, NoMemory};
+use lms_ots::{public_hash, sign_ots};
+use octet_text::{Digest32, NoMemory, array_at, write_array};
 use std::alloc::Global;
 use std::marker::Model;
 use thiserror::Error;

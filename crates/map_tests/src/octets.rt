@@ -6,8 +6,8 @@ ghost use Rattle.octet_text.specs.Format.{u16, any};
 use crate::same::{assert_printed, assert_same};
 use octet_text::{
     Cursor, Digest32, Digests, Hasher, Malformed, NoMemory, Octets, PutRow, ReadError, Row, Sha,
-    Short, Toy, digest_of_pieces, digest_of_two, put_i32, put_octets, put_rows, put_u8, put_u16,
-    put_u32, put_u64, read_rows,
+    Short, Toy, digest_of_pieces, put_i32, put_octets, put_rows, put_u8, put_u16, put_u32, put_u64,
+    read_rows,
 };
 use std::alloc::{AllocError, Global};
 
@@ -20,6 +20,14 @@ const OF_ABC: Digest32 = [
     0xba, 0x78, 0x16, 0xbf, 0x8f, 0x01, 0xcf, 0xea, 0x41, 0x41, 0x40, 0xde, 0x5d, 0xae, 0x22, 0x23,
     0xb0, 0x03, 0x61, 0xa3, 0x96, 0x17, 0x7a, 0x9c, 0xb4, 0x10, 0xff, 0x61, 0xf2, 0x00, 0x15, 0xad,
 ];
+
+// The digest of a text that is added in two pieces.
+fn digest_of_two<H: Hasher>(first: &[u8], second: &[u8]) -> Digest32 {
+    let mut hasher = H::start();
+    hasher.add(first);
+    hasher.add(second);
+    hasher.end()
+}
 
 // The digest of a text that is added octet by octet.
 fn digest_by_octets<H: Hasher>(text: &[u8]) -> Digest32 {

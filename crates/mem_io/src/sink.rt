@@ -54,7 +54,7 @@ impl MemSink {
     }
 
     /// Whether the next write, of this many octets, will not fail.
-    pub fn can_take(&self, count: usize) -> bool
+    fn can_take(&self, count: usize) -> bool
         ensures { IsTrue result ↔ CanTake self.now count }
     {
         if self.fails.contains(&self.calls) {

@@ -1,5 +1,5 @@
 -- What the method gathers.
-use Rattle.std.proofs.Common.{◌≡◌, ℕ, ◌+◌, ◌^◌, ◌<◌, ◌≤◌, nat_eq, Option, None, Some, IsSome, List, [], ◌∷◌, ◌⊎◌, inl, inr, refl, arith, ap, sym, ◌∙◌, subst, map}
+use Rattle.std.proofs.Common.{Result, Err, ◌≡◌, ℕ, ◌+◌, ◌^◌, ◌<◌, ◌≤◌, nat_eq, Option, None, Some, IsSome, List, [], ◌∷◌, ◌⊎◌, inl, inr, refl, arith, ap, sym, ◌∙◌, subst, map}
 use Rattle.std.specs.List.{Contains, IsDistinct}
 use Rattle.std.specs.List.Sorted.{IsStrictlySortedBy}
 use Rattle.std.specs.Option.{option_map}
@@ -25,6 +25,7 @@ use Rattle.book_model.specs.Nodes.{node_at}
 use Rattle.book_model.specs.Books.{Book, Ldm, leaf, leaf_by}
 use Rattle.book_model.proofs.ById.{ids_kept}
 use Rattle.proof_method.specs.declared.found.Found.{Found}
+use Rattle.proof_method.specs.declared.found.GatherError.{GatherError}
 use Rattle.proof_judge.specs.Apart.{Leads, open_ways}
 use Rattle.proof_judge.specs.ItemWalks.{live_ways}
 use Rattle.proof_method.specs.Apart.{IsEnd, IsOpen, WantedApart, WantedPairApart, IsFoundApart}
@@ -45,6 +46,18 @@ short_route parts m bound s t d route short = by_distance (distance parts s t) r
     by_distance : (o : Option ℕ) → distance parts s t ≡ o → IsDistance parts s t o → d < 2 ^ 48
     by_distance None is h = absurd (h d (shortest_joins parts s t d route short))
     by_distance (Some e) is h = let le : d ≤ e = short.least e h.0 in let lt : e < 2 ^ 48 = bound s t e is in omega (arith, le, lt)
+
+-- an error handed on is the same error
+pub err_kept : {A B : Type 0} (e f : GatherError) → ◌≡◌ {A = Result A GatherError} (Err e) (Err f) → ◌≡◌ {A = Result B GatherError} (Err e) (Err f)
+err_kept e f same = let is : e ≡ f = cc in ap Err is
+
+-- the lengths of a search below a limit of 64 bits are numbers of 64 bits
+pub low_lengths : (w : Ways) (from limit : ℕ) (len : ℕ → Option ℕ) → limit ≤ 2 ^ 64 → ((v : ℕ) → IsLeastPassing w from limit v (len v)) → (v d : ℕ) → len v ≡ Some d → d < 2 ^ 64
+low_lengths w from limit len few lengths v d is =
+    let least : IsLeastPassing w from limit v (Some d) = subst (IsLeastPassing w from limit v) is (lengths v) in
+    let p : PassesBy w from limit v least.0.0 d = least.0.1 in
+    let below : d < limit = p.below in
+    omega (arith, below, few)
 
 reference_from : (id : ℕ) (x : Extra) → reference_of x ≡ Some id → (e : ℕ) × (x ≡ Near id e)
 reference_from id Plain is = cc

@@ -1,15 +1,16 @@
 -- What HYP finds.
-use Rattle.std.proofs.Common.{◌≡◌, ℕ, ◌<◌, ◌≤◌, ◌*◌, ◌==◌, nat_eq, nat_lt, nat_le, Bool, true, false, cond, IsTrue, Option, None, Some, List, [], ◌⊎◌, inl, inr, length, slice_get, count_by, refl, arith, ap, sym, ◌∙◌, subst}
-use Rattle.std.specs.List.{Contains, IsDistinct, filter_map}
+use Rattle.std.proofs.Common.{◌≡◌, ℕ, suc, ◌+◌, ◌<◌, ◌≤◌, ◌*◌, ◌==◌, nat_eq, nat_lt, nat_le, Bool, true, false, cond, IsTrue, Option, None, Some, List, [], ◌∷◌, ◌++◌, ◌⊎◌, inl, inr, map, length, drop, drop-cons, get_or, slice_get, count_by, refl, arith, ap, sym, ◌∙◌, subst}
+use Rattle.std.specs.List.{Contains, IsDistinct, filter_map, cons_option}
 use Rattle.std.specs.List.Sorted.{IsStrictlySortedBy}
 use Rattle.std.specs.Ordering.{nat_cmp}
 use Rattle.std.specs.Option.{option_map}
 use Rattle.std.specs.BTreeSet.{BTreeSet, contains}
+use Rattle.std.proofs.lemmas.List.{append_assoc}
 use Rattle.std.proofs.lemmas.List.Kept.{IsStrictlySortedBy-filter}
 use Rattle.std.proofs.lemmas.List.Sums.{length-filter, count_by-le-length}
 use Rattle.road_map.specs.declared.parts.Node.{Node}
 use Rattle.road_map.specs.declared.parts.Parts.{Parts}
-use Rattle.road_map.specs.Walks.{ids, Knows}
+use Rattle.road_map.specs.Walks.{ids, Knows, distance}
 use Rattle.road_map.proofs.LeastLaws.{IsLeast-unique}
 use Rattle.road_map.specs.Maps.{IsMap, IsById}
 use Rattle.road_map.specs.Least.{IsLeast}
@@ -24,7 +25,8 @@ use Rattle.book_model.specs.declared.settings.PlanError.TheVariants.{TooManyBord
 use Rattle.book_model.specs.Nodes.{node_at}
 use Rattle.book_model.specs.Orders.{by_id, neighbours}
 use Rattle.book_model.specs.Cells.{cell_of, is_border}
-use Rattle.book_model.specs.Books.{Hyp, Book, borders, count_fault, leaf, leaf_by}
+use Rattle.book_model.specs.Pairs.{pairs_of}
+use Rattle.book_model.specs.Books.{Hyp, Book, IsBookOf, borders, count_fault, leaf, leaf_by}
 use Rattle.book_model.proofs.ById.{by_id-is, by_id-length, sorted_from, sorted_kept}
 use Rattle.proof_method.specs.declared.found.Found.{Found}
 use Rattle.proof_judge.specs.Apart.{Leads}
@@ -301,3 +303,30 @@ module _ (parts : Parts) (order : List Node) (m : IsMap parts) (by : IsById part
 
 pub borders_same : (parts : Parts) (c d r s : ℕ) → c ≡ d → r ≡ s → borders parts c r ≡ borders parts d s
 borders_same parts c d r s e f = ap (λ k. borders parts k r) e ∙ ap (borders parts d) f
+
+-- ---- the book of a table over the grid's borders
+
+pub hyp_planned : (parts : Parts) (s : Settings) (order : List ℕ) (columns rows : ℕ) (ids : List ℕ) (pairs : List PairLeaf) → columns ≡ s.p1 → rows ≡ s.p2 → ids ≡ borders parts columns rows → pairs ≡ pairs_of (distance parts) ids → IsBookOf Hyp parts s order (hyp_book parts columns rows pairs)
+hyp_planned parts s order columns rows ids pairs c r drawn table = record {
+  of_parts = refl;
+  adds = ap (λ (k : ℕ). map (cell_extra parts k rows) order) c ∙ ap (λ (k : ℕ). map (cell_extra parts s.p1 k) order) r;
+  has_pairs = table ∙ ap (pairs_of (distance parts)) (drawn ∙ borders_same parts columns s.p1 rows s.p2 c r);
+  first = c;
+  second = r;
+}
+
+-- ---- the ids that have a length, one after the other
+
+cut : (ids : List ℕ) (i : ℕ) → i < length ids → drop i ids ≡ get_or ids i 0 ∷ drop (i + 1) ids
+cut ids i within = let k : suc i ≡ i + 1 = omega arith in subst (λ (j : ℕ). drop i ids ≡ get_or ids i 0 ∷ drop j ids) k (drop-cons ids i 0 within)
+
+kept_at : (h : ℕ → Option (ℕ × ℕ)) (ids : List ℕ) (i : ℕ) (o : Option (ℕ × ℕ)) → i < length ids → h (get_or ids i 0) ≡ o → filter_map h (drop i ids) ≡ cons_option o (filter_map h (drop (i + 1) ids))
+kept_at h ids i o within is = ap (filter_map h) (cut ids i within) ∙ ap (λ (p : Option (ℕ × ℕ)). cons_option p (filter_map h (drop (i + 1) ids))) is
+
+pub one_kept : (h : ℕ → Option (ℕ × ℕ)) (ids : List ℕ) (i : ℕ) (old new all : List (ℕ × ℕ)) (e : ℕ × ℕ) → i < length ids → h (get_or ids i 0) ≡ Some e → new ≡ old ++ e ∷ [] → old ++ filter_map h (drop i ids) ≡ all → new ++ filter_map h (drop (i + 1) ids) ≡ all
+one_kept h ids i old new all e within is pushed before =
+    let rest : List (ℕ × ℕ) = filter_map h (drop (i + 1) ids) in
+    ap (λ (l : List (ℕ × ℕ)). l ++ rest) pushed ∙ (append_assoc old (e ∷ []) rest ∙ (ap (λ (l : List (ℕ × ℕ)). old ++ l) (sym (kept_at h ids i (Some e) within is)) ∙ before))
+
+pub none_kept : (h : ℕ → Option (ℕ × ℕ)) (ids : List ℕ) (i : ℕ) (old all : List (ℕ × ℕ)) → i < length ids → h (get_or ids i 0) ≡ None → old ++ filter_map h (drop i ids) ≡ all → old ++ filter_map h (drop (i + 1) ids) ≡ all
+none_kept h ids i old all within is before = ap (λ (l : List (ℕ × ℕ)). old ++ l) (sym (kept_at h ids i None within is)) ∙ before

@@ -10,8 +10,10 @@ ghost use Rattle.method_books.specs.HypBooks.{hyp_book, cell_extra};
 
 use crate::grid::{Grid, is_border_at};
 use crate::hyp_method::HypBook;
+use octet_text::NoMemory;
 use road_map::{Arc, Map};
-use road_search::Ground;
+use road_search::{Ground, rising_ids};
+use std::alloc::Global;
 
 /// The arcs out of an id, if it is known.
 fn arcs_at(map: &Map, id: u32) -> Option<&[Arc]>
@@ -57,6 +59,11 @@ impl Ground for Inland<'_> {
     fn lets(&self, id: u32, _length: u64) -> bool {
         let book = self.book;
         lets_on(&book.map, &book.grid, id)
+    }
+
+    fn ids(&self, alloc: Global) -> Result<Vec<u32>, NoMemory> {
+        let book = self.book;
+        rising_ids(alloc, &book.map)
     }
 
     ghost lets_shorter = { λ w id short long le h. h };

@@ -4,7 +4,8 @@ ghost use Rattle.std.specs.Prelude.{◌≡◌, ℕ, IfOk, length};
 ghost use Rattle.road_map.specs.declared.parts.Parts.{Parts};
 ghost use Rattle.book_model.specs.Books.{Ldm as ByLdm, own_tests, first_failed};
 
-use crate::ldm_method::{LdmBook, by_id, copy};
+use crate::extras::Extras;
+use crate::ldm_method::{LdmBook, copy};
 use crate::near::needed;
 use book_model::{Numbers, Places, PlanError, Query, Settings};
 use landmarks::{compress, landmark_codes};
@@ -50,7 +51,7 @@ impl MethodBook for LdmBook {
             first: table.step(),
             second: settings.p1,
         };
-        let extras = by_id(alloc, order, extras)?;
+        let extras = Extras::new(alloc, order, extras)?;
         Ok(LdmBook {
             map,
             extras,

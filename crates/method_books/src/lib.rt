@@ -10,6 +10,7 @@ pub use ldm_method::LdmBook;
 
 mod any;
 mod dij;
+mod extras;
 mod full;
 mod gathering;
 mod grid;

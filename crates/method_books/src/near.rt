@@ -1,9 +1,9 @@
 //! The nodes whose leaves show that a route is shortest, or that there is none.
 
-ghost use Rattle.std.specs.Prelude.{◌≡◌, ◌++◌, ◌⊎◌, ℕ, is_some, IsSome, IfOk, OnOk, Contains, Some};
-ghost use Rattle.std.specs.List.{filter, filter_map};
+ghost use Rattle.std.specs.Prelude.{◌≡◌, ◌++◌, ◌⊎◌, ◌↔◌, ◌<◌, ◌^◌, ℕ, IfOk, OnOk, Contains, Some};
+ghost use Rattle.std.specs.List.{filter_map};
 ghost use Rattle.std.specs.Option.{option_to_list};
-ghost use Rattle.road_map.specs.Walks.{ids as ids_of};
+ghost use Rattle.road_map.specs.Walks.{Knows};
 ghost use Rattle.road_search.specs.Labelling.{length_at};
 ghost use Rattle.road_leaf.specs.declared.leaf.Extra.TheVariants.{Near};
 ghost use Rattle.proof_method.specs.Gathering.{Lists};
@@ -14,25 +14,17 @@ use octet_text::NoMemory;
 use proof_method::rising;
 use road_leaf::Extra;
 use road_map::{Ids, Map};
-use road_search::Labels;
+use road_search::{Labels, knows};
 use std::alloc::{AllocError, Global};
 
-/// Whether a walk leads to an id.
-fn has_length(labels: &Labels, id: u32) -> bool
-    ensures { result ≡ is_some (length_at labels.now id) }
+/// Adds those of some ids that are nodes of the map.
+fn add_known(ids: &mut Vec<u32>, map: &Map, near: &[u32]) -> Result<(), AllocError>
+    ensures { OnOk result ((id : ℕ) → Contains ids.new.items id ↔
+        (Contains ids.old.items id ⊎ (Contains near.now id × Knows map.now.parts id))) }
 {
-    labels.get(id).is_some()
-}
-
-/// Adds the nodes that walks lead to, by ascending id.
-fn add_reached(ids: &mut Vec<u32>, map: &Map, labels: &Labels) -> Result<(), AllocError>
-    ensures { OnOk result (ids.new.items ≡ ids.old.items ++ filter
-        (λ id. is_some (length_at labels.now id)) (ids_of map.now.order)) }
-{
-    for position in 0..map.count() {
-        let id = map.node(position).id;
-        if has_length(labels, id) {
-            ids.push(id)?;
+    for id in near {
+        if knows(map, *id) {
+            ids.push(*id)?;
         }
     }
     Ok(())
@@ -43,7 +35,7 @@ fn add_reference(ids: &mut Vec<u32>, book: &LdmBook, id: u32) -> Result<(), Allo
     ensures { OnOk result (ids.new.items ≡ ids.old.items ++ option_to_list
         (reference_in book.now.extras.entries id)) }
 {
-    if let Some(Extra::Near { reference, .. }) = book.extras.get(&id) {
+    if let Some(Extra::Near { reference, .. }) = book.extras.get(id) {
         ids.push(*reference)?;
     }
     Ok(())
@@ -64,11 +56,14 @@ fn with_references(alloc: Global, book: &LdmBook, ids: &[u32]) -> Result<Vec<u32
 /// The nodes on a route, or the two ends of none, and those that walks lead to, with the nodes whose
 /// codes stand for theirs, each once, by ascending id.
 pub fn needed(alloc: Global, book: &LdmBook, route: &Ids, labels: &Labels) -> Result<Ids, NoMemory>
+    requires { (v d : ℕ) → length_at labels.now v ≡ Some d → d < 2 ^ 64 }
     ensures { IfOk result (Lists (IsNeeded book.now.map.order book.now.extras.entries route.now
         (length_at labels.now))) }
 {
+    let _parts = book.map.parts();
+    let near = labels.near(alloc, u64::MAX)?;
     let mut ids = route.as_slice().to_vec(alloc)?;
-    add_reached(&mut ids, &book.map, labels)?;
+    add_known(&mut ids, &book.map, &near)?;
     let all = with_references(alloc, book, &ids)?;
     Ok(rising(all))
 }

@@ -1,14 +1,17 @@
 //! Lower bounds of distances, by the codes at hand.
 
-ghost use Rattle.std.specs.Prelude.{◌≡◌, ℕ, ◌^◌, ◌<◌, Option, length};
+ghost use Rattle.std.specs.Prelude.{◌≡◌, ℕ, ◌^◌, ◌<◌, Option, IfOk, length};
 ghost use Rattle.std.specs.Option.{option_map, option_copied};
 ghost use Rattle.road_leaf.specs.declared.leaf.NodeLeaf.{NodeLeaf};
+ghost use Rattle.road_map.specs.Places.{AreRising};
 ghost use Rattle.book_model.specs.Bounds.{gap, greatest_bound, own_vector, vector_at, bound_of, bound};
 ghost use Rattle.proof_judge.specs.Apart.{is_split, are_split, are_apart};
 ghost use Rattle.method_judges.specs.Lent.{shown};
 
+use octet_text::NoMemory;
 use road_leaf::Extra;
 use road_map::Arc;
+use std::alloc::Global;
 
 /// The code that says that no walk joins a node and a landmark.
 const NO_CODE: u16 = 65535;
@@ -25,6 +28,10 @@ pub trait Lookup {
     /// What the leaf of an id says beside the node's place and arcs, if it is at hand.
     fn extra(&self, id: u32) -> Option<&Extra>
         ensures { option_copied result ≡ option_map (λ n. n.extra) (leaves self.now id) };
+
+    /// Rising ids for whose marks a search makes room by place: best all whose leaves are at hand.
+    fn ids(&self, alloc: Global) -> Result<Vec<u32>, NoMemory>
+        ensures { IfOk result (λ ids. AreRising ids.items) };
 }
 
 /// Codes, one for each landmark, and by how much at most each may be off.

@@ -3,10 +3,12 @@
 ghost use Rattle.std.specs.Prelude.{◌≡◌};
 ghost use Rattle.proof_judge.specs.ItemWalks.{item_at, is_border, marks, inner_ways};
 
+use octet_text::NoMemory;
 use proof_judge::{NodesById, arcs_of};
 use road_leaf::Extra;
 use road_map::Arc;
 use road_search::Ground;
+use std::alloc::Global;
 
 fn is_border(extra: &Extra) -> bool
     ensures { result ≡ is_border extra.now }
@@ -44,6 +46,11 @@ impl Ground for Inner<'_, '_> {
 
     fn lets(&self, id: u32, _length: u64) -> bool {
         !is_marked(self.by_id, id)
+    }
+
+    fn ids(&self, alloc: Global) -> Result<Vec<u32>, NoMemory> {
+        let by_id = self.by_id;
+        by_id.ids(alloc)
     }
 
     ghost lets_shorter = { λ w id short long le h. h };

@@ -3,9 +3,11 @@
 ghost use Rattle.proof_judge.specs.ItemWalks.{item_at};
 
 use crate::bounds::Lookup;
+use octet_text::NoMemory;
 use proof_judge::{NodesById, arcs_of};
 use road_leaf::Extra;
 use road_map::Arc;
+use std::alloc::Global;
 
 /// The items that a client was sent, by id.
 #[derive(Clone, Copy)]
@@ -26,5 +28,10 @@ impl Lookup for ItemLeaves<'_, '_> {
             None => None,
             Some(leaf) => Some(&leaf.extra),
         }
+    }
+
+    fn ids(&self, alloc: Global) -> Result<Vec<u32>, NoMemory> {
+        let by_id = self.by_id;
+        by_id.ids(alloc)
     }
 }

@@ -41,6 +41,10 @@ impl<L: Lookup> Ground for Live<'_, L> {
         u128::from(length) + bound < u128::from(self.most)
     }
 
+    fn ids(&self, alloc: Global) -> Result<Vec<u32>, NoMemory> {
+        self.leaves.ids(alloc)
+    }
+
     ghost lets_shorter = { λ w id short long le h.
         live_shorter (bound w.step (L.leaves w.leaves.now) (L.leaves w.leaves.now id)
         (L.leaves w.leaves.now w.to)) w.most short long le h };

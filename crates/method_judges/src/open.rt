@@ -3,8 +3,10 @@
 ghost use Rattle.proof_judge.specs.Apart.{open_ways};
 
 use crate::bounds::{Lookup, apart};
+use octet_text::NoMemory;
 use road_map::Arc;
 use road_search::Ground;
+use std::alloc::Global;
 
 /// Leaves at hand as a ground of walks towards an end: an id with a leaf has the leaf's arcs, and no
 /// walk goes on from an id that is apart from the end.
@@ -23,6 +25,10 @@ impl<L: Lookup> Ground for Open<'_, L> {
 
     fn lets(&self, id: u32, _length: u64) -> bool {
         !apart(self.leaves, id, self.to)
+    }
+
+    fn ids(&self, alloc: Global) -> Result<Vec<u32>, NoMemory> {
+        self.leaves.ids(alloc)
     }
 
     ghost lets_shorter = { λ w id short long le h. h };

@@ -2,9 +2,11 @@
 
 ghost use Rattle.proof_judge.specs.ItemWalks.{item_at, any_ways};
 
+use octet_text::NoMemory;
 use proof_judge::{NodesById, arcs_of};
 use road_map::Arc;
 use road_search::Ground;
+use std::alloc::Global;
 
 /// Items as a ground: an id with an item has the item's arcs, and lets every length pass.
 #[derive(Clone, Copy)]
@@ -22,6 +24,11 @@ impl Ground for Anywhere<'_, '_> {
 
     fn lets(&self, _id: u32, _length: u64) -> bool {
         true
+    }
+
+    fn ids(&self, alloc: Global) -> Result<Vec<u32>, NoMemory> {
+        let by_id = self.by_id;
+        by_id.ids(alloc)
     }
 
     ghost lets_shorter = { λ w id short long le h. h };

@@ -5,15 +5,15 @@ ghost use Rattle.std.specs.declared.option.Option.TheVariants.{Some};
 use crate::Mirror;
 use road_io::{Failed, Record};
 use std::fs::File;
-use std::io::Write;
+use std::io::{self, ErrorKind, Write};
 
-/// A file, which takes each piece where it was left. It promises nothing. It tells the pieces that it was
-/// answered to have taken, which stand after what the file held before. A put that fails may leave a
-/// prefix of its piece, of which nothing is told.
+/// A file, which takes each piece where it was left, or one that could not be opened, which takes none.
+/// It promises nothing. It tells the pieces that it was answered to have taken, which stand after what
+/// the file held before. A put that fails may leave a prefix of its piece, of which nothing is told.
 #[derive(Drop)]
 pub struct FileMirror {
     label: u32,
-    file: File,
+    file: Option<File>,
     faults: u64,
     history: Record,
     handed: Record,
@@ -28,10 +28,47 @@ impl FileMirror {
     {
         FileMirror {
             label,
-            file,
+            file: Some(file),
             faults: 0,
             history: Record::new(),
             handed: Record::new(),
+        }
+    }
+
+    /// A mirror with a label whose file could not be opened. Each put fails.
+    pub fn lost(label: u32) -> FileMirror
+        ensures { label_of result ≡ label }
+    {
+        FileMirror {
+            label,
+            file: None,
+            faults: 0,
+            history: Record::new(),
+            handed: Record::new(),
+        }
+    }
+
+    /// Makes stable what it has taken. A device that takes no sync needs none.
+    pub fn sync(&self) -> io::Result<()> {
+        let Some(file) = &self.file else {
+            return Ok(());
+        };
+        match file.sync_all() {
+            Err(e) if e.kind() == ErrorKind::InvalidInput => Ok(()),
+            answer => answer,
+        }
+    }
+
+    // Writes a piece to the file, if there is one.
+    fn write(&mut self, piece: &[u8]) -> io::Result<()>
+        ensures label { self.new.label ≡ self.old.label }
+        ensures faults { self.new.faults ≡ self.old.faults }
+        ensures history { self.new.history.events ≡ self.old.history.events }
+        ensures handed { self.new.handed.events ≡ self.old.handed.events }
+    {
+        match &mut self.file {
+            Some(file) => file.write_all(piece),
+            None => Err(io::Error::from(ErrorKind::NotFound)),
         }
     }
 }
@@ -57,7 +94,7 @@ impl Mirror for FileMirror {
 
     fn put(&mut self, piece: &[u8]) -> Result<(), Failed> {
         self.handed.note(&[], piece);
-        match self.file.write_all(piece) {
+        match self.write(piece) {
             Ok(()) => {
                 self.history.note(&[], piece);
                 Ok(())

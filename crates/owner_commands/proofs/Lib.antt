@@ -6,3 +6,4 @@ pub mod SuccessionLemmas
 pub mod StandingLemmas
 pub mod ReleaseLaws
 mod Worked
+pub mod Answered

@@ -13,3 +13,4 @@ mod linking;
 mod making;
 mod publishing;
 mod succeeding;
+mod verifying;

@@ -12,10 +12,10 @@ ghost use Rattle.command_desks.specs.Opening.{EndsOpening};
 ghost use Rattle.owner_commands.specs.ChainLine.{IsChainOn, EndsLinks};
 ghost use Rattle.owner_commands.specs.StandingKeys.{IsStandingChain, ChainsWhatItWrites};
 
+use crate::verifying::verified_chain;
 use command_desks::open_desk;
 use command_files::{Conclusion, Fault, write_text};
 use key_desk::LinksError;
-use lms_tree::write_links;
 use road_io::{Disk, Sink};
 use std::alloc::Global;
 
@@ -38,7 +38,7 @@ pub fn links<K: Sink, D: Disk>(
     write_text(sink, &chain)
 }
 
-/// The chain file of the desk over the keys on the disk.
+/// The chain file of the desk over the keys on the disk, verified.
 fn chain_on<D: Disk>(alloc: Global, disk: &mut D) -> Result<Vec<u8>, Fault>
     ensures usable { IfOk result (λ chain. ForSome (still_told D.Disk disk.old disk.new) IsUsable) }
     ensures chain { IfOk result (λ chain.
@@ -52,10 +52,7 @@ fn chain_on<D: Disk>(alloc: Global, disk: &mut D) -> Result<Vec<u8>, Fault>
 {
     let desk = open_desk(alloc, disk)?;
     match desk.links(alloc) {
-        Ok(links) => match write_links(alloc, &links) {
-            Ok(chain) => Ok(chain),
-            Err(_) => Err(Fault::Memory),
-        },
+        Ok(links) => verified_chain(alloc, &desk.public_of(0), &links),
         Err(LinksError::Memory) => Err(Fault::Memory),
         Err(LinksError::Closed) => unreachable!(),
     }

@@ -11,6 +11,7 @@ ghost use Rattle.owner_commands.specs.Calls.{most_publish_calls};
 ghost use Rattle.owner_commands.specs.Publishing.{EndsPublish, TellsLost, ends_publish};
 ghost use Rattle.owner_commands.specs.Signing.{SignsAtMostOne, SignsAtMostHeader, StaysRefused, IsSealedOnDisk, SealsWhatItMirrors, SealsWhatItWrites};
 
+use crate::verifying::verified_publication;
 use book_model::Settings;
 use command_books::not_built;
 use command_desks::open_desk;
@@ -68,7 +69,7 @@ pub fn publish<L: Library, K: Sink, D: Disk, M: Mirror>(
     }
 }
 
-/// The publication of parts and settings, signed by the key on the disk.
+/// The publication of parts and settings, signed by the key on the disk, and verified.
 fn signed<D: Disk>(
     alloc: Global,
     disk: &mut D,
@@ -87,7 +88,7 @@ fn signed<D: Disk>(
 {
     let mut desk = open_desk(alloc, disk)?;
     match route_owner::publish::<Sha, D>(alloc, &mut desk, disk, parts, settings) {
-        Ok(publication) => Ok(publication),
+        Ok(publication) => verified_publication(&desk, publication),
         Err(PublishError::Build(fault)) => Err(not_built(fault)),
         Err(PublishError::Desk(DeskError::KeysUsedUp)) => Err(Fault::KeysUsedUp),
         Err(PublishError::Desk(DeskError::DiskFault)) => Err(Fault::Disk),

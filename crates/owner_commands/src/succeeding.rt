@@ -17,7 +17,7 @@ ghost use Rattle.owner_commands.specs.NextKey.{AddsKey, EndsSuccession, IsNextKe
 ghost use Rattle.owner_commands.specs.Signing.{StaysRefused};
 ghost use Rattle.owner_commands.specs.StandingKeys.{FollowsAnother};
 
-use crate::making::line_of_key;
+use crate::verifying::line_of_next;
 use command_files::{Conclusion, Fault, load_hex, write_text};
 use key_desk::{Desk, SucceedError};
 use road_command::KeyKind;
@@ -51,7 +51,7 @@ pub fn succeed<L: Library, K: Sink, D: Disk>(
     write_text(sink, &line)
 }
 
-/// Makes the next key on the disk, and answers the line of its public key.
+/// Makes the next key on the disk, and answers the line of its public key, whose link is verified.
 fn make_next<D: Disk>(
     alloc: Global,
     disk: &mut D,
@@ -78,7 +78,7 @@ fn make_next<D: Disk>(
     ensures few { CalledUpTo most_succeed_calls (D.calls disk.old) (D.calls disk.new) }
 {
     match Desk::succeed(alloc, disk, kind.number(), secret) {
-        Ok(desk) => Ok(line_of_key(&desk.public())),
+        Ok(desk) => line_of_next(&desk),
         Err(e) => Err(not_followed(e)),
     }
 }

@@ -1,6 +1,8 @@
 pub mod ItemLaws
 pub mod Exacts
 pub mod Keys
+pub mod KeyPlaces
+pub mod PlaceLaws
 pub mod PairKeys
 pub mod Tested
 pub mod LengthLaws

@@ -20,5 +20,6 @@ mod lengths;
 mod nodes_by_id;
 mod pairs;
 mod pairs_by_id;
+mod places;
 mod refusal;
 mod route;

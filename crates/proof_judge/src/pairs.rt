@@ -9,7 +9,7 @@ use crate::refusal::Refusal;
 use road_leaf::PairLeaf;
 
 /// Whether a pair item names two ids, in this order.
-fn names(pair: PairLeaf, first: u32, second: u32) -> bool
+pub(crate) fn names(pair: PairLeaf, first: u32, second: u32) -> bool
     ensures { result ≡ ((pair.a == first) && (pair.b == second)) }
 {
     pair.a == first && pair.b == second

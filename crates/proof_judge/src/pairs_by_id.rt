@@ -1,45 +1,68 @@
 //! Pair items at hand by their two ids.
 
-ghost use Rattle.std.specs.Prelude.{◌≡◌, ◌==◌, ◌&&◌, ℕ, None, Some, IfOk, OnOk, if◌then◌else◌};
-ghost use Rattle.std.specs.Option.{option_or};
+ghost use Rattle.std.specs.Prelude.{◌≡◌, ℕ, IfOk};
 ghost use Rattle.proof_judge.specs.Judgement.{pair_at};
-ghost use Rattle.proof_judge.specs.ById.{leaf_in};
+ghost use Rattle.proof_judge.specs.ById.{named_in, is_before, AreSorted};
 
+use crate::pairs::names;
 use road_leaf::PairLeaf;
 use std::alloc::{AllocError, Global};
-use std::collections::HashMap;
 use std::marker::Model;
 
-/// Pair items, and the first of those that name the same two ids.
+/// Pair items, and the same items by their two ids.
 #[derive(Drop)]
 pub struct PairsById<'a> {
     pairs: &'a [PairLeaf],
-    first: HashMap<(u32, u32), PairLeaf>,
+    sorted: Vec<PairLeaf>,
 }
 
 impl<'a> Model for PairsById<'a> {
-    ghost use Rattle.std.specs.Prelude.{◌≡◌, ◌==◌, ◌&&◌, ℕ, List, find};
+    ghost use Rattle.std.specs.Prelude.{◌≡◌, ℕ, List};
     ghost use Rattle.road_leaf.specs.declared.pair.PairLeaf.{PairLeaf};
-    ghost use Rattle.proof_judge.specs.ById.{leaf_in, named_in};
+    ghost use Rattle.proof_judge.specs.ById.{AreSorted, named_in};
 
     ghost Value = { List PairLeaf };
 
     ghost view = { λ s. s.pairs.now };
 
-    ghost invariant = { λ s. (a b : ℕ) → leaf_in s.first a b ≡ named_in s.pairs.now a b };
+    ghost invariant = { λ s. AreSorted s.sorted.items ×
+        ((a b : ℕ) → named_in s.sorted.items a b ≡ named_in s.pairs.now a b) };
 }
 
-/// Notes an item, unless there is one of the same two ids.
-fn note(first: &mut HashMap<(u32, u32), PairLeaf>, pair: PairLeaf) -> Result<(), AllocError>
-    ensures { OnOk result ((a b : ℕ) →
-        leaf_in first.new a b ≡ option_or (leaf_in first.old a b)
-        (if (pair.a == a) && (pair.b == b) then Some pair else None)) }
+/// Items sorted by their two ids, those of the same two in the order that they had.
+fn sorted_pairs(alloc: Global, pairs: &[PairLeaf]) -> Result<Vec<PairLeaf>, AllocError>
+    ensures sorted { IfOk result (λ sorted. AreSorted sorted.items) }
+    ensures same { IfOk result (λ sorted. (a b : ℕ) →
+        named_in sorted.items a b ≡ named_in pairs.now a b) }
 {
-    let ids = (pair.a, pair.b);
-    if !first.contains_key(&ids) {
-        first.insert(ids, pair)?;
+    let mut sorted = pairs.to_vec(alloc)?;
+    sorted.sort_by_key(|pair| (pair.a, pair.b))?;
+    Ok(sorted)
+}
+
+/// Whether an item's ids come before two others.
+fn precedes(pair: &PairLeaf, a: u32, b: u32) -> bool
+    ensures { result ≡ is_before pair.now.a pair.now.b a b }
+{
+    pair.a < a || (pair.a == a && pair.b < b)
+}
+
+/// The first item that names two ids, in this order, among sorted items.
+fn find_sorted(sorted: &[PairLeaf], a: u32, b: u32) -> Option<PairLeaf>
+    requires { AreSorted sorted.now }
+    ensures { result ≡ named_in sorted.now a b }
+{
+    let place = sorted.partition_point(|pair| precedes(pair, a, b));
+    match sorted.get(place) {
+        None => None,
+        Some(pair) => {
+            if names(*pair, a, b) {
+                Some(*pair)
+            } else {
+                None
+            }
+        }
     }
-    Ok(())
 }
 
 impl<'a> PairsById<'a> {
@@ -47,17 +70,14 @@ impl<'a> PairsById<'a> {
     pub fn new(alloc: Global, pairs: &'a [PairLeaf]) -> Result<PairsById<'a>, AllocError>
         ensures { IfOk result (λ by_id. by_id ≡ pairs.now) }
     {
-        let mut first = HashMap::new(alloc);
-        for pair in pairs {
-            note(&mut first, *pair)?;
-        }
-        Ok(PairsById { pairs, first })
+        let sorted = sorted_pairs(alloc, pairs)?;
+        Ok(PairsById { pairs, sorted })
     }
 
     /// The first pair item that names two ids.
     pub fn find(&self, b: u32, c: u32) -> Option<PairLeaf>
         ensures { result ≡ pair_at self.now b c }
     {
-        self.first.get(&(b.min(c), b.max(c))).copied()
+        find_sorted(self.sorted.as_slice(), b.min(c), b.max(c))
     }
 }

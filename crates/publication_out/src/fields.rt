@@ -5,7 +5,8 @@ ghost use Rattle.proof_octets.specs.Publications.{node, road};
 ghost use Rattle.publication_out.specs.Ahead.{ahead, front_text, numbers_text, IsStep};
 
 use book_model::Settings;
-use proof_octets::{Publication, write_array, write_u32, write_u64};
+use octet_text::write_array;
+use proof_octets::Publication;
 use road_map::{Node, Road};
 
 /// How many octets a buffer for one field has.
@@ -46,11 +47,11 @@ fn write_numbers(buffer: &mut [u8], settings: &Settings, nodes: u32) -> usize
     ensures len { result ≡ 36 }
     ensures text { take 36 buffer.new ≡ numbers_text settings.now nodes }
 {
-    write_u64(buffer, 0, settings.seed);
-    write_u64(buffer, 8, settings.p1);
-    write_u64(buffer, 16, settings.p2);
-    write_u64(buffer, 24, settings.p3);
-    write_u32(buffer, 32, nodes);
+    write_array(buffer, 0, &settings.seed.to_be_bytes());
+    write_array(buffer, 8, &settings.p1.to_be_bytes());
+    write_array(buffer, 16, &settings.p2.to_be_bytes());
+    write_array(buffer, 24, &settings.p3.to_be_bytes());
+    write_array(buffer, 32, &nodes.to_be_bytes());
     36
 }
 
@@ -59,7 +60,7 @@ fn write_count(buffer: &mut [u8], count: u32) -> usize
     ensures len { result ≡ 4 }
     ensures text { take 4 buffer.new ≡ to_be_bytes w32 count }
 {
-    write_u32(buffer, 0, count);
+    write_array(buffer, 0, &count.to_be_bytes());
     4
 }
 
@@ -68,9 +69,9 @@ fn write_node(buffer: &mut [u8], item: Node) -> usize
     ensures len { result ≡ 12 }
     ensures text { take 12 buffer.new ≡ node.spell item }
 {
-    write_u32(buffer, 0, item.id);
-    write_u32(buffer, 4, item.x.cast_unsigned());
-    write_u32(buffer, 8, item.y.cast_unsigned());
+    write_array(buffer, 0, &item.id.to_be_bytes());
+    write_array(buffer, 4, &item.x.cast_unsigned().to_be_bytes());
+    write_array(buffer, 8, &item.y.cast_unsigned().to_be_bytes());
     12
 }
 
@@ -79,9 +80,9 @@ fn write_road(buffer: &mut [u8], item: Road) -> usize
     ensures len { result ≡ 12 }
     ensures text { take 12 buffer.new ≡ road.spell item }
 {
-    write_u32(buffer, 0, item.a);
-    write_u32(buffer, 4, item.b);
-    write_u32(buffer, 8, item.length);
+    write_array(buffer, 0, &item.a.to_be_bytes());
+    write_array(buffer, 4, &item.b.to_be_bytes());
+    write_array(buffer, 8, &item.length.to_be_bytes());
     12
 }
 

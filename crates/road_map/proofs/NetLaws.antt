@@ -1,5 +1,5 @@
 -- Arcs by position.
-use Rattle.std.proofs.Common.{◌≡◌, ℕ, zero, suc, ◌+◌, ◌<◌, Option, None, Some, IfNone, IsSome, List, [], ◌∷◌, ◌++◌, ◌⊎◌, inl, inr, length, map, slice_get, get_or, refl, arith, ap, sym, ◌∙◌, subst}
+use Rattle.std.proofs.Common.{◌≡◌, ℕ, zero, suc, ◌+◌, ◌<◌, Option, None, Some, IfNone, IsSome, List, [], ◌∷◌, ◌++◌, ◌⊎◌, inl, inr, length, map, slice_get, get_or, refl, arith, ap, sym, ◌∙◌, subst, append_assoc}
 use Rattle.std.specs.List.{Contains}
 use Rattle.std.proofs.lemmas.List.{length-append, length-map}
 use Rattle.road_map.specs.declared.arc.Arc.{Arc}
@@ -8,7 +8,8 @@ use Rattle.road_map.specs.declared.parts.Parts.{Parts}
 use Rattle.road_map.specs.declared.rows.NodeArcs.{NodeArcs}
 use Rattle.road_map.specs.ArcsOut.{arcs_out}
 use Rattle.road_map.specs.Maps.{IsMap, IsById}
-use Rattle.road_map.specs.Nets.{IsPlace, Placed, IsNet}
+use Rattle.road_map.specs.Nets.{IsPlace, Placed, AddsPlaced, IsNet}
+use Rattle.road_map.specs.Parted.{parted, AreEnds}
 use Rattle.road_map.specs.Rows.{IsAt, HasRow, LeadToRows, IsNetOf, IsChart}
 use Rattle.road_map.specs.Walks.{Knows}
 use Rattle.road_map.proofs.Among.{place_map, map_place}
@@ -16,6 +17,7 @@ use Rattle.road_map.proofs.ArcLaws.{arcs_out-sound, HopOf}
 use Rattle.road_map.proofs.ChartLaws.{roads_known}
 use Rattle.road_map.proofs.IdLaws.{known_at}
 use Rattle.road_map.proofs.WalkLaws.{hop_end-known}
+use Rattle.road_map.proofs.PartedLaws.{parted_more, ends_more}
 
 abbrev node_of : NodeArcs → Node
 node_of row = row.node
@@ -54,6 +56,25 @@ Placed-snoc order [] [] a b h same at = (same, at, tt)
 Placed-snoc order [] (y ∷ ys) a b h same at = absurd h
 Placed-snoc order (x ∷ xs) [] a b h same at = absurd h
 Placed-snoc order (x ∷ xs) (y ∷ ys) a b h same at = (h.0, h.1, Placed-snoc order xs ys a b h.2 same at)
+
+pub adds_more : (order : List Node) (arcs old now new : List Arc) (a b : Arc) → AddsPlaced order arcs old now → new ≡ now ++ b ∷ [] → b.length ≡ a.length → IsPlace order a.to b.to → AddsPlaced order (arcs ++ a ∷ []) old new
+adds_more order arcs old now new a b h is same at = record {
+  added = h.added ++ b ∷ [];
+  behind = is ∙ (ap (λ xs. xs ++ b ∷ []) h.behind ∙ append_assoc old h.added (b ∷ []));
+  placed = Placed-snoc order arcs h.added a b h.placed same at;
+}
+
+-- the parts and their ends, with those arcs as one part more
+pub parted_added : (order : List Node) (arcs old new : List Arc) (ends more : List ℕ) (end : ℕ) (h : AddsPlaced order arcs old new) → more ≡ ends ++ end ∷ [] → end ≡ length new → AreEnds 0 ends (length old) → parted 0 more new ≡ parted 0 ends old ++ h.added ∷ []
+parted_added order arcs old new ends more end h is at before =
+    let long : length new ≡ length old + length h.added = ap length h.behind ∙ length-append old h.added in
+    rw (is, h.behind) (parted_more 0 ends old h.added end before (omega (arith, at, long)))
+
+pub ends_added : (order : List Node) (arcs old new : List Arc) (ends more : List ℕ) (end : ℕ) (h : AddsPlaced order arcs old new) → more ≡ ends ++ end ∷ [] → end ≡ length new → AreEnds 0 ends (length old) → AreEnds 0 more (length new)
+ends_added order arcs old new ends more end h is at before =
+    let long : length new ≡ length old + length h.added = ap length h.behind ∙ length-append old h.added in
+    let ends_here : AreEnds 0 (ends ++ end ∷ []) end = ends_more 0 ends (length old) end before (omega (arith, at, long)) in
+    rw is (subst (AreEnds 0 (ends ++ end ∷ [])) at ends_here)
 
 -- there are as many, and the one at an index leads where the other does
 pub Placed-length : (order : List Node) (arcs bs : List Arc) → Placed order arcs bs → length bs ≡ length arcs

@@ -6,4 +6,5 @@ pub mod RightLemmas
 pub mod LifeLaws
 pub mod LifeWorked
 pub mod CompleteLemmas
+pub mod WorkLemmas
 mod RunWorked

@@ -13,6 +13,7 @@ use Rattle.road_io.proofs.StillTold.{both_told}
 use Rattle.road_io.specs.Contents.{Folder}
 use Rattle.desk_areas.specs.Layout.{IsOpen}
 use Rattle.key_desk.specs.Stands.{SameKeys}
+use Rattle.key_desk.specs.Spending.{SpendsTexted}
 use Rattle.road_command.specs.Requests.{Request, Key, Succeed, Links, Publish, Audit, AuditReach, Reduce}
 use Rattle.command_files.specs.declared.fault.Fault.{Fault}
 use Rattle.command_files.specs.declared.fault.Fault.TheVariants.{Sink, MirrorLost}
@@ -23,7 +24,7 @@ use Rattle.desk_areas.specs.Keys.{key_from}
 use Rattle.owner_commands.specs.Releases.{Release, header_release, link_release, IsReleasedFrom, AllStand, AllApart}
 use Rattle.owner_commands.proofs.ReleaseLaws.{Adds, adds_none, adds_header, adds_chain, adds_link, apart_append, keys_stay, keys_published, pair_of, stand_as_pairs, given_after, given_open}
 use Rattle.road_run.specs.Commands.{OnDisk, OnMirrors, LeavesAll}
-use Rattle.road_run.specs.Lives.{where_written, Run, given_by, given, Step, Ran, Cut, Broke, EachTells, IsLife, StandWithin, NoneSignsTwice}
+use Rattle.road_run.specs.Lives.{where_written, Run, given_by, given, Step, Ran, Cut, Broke, Spent, SpentCut, EachTells, IsLife, StandWithin, NoneSignsTwice}
 
 -- what holds of nothing, and of what went out where something was written
 written : (P : Type 0) (o : Result Conclusion Fault) (it : OnWriting o P) (f : P → List Release) (Q : List Release → Type 0) → Q [] → ((p : P) → Q (f p)) → Q (where_written P o it f)
@@ -64,6 +65,12 @@ module _ {M : Type 0} (octets : M → Option (List ℕ)) (label handed puts room
       let keys = keys_of g old new run.files run.taken_before run.taken_now run.outcome opened run.asked run.promised.nothing run.promised.on_disk in
       let d = keys.each k i from to h in
       given_after d.0 i (r ∷ rest) d.2 (here d.0 d.1) (run.promised.stands.each (map pair_of (r ∷ rest)) (stand_as_pairs g old (r ∷ rest) here) k i from to h)
+
+  -- and at each moment of a spending
+  kept_spent : (old new : D) → SpendsTexted g old new → (before : List Release) → EachImage g old (AllStand before) → (k : ℕ) (i : List ℕ) → g.clock old ≤ k → k ≤ g.clock new → g.image_at new k i → AllStand before i
+  kept_spent old new spends before here k i from to h =
+      let d = spends.keys.each k i from to h in
+      given_after d.0 i before d.2 (here d.0 d.1) (spends.stands.each (map pair_of before) (stand_as_pairs g old before here) k i from to h)
 
   -- what a run gives out
   adds_by : (old new : D) (before : List Release) (c n : List ℕ) → still_told g old new ≡ Some c → AllStand before c → Image g new n → AllStand before n
@@ -107,11 +114,21 @@ module _ {M : Type 0} (octets : M → Option (List ℕ)) (label handed puts room
       subst (λ (all : List Release). EachImage g new (AllStand all)) (sym same) (λ i now. here i (crashed.left i now)),
       subst AllApart (sym same) apart,
     )
+    stepped before after (Spent spends same) here apart = (
+      subst (λ (all : List Release). EachImage g new (AllStand all)) (sym same) (λ i now. kept_spent old new spends before here (g.clock new) i spends.stands.later (omega arith) now),
+      subst AllApart (sym same) apart,
+    )
+    stepped before after (SpentCut called spends k from to crashed same) here apart = (
+      subst (λ (all : List Release). EachImage g new (AllStand all)) (sym same) (λ i now. kept_spent old called spends before here k i from to (crashed.left i now)),
+      subst AllApart (sym same) apart,
+    )
 
   within : (old new : D) (before after : List Release) (step : Step octets label handed puts room g old new before after) → EachImage g old (AllStand before) → StandWithin octets label handed puts room g old new before after step
   within old new before after (Ran run more) here = λ k i from to h. kept old new run before here k i from to h
   within old new before after (Cut called run k from to crashed same) here = λ n i past upto h. kept old called run before here n i past upto h
   within old new before after (Broke crashed same) here = λ i now. here i (crashed.left i now)
+  within old new before after (Spent spends same) here = λ k i from to h. kept_spent old new spends before here k i from to h
+  within old new before after (SpentCut called spends k from to crashed same) here = λ n i past upto h. kept_spent old called spends before here n i past upto h
 
   -- a whole life
   pub none_twice : (disk : D) (before : List Release) (states : List (D × List Release)) (life : IsLife octets label handed puts room g disk before states) → EachTells g disk states → EachImage g disk (AllStand before) → AllApart before

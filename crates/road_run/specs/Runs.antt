@@ -29,10 +29,11 @@ use Rattle.road_run.specs.Accepting.{AcceptsHonest, FindsHonest, RepliesAreTaken
 
 module _ {L S K D M : Type 0} (library : LibraryView L) (source : SourceView S) (sink : SinkView K)
     (disk : DiskView D) (mirror : MirrorView M) where
-  -- a run that was asked for this, from these objects to those, with this status and outcome
-  pub record RunsOver (asked : Option Request) (l l' : L) (s s' : S) (k k' : K) (d d' : D)
-      (ms ms' : List M) (exit : ℕ) (o : Result Conclusion Fault) : Type 0 where
-    pub status : exit ≡ status_of o
+  -- What work does that was asked for, from these objects to those, however it ended: what it promises,
+  -- what it takes from the source, which gave that, what it hands the mirrors, that each failure of an
+  -- object is its end, which names it asks for, and that what it has no use for is as before.
+  pub record WorksOver (asked : Option Request) (l l' : L) (s s' : S) (k k' : K) (d d' : D)
+      (ms ms' : List M) (o : Result Conclusion Fault) : Type 0 where
     pub promised : RunPromises disk d d' asked (library.files l') (library.faults l)
         (library.faults l') (sink.taken k) (sink.taken k') (sink.faults k) (sink.faults k') o
     pub takes : RunTakes asked (library.files l') (source.left s) (source.left s') (source.faults s)
@@ -41,14 +42,21 @@ module _ {L S K D M : Type 0} (library : LibraryView L) (source : SourceView S) 
         (source.faults s) (source.faults s') (sink.taken k) (sink.taken k') o
     pub mirrors : OnMirrors mirror.octets mirror.named mirror.handed mirror.puts mirror.room disk d
         d' asked (sink.taken k) (sink.taken k') ms ms' o
-    pub synced : WritesBehindSync mirror.octets mirror.named mirror.handed mirror.puts mirror.room disk
-        d d' asked (sink.taken k) (sink.taken k') ms ms' o
     pub unfaulted : o ≢ Err Disk → disk.faults d' ≡ disk.faults d
     pub library_spared : SparesLibrary o (library.faults l) (library.faults l')
     pub source_spared : SparesBut Source o (source.faults s) (source.faults s')
     pub sink_spared : SparesBut Sink o (sink.faults k) (sink.faults k')
     pub asks : AsksFront (files_named asked) (library.asked l) (library.asked l')
     pub unused : LeavesUnused asked (l' ≡ l) (s' ≡ s) (k' ≡ k) (d' ≡ d)
+
+  -- a run that was asked for this, from these objects to those, with this status and outcome: its
+  -- work, and what follows of it
+  pub record RunsOver (asked : Option Request) (l l' : L) (s s' : S) (k k' : K) (d d' : D)
+      (ms ms' : List M) (exit : ℕ) (o : Result Conclusion Fault) : Type 0 where
+    pub status : exit ≡ status_of o
+    pub works : WorksOver asked l l' s s' k k' d d' ms ms' o
+    pub synced : WritesBehindSync mirror.octets mirror.named mirror.handed mirror.puts mirror.room disk
+        d d' asked (sink.taken k) (sink.taken k') ms ms' o
     pub exact : NoneFailed (library.faults l) (library.faults l') (sink.faults k) (sink.faults k')
         (disk.faults d) (disk.faults d') →
         IfSome asked (λ request. IfSome (files_for request (library.files l')) (λ folder.

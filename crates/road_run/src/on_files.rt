@@ -10,9 +10,12 @@ ghost use Rattle.road_run.specs.Runs.{RunsOver};
 use crate::laws::no_key_signs_twice;
 use crate::program::run;
 use command_files::Ended;
+use desk_guard::SignedSink;
 use mirror_out::{FileMirror, Mirror};
 use road_command::Words;
-use road_io::{Disk, FileDisk, FileLibrary, Library, Sink, Source, StdSink, StdSource};
+use road_io::{
+    Disk, FileDisk, FileLibrary, KeptLibrary, KeptSink, Library, Sink, Source, StdSink, StdSource,
+};
 use std::alloc::Global;
 use std::fs::File;
 use std::rt::Files;
@@ -23,19 +26,19 @@ use std::rt::Files;
 /// them tells what its history of answers says: the sink and the mirrors what they were answered to have
 /// taken, the source what it gave, the library and the disk what they hold, whatever files there were and
 /// whatever failed calls have left. A library or a disk tells it until two of its answers contradict each
-/// other. And over every life that begins with this disk, and whose disks tell what they read, no one-time
-/// key signs twice.
+/// other. And over every life that begins with this disk, of such runs, of calls of `Desk::spend_texted` and of
+/// crashes, and whose disks tell what they read, no one-time key signs twice.
 pub fn run_on_files<R: Files<File = File> + Print + Input + Drop>(
     alloc: Global,
     words: &Words,
-    library: &mut FileLibrary<R>,
+    library: &mut KeptLibrary<FileLibrary<R>>,
     source: &mut StdSource<R>,
-    sink: &mut StdSink<R>,
+    sink: &mut KeptSink<SignedSink<StdSink<R>>>,
     disk: &mut FileDisk<R>,
     mirrors: &mut Vec<FileMirror>,
 ) -> Ended
-    ensures runs { RunsOver ⟦<FileLibrary<R> as Library>⟧ ⟦<StdSource<R> as Source>⟧
-        ⟦<StdSink<R> as Sink>⟧ ⟦<FileDisk<R> as Disk>⟧ ⟦<FileMirror as Mirror>⟧
+    ensures runs { RunsOver ⟦<KeptLibrary<FileLibrary<R>> as Library>⟧ ⟦<StdSource<R> as Source>⟧
+        ⟦<KeptSink<SignedSink<StdSink<R>>> as Sink>⟧ ⟦<FileDisk<R> as Disk>⟧ ⟦<FileMirror as Mirror>⟧
         (request_of words.now) library.old library.new source.old source.new sink.old sink.new
         disk.old disk.new mirrors.old.items mirrors.new.items result.status (outcome_of result) }
     ensures lives { (states : List (_ × List Release)) →

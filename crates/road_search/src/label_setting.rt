@@ -6,6 +6,7 @@ ghost use Rattle.std.specs.BinaryHeap.{heap_items};
 ghost use Rattle.road_map.specs.Least.{lesser, IsLeast};
 ghost use Rattle.road_search.specs.Passing.{IsLeastPassing};
 ghost use Rattle.road_search.specs.Marking.{label_in};
+ghost use Rattle.road_search.specs.Listing.{listed};
 ghost use Rattle.road_search.specs.Nearness.{below};
 ghost use Rattle.road_search.specs.Queue.{IsFront};
 ghost use Rattle.road_search.specs.Labelling.{IsBegun, IsOffered, passable, length_at, length_in, route_at, route_in, IsWay};
@@ -14,7 +15,8 @@ use crate::front::{Queue, offer, settle_least};
 use crate::ground::Ground;
 use crate::label::Label;
 use crate::labels::Labels;
-use crate::marks::{Hashed, Marks};
+use crate::listed::Listed;
+use crate::marks::Marks;
 use octet_text::NoMemory;
 use road_map::Arc;
 use std::alloc::{AllocError, Global};
@@ -188,7 +190,7 @@ fn lowered(bound: u64, id: u32, to: u32, length: u64) -> u64
 /// A search that goes no further than it must for one end: it settles that end and each id that is
 /// as near, and answers a bound. The labels below the bound are those of a search with that bound as
 /// its limit, and a label that isn't below it says nothing.
-pub fn search_to<G: Ground, T: Marks>(
+pub(crate) fn search_to<G: Ground, T: Marks>(
     alloc: Global,
     ground: &G,
     marks: &mut T,
@@ -222,7 +224,30 @@ pub fn search_to<G: Ground, T: Marks>(
     Ok(bound)
 }
 
+/// A search that keeps its labels in this store, which has none.
+fn search_listed<G: Ground>(
+    alloc: Global,
+    ground: &G,
+    mut marks: Listed,
+    from: u32,
+    limit: u64,
+) -> Result<Labels, NoMemory>
+    requires { (v : ℕ) → listed marks v ≡ None }
+    ensures lengths { IfOk result (λ found. (v : ℕ) →
+        IsLeastPassing (G.ways ground.now) from limit v (length_at found v)) }
+    ensures routes { IfOk result (λ found. (v : ℕ) →
+        IfSome (route_at found v) (IsWay (G.ways ground.now) from limit v (length_at found v))) }
+    ensures missing { IfOk result (λ found.
+        IsLeast (λ v. IsSome (length_at found v) × ((G.ways ground.now).arcs v ≡ None))
+        found.missing) }
+{
+    let lacking = search_in(alloc, ground, &mut marks, from, limit)?;
+    Ok(Labels::new(marks, lacking))
+}
+
 /// The least length below the limit of a passing walk from an id to each id, and such a walk.
+///
+/// It costs what it labels, while that is little, and else a look at each of the ground's ids too.
 pub fn search<G: Ground>(
     alloc: Global,
     ground: &G,
@@ -237,7 +262,10 @@ pub fn search<G: Ground>(
         IsLeast (λ v. IsSome (length_at found v) × ((G.ways ground.now).arcs v ≡ None))
         found.missing) }
 {
-    let mut marks = Hashed::new(alloc);
-    let lacking = search_in(alloc, ground, &mut marks, from, limit)?;
-    Ok(Labels::new(marks, lacking))
+    if let Ok(found) = search_listed(alloc, ground, Listed::few(alloc), from, limit) {
+        return Ok(found);
+    }
+    let ids = ground.ids(alloc)?;
+    let marks = Listed::new(alloc, ids)?;
+    search_listed(alloc, ground, marks, from, limit)
 }

@@ -12,12 +12,14 @@
 #![tactic(auto)]
 
 pub use ground::Ground;
-pub use label_setting::{search, search_in, search_to};
+pub use label_setting::{search, search_in};
 pub use labels::Labels;
-pub use marks::{Hashed, Mark, Marks};
+pub use listed::Listed;
+pub use marks::{Mark, Marks};
 pub use numbered::Numbered;
 pub use over_map::{WholeMap, distances_to};
 pub use path::{Path, knows, shortest};
+pub use places::rising_ids;
 pub use survey::Survey;
 
 mod front;
@@ -25,9 +27,12 @@ mod ground;
 mod label;
 mod label_setting;
 mod labels;
+mod listed;
 mod marks;
+mod naming;
 mod net;
 mod numbered;
 mod over_map;
 mod path;
+mod places;
 mod survey;

@@ -4,8 +4,7 @@ ghost use Rattle.std.specs.Prelude.{◌≡◌, ℕ, Option, None, Some, OnOk, na
 ghost use Rattle.road_search.specs.declared.marks.Mark.{Mark};
 
 use crate::label::Label;
-use std::alloc::{AllocError, Global};
-use std::collections::HashMap;
+use std::alloc::AllocError;
 
 /// The label of an id, and whether it can't fall any more.
 #[derive(Clone, Copy, Debug)]
@@ -27,37 +26,4 @@ pub trait Marks {
     fn set(&mut self, id: u32, new: Mark) -> Result<(), AllocError>
         ensures { OnOk result ((v : ℕ) →
             mark self.new v ≡ (if nat_eq id v then Some new else mark self.old v)) };
-}
-
-/// Marks of any ids.
-#[derive(Drop)]
-pub struct Hashed {
-    pub(crate) marks: HashMap<u32, Mark>,
-}
-
-impl Hashed {
-    /// No mark.
-    pub fn new(alloc: Global) -> Hashed
-        ensures { (id : ℕ) → ⟦<Hashed as Marks>⟧.mark result id ≡ None }
-    {
-        Hashed {
-            marks: HashMap::new(alloc),
-        }
-    }
-}
-
-impl Marks for Hashed {
-    ghost use Rattle.std.specs.Prelude.{nat_eq};
-    ghost use Rattle.std.specs.HashMap.{get};
-
-    ghost mark = { λ s id. get nat_eq s.marks id };
-
-    fn get(&self, id: u32) -> Option<Mark> {
-        self.marks.get(&id).copied()
-    }
-
-    fn set(&mut self, id: u32, new: Mark) -> Result<(), AllocError> {
-        self.marks.insert(id, new)?;
-        Ok(())
-    }
 }

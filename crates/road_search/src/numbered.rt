@@ -1,6 +1,7 @@
 //! Marks in a list by number.
 
-ghost use Rattle.std.specs.Prelude.{◌≡◌, ℕ, None, IfOk};
+ghost use Rattle.std.specs.Prelude.{◌≡◌, ◌+◌, ◌<◌, ◌^◌, ℕ, None, Some, OnOk, nat_eq, if◌then◌else◌};
+ghost use Rattle.road_search.specs.Marking.{marked};
 
 use crate::marks::{Mark, Marks};
 use std::alloc::{AllocError, Global};
@@ -27,6 +28,30 @@ impl Numbered {
     {
         self.marks.fill(None);
     }
+
+    /// The mark of a number.
+    pub(crate) fn at(&self, number: usize) -> Option<Mark>
+        ensures { result ≡ marked self.now.marks.items number }
+    {
+        match self.marks.get(number) {
+            None => None,
+            Some(mark) => *mark,
+        }
+    }
+
+    /// Gives a number this mark.
+    pub(crate) fn put(&mut self, number: usize, new: Mark) -> Result<(), AllocError>
+        requires { number + 1 < 2 ^ 64 }
+        ensures { OnOk result ((v : ℕ) →
+            marked self.new.marks.items v ≡ (if nat_eq number v then Some new else
+            marked self.old.marks.items v)) }
+    {
+        if number >= self.marks.len() {
+            self.marks.resize(number + 1, None)?;
+        }
+        self.marks[number] = Some(new);
+        Ok(())
+    }
 }
 
 impl Marks for Numbered {
@@ -36,18 +61,10 @@ impl Marks for Numbered {
     ghost mark = { λ s id. unwrap_or (slice_get s.marks.items id) None };
 
     fn get(&self, id: u32) -> Option<Mark> {
-        match self.marks.get(id as usize) {
-            None => None,
-            Some(mark) => *mark,
-        }
+        self.at(id as usize)
     }
 
     fn set(&mut self, id: u32, new: Mark) -> Result<(), AllocError> {
-        let place = id as usize;
-        if place >= self.marks.len() {
-            self.marks.resize(place + 1, None)?;
-        }
-        self.marks[place] = Some(new);
-        Ok(())
+        self.put(id as usize, new)
     }
 }

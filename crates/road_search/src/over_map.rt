@@ -4,12 +4,16 @@ ghost use Rattle.std.specs.Prelude.{◌≡◌, ◌≤◌, ◌↔◌, ℕ, None, 
 ghost use Rattle.std.specs.Option.{option_copied};
 ghost use Rattle.road_map.specs.Walks.{Knows, distance};
 ghost use Rattle.road_search.specs.Labelling.{length_at, route_at};
-ghost use Rattle.road_search.specs.OverMap.{map_ways, IsShortestWay};
+ghost use Rattle.road_search.specs.Listing.{listed};
+ghost use Rattle.road_search.specs.OverMap.{map_ways, IsShortestWay, MeasuresTo};
 
 use crate::ground::Ground;
 use crate::label_setting::search_to;
 use crate::labels::Labels;
-use crate::marks::Hashed;
+use crate::listed::Listed;
+use crate::naming::by_ids;
+use crate::numbered::Numbered;
+use crate::places::rising_ids;
 use octet_text::NoMemory;
 use road_map::{Arc, Map, map_laws};
 use std::alloc::Global;
@@ -32,6 +36,11 @@ impl Ground for WholeMap<'_> {
         true
     }
 
+    fn ids(&self, alloc: Global) -> Result<Vec<u32>, NoMemory> {
+        let map = self.map;
+        rising_ids(alloc, map)
+    }
+
     ghost lets_shorter = { λ w id short long le h. h };
 }
 
@@ -46,10 +55,49 @@ fn arcs_at(map: &Map, id: u32) -> Option<&[Arc]>
     }
 }
 
+/// No label.
+fn no_labels(alloc: Global) -> Labels
+    ensures labels { (id : ℕ) → listed result.labels id ≡ None }
+    ensures missing { result.missing ≡ None }
+{
+    Labels::new(Listed::few(alloc), None)
+}
+
+/// The distances from a node to one end and to all that is as near, while the labels are few.
+fn few_distances(alloc: Global, map: &Map, from: u32, to: u32) -> Result<Labels, NoMemory>
+    requires { Knows map.now.parts from }
+    ensures { IfOk result (MeasuresTo map.now.parts from to) }
+{
+    map_laws();
+    let _parts = map.parts();
+    let whole = WholeMap { map };
+    let mut marks = Listed::few(alloc);
+    let _bound = search_to(alloc, &whole, &mut marks, from, to, u64::MAX)?;
+    Ok(Labels::new(marks, None))
+}
+
+/// The same by position, and then named by ids.
+fn distances_by_position(alloc: Global, map: &Map, from: u32, to: u32) -> Result<Labels, NoMemory>
+    requires { Knows map.now.parts from }
+    ensures { IfOk result (MeasuresTo map.now.parts from to) }
+{
+    map_laws();
+    let _parts = map.parts();
+    let start = map.place(from);
+    let Some(end) = map.position(to) else {
+        return Ok(no_labels(alloc));
+    };
+    let mut marks = Numbered::new(alloc);
+    let net = map.net();
+    let _bound = search_to(alloc, net, &mut marks, start, end, u64::MAX)?;
+    let found = by_ids(alloc, map, &marks)?;
+    Ok(Labels::new(found, None))
+}
+
 /// The distances from a node to one end and to all that is as near, and a shortest route to that end.
 ///
-/// It costs what is as near as the end, or all that a walk leads to where none leads to the end. A
-/// length beyond that of the end says nothing.
+/// It costs what is as near as the end, or all that a walk leads to where none leads to the end, and
+/// where that is much a look at each node too. A length beyond that of the end says nothing.
 pub fn distances_to(alloc: Global, map: &Map, from: u32, to: u32) -> Result<Labels, NoMemory>
     requires { Knows map.now.parts from }
     ensures end { IfOk result (λ found. length_at found to ≡ distance map.now.parts from to) }
@@ -59,10 +107,8 @@ pub fn distances_to(alloc: Global, map: &Map, from: u32, to: u32) -> Result<Labe
         d ≤ most → (length_at found v ≡ Some d) ↔ (distance map.now.parts from v ≡ Some d)) }
     ensures missing { IfOk result (λ found. found.missing ≡ None) }
 {
-    map_laws();
-    let _parts = map.parts();
-    let whole = WholeMap { map };
-    let mut marks = Hashed::new(alloc);
-    let _bound = search_to(alloc, &whole, &mut marks, from, to, u64::MAX)?;
-    Ok(Labels::new(marks, None))
+    match few_distances(alloc, map, from, to) {
+        Ok(found) => Ok(found),
+        Err(_) => distances_by_position(alloc, map, from, to),
+    }
 }

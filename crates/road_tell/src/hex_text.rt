@@ -3,8 +3,7 @@
 use road_command::Command;
 use std::fmt::{self, Display, Formatter};
 
-/// How a text does not encode as many hex digits as are wanted, or, where no number is, an even number of them. It
-/// has
+/// How a text does not encode as many hex digits as are wanted, or, where no number is, an even number of them. It has
 /// counts and an offset alone, and no octet of the text, which may be a secret.
 #[derive(Clone, Copy, Debug, PartialEq, Eq)]
 pub struct WrongHex {
@@ -14,16 +13,23 @@ pub struct WrongHex {
     place: Option<usize>,
     /// How many digits are wanted.
     wanted: Option<usize>,
+    /// How many octets there are in all, where more than were looked at.
+    all: Option<usize>,
 }
 
 impl WrongHex {
-    /// How this text does not encode so many hex digits.
-    pub fn of(text: &[u8], wanted: Option<usize>) -> WrongHex {
+    /// How a text of so many octets, which begins with these, does not encode so many hex digits.
+    pub fn of(text: &[u8], length: usize, wanted: Option<usize>) -> WrongHex {
         let line = without_line_end(text);
         WrongHex {
             found: line.len(),
             place: line.iter().position(|octet| !octet.is_ascii_hexdigit()),
             wanted,
+            all: if text.len() < length {
+                Some(length)
+            } else {
+                None
+            },
         }
     }
 }
@@ -31,19 +37,22 @@ impl WrongHex {
 impl Display for WrongHex {
     fn fmt<W: fmt::Write>(&self, f: &mut Formatter<W>) -> fmt::Result {
         let found = self.found;
-        match (self.place, self.wanted) {
-            (Some(place), Some(wanted)) => write!(
+        match (self.place, self.wanted, self.all) {
+            (Some(place), Some(wanted), _) => write!(
                 f,
                 "The octet at offset {place} is no hex digit, and the file must be {wanted} of them and at most one line end."
             ),
-            (Some(place), None) => write!(
+            (Some(place), None, _) => write!(
                 f,
                 "The octet at offset {place} is no hex digit, and the file must be an even number of them and at most one line end."
             ),
-            (None, Some(wanted)) => {
+            (None, _, Some(length)) => {
+                write!(f, "It has {length} octets, which are more than are wanted.")
+            }
+            (None, Some(wanted), None) => {
                 write!(f, "There are {found} hex digits, and {wanted} are wanted.")
             }
-            (None, None) => {
+            (None, None, None) => {
                 write!(
                     f,
                     "There are {found} hex digits, and an even number of them is wanted."

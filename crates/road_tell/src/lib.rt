@@ -1,22 +1,22 @@
 //! What standard error says: sentences over values, each for somebody who has not read the code.
 //!
 //! Each message is a value with a `Display`, and takes no memory. A sentence says no more than its
-//! value does. `message_on` is what is said of a whole run, and `look_again` finds what it says of
-//! the run's files.
+//! value does. `message_on` is what is said of a whole run, by what was kept of its files and of its
+//! output. Nothing is read again for it.
 #![tactic(auto)]
 
 pub use asked::{Asked, asked_of};
 pub use challenge::faulty_file;
 pub use content::Content;
 pub use hex_text::WrongHex;
+pub use kept::{most_kept, subject_of};
 pub use looks::{Look, look_of};
-pub use messages::{Facts, Message, message_on};
+pub use messages::{Facts, Message, key_of, message_on};
+pub use names::ShortName;
 pub use numbers::{BadNumber, bad_number};
 pub use plans::{plan_rule, setting_name};
 pub use refusals::Unusable;
-pub use roads::{MapPlace, place_of};
-pub use second_look::{Again, look_again};
-pub use slots::keys_left;
+pub use roads::{MapPlace, place_of, zero_roads};
 pub use usage::{Commands, KIT, VERSION};
 pub use words::{WrongWords, wrong_words};
 
@@ -24,14 +24,14 @@ mod asked;
 mod challenge;
 mod content;
 mod hex_text;
+mod kept;
 mod looks;
 mod messages;
+mod names;
 mod numbers;
 mod plans;
 mod quoted;
 mod refusals;
 mod roads;
-mod second_look;
-mod slots;
 mod usage;
 mod words;

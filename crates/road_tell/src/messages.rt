@@ -3,6 +3,7 @@
 use crate::challenge::faulty_file;
 use crate::content::Content;
 use crate::looks::Look;
+use crate::names::ShortName;
 use crate::numbers::bad_number;
 use crate::plans::{plan_rule, setting_name};
 use crate::refusals::Unusable;
@@ -13,8 +14,9 @@ use book_model::{PlanError, Query};
 use command_files::{Ended, Fault};
 use dimacs_reader::DimacsError;
 use road_command::{Command, Words, command_of};
+use road_line::{read_refused, read_refused_near};
 use road_map::MapError;
-use road_reader::RoadError;
+use road_reader::{RoadError, natural, split_word};
 use std::fmt::{self, Display, Formatter};
 use std::io::{self, ErrorKind};
 
@@ -23,8 +25,8 @@ use std::io::{self, ErrorKind};
 pub struct Facts<'a> {
     /// The name of the file that was asked for last.
     pub name: &'a str,
-    /// What is known of that file, as far as it was read again.
-    pub file: &'a Content,
+    /// What is known of the file that the run's end is said of, as `subject_of` names it.
+    pub file: Content<'a>,
     /// The system's reason why that file was not read.
     pub file_error: Option<io::Error>,
     /// The system's reason why the input was not read.
@@ -33,18 +35,18 @@ pub struct Facts<'a> {
     pub sink_error: Option<io::Error>,
     /// The system's reason why the owner's file failed.
     pub desk_error: Option<io::Error>,
-    /// Why the client refuses the reply, where one was refused.
-    pub refusal: Option<Unusable>,
-    /// The ends between which no walk leads, by a reply that was accepted without a route.
-    pub apart: Option<Query>,
-    /// How many one-time keys are left in the owner's file, where it was read again.
+    /// The front of what the run wrote to standard output.
+    pub line: &'a [u8],
+    /// The short name of the public key that was loaded, where one was.
+    pub key: Option<ShortName>,
+    /// How many maps the owner's key can still sign, where one was signed.
     pub left: Option<u32>,
 }
 
 /// How many one-time keys left are few.
 const FEW: u32 = 3;
 
-/// What is said of a run: lines of the form `road_proof: WHAT: SENTENCE`, and the command's line where a
+/// What is said of a run: lines of the form `road_proof: WHAT: SENTENCE`, and the command's line where an
 /// argument is wrong.
 #[derive(Clone, Copy)]
 pub struct Message<'a> {
@@ -56,20 +58,16 @@ pub struct Message<'a> {
 
 /// What is said of a run, if anything is.
 pub fn message_on<'a>(words: &'a Words, ended: Ended, facts: Facts<'a>) -> Option<Message<'a>> {
-    let command = command_of(words);
-    let few = match facts.left {
-        Some(left) => left <= FEW,
-        None => false,
-    };
-    if ended.status == 0 && !few && facts.apart.is_none() {
-        return None;
-    }
-    Some(Message {
+    let message = Message {
         words,
-        command,
+        command: command_of(words),
         ended,
         facts,
-    })
+    };
+    if message.is_silent() {
+        return None;
+    }
+    Some(message)
 }
 
 impl Display for Message<'_> {
@@ -80,7 +78,7 @@ impl Display for Message<'_> {
             Some(Fault::Memory) => f.write_str("road_proof: memory: Out of memory."),
             Some(Fault::Sink) => self.output(f),
             Some(fault) => {
-                let what = self.what(fault);
+                let what = without_secret(self.what(fault));
                 write!(f, "road_proof: {what}: ")?;
                 self.sentence(f, fault)
             }
@@ -89,6 +87,48 @@ impl Display for Message<'_> {
 }
 
 impl<'a> Message<'a> {
+    /// Whether there is nothing to say: all was done, few one-time keys are not left, and no reply without a route
+    /// was accepted.
+    fn is_silent(&self) -> bool {
+        if self.ended.status != 0 || self.ended.fault.is_some() {
+            return false;
+        }
+        match self.command {
+            Some(Command::Desk) => false,
+            Some(Command::Publish { .. }) => match self.facts.left {
+                Some(left) => left > FEW,
+                None => true,
+            },
+            _ => self.apart().is_none(),
+        }
+    }
+
+    /// The ends between which no walk leads, and the version of the map that shows it, by a reply that was accepted.
+    fn apart(&self) -> Option<(Query, u64)> {
+        let query = match self.command {
+            Some(Command::Check { query, .. } | Command::Audit { query, .. }) => query,
+            _ => return None,
+        };
+        match self.facts.file.octets() {
+            [3, header @ ..] => Some((query, version_of(header)?)),
+            _ => None,
+        }
+    }
+
+    /// Why the reply was refused, by the line that was written.
+    fn refusal(&self) -> Option<Unusable> {
+        let line = self.facts.line;
+        match self.command {
+            Some(Command::Check { .. } | Command::Audit { .. }) => {
+                Some(Unusable::Route(read_refused(line)?))
+            }
+            Some(Command::CheckReach { .. } | Command::AuditReach { .. }) => {
+                Some(Unusable::Nodes(read_refused_near(line)?))
+            }
+            _ => None,
+        }
+    }
+
     /// What is said where no fault was met.
     fn verdict<W: fmt::Write>(&self, f: &mut Formatter<W>) -> fmt::Result {
         if let Some(Command::Reduce { signature, .. }) = self.command {
@@ -104,13 +144,16 @@ impl<'a> Message<'a> {
             );
         }
         let reply = reply_of(self.command);
-        match (self.ended.status, self.facts.refusal) {
-            (0, _) => match self.facts.apart {
-                Some(ends) => apart(f, reply, ends),
-                None => self.few_left(f),
+        match (self.ended.status, self.refusal()) {
+            (0, _) => match self.apart() {
+                Some((ends, version)) => apart(f, reply, ends, version),
+                None => self.keys(f),
             },
             (1, Some(why)) => {
                 write!(f, "road_proof: {reply}: {why}")?;
+                if why.is_unsigned() {
+                    self.key_name(f)?;
+                }
                 self.look(f, reply_look(self.command))
             }
             (1, None) => write!(
@@ -141,14 +184,37 @@ impl<'a> Message<'a> {
         }
     }
 
-    /// The warning that few one-time keys are left.
-    fn few_left<W: fmt::Write>(&self, f: &mut Formatter<W>) -> fmt::Result {
-        let left = self.facts.left.unwrap_or(0);
-        let keys = if left == 1 { "key is" } else { "keys are" };
-        write!(
-            f,
-            "road_proof: owner.desk: {left} one-time {keys} left. Make the next key (`road_proof succeed`) before they end."
-        )
+    /// The short name of the public key under which a reply is not signed.
+    fn key_name<W: fmt::Write>(&self, f: &mut Formatter<W>) -> fmt::Result {
+        match self.facts.key {
+            Some(name) => write!(f, " The short name of this public key is {name}."),
+            None => Ok(()),
+        }
+    }
+
+    /// The key's short name, after `desk`, and the warning that few one-time keys are left.
+    fn keys<W: fmt::Write>(&self, f: &mut Formatter<W>) -> fmt::Result {
+        let (name, left) = match self.command {
+            Some(Command::Desk) => (
+                ShortName::of_digits(self.facts.line),
+                left_in(self.facts.line),
+            ),
+            _ => (None, self.facts.left),
+        };
+        if let Some(name) = name {
+            write!(
+                f,
+                "road_proof: owner.desk: The short name of its key is {name}."
+            )?;
+        }
+        match (name, left) {
+            (Some(_), Some(left)) if left <= FEW => {
+                f.write_str("\n")?;
+                few_left(f, left)
+            }
+            (None, Some(left)) => few_left(f, left),
+            _ => Ok(()),
+        }
     }
 
     /// Which argument is wrong, and why.
@@ -366,7 +432,7 @@ impl<'a> Message<'a> {
                 "It holds no key, or is not there. `road_proof key` makes one.",
             ),
             Fault::BadBlock => f.write_str(
-                "A key in it is of an unknown kind, or not all of its slots are there, or it is not the one that the key before it has signed.",
+                "A key in it is of an unknown kind, or not all of its slots are there, or it is not the one that the key before it has signed. Or a signature by it was not verified, as a bit of memory had turned: then nothing was written.",
             ),
             Fault::TooManyKeys => f.write_str(
                 "It holds eight keys, the most that it may hold. Make another key, in another folder.",
@@ -375,7 +441,7 @@ impl<'a> Message<'a> {
                 "The last one-time key of its key has signed a publication, so that it can't sign the next key. Make another key, in another folder.",
             ),
             Fault::SameSecret => f.write_str(
-                "It holds a key of this secret already. The next key is made from a secret of its own.",
+                "It holds a key already whose first 16 octets are those of this secret. The next key is made from a secret of its own.",
             ),
             _ => match self.facts.desk_error {
                 Some(e) if e.kind() == ErrorKind::WouldBlock => {
@@ -393,13 +459,73 @@ impl<'a> Message<'a> {
     }
 }
 
+/// The warning that few one-time keys are left.
+fn few_left<W: fmt::Write>(f: &mut Formatter<W>, left: u32) -> fmt::Result {
+    let keys = if left == 1 { "key is" } else { "keys are" };
+    write!(
+        f,
+        "road_proof: owner.desk: {left} one-time {keys} left. Make the next key (`road_proof succeed`) before they end."
+    )
+}
+
+/// How many maps the owner's key can still sign, by the line of `desk`.
+fn left_in(line: &[u8]) -> Option<u32> {
+    let (_, rest) = split_word(line);
+    let (left, _) = split_word(rest);
+    natural(left)
+}
+
+/// The version that a header says.
+fn version_of(header: &[u8]) -> Option<u64> {
+    match header {
+        [
+            b'R',
+            b'P',
+            b'F',
+            b'1',
+            _,
+            _,
+            _,
+            0,
+            a,
+            b,
+            c,
+            d,
+            e,
+            f,
+            g,
+            h,
+            ..
+        ] => Some(u64::from_be_bytes([*a, *b, *c, *d, *e, *f, *g, *h])),
+        _ => None,
+    }
+}
+
 /// What an accepted reply without a route says.
-fn apart<W: fmt::Write>(f: &mut Formatter<W>, reply: &str, ends: Query) -> fmt::Result {
+fn apart<W: fmt::Write>(
+    f: &mut Formatter<W>,
+    reply: &str,
+    ends: Query,
+    version: u64,
+) -> fmt::Result {
     let Query { from, to } = ends;
     write!(
         f,
-        "road_proof: {reply}: No road leads from {from} to {to}, and the owner's map shows it."
+        "road_proof: {reply}: No road leads from {from} to {to}, and version {version} of the owner's map shows it."
     )
+}
+
+/// The name that is printed of a file: one of 64 hex digits or more looks like a secret, and is not printed.
+fn without_secret(name: &str) -> &str {
+    if name.len() >= 64
+        && name
+            .as_bytes()
+            .iter()
+            .all(|octet| octet.is_ascii_hexdigit())
+    {
+        return "a name that looks like a secret";
+    }
+    name
 }
 
 /// The system's reason, and the sentence's end.
@@ -440,7 +566,7 @@ fn reply_look(command: Option<Command<'_>>) -> Look {
 }
 
 /// The name of a command's public key.
-fn key_of(command: Option<Command<'_>>) -> &str {
+pub fn key_of(command: Option<Command<'_>>) -> &str {
     match command {
         Some(
             Command::Check { key, .. }

@@ -36,6 +36,15 @@ impl Display for Unusable {
 }
 
 impl Unusable {
+    /// Whether the header is not signed under the public key.
+    pub fn is_unsigned(&self) -> bool {
+        matches!(
+            self,
+            Unusable::Route(CheckError::BadSignature(_))
+                | Unusable::Nodes(NearError::BadSignature(_))
+        )
+    }
+
     /// Why a reply on a route is refused.
     fn route<W: fmt::Write>(f: &mut Formatter<W>, why: CheckError) -> fmt::Result {
         match why {

@@ -155,3 +155,22 @@ impl Display for MapPlace {
         }
     }
 }
+
+/// How many roads of length 0 a road file lists.
+pub fn zero_roads(text: &[u8]) -> u32 {
+    let mut count = 0u32;
+    for octets in text.split(|octet| *octet == b'\n') {
+        let (kind, rest) = split_word(octets);
+        let (_, rest) = split_word(rest);
+        let (_, rest) = split_word(rest);
+        let (length, _) = split_word(rest);
+        let length = match length {
+            [length @ .., b'\r'] => length,
+            _ => length,
+        };
+        if kind == b"road".as_slice() && natural(length) == Some(0) {
+            count = count.saturating_add(1);
+        }
+    }
+    count
+}

@@ -3,12 +3,12 @@ ghost use Rattle.std.specs.Prelude.{◌↔◌, IfOk, IsTrue};
 ghost use Rattle.route_check_c.specs.Telling.{IsSimple};
 
 use std::alloc::{AllocError, Global};
-use std::collections::HashSet;
+use std::collections::BTreeSet;
 
 /// Whether a route passes no node twice.
 pub(crate) fn is_simple(alloc: Global, ids: &[u32]) -> Result<bool, AllocError>
     ensures { IfOk result (λ simple. IsTrue simple ↔ IsSimple ids.now) }
 {
-    let nodes: HashSet<u32> = ids.iter().copied().collect(alloc)?;
+    let nodes: BTreeSet<u32> = ids.iter().copied().collect(alloc)?;
     Ok(nodes.len() == ids.len())
 }

@@ -11,7 +11,7 @@ use Rattle.route_client.specs.declared.errors.CheckError.{CheckError}
 use Rattle.route_client.specs.Verdicts.{matched, covered, nodes_covered, pairs_covered, header_tested, tested}
 use Rattle.route_client.proofs.VerdictLaws.{all_pass}
 
-few_rising : (n : ℕ) (places : List ℕ) → IsRising n places → length places ≤ n
+pub few_rising : (n : ℕ) (places : List ℕ) → IsRising n places → length places ≤ n
 few_rising n [] rising = omega arith
 few_rising n (p ∷ ps) rising =
     let last : length ps < length (p ∷ ps) = omega arith in

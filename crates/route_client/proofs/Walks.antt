@@ -1,40 +1,37 @@
 -- What a search over the items says of the walks over them.
-use Rattle.std.proofs.Common.{◌≡◌, ℕ, ◌+◌, ◌^◌, ◌<◌, inl, inr, Option, None, Some, IfSome, List, length, refl, arith, ap, sym, subst}
-use Rattle.std.specs.Option.{option_map}
+use Rattle.std.proofs.Common.{◌≡◌, ℕ, ◌+◌, ◌^◌, inl, inr, Option, None, Some, IfSome, List, arith, sym, subst}
+use Rattle.road_map.specs.Least.{IsLeast}
 use Rattle.road_map.proofs.LeastLaws.{IsLeast-unique}
-use Rattle.road_search.specs.declared.label.Label.{Label}
-use Rattle.road_search.specs.Labelling.{Found, IsWay, label_at, length_at, route_at, way_to}
-use Rattle.road_search.specs.Passing.{Reaches, IsLeastPassing}
+use Rattle.road_search.specs.Labelling.{Found, IsWay, length_at, route_at}
+use Rattle.road_search.specs.Passing.{Ways, LetsShorter, Reaches, IsLeastPassing}
+use Rattle.road_search.proofs.WholeMapLaws.{least_higher}
 use Rattle.road_leaf.specs.declared.leaf.NodeLeaf.{NodeLeaf}
+use Rattle.proof_judge.specs.Apart.{Leads}
 use Rattle.proof_judge.specs.ItemWalks.{item_at, any_ways}
-use Rattle.proof_judge.specs.SharedTests.{AreShort}
+use Rattle.proof_judge.specs.SharedTests.{IsNarrow}
+use Rattle.proof_judge.proofs.AllWalks.{any_length, reaches_leads}
 use Rattle.proof_octets.specs.declared.marks.Mark.{Mark}
 use Rattle.proof_octets.specs.declared.query.NearQuery.{NearQuery}
 use Rattle.proof_octets.specs.Radius.{ListsMarks}
 use Rattle.proof_octets.proofs.MarkLaws.{listed_same}
 use Rattle.route_client.specs.NearVerdicts.{IsReached, limit_of}
 use Rattle.route_client.specs.Reached.{IsLimitAbove, AreLeast, IsLabelled}
-use Rattle.route_client.proofs.LongWalks.{any_length}
 
--- a label has a way
-has_way : (found : Found) (v d : ℕ) → length_at found v ≡ Some d → (r : List ℕ) × (route_at found v ≡ Some r)
-has_way found v d is = by_label (label_at found.labels v) refl is
-  where
-    by_label : (o : Option Label) → label_at found.labels v ≡ o → option_map (λ l. l.length) o ≡ Some d → (r : List ℕ) × (route_at found v ≡ Some r)
-    by_label None e h = cc
-    by_label (Some l) e h = (way_to (label_at found.labels) l.hops v, ap (option_map (λ k. way_to (label_at found.labels) k.hops v)) e)
+-- least of all lengths, so least below a greater limit
+below_limit : (w : Ways) (from v : ℕ) (o : Option ℕ) → IsLeastPassing w from 18446744073709551615 v o → IsLeast (Leads w from v) o → IsLeastPassing w from (2 ^ 64) v o
+below_limit w from v None least every = λ d r. every d (reaches_leads w from (2 ^ 64) v d r)
+below_limit w from v (Some d) least every = least_higher w from 18446744073709551615 (2 ^ 64) v d (omega arith) least
 
-pub at_radius : (nodes : List NodeLeaf) → AreShort nodes → length nodes < 2 ^ 32 → (from radius limit : ℕ) (found : Found) → IsLimitAbove radius limit → ((v : ℕ) → IsLeastPassing (any_ways (item_at nodes)) from limit v (length_at found v))
-    → ((v : ℕ) → IfSome (route_at found v) (IsWay (any_ways (item_at nodes)) from limit v (length_at found v))) → AreLeast (any_ways (item_at nodes)) from (radius + 1) found
-at_radius nodes short few from radius limit found (inl e) lengths ways = subst (λ (l : ℕ). AreLeast (any_ways (item_at nodes)) from l found) e lengths
-at_radius nodes short few from radius limit found (inr both) lengths ways =
+-- a search below the greatest number of 64 bits finds the least lengths of all walks
+pub at_radius : (w : Ways) → LetsShorter w → IsNarrow w → (from radius limit : ℕ) (found : Found) → IsLimitAbove radius limit → AreLeast w from limit found → ((v : ℕ) → IfSome (route_at found v) (IsWay w from limit v (length_at found v)))
+    → AreLeast w from (radius + 1) found
+at_radius w shorter narrow from radius limit found (inl e) lengths ways = subst (λ (l : ℕ). AreLeast w from l found) e lengths
+at_radius w shorter narrow from radius limit found (inr both) lengths ways =
     let top : limit ≡ 18446744073709551615 = omega (arith, both.1) in
-    let all : AreLeast (any_ways (item_at nodes)) from (2 ^ 64) found =
-    any_length nodes short few from (length_at found) (route_at found)
-    (subst (λ (l : ℕ). AreLeast (any_ways (item_at nodes)) from l found) top lengths)
-    (λ v. subst (λ (l : ℕ). IfSome (route_at found v) (IsWay (any_ways (item_at nodes)) from l v (length_at found v))) top (ways v))
-    (has_way found) in
-    subst (λ (l : ℕ). AreLeast (any_ways (item_at nodes)) from l found) (sym both.0) all
+    let least : AreLeast w from 18446744073709551615 found = subst (λ (l : ℕ). AreLeast w from l found) top lengths in
+    let every : (v : ℕ) → IsLeast (Leads w from v) (length_at found v) =
+    any_length w shorter narrow from found least (λ v. subst (λ (l : ℕ). IfSome (route_at found v) (IsWay w from l v (length_at found v))) top (ways v)) in
+    subst (λ (l : ℕ). AreLeast w from l found) (sym both.0) (λ v. below_limit w from v (length_at found v) (least v) (every v))
 
 -- the ids that have a length are those that walks end at
 pub reached_marks : (nodes : List NodeLeaf) (q : NearQuery) (found : Found) (marks : List Mark) → AreLeast (any_ways (item_at nodes)) q.from (limit_of q) found → ListsMarks (IsLabelled found q.radius) marks → ListsMarks (IsReached nodes q) marks

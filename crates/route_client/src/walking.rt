@@ -1,10 +1,10 @@
 // The walks over the items of a reply.
-ghost use Rattle.std.specs.Prelude.{◌≡◌, ◌⊎◌, ℕ, ◌+◌, ◌<◌, ◌≤◌, ◌^◌, length, Some, IsSome, IfOk, All};
+ghost use Rattle.std.specs.Prelude.{◌≡◌, ◌⊎◌, ℕ, ◌+◌, ◌≤◌, Some, IsSome, IfOk, All};
 ghost use Rattle.road_map.specs.Least.{IsLeast};
 ghost use Rattle.road_search.specs.Labelling.{length_at};
 ghost use Rattle.road_search.specs.Passing.{IsLeastPassing};
 ghost use Rattle.proof_judge.specs.ItemWalks.{item_at, any_ways, Lacks};
-ghost use Rattle.proof_judge.specs.SharedTests.{AreShort};
+ghost use Rattle.proof_judge.specs.SharedTests.{IsNarrow};
 ghost use Rattle.proof_octets.specs.Radius.{ListsMarks};
 ghost use Rattle.route_client.specs.NearVerdicts.{UnlessMemory, Listed, Walked};
 ghost use Rattle.route_client.specs.Reached.{IsLimitAbove, AreLeast, RiseWithin, IsLabelled, AreMarked};
@@ -12,7 +12,7 @@ ghost use Rattle.route_client.specs.Reached.{IsLimitAbove, AreLeast, RiseWithin,
 use crate::NearError;
 use method_judges::Anywhere;
 use octet_text::NoMemory;
-use proof_judge::{NodesById, Refusal, are_short};
+use proof_judge::{NodesById, Refusal, are_narrow};
 use proof_octets::{Mark, Marks, NearQuery};
 use road_leaf::NodeLeaf;
 use road_search::{Labels, search};
@@ -60,8 +60,7 @@ fn marks_within(alloc: Global, labels: &Labels, most: u64) -> Result<Marks, NoMe
 
 // The least lengths of walks that are no longer than the radius.
 fn reach(alloc: Global, by_id: &NodesById<'_>, query: NearQuery) -> Result<Labels, NoMemory>
-    requires short { AreShort by_id.now }
-    requires few { length by_id.now < 2 ^ 32 }
+    requires { IsNarrow (any_ways (item_at by_id.now)) }
     ensures least { IfOk result (λ found.
         AreLeast (any_ways (item_at by_id.now)) query.from (query.radius + 1) found) }
     ensures missing { IfOk result (λ found.
@@ -75,8 +74,7 @@ fn reach(alloc: Global, by_id: &NodesById<'_>, query: NearQuery) -> Result<Label
 
 // The nodes at which such walks end, where each has an item, or the least that has none.
 fn list(alloc: Global, by_id: &NodesById<'_>, query: NearQuery) -> Result<Marks, NearError>
-    requires short { AreShort by_id.now }
-    requires few { length by_id.now < 2 ^ 32 }
+    requires { IsNarrow (any_ways (item_at by_id.now)) }
     ensures { UnlessMemory (Listed by_id.now query) result }
 {
     let labels = reach(alloc, by_id, query)?;
@@ -89,10 +87,9 @@ fn list(alloc: Global, by_id: &NodesById<'_>, query: NearQuery) -> Result<Marks,
 
 // What the items show, or why they are refused.
 pub(crate) fn walk(alloc: Global, nodes: &[NodeLeaf], query: NearQuery) -> Result<Marks, NearError>
-    requires { length nodes.now < 2 ^ 32 }
     ensures { UnlessMemory (Walked nodes.now query) result }
 {
-    are_short(nodes);
+    are_narrow(nodes);
     match NodesById::new(alloc, nodes) {
         Ok(by_id) => list(alloc, &by_id, query),
         Err(Refusal::RepeatedNode(id)) => Err(NearError::RepeatedNode(id)),

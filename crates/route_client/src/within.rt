@@ -26,7 +26,7 @@ pub struct CheckedReply {
 
 impl CheckedReply {
     /// What a client takes from it.
-    pub fn into_within(self) -> Within
+    pub(crate) fn into_within(self) -> Within
         ensures { Ok result ≡ as_within self.reply (Ok self.nodes) }
     {
         let nodes = self.nodes;

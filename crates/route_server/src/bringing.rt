@@ -104,7 +104,7 @@ pub(crate) fn pairs_brought<H: Hasher>(
 
 impl<H: Hasher> Held<H> {
     /// The leaves of some nodes, given in any order, with their indices and their cover.
-    pub fn bring(&self, alloc: Global, ids: &[u32]) -> Result<NodesBrought, NoMemory>
+    pub(crate) fn bring(&self, alloc: Global, ids: &[u32]) -> Result<NodesBrought, NoMemory>
         requires distinct { IsDistinct nat_eq ids.now }
         requires known { All (Knows self.now.map.parts) ids.now }
         ensures { IfOk result (AreBrought H.hash self.now ids.now) }

@@ -7,9 +7,9 @@ use command_files::{Ended, Fault};
 use mem_io::{MemDisk, MemLibrary, MemSink, MemSource};
 use mirror_out::MemMirror;
 use road_command::Words;
+use road_io::{KeptLibrary, KeptSink};
 use road_run::run;
-use road_tell::{Again, Content, Facts, Unusable, look_again, message_on};
-use route_client::{CheckError, NearError};
+use road_tell::{Content, Facts, message_on, subject_of};
 use std::alloc::Global;
 use std::io::{self, ErrorKind};
 use std::process::Abort;
@@ -28,43 +28,42 @@ fn files(alloc: Global) -> Result<MemLibrary, Fail> {
     Ok(library)
 }
 
-/// How arguments end over those files and a desk without a key.
-fn ended(alloc: Global, words: &Words, library: &mut MemLibrary) -> Result<Ended, Fail> {
-    let mut sink = MemSink::new(alloc, 1000, 1000, Vec::new(alloc))?;
-    let mut disk = MemDisk::new(alloc, 4160, 10_000, Vec::new(alloc), None)?;
-    let mut source = MemSource::new(Vec::new(alloc), 1, Vec::new(alloc));
-    let mut mirrors: Vec<MemMirror> = Vec::new(alloc);
-    Ok(run(
-        alloc,
-        words,
-        library,
-        &mut source,
-        &mut sink,
-        &mut disk,
-        &mut mirrors,
-    ))
-}
-
-/// What is said of an end where its file is not there.
-fn told_again(
-    alloc: Global,
-    words: &Words,
-    ended: Ended,
-    name: &str,
-    again: &Again,
-) -> Result<String, Fail> {
-    let facts = Facts {
+/// What is known of a run that asked for this file last, which was not there where nothing was kept of it.
+fn facts_of<'a>(name: &'a str, file: Content<'a>, line: &'a [u8]) -> Facts<'a> {
+    Facts {
         name,
-        file: &again.file,
+        file,
         file_error: Some(io::Error::from(ErrorKind::NotFound)),
         source_error: None,
         sink_error: None,
         desk_error: None,
-        refusal: again.refusal,
-        apart: again.apart,
-        left: again.left,
+        line,
+        key: None,
+        left: None,
+    }
+}
+
+/// What is said of words over those files and a desk without a key.
+fn told_of_run(alloc: Global, words: &Words, name: &str) -> Result<String, Fail> {
+    let mut library = KeptLibrary::new(alloc, files(alloc)?, 1000);
+    let mut sink = KeptSink::new(MemSink::new(alloc, 1000, 1000, Vec::new(alloc))?);
+    let mut disk = MemDisk::new(alloc, 4160, 10_000, Vec::new(alloc), None)?;
+    let mut source = MemSource::new(Vec::new(alloc), 1, Vec::new(alloc));
+    let mut mirrors: Vec<MemMirror> = Vec::new(alloc);
+    let ended = run(
+        alloc,
+        words,
+        &mut library,
+        &mut source,
+        &mut sink,
+        &mut disk,
+        &mut mirrors,
+    );
+    let file = match library.kept(subject_of(words, ended, name)) {
+        Some(kept) => Content::of(words, ended, name, kept.front(), kept.length()),
+        None => Content::Unknown,
     };
-    told(alloc, words, ended, facts)
+    told(alloc, words, ended, facts_of(name, file, sink.front()))
 }
 
 /// What is said of an end.
@@ -78,10 +77,7 @@ fn told(alloc: Global, words: &Words, ended: Ended, facts: Facts<'_>) -> Result<
 /// Runs a command line over the files, and compares what is said of it.
 fn says(rt: &impl Abort, alloc: Global, line: &str, name: &str, wanted: &str) -> Result<(), Fail> {
     let words = words_of(rt, alloc, line)?;
-    let mut library = files(alloc)?;
-    let ended = ended(alloc, &words, &mut library)?;
-    let again = look_again(alloc, &mut library, &words, ended, name);
-    let text = told_again(alloc, &words, ended, name, &again)?;
+    let text = told_of_run(alloc, &words, name)?;
     assert_octets(rt, line, text.as_bytes(), wanted.as_bytes());
     Ok(())
 }
@@ -152,17 +148,17 @@ fn each_end_is_told(rt: HostRuntime) -> Result<(), Fail> {
 }
 
 #[test]
-fn of_a_secrets_file_no_octet_is_kept(rt: HostRuntime) -> Result<(), Fail> {
+fn of_a_secrets_file_no_octet_is_told(rt: HostRuntime) -> Result<(), Fail> {
     for line in ["key map.roads h5", "succeed map.roads h5"] {
         let words = words_of(&rt, rt.alloc(), line)?;
-        let mut library = files(rt.alloc())?;
         for fault in [Fault::BadHex, Fault::Malformed(0), Fault::TooLong] {
             let ended = Ended {
                 status: 3,
                 fault: Some(fault),
             };
-            let again = look_again(rt.alloc(), &mut library, &words, ended, "map.roads");
-            assert_octets(&rt, line, again.file.octets(), b"");
+            let text = FIVE_NODES.as_bytes();
+            let file = Content::of(&words, ended, "map.roads", text, text.len());
+            assert_octets(&rt, line, file.octets(), b"");
         }
     }
     Ok(())
@@ -177,27 +173,42 @@ fn says_of_accepted(
     wanted: &str,
 ) -> Result<(), Fail> {
     let words = words_of(rt, alloc, line)?;
-    let mut library = MemLibrary::new(alloc, Vec::new(alloc));
-    library.put("r", reply)?;
     let ended = Ended {
         status: 0,
         fault: None,
     };
-    let again = look_again(alloc, &mut library, &words, ended, "r");
-    let text = told_again(alloc, &words, ended, "r", &again)?;
+    let text = told(
+        alloc,
+        &words,
+        ended,
+        facts_of("r", Content::Octets(reply), b"accepted none\n"),
+    )?;
     assert_octets(rt, line, text.as_bytes(), wanted.as_bytes());
     Ok(())
 }
 
 #[test]
 fn an_accepted_reply_without_a_route_is_told(rt: HostRuntime) -> Result<(), Fail> {
-    let none = "road_proof: r: No road leads from 1 to 5, and the owner's map shows it.";
-    for (line, kind, wanted) in [
-        ("check k r 1 5 3", 3, none),
-        ("audit k p r 1 5 c", 3, none),
-        ("check k r 1 5 3", 0, ""),
+    let none =
+        "road_proof: r: No road leads from 1 to 5, and version 7 of the owner's map shows it.";
+    for (line, reply, wanted) in [
+        (
+            "check k r 1 5 3",
+            b"\x03RPF1\x01\x00\x02\x00\x00\x00\x00\x00\x00\x00\x00\x07",
+            none,
+        ),
+        (
+            "audit k p r 1 5 c",
+            b"\x03RPF1\x01\x00\x02\x00\x00\x00\x00\x00\x00\x00\x00\x07",
+            none,
+        ),
+        (
+            "check k r 1 5 3",
+            b"\x00RPF1\x01\x00\x02\x00\x00\x00\x00\x00\x00\x00\x00\x07",
+            "",
+        ),
     ] {
-        says_of_accepted(&rt, rt.alloc(), line, &[kind], wanted)?;
+        says_of_accepted(&rt, rt.alloc(), line, reply, wanted)?;
     }
     Ok(())
 }
@@ -209,23 +220,20 @@ fn assert_told(
     line: &str,
     ended: Ended,
     error: ErrorKind,
-    refusal: Option<Unusable>,
+    said: &[u8],
     wanted: &str,
 ) -> Result<(), Fail> {
     let words = words_of(rt, alloc, line)?;
-    let file = match ended.fault {
-        Some(Fault::BadHex) => Content::of_hex(b"RPP1", None),
-        _ => Content::Octets(b"RPP1".to_vec(alloc)?),
-    };
+    let file = Content::of(&words, ended, "r", b"RPP1", 4);
     let facts = Facts {
         name: "r",
-        file: &file,
+        file,
         file_error: None,
         source_error: Some(io::Error::from(error)),
         sink_error: Some(io::Error::from(error)),
         desk_error: Some(io::Error::from(error)),
-        refusal,
-        apart: None,
+        line: said,
+        key: None,
         left: Some(1),
     };
     let text = told(alloc, &words, ended, facts)?;
@@ -239,13 +247,13 @@ fn ends_over_real_files_are_told(rt: HostRuntime) -> Result<(), Fail> {
     let audit = "audit k p r 1 3";
     let check = "check k r 1 3 4";
     let settings = Fault::Plan(PlanError::Settings(3));
-    for (line, status, fault, error, refusal, wanted) in [
+    for (line, status, fault, error, said, wanted) in [
         (
             publish,
             0,
             None,
             ErrorKind::Other,
-            None,
+            b"".as_slice(),
             "road_proof: owner.desk: 1 one-time key is left. Make the next key (`road_proof succeed`) before they end.",
         ),
         (
@@ -253,7 +261,7 @@ fn ends_over_real_files_are_told(rt: HostRuntime) -> Result<(), Fail> {
             7,
             Some(Fault::Disk),
             ErrorKind::WouldBlock,
-            None,
+            b"".as_slice(),
             "road_proof: owner.desk: Another process is at work on it.",
         ),
         (
@@ -261,7 +269,7 @@ fn ends_over_real_files_are_told(rt: HostRuntime) -> Result<(), Fail> {
             6,
             Some(Fault::Sink),
             ErrorKind::BrokenPipe,
-            None,
+            b"".as_slice(),
             "road_proof: standard output: It was not written whole: broken pipe. One one-time key was used for it.",
         ),
         (
@@ -269,7 +277,7 @@ fn ends_over_real_files_are_told(rt: HostRuntime) -> Result<(), Fail> {
             1,
             None,
             ErrorKind::Other,
-            None,
+            b"".as_slice(),
             "road_proof: r: It is not served, since it or a link of the chain is not signed, as the line that was written says.",
         ),
         (
@@ -277,7 +285,7 @@ fn ends_over_real_files_are_told(rt: HostRuntime) -> Result<(), Fail> {
             5,
             Some(Fault::Source),
             ErrorKind::BrokenPipe,
-            None,
+            b"".as_slice(),
             "road_proof: standard input: It can't be read: broken pipe.",
         ),
         (
@@ -285,7 +293,7 @@ fn ends_over_real_files_are_told(rt: HostRuntime) -> Result<(), Fail> {
             3,
             Some(Fault::TruncatedFrame),
             ErrorKind::Other,
-            None,
+            b"".as_slice(),
             "road_proof: standard input: It ends within a frame.",
         ),
         (
@@ -293,7 +301,7 @@ fn ends_over_real_files_are_told(rt: HostRuntime) -> Result<(), Fail> {
             3,
             Some(Fault::HeaderWrong),
             ErrorKind::Other,
-            None,
+            b"".as_slice(),
             "road_proof: r: Its header is not that of its map and settings.",
         ),
         (
@@ -301,7 +309,7 @@ fn ends_over_real_files_are_told(rt: HostRuntime) -> Result<(), Fail> {
             3,
             Some(settings),
             ErrorKind::Other,
-            None,
+            b"".as_slice(),
             "road_proof: P1: It is out of its range. Under dij and full it is 0.",
         ),
         (
@@ -309,7 +317,7 @@ fn ends_over_real_files_are_told(rt: HostRuntime) -> Result<(), Fail> {
             10,
             None,
             ErrorKind::Other,
-            None,
+            b"".as_slice(),
             "road_proof: r: The answer is not to be used: the reply rests on a text that the owner never signed, or on two texts of one digest, as the line that was written says. Keep that line with the three files.",
         ),
         (
@@ -317,7 +325,7 @@ fn ends_over_real_files_are_told(rt: HostRuntime) -> Result<(), Fail> {
             14,
             Some(Fault::OtherPublication),
             ErrorKind::Other,
-            None,
+            b"".as_slice(),
             "road_proof: r: The answer is not to be used before the reply is audited with its own publication, which is another one of the owner's.",
         ),
         (
@@ -325,7 +333,7 @@ fn ends_over_real_files_are_told(rt: HostRuntime) -> Result<(), Fail> {
             1,
             None,
             ErrorKind::Other,
-            Some(Unusable::Route(CheckError::Malformed(0))),
+            b"refused Malformed 0\n".as_slice(),
             "road_proof: r: The answer is not to be used: the file is no reply, and can't be read from offset 0 on. It looks like a publication.",
         ),
         (
@@ -333,7 +341,7 @@ fn ends_over_real_files_are_told(rt: HostRuntime) -> Result<(), Fail> {
             1,
             None,
             ErrorKind::Other,
-            Some(Unusable::Nodes(NearError::Malformed(0))),
+            b"refused Malformed 0\n".as_slice(),
             "road_proof: r: The nodes are not to be used: the file is no reply to a range query, and can't be read from offset 0 on. It looks like a publication.",
         ),
         (
@@ -341,7 +349,7 @@ fn ends_over_real_files_are_told(rt: HostRuntime) -> Result<(), Fail> {
             14,
             Some(Fault::OtherPublication),
             ErrorKind::Other,
-            None,
+            b"".as_slice(),
             "road_proof: r: The nodes are not to be used before the reply is audited with its own publication, which is another one of the owner's.",
         ),
         (
@@ -349,7 +357,7 @@ fn ends_over_real_files_are_told(rt: HostRuntime) -> Result<(), Fail> {
             1,
             None,
             ErrorKind::Other,
-            None,
+            b"".as_slice(),
             "road_proof: r: It is no signature of this key on the text, for the reason in the line that was written.",
         ),
         (
@@ -357,7 +365,7 @@ fn ends_over_real_files_are_told(rt: HostRuntime) -> Result<(), Fail> {
             10,
             None,
             ErrorKind::Other,
-            None,
+            b"".as_slice(),
             "road_proof: r: It rests on two texts of one digest, or on a value that the desk never released, as the line that was written says. Keep that line with the three files.",
         ),
         (
@@ -365,7 +373,7 @@ fn ends_over_real_files_are_told(rt: HostRuntime) -> Result<(), Fail> {
             3,
             Some(Fault::BadHex),
             ErrorKind::Other,
-            None,
+            b"".as_slice(),
             "road_proof: r: The octet at offset 0 is no hex digit, and the file must be an even number of them and at most one line end. It looks like a publication.",
         ),
         (
@@ -373,12 +381,12 @@ fn ends_over_real_files_are_told(rt: HostRuntime) -> Result<(), Fail> {
             11,
             Some(Fault::UnknownNode(9)),
             ErrorKind::Other,
-            None,
+            b"".as_slice(),
             "road_proof: r: It has no node 9.",
         ),
     ] {
         let ended = Ended { status, fault };
-        assert_told(&rt, rt.alloc(), line, ended, error, refusal, wanted)?;
+        assert_told(&rt, rt.alloc(), line, ended, error, said, wanted)?;
     }
     Ok(())
 }

@@ -1,4 +1,4 @@
-use Rattle.std.proofs.Common.{◌≡◌, length, rules, subst, sym}
+use Rattle.std.proofs.Common.{arith, subst, sym}
 use Rattle.desk_areas.specs.Keys.{key_from}
 use Rattle.desk_areas.specs.Blank.{IsBlankArea}
 use Rattle.desk_areas.proofs.Blocks.{blank_written}
@@ -8,6 +8,5 @@ use Rattle.desk_areas.proofs.making.put_block.Goals as goal
 pub returns-clause-blank : goal.returns-clause-blank
 returns-clause-blank g c = on_ok c.store.result _ _ c.store.ensures.stored (λ stored i now.
     let d = stored i now in
-    let size : length c.block_of-block.result ≡ 52 = search rules in
     subst (IsBlankArea (key_from c.args.kind c.args.secret.now) c.args.base) (sym d.2)
-    (blank_written c.args.base c.args.kind c.args.secret.now c.block_of-block.result d.0 size c.block_of-block.ensures.kind c.block_of-block.ensures.secret (c.requires.clear d.0 d.1)))
+    (blank_written c.args.base c.args.kind c.args.secret.now c.block_of-block.result d.0 (omega arith) c.told-secret c.block_of-block.ensures (c.requires.clear d.0 d.1)))

@@ -20,10 +20,14 @@ returns-in_err-desk-clause-refused g c =
 pub returns-in-Ok-clause-sealed : goal.returns-in-Ok-clause-sealed
 returns-in-Ok-clause-sealed g c =
     let o = c.in_ok-desk.ensures.opened in
-    sealed_on_disk g.D.Disk c.args.disk.now c.open_desk.new.disk c.publish.new.disk c.in_ok-desk.desk c.args.parts c.args.settings.now _ (g.met.D.Disk.reads_image c.open_desk.new.disk)
+    rw c.verified_publication.ensures
+    (sealed_on_disk g.D.Disk c.args.disk.now c.open_desk.new.disk c.publish.new.disk c.in_ok-desk.desk c.args.parts c.args.settings.now _ (g.met.D.Disk.reads_image c.open_desk.new.disk)
     (told_between g.D.Disk c.args.disk.now c.open_desk.new.disk c.publish.new.disk _ (g.met.D.Disk.reads_image c.publish.new.disk) (g.met.D.Disk.image_tells c.open_desk.new.disk) o.content c.in-Ok.ensures.moments.each) o
     c.in-Ok.ensures.lowest c.in-Ok.ensures.published c.in-Ok.ensures.sealed
-    (keys_signed g.D.Disk c.open_desk.new.disk c.publish.new.disk _ _ _ c.in-Ok.ensures.moments)
+    (keys_signed g.D.Disk c.open_desk.new.disk c.publish.new.disk _ _ _ c.in-Ok.ensures.moments))
+
+pub verified_publication-requires : goal.verified_publication-requires
+verified_publication-requires g c = rw c.publish.ensures.same.key c.in-Ok.ensures.published.signed.good
 
 pub returns-in-Ok-clause-signs : goal.returns-in-Ok-clause-signs
 returns-in-Ok-clause-signs g c = signs_after g.D.Disk c.args.disk.now c.open_desk.new.disk c.publish.new.disk c.args.parts c.args.settings.now c.in_ok-desk.ensures.stays c.in-Ok.ensures.moments

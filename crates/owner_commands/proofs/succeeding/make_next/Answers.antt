@@ -7,11 +7,13 @@ use Rattle.owner_commands.proofs.succeeding.make_next.Goals as goal
 
 pub returns-in-Ok-clause-line : goal.returns-in-Ok-clause-line
 returns-in-Ok-clause-line g c =
-    next_line _ _ c.number.result c.args.secret.now _ c.public.result c.in-Ok.desk c.in-Ok.desk.key c.number.ensures.is c.in-Ok.ensures.key c.public.ensures c.line_of_key.ensures c.in-Ok.ensures.refused_else
+    rw c.line_of_next.ensures
+    (next_line _ _ c.number.result c.args.secret.now _ _ c.in-Ok.desk c.in-Ok.desk.key c.number.ensures.is c.in-Ok.ensures.key refl refl c.in-Ok.ensures.refused_else)
 
 pub returns-in-Ok-clause-made : goal.returns-in-Ok-clause-made
 returns-in-Ok-clause-made g c =
-    next_on g.D.Disk c.succeed.new.disk c.in-Ok.desk _ c.in-Ok.ensures.fits c.in-Ok.ensures.unspent (c.in-Ok.ensures.key ∙ ap (λ n. key_from n c.args.secret.now) c.number.ensures.is)
+    rw c.line_of_next.ensures
+    (next_on g.D.Disk c.succeed.new.disk c.in-Ok.desk _ c.in-Ok.ensures.fits c.in-Ok.ensures.unspent (c.in-Ok.ensures.key ∙ ap (λ n. key_from n c.args.secret.now) c.number.ensures.is))
 
 pub returns-in-Ok-clause-links : goal.returns-in-Ok-clause-links
 returns-in-Ok-clause-links g c = links_kind g.D.Disk c.args.disk.now c.succeed.new.disk _ _ _ c.number.ensures.is c.in-Ok.ensures.moments
@@ -26,7 +28,8 @@ returns-in-Err-clause-refused g c =
 
 pub returns-in-Ok-clause-follows : goal.returns-in-Ok-clause-follows
 returns-in-Ok-clause-follows g c =
-    key_follows g.D.Disk c.in-Ok.desk c.succeed.new.disk c.in-Ok.ensures.fits _ c.in-Ok.ensures.follows (c.in-Ok.ensures.key ∙ ap (λ n. key_from n c.args.secret.now) c.number.ensures.is)
+    rw c.line_of_next.ensures
+    (key_follows g.D.Disk c.in-Ok.desk c.succeed.new.disk c.in-Ok.ensures.fits _ c.in-Ok.ensures.follows (c.in-Ok.ensures.key ∙ ap (λ n. key_from n c.args.secret.now) c.number.ensures.is))
 
 pub returns-in-Err-clause-untouched : goal.returns-in-Err-clause-untouched
 returns-in-Err-clause-untouched g c =

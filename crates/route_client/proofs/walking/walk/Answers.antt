@@ -1,12 +1,13 @@
-use Rattle.std.proofs.Common.{ℕ, Some, sym, subst}
+use Rattle.std.proofs.Common.{ℕ, true, Some, List, sym, subst}
 use Rattle.road_map.specs.Least.{IsLeast}
-use Rattle.proof_judge.specs.ItemWalks.{StandsTwice}
-use Rattle.proof_judge.specs.SharedTests.{AreShort}
+use Rattle.road_leaf.specs.declared.leaf.NodeLeaf.{NodeLeaf}
+use Rattle.proof_judge.specs.ItemWalks.{StandsTwice, item_at, any_ways}
+use Rattle.proof_judge.specs.SharedTests.{IsNarrow}
 use Rattle.route_client.proofs.NearVerdictLaws.{repeated_is}
 use Rattle.route_client.proofs.walking.walk.Goals as goal
 
-pub list-requires-clause-short : goal.list-requires-clause-short
-list-requires-clause-short c = subst AreShort (sym c.in-Ok.ensures.nodes) c.are_short.ensures
+pub list-requires : goal.list-requires
+list-requires c = subst (λ (nodes : List NodeLeaf). IsNarrow (any_ways (item_at nodes))) (sym c.in-Ok.ensures.nodes) (c.are_narrow.ensures (λ _ _. true))
 
 pub returns-in-Err-RepeatedNode : goal.returns-in-Err-RepeatedNode
 returns-in-Err-RepeatedNode c =

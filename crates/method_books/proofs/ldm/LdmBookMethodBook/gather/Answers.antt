@@ -1,11 +1,21 @@
+use Rattle.std.proofs.Common.{◌∙◌, ◌<◌, ◌^◌, arith}
 use Rattle.std.proofs.lemmas.Result.{err_from_is_err_and}
-use Rattle.std.proofs.Common.{◌∙◌}
 use Rattle.road_search.specs.Labelling.{length_at}
-use Rattle.method_books.proofs.FoundLaws.{short_route, found_ldm}
+use Rattle.method_books.proofs.FoundLaws.{short_route, low_lengths, err_kept, found_ldm}
 use Rattle.method_books.proofs.ldm.LdmBookMethodBook.gather.Goals as goal
 
 pub live_labels-requires : goal.live_labels-requires
 live_labels-requires c = short_route c.args.self.now.map.parts c.parts-parts.ensures.is_map (c.map_laws.ensures.distances c.args.self.now.map.parts c.parts-parts.ensures.is_map).bound c.args.query.from c.args.query.to c.in_ok-reached.reached.length c.in_ok-reached.reached.route c.in_ok-reached.ensures.route
+
+pub needed-requires : goal.needed-requires
+needed-requires c =
+    let short : c.in_ok-reached.reached.length < 2 ^ 48 = short_route c.args.self.now.map.parts c.parts-parts.ensures.is_map (c.map_laws.ensures.distances c.args.self.now.map.parts c.parts-parts.ensures.is_map).bound c.args.query.from c.args.query.to c.in_ok-reached.reached.length c.in_ok-reached.reached.route c.in_ok-reached.ensures.route in
+    low_lengths _ _ _ (length_at c.in_ok-labels.labels) (omega (arith, short)) c.in_ok-labels.ensures.lengths
+
+pub returns-in_err-reached-clause-unknown : goal.returns-in_err-reached-clause-unknown
+returns-in_err-reached-clause-unknown c =
+    let p = err_from_is_err_and c.from_residual.result c.from_residual.ensures.1 in
+    rw (p.1, p.2) (λ id first. err_kept _ _ (c.in_err-reached.ensures.unknown id first))
 
 pub returns-clause-found : goal.returns-clause-found
 returns-clause-found c =
@@ -14,9 +24,3 @@ returns-clause-found c =
       found_ldm c.args.self.now.map.parts c.args.self.now.map.order c.args.self.now.extras.entries c.args.self.now.numbers c.parts-parts.ensures.is_map c.parts-parts.ensures.by_id c.args.query found.reached.length
           (length_at c.in_ok-labels.labels) c.in_ok-labels.ensures.lengths (record { route = found.reached.route; nodes = c.in_ok-nodes.nodes; pairs = c.from_vec.result }) found.ensures.route found.ensures.distinct c.in_ok-nodes.ensures (c.from_vec.ensures ∙ c.new.ensures.items),
     )
-
-pub returns-in_err-reached-clause-unknown : goal.returns-in_err-reached-clause-unknown
-returns-in_err-reached-clause-unknown c id first =
-    let p = err_from_is_err_and c.from_residual.result c.from_residual.ensures.1 in
-    let told = c.in_err-reached.ensures.unknown id first in
-    rw (p.1, p.2) (cc (told))

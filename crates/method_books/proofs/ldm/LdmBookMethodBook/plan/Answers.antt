@@ -8,8 +8,8 @@ use Rattle.method_books.specs.LdmBooks.{ldm_book}
 use Rattle.method_books.proofs.PlanLaws.{extras_long, covers_all, planned}
 use Rattle.method_books.proofs.ldm.LdmBookMethodBook.plan.Goals as goal
 
-pub by_id-requires-clause-long : goal.by_id-requires-clause-long
-by_id-requires-clause-long c = ap (λ (es : List Extra). length es) c.in_ok-extras.ensures ∙ extras_long (codes_in c.in_ok-table.table) c.args.settings.now.p3 [] c.args.order.now
+pub new-requires-clause-long : goal.new-requires-clause-long
+new-requires-clause-long c = ap (λ (es : List Extra). length es) c.in_ok-extras.ensures ∙ extras_long (codes_in c.in_ok-table.table) c.args.settings.now.p3 [] c.args.order.now
 
 pub invariant_of-result : goal.invariant_of-result
 invariant_of-result c = record { covers = covers_all c.args.map.parts c.args.order.now c.in_ok-extras-2.extras.entries c.requires.order c.in_ok-extras-2.ensures.covers }

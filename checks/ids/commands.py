@@ -1,0 +1,155 @@
+#!/usr/bin/env python3
+"""Times the commands over ids 1 to n and over ids that whoever draws a map may choose.
+
+    checks/ids/commands.py PROGRAM [WIDTH]
+
+PROGRAM is the built program (crates/road_proof/out/road_proof after `rt run`). A grid of WIDTH by
+WIDTH crossings is written five times: with ids 1 to n by rows; with ids that would start a probe of
+the standard library's hash map in the same few places (its hasher has no key, so a loop of ten lines
+finds them); with odd ids and one far behind them, so that no parting of all ids by equal widths
+helps; with such a row and its far id in each of many places, so that no second parting helps either;
+and with the first ids shuffled. Width 256, which is the default, has 65,536 nodes, the most that are
+signed; the gate takes 96, which needs some ten seconds.
+
+Each command runs three times over each map in turn, and again, up to 36 times, as long as one is too slow, since
+others on the machine make the same work take twice the time for a while. The least processor times are
+printed in seconds; `serve` answers queries from corner to corner, and 200 between neighbours, and installs the
+map once more. It exits with 1 if shuffled ids take more than 2.5 times the time of ids 1 to n, or
+others more than 1.5 times, with 0.03 s beside, and at the first failure of the program. No client rests on it.
+"""
+import os
+import random
+import sys
+import tempfile
+
+MOST = {"meet": 1.5, "far": 1.5, "rows": 1.5, "shuffled": 2.5}
+# what a busy machine adds to any time
+SLACK = 0.03
+
+
+def meeting(count):
+    """Rising ids whose hashes begin in a 128th of the places that a table of COUNT entries has."""
+    places = 1
+    while 9 * places < count:
+        places *= 2
+    ids, number = [], 0
+    while len(ids) < count:
+        number += 1
+        product = (0x243F6A8885A308D3 ^ (number | number << 32)) * 0x9E3779B97F4A7C1D
+        folded = (product ^ product >> 64) & 0xFFFFFFFFFFFFFFFF
+        if ((folded ^ folded >> 32) & (places - 1)) * 128 < places:
+            ids.append(number)
+    return ids
+
+
+def rows(count):
+    """Rising ids: in each of many spans of one width 127 odd ones at the front, and one at the end."""
+    ids, width = [], 2**32 // -(-count // 128)
+    while len(ids) < count:
+        start = len(ids) // 128 * width
+        ids += [*range(start + 1, start + 255, 2), start + width - 1]
+    return ids[:count]
+
+
+def write(path, width, ids):
+    """The grid as a road file; the lengths of its roads are drawn from a fixed seed."""
+    draw = random.Random(5)
+    with open(path, "w") as roads:
+        roads.write("roads 1\n")
+        roads.writelines(f"node {node} {at % width} {at // width}\n" for at, node in enumerate(ids))
+        for at, node in enumerate(ids):
+            if at % width + 1 < width:
+                roads.write(f"road {node} {ids[at + 1]} {draw.randint(1, 1000)}\n")
+            if at + width < len(ids):
+                roads.write(f"road {node} {ids[at + width]} {draw.randint(1, 1000)}\n")
+
+
+def taken(program, folder, words, read=os.devnull, written=os.devnull):
+    """The processor seconds of one run."""
+    child = os.fork()
+    if child == 0:
+        os.chdir(folder)
+        os.dup2(os.open(read, os.O_RDONLY), 0)
+        os.dup2(os.open(written, os.O_WRONLY | os.O_CREAT | os.O_TRUNC), 1)
+        os.dup2(os.open(os.devnull, os.O_WRONLY), 2)
+        os.execv(program, [program, *words])
+    _, status, used = os.wait4(child, 0)
+    if status:
+        sys.exit(f"{words[0]}: status {os.waitstatus_to_exitcode(status)}")
+    return used.ru_utime + used.ru_stime
+
+
+def framed(body):
+    return len(body).to_bytes(4, "big") + body
+
+
+def frame(kind, session, *numbers):
+    return framed(bytes([kind, session]) + b"".join(number.to_bytes(4, "big") for number in numbers))
+
+
+def runs(folder, width, ids):
+    """What is timed over the map in a folder: a name, the words, and the files that are read and written."""
+    start, end = str(ids[0]), str(ids[-1])
+    yield "route", ["route", "m.roads", start, end], os.devnull, os.devnull
+    plans = {"dij": ("0", "0", "0"), "ldm": ("8", "8", "0")}
+    if width <= 512:
+        plans["hyp"] = ("2", "2", "0")
+    for method, plan in plans.items():
+        book, reply = f"{method}.pub", f"{method}.reply"
+        yield f"publish {method}", ["publish", "m.roads", method, "1", "id", "0", "2", *plan], os.devnull, book
+        yield f"prove {method}", ["prove", book, start, end], os.devnull, reply
+        yield f"check {method}", ["check", "owner.key", reply, start, end, "1"], os.devnull, os.devnull
+    later = ["publish", "m.roads", "ldm", "2", "id", "0", "2", *plans["ldm"]]
+    yield "publish 2", later, os.devnull, "later.pub"
+    with open(os.path.join(folder, "later.pub"), "rb") as book, open(os.path.join(folder, "install"), "wb") as frames:
+        frames.write(framed(b"\x04" + book.read()))
+    for name in ("asks", "near", "install"):
+        yield f"serve {name}", ["serve", "ldm.pub"], name, os.devnull
+
+
+def prepare(program, folder, width, ids):
+    write(os.path.join(folder, "m.roads"), width, ids)
+    with open(os.path.join(folder, "zeros.hex"), "w") as secret:
+        secret.write("0" * 96)
+    draw = random.Random(11)
+    starts = [draw.randrange(width) * width + draw.randrange(width - 1) for _ in range(200)]
+    asks = {"asks": 3 * [(ids[0], ids[-1])], "near": [(ids[at], ids[at + 1]) for at in starts]}
+    for name, ends in asks.items():
+        with open(os.path.join(folder, name), "wb") as frames:
+            frames.write(frame(1, 0) + b"".join(frame(2, 0, *pair) for pair in ends) + frame(3, 0))
+    taken(program, folder, ["key", "zeros.hex", "h5"], written="owner.key")
+
+
+def main():
+    program = os.path.abspath(sys.argv[1])
+    width = int(sys.argv[2]) if len(sys.argv) > 2 else 256
+    ids = {"plain": list(range(1, width * width + 1)), "meet": meeting(width * width)}
+    ids["far"] = [*range(1, 2 * width * width - 1, 2), 2**32 - 2]
+    ids["shuffled"] = list(ids["plain"])
+    random.Random(7).shuffle(ids["shuffled"])
+    ids["rows"] = rows(width * width)
+    late = []
+    with tempfile.TemporaryDirectory() as top:
+        folders = {kind: os.path.join(top, kind) for kind in ids}
+        for kind, numbers in ids.items():
+            os.mkdir(folders[kind])
+            prepare(program, folders[kind], width, numbers)
+        print(f"{'seconds':12}" + "".join(f"{kind:>10}" for kind in ids))
+        for steps in zip(*(runs(folders[kind], width, numbers) for kind, numbers in ids.items())):
+            seconds = dict.fromkeys(ids, float("inf"))
+            for _ in range(12):
+                for _ in range(3):
+                    for kind, (_, words, read, written) in zip(ids, steps):
+                        seconds[kind] = min(seconds[kind], taken(program, folders[kind], words, read, written))
+                slow = [kind for kind, most in MOST.items() if seconds[kind] > most * seconds["plain"] + SLACK]
+                if not slow:
+                    break
+            name = steps[0][0]
+            print(f"{name:12}" + "".join(f"{spent:10.3f}" for spent in seconds.values()), flush=True)
+            late += [f"{name}: {kind}" for kind in slow]
+    if late:
+        sys.exit("too slow: " + ", ".join(late))
+
+
+if __name__ == "__main__":
+    main()

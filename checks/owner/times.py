@@ -1,0 +1,100 @@
+#!/usr/bin/env python3
+"""Times an owner's commands beside an earlier program, by hand: checks/owner/times.py PROGRAM BEFORE [--pairs N]
+
+`key h5`, `key h10` and `publish` over the grid of 64 by 64 nodes by an h10 key, run by both programs in turn: the median of
+the ratios of N pairs, which is to be 1.1 at most. Then `check` by PROGRAM of a reply over the grid of 256 by 256 nodes, as
+it is and with one octet of its last digest changed: the refused one is to take 1.1 of the accepted one at most. It ends
+with status 1 where a ratio is above that. Times are of a quiet machine. Nobody trusts this script.
+"""
+import argparse
+import os
+import pathlib
+import statistics
+import subprocess
+import sys
+import tempfile
+import time
+
+TOP = pathlib.Path(__file__).resolve().parents[1]
+MOST = 1.1
+
+
+def timed(program, words, status=0):
+    begun = time.monotonic()
+    done = subprocess.run([program, *words.split()], capture_output=True, check=False)
+    taken = time.monotonic() - begun
+    if done.returncode != status:
+        sys.exit(f"{program} {words}: status {done.returncode}: {done.stderr.decode()}")
+    return taken, done.stdout
+
+
+def grid(width, name):
+    made = subprocess.run([sys.executable, TOP / "speed/grid.py", str(width)], capture_output=True, check=True)
+    pathlib.Path(name).write_bytes(made.stdout)
+
+
+def ratio(what, first, second, pairs):
+    """The median of how much longer the first takes than the second, each run in turn."""
+    found = statistics.median(first() / second() for _ in range(pairs))
+    print(f"{what}: {found:.3f}")
+    return found <= MOST
+
+
+def commands(program, before, pairs):
+    """The owner's commands by both programs, each in a folder of its own."""
+    def key(it, kind):
+        def run():
+            os.chdir(it[1])
+            pathlib.Path("owner.desk").unlink(missing_ok=True)
+            return timed(it[0], f"key ../secret {kind}")[0]
+        return run
+
+    def publish(it):
+        def run():
+            os.chdir(it[1])
+            return timed(it[0], "publish ../small.roads dij 1 id 0 2 0 0 0")[0]
+        return run
+
+    new, old = (program, os.path.abspath("new")), (before, os.path.abspath("old"))
+    good = [ratio(f"key {kind}", key(new, kind), key(old, kind), pairs) for kind in ("h5", "h10")]
+    good.append(ratio("publish", publish(new), publish(old), pairs))
+    return all(good)
+
+
+def replies(program, pairs):
+    """An accepted and a refused reply from corner to corner."""
+    public = timed(program, "key ../secret h5")[1]
+    pathlib.Path("key").write_bytes(public)
+    pathlib.Path("pub").write_bytes(timed(program, "publish ../large.roads dij 1 id 0 2 0 0 0")[1])
+    reply = timed(program, "prove pub 1 65536")[1]
+    pathlib.Path("good").write_bytes(reply)
+    pathlib.Path("bad").write_bytes(reply[:-1] + bytes([reply[-1] ^ 1]))
+    print(f"a reply of {len(reply)} octets")
+    return ratio("check, refused by accepted", lambda: timed(program, "check key bad 1 65536 1", 1)[0],
+                 lambda: timed(program, "check key good 1 65536 1")[0], pairs)
+
+
+def main():
+    parser = argparse.ArgumentParser(description=__doc__.split("\n", maxsplit=1)[0])
+    parser.add_argument("program")
+    parser.add_argument("before")
+    parser.add_argument("--pairs", type=int, default=11)
+    given = parser.parse_args()
+    program, before = os.path.abspath(given.program), os.path.abspath(given.before)
+    os.umask(0o077)
+    with tempfile.TemporaryDirectory() as folder:
+        os.chdir(folder)
+        pathlib.Path("secret").write_text(bytes(range(48)).hex(), encoding="ascii")
+        for name in ("new", "old", "replies"):
+            os.mkdir(name)
+        grid(64, "small.roads")
+        grid(256, "large.roads")
+        is_good = commands(program, before, given.pairs)
+        os.chdir(f"{folder}/replies")
+        is_good = replies(program, given.pairs) and is_good
+        os.chdir("/")
+    return 0 if is_good else 1
+
+
+if __name__ == "__main__":
+    sys.exit(main())

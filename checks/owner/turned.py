@@ -1,0 +1,134 @@
+#!/usr/bin/env python3
+"""Turns bits of the memory of an owner's command while it signs: checks/owner/turned.py PROGRAM
+
+`publish`, `succeed` and `links` are stopped under strace at the last call before they sign, one bit of each copy of the
+key's seed in their memory is turned, and they go on. What they sign then is no signature of the key on its text, which is
+what helps a forger. Each must end with status 12, say so, and write nothing; and each works when it is run again. Nobody
+trusts this script.
+"""
+import os
+import pathlib
+import re
+import shutil
+import signal
+import subprocess
+import sys
+import tempfile
+import time
+
+MAP = "roads 1\nnode 1 0 0\nnode 2 10 0\nnode 3 20 0\nroad 1 2 4\nroad 2 3 5\n"
+SECRET, NEXT = bytes(range(48)), bytes(range(100, 148))
+SEED = SECRET[16:]
+CALLS = ("read", "lseek", "fsync")
+SECONDS = 60
+played = 0
+
+
+def same(what, seen, wanted):
+    global played
+    played += 1
+    if seen != wanted:
+        sys.exit(f"{what}: {seen!r}, and not {wanted!r}")
+
+
+def traced(program, words, more):
+    return ["strace", "-f", "-o", "trace", "-e", "trace=" + ",".join(CALLS), *more, program, *words.split()]
+
+
+def last_call(program, words):
+    """The last of these calls in a run, and how many of its kind there are. The desk is put back."""
+    desk = pathlib.Path("owner.desk").read_bytes()
+    subprocess.run(traced(program, words, []), capture_output=True, check=False, timeout=SECONDS)
+    pathlib.Path("owner.desk").write_bytes(desk)
+    names = re.findall(r"^\d+ +(\w+)\(", pathlib.Path("trace").read_text(encoding="utf-8", errors="replace"), re.M)
+    return names[-1], names.count(names[-1])
+
+
+def stopped(tracer):
+    """The traced program, once it has stopped."""
+    end = time.monotonic() + SECONDS
+    while time.monotonic() < end:
+        for pid in pathlib.Path(f"/proc/{tracer}/task/{tracer}/children").read_text(encoding="ascii").split():
+            if re.search(r"\) [Tt] ", pathlib.Path(f"/proc/{pid}/stat").read_text(encoding="ascii")) and "stopped by SIGSTOP" in pathlib.Path("trace").read_text(errors="replace"):
+                return int(pid)
+        time.sleep(0.02)
+    sys.exit("the program did not stop")
+
+
+def turn(pid):
+    """Turns a bit of each copy of the seed in the memory of a process, and counts them."""
+    count = 0
+    with open(f"/proc/{pid}/mem", "r+b", buffering=0) as memory:
+        for line in pathlib.Path(f"/proc/{pid}/maps").read_text(encoding="utf-8").splitlines():
+            found = re.match(r"([0-9a-f]+)-([0-9a-f]+) rw", line)
+            if not found:
+                continue
+            start, end = int(found[1], 16), int(found[2], 16)
+            memory.seek(start)
+            octets = memory.read(end - start)
+            at = octets.find(SEED)
+            while at >= 0:
+                memory.seek(start + at)
+                memory.write(bytes([SEED[0] ^ 1]))
+                count += 1
+                at = octets.find(SEED, at + 1)
+    return count
+
+
+def turned(program, words):
+    """How a command ends whose seed has turned in memory before it signs."""
+    call, number = last_call(program, words)
+    pathlib.Path("trace").write_bytes(b"")
+    more = ["-e", f"inject={call}:signal=SIGSTOP:when={number}"]
+    with subprocess.Popen(traced(program, words, more), stdout=subprocess.PIPE, stderr=subprocess.PIPE) as tracer:
+        pid = stopped(tracer.pid)
+        same(f"{words}: the seed is in its memory", turn(pid) > 0, True)
+        os.kill(pid, signal.SIGCONT)
+        out, err = tracer.communicate(timeout=SECONDS)
+    return tracer.returncode, out, err.decode()
+
+
+def refused(program, words):
+    status, out, said = turned(program, words)
+    same(f"{words}: status and output, where {said!r} is said", (status, out), (12, b""))
+    same(f"{words}: what is said", "was not verified" in said, True)
+
+
+def run(program, words):
+    done = subprocess.run([program, *words.split()], capture_output=True, check=False, timeout=SECONDS)
+    same(f"{words}: status, where {done.stderr!r} is said", done.returncode, 0)
+    return done.stdout
+
+
+def play(program):
+    pathlib.Path("map.roads").write_text(MAP, encoding="ascii")
+    pathlib.Path("secret").write_text(SECRET.hex(), encoding="ascii")
+    pathlib.Path("next").write_text(NEXT.hex(), encoding="ascii")
+    pathlib.Path("key").write_bytes(run(program, "key secret h5"))
+    publish = "publish map.roads dij 1 id 0 2 0 0 0"
+    refused(program, publish)
+    publication = run(program, publish)
+    same("the one-time key of the publication after it", publication[110:114], bytes([0, 0, 0, 1]))
+    refused(program, "succeed next h5")
+    refused(program, "links")
+    pathlib.Path("chain").write_bytes(run(program, "links"))
+    pathlib.Path("later").write_bytes(run(program, publish))
+    pathlib.Path("reply").write_bytes(run(program, "prove later 1 3"))
+    same("along the chain", run(program, "check key reply 1 3 1 chain"), b"accepted 9: 1 2 3\n")
+
+
+def main():
+    if shutil.which("strace") is None:
+        print("skipped: checks/owner/turned.py, since this machine has no strace")
+        return
+    program = os.path.abspath(sys.argv[1])
+    os.umask(0o077)
+    with tempfile.TemporaryDirectory() as folder:
+        os.chdir(folder)
+        play(program)
+        os.chdir("/")
+    print(f"bits turned in memory: {played} looks, each as wanted")
+
+
+if __name__ == "__main__":
+    main()

@@ -1,0 +1,204 @@
+"""What the scripts beside this file share: what a command costs, a `serve` that is asked, and made maps. Nobody trusts it.
+
+All runs on one processor, one command behind the other. A command's seconds are the least processor time of several
+runs; its memory is the most that it held in a run of its own under GNU time, since a child of a large process is said
+to have held what that process did.
+"""
+import os
+import re
+import struct
+import subprocess
+import sys
+import tempfile
+from typing import Iterable, NamedTuple, Sequence
+
+HERE = os.path.dirname(os.path.abspath(__file__))
+TOP = os.path.dirname(os.path.dirname(HERE))
+PROGRAM = f"{TOP}/crates/road_proof/out/road_proof"
+DOCUMENT = f"{TOP}/docs/BENCHMARKS.md"
+GNU_TIME = "/usr/bin/time"
+# a header's count of pairs and the greatest finite distance, docs/SPEC.md 6.1
+PAIRS_AT = 52
+
+
+class Cost(NamedTuple):
+    """Seconds of processor time, megabytes at most (None where they were not measured), octets of standard output."""
+    seconds: float
+    memory: float | None
+    octets: int
+
+
+def pin() -> None:
+    """Keeps this process, and all that it starts from here on, to one processor."""
+    os.sched_setaffinity(0, {max(os.sched_getaffinity(0))})
+
+
+def note(*words) -> None:
+    print(*words, file=sys.stderr, flush=True)
+
+
+def run(words: Sequence[str], output: str, silent: bool = False) -> float:
+    """Runs a program with its output in a file, and ends all where its status is not 0. Seconds of processor time."""
+    child = os.fork()
+    if child == 0:
+        os.dup2(os.open(output, os.O_WRONLY | os.O_CREAT | os.O_TRUNC, 0o600), 1)
+        if silent:
+            os.dup2(os.open(os.devnull, os.O_WRONLY), 2)
+        os.execv(words[0], words)
+    _, status, used = os.wait4(child, 0)
+    if status:
+        sys.exit(f"{' '.join(words)}: status {os.waitstatus_to_exitcode(status)}")
+    return used.ru_utime + used.ru_stime
+
+
+def memory_of(words: Sequence[str], output: str, silent: bool = False) -> float | None:
+    if not os.path.exists(GNU_TIME):
+        run(words, output, silent)
+        return None
+    with tempfile.NamedTemporaryFile("r", encoding="ascii") as told:
+        run([GNU_TIME, "-q", "-f", "%M", "-o", told.name, *words], output, silent)
+        return int(told.read()) / 1024
+
+
+def cost(words: Sequence[str], output: str, runs: int) -> Cost:
+    """What a command costs: one run for its memory, then so many for its time."""
+    memory = memory_of(words, output)
+    return Cost(min(run(words, output) for _ in range(runs)), memory, os.path.getsize(output))
+
+
+def costs(commands: Sequence[Sequence[str]], output: str, runs: int) -> list[Cost]:
+    """What several commands cost that are compared: they take turns."""
+    memories = [memory_of(words, output, silent=True) for words in commands]
+    rounds = [[run(words, output, silent=True) for words in commands] for _ in range(runs)]
+    return [Cost(min(seconds), memory, 0) for seconds, memory in zip(zip(*rounds), memories)]
+
+
+class Server:
+    """`serve` over a publication, with session 0 begun."""
+
+    def __init__(self, program: str, publication: str):
+        self.child = subprocess.Popen([program, "serve", publication], stdin=subprocess.PIPE, stdout=subprocess.PIPE)
+        self.told(b"\1\0")
+
+    def told(self, body: bytes) -> bytes:
+        self.child.stdin.write(struct.pack(">I", len(body)) + body)
+        self.child.stdin.flush()
+        (size,) = struct.unpack(">I", self.child.stdout.read(4))
+        return self.child.stdout.read(size)
+
+    def ask(self, start: int, end: int) -> bytes:
+        """The reply to a query, as `prove` writes it."""
+        return self.told(struct.pack(">BBII", 2, 0, start, end))[2:]
+
+    def seconds(self) -> float:
+        """How long it was on a processor so far."""
+        with open(f"/proc/{self.child.pid}/schedstat", encoding="ascii") as file:
+            return int(file.read().split()[0]) / 1e9
+
+    def seconds_for(self, start: int, end: int, asks: int, runs: int) -> float:
+        """The least processor time of an answer, over runs of so many asks."""
+        def once() -> float:
+            before = self.seconds()
+            for _ in range(asks):
+                self.ask(start, end)
+            return (self.seconds() - before) / asks
+        return min(once() for _ in range(runs))
+
+    def close(self) -> None:
+        self.child.stdin.close()
+        self.child.wait()
+
+
+def owner(program: str, folder: str) -> None:
+    """A new desk of 31 publications in a folder, as owner.desk and owner.key, and its secret. From here on one works there."""
+    os.chdir(folder)
+    if os.path.exists("owner.desk"):
+        os.remove("owner.desk")
+    with open("secret.hex", "w", encoding="ascii") as file:
+        file.write("0" * 96)
+    run([program, "key", "secret.hex", "h5"], "owner.key")
+
+
+def publishing(program: str, roads: str, settings: str) -> list[str]:
+    """The command that publishes under "METHOD ORDER FAN P1 P2 P3"."""
+    method, order, fan, *parameters = settings.split()
+    return [program, "publish", roads, method, "1", order, "0", fan, *parameters]
+
+
+def pairs_of(publication: str) -> int:
+    """How many pairs have a leaf."""
+    with open(publication, "rb") as file:
+        return struct.unpack(">I", file.read(4 + PAIRS_AT + 4)[-4:])[0]
+
+
+def made(name: str, *words: str) -> str:
+    """A road file of the generator of this name, in the working folder."""
+    path = os.path.abspath("-".join([name, *words]) + ".roads")
+    if not os.path.exists(path):
+        with open(path, "wb") as file:
+            subprocess.run([sys.executable, f"{HERE}/{name}.py", *words], stdout=file, check=True)
+    return path
+
+
+def line_of(count: int) -> str:
+    """The road file of a line of nodes, each 7 from the next."""
+    path = os.path.abspath(f"line-{count}.roads")
+    with open(path, "w", encoding="ascii") as file:
+        file.write("roads 1\n")
+        file.writelines(f"node {node} {node} 0\n" for node in range(1, count + 1))
+        file.writelines(f"road {node} {node + 1} 7\n" for node in range(1, count))
+    return path
+
+
+def ids_of(roads: str) -> list[int]:
+    """The ids of a road file, rising."""
+    with open(roads, encoding="ascii") as file:
+        return sorted(int(line.split()[1]) for line in file if line.startswith("node"))
+
+
+def processor() -> str:
+    """The processor's name, and those of its features that SHA-256 can use."""
+    with open("/proc/cpuinfo", encoding="ascii") as file:
+        said = file.read()
+    name = re.search(r"model name\s*: (.*)", said)
+    flags = set((re.search(r"flags\s*: (.*)", said) or ["", ""])[1].split())
+    found = [flag for flag in ("sha_ni", "ssse3", "avx2", "bmi2") if flag in flags]
+    return f"{name[1] if name else os.uname().machine}, with {', '.join(found)}{'' if 'sha_ni' in flags else ' and no sha_ni'}"
+
+
+def put_tables(heading: str, tables: list[list[str]]) -> None:
+    """Puts tables in place of those that stand below a heading of docs/BENCHMARKS.md, as many and in their order."""
+    with open(DOCUMENT, encoding="utf-8") as file:
+        text = file.read()
+    start = text.index(f"\n## {heading}\n")
+    end = text.find("\n## ", start + 1)
+    front, section, back = (text[:start], text[start:], "") if end < 0 else (text[:start], text[start:end], text[end:])
+    left = iter(tables)
+    section, count = re.subn(r"(?m)(?:^\|.*\n)+", lambda _: "\n".join(next(left)) + "\n", section)
+    if count != len(tables):
+        sys.exit(f"docs/BENCHMARKS.md: below {heading} stand {count} tables, not {len(tables)}")
+    with open(DOCUMENT, "w", encoding="utf-8") as file:
+        file.write(front + section + back)
+
+
+def is_busy() -> bool:
+    """Whether other programs take part of the machine now."""
+    return os.getloadavg()[0] > 1.5
+
+
+def table(head: Sequence[str], rows: Iterable[Sequence[str]]) -> list[str]:
+    lines = ["| " + " | ".join(head) + " |", "|" + "---|" * len(head)]
+    return lines + ["| " + " | ".join(row) + " |" for row in rows]
+
+
+def seconds(value: float) -> str:
+    """Seconds to two digits, in the unit that suits them."""
+    for unit, size in (("s", 1), ("ms", 1e-3), ("µs", 1e-6)):
+        if value >= size or unit == "µs":
+            shown = value / size
+            return f"{shown:.0f} {unit}" if shown >= 10 else f"{shown:.1f} {unit}"
+    return ""
+
+
+def megabytes(value: float | None) -> str:
+    return "-" if value is None else f"{value:.0f} MB"

@@ -1,0 +1,110 @@
+//! What leaves say of codes, by id.
+
+ghost use Rattle.std.specs.Prelude.{◌≡◌, ℕ, nat_eq, IfOk, is_some, map, length, slice_get};
+ghost use Rattle.std.specs.Map.{lookup, keys_of};
+ghost use Rattle.std.specs.Option.{option_copied, option_map};
+ghost use Rattle.std.specs.List.{IsDistinct, list_any};
+ghost use Rattle.std.specs.List.Sorted.{IsNonDecreasingBy};
+ghost use Rattle.method_books.specs.LdmBooks.{extra_in};
+
+use octet_text::NoMemory;
+use road_leaf::Extra;
+use road_map::RisingIds;
+use std::alloc::{AllocError, Global};
+use std::marker::Model;
+
+/// What the leaf of each node says of codes, by ascending id.
+#[derive(Drop)]
+pub struct Extras {
+    ids: RisingIds,
+    entries: Vec<(u32, Extra)>,
+}
+
+impl Model for Extras {
+    ghost use Rattle.method_books.specs.LdmBooks.{ById, IsById};
+
+    ghost Value = { ById };
+
+    ghost view = { λ e. record { entries = e.entries.items } };
+
+    ghost invariant = { λ e. IsById e.ids e.entries.items };
+}
+
+impl Extras {
+    /// Puts by id what a list says in the order of the leaves.
+    pub fn new(alloc: Global, order: &[u32], extras: Vec<Extra>) -> Result<Extras, NoMemory>
+        requires long { length extras.items ≡ length order.now }
+        requires distinct { IsDistinct nat_eq order.now }
+        ensures adds { IfOk result (λ by_id. map (extra_in by_id.entries) order.now ≡ extras.items) }
+        ensures covers { IfOk result (λ by_id. (id : ℕ) →
+            is_some (lookup (nat_eq id) by_id.entries) ≡ list_any (nat_eq id) order.now) }
+    {
+        let entries = sorted(alloc, order, extras)?;
+        let rising = ids_of(alloc, entries.as_slice())?;
+        let ids = RisingIds::new(alloc, rising)?;
+        Ok(Extras { ids, entries })
+    }
+
+    /// What the leaf of an id says of codes, if the id is that of a node.
+    pub fn get(&self, id: u32) -> Option<&Extra>
+        ensures { option_copied result ≡ lookup (nat_eq id) self.now.entries }
+    {
+        match self.ids.place(id) {
+            None => None,
+            Some(place) => extra_at(self.entries.as_slice(), place),
+        }
+    }
+}
+
+/// What the entry at a place says.
+fn extra_at(entries: &[(u32, Extra)], place: usize) -> Option<&Extra>
+    ensures { option_copied result ≡ option_map (λ e. e.1) (slice_get entries.now place) }
+{
+    match entries.get(place) {
+        None => None,
+        Some(entry) => Some(&entry.1),
+    }
+}
+
+/// What leaves say of codes, each beside the id of its leaf, in no order.
+fn with_ids(
+    alloc: Global,
+    order: &[u32],
+    extras: Vec<Extra>,
+) -> Result<Vec<(u32, Extra)>, AllocError>
+    requires long { length extras.items ≡ length order.now }
+    requires distinct { IsDistinct nat_eq order.now }
+    ensures distinct { IfOk result (λ entries. IsDistinct nat_eq (keys_of entries.items)) }
+    ensures adds { IfOk result (λ entries. map (extra_in entries.items) order.now ≡ extras.items) }
+    ensures covers { IfOk result (λ entries. (id : ℕ) →
+        is_some (lookup (nat_eq id) entries.items) ≡ list_any (nat_eq id) order.now) }
+{
+    let mut entries = Vec::with_capacity(alloc, extras.len())?;
+    let mut extras = extras;
+    while let Some(extra) = extras.pop() {
+        entries.push((order[extras.len()], extra))?;
+    }
+    Ok(entries)
+}
+
+/// The same by ascending id.
+fn sorted(alloc: Global, order: &[u32], extras: Vec<Extra>) -> Result<Vec<(u32, Extra)>, AllocError>
+    requires long { length extras.items ≡ length order.now }
+    requires distinct { IsDistinct nat_eq order.now }
+    ensures distinct { IfOk result (λ entries. IsDistinct nat_eq (keys_of entries.items)) }
+    ensures sorted { IfOk result (λ entries. IsNonDecreasingBy (λ e. e.0) entries.items) }
+    ensures adds { IfOk result (λ entries. map (extra_in entries.items) order.now ≡ extras.items) }
+    ensures covers { IfOk result (λ entries. (id : ℕ) →
+        is_some (lookup (nat_eq id) entries.items) ≡ list_any (nat_eq id) order.now) }
+{
+    let mut entries = with_ids(alloc, order, extras)?;
+    entries.sort_unstable_by_key(|entry| entry.0);
+    Ok(entries)
+}
+
+/// The ids of entries, in their order.
+fn ids_of(alloc: Global, entries: &[(u32, Extra)]) -> Result<Vec<u32>, AllocError>
+    ensures { IfOk result (λ ids. ids.items ≡ keys_of entries.now) }
+{
+    entries.iter().map(|entry| entry.0).collect(alloc)
+}

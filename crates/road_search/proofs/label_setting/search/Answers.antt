@@ -1,4 +1,0 @@
-use Rattle.road_search.proofs.label_setting.search.Goals as goal
-
-pub returns-clause-routes : goal.returns-clause-routes
-returns-clause-routes g c = rw c.new.ensures.labels c.in_ok-lacking.ensures.routes

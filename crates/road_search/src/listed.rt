@@ -1,0 +1,172 @@
+//! Marks of ids that stand in a list, by their places.
+
+ghost use Rattle.std.specs.Prelude.{◌≡◌, ◌↔◌, ℕ, [], None, Some, IfOk, OnOk, OnErr, IsSome, IsTrue, Contains, nat_eq, if◌then◌else◌};
+ghost use Rattle.std.specs.Option.{option_map};
+ghost use Rattle.std.specs.List.{IsDistinct};
+ghost use Rattle.road_search.specs.Marking.{mark_at};
+ghost use Rattle.road_map.specs.Places.{AreRising};
+ghost use Rattle.road_search.specs.Listing.{listed};
+ghost use Rattle.road_search.specs.Nearness.{is_within};
+ghost use Rattle.road_search.specs.Labelling.{length_in};
+
+use crate::marks::{Mark, Marks};
+use crate::numbered::Numbered;
+use road_map::RisingIds;
+use std::alloc::{AllocError, Global};
+use std::collections::BTreeMap;
+use std::marker::Model;
+
+/// How many labels a search keeps by id alone before it makes room by place: so many cost no more
+/// than that room does.
+const FEW: usize = 1024;
+
+/// Marks of any ids: those that stand in a list of ascending ids by their places, all others by id, and
+/// no more of these than there is room for.
+#[derive(Drop)]
+pub struct Listed {
+    ids: RisingIds,
+    marks: Numbered,
+    others: BTreeMap<u32, Mark>,
+    room: usize,
+}
+
+impl Model for Listed {
+    ghost use Rattle.road_search.specs.Listing.{Listing, IsListing};
+
+    ghost Value = { Listing };
+
+    ghost view = { λ s. record {
+      ids = s.ids;
+      marks = s.marks.marks.items;
+      others = s.others.entries;
+    } };
+
+    ghost invariant = { λ s. IsListing s.ids s.others.entries };
+}
+
+impl Listed {
+    /// No mark, and room for a few by id.
+    pub fn few(alloc: Global) -> Listed
+        ensures { (id : ℕ) → listed result id ≡ None }
+    {
+        Listed {
+            ids: RisingIds::none(alloc),
+            marks: Numbered::new(alloc),
+            others: BTreeMap::new(alloc),
+            room: FEW,
+        }
+    }
+
+    /// No mark, and room by place for ids that ascend.
+    pub fn new(alloc: Global, ids: Vec<u32>) -> Result<Listed, AllocError>
+        requires { AreRising ids.items }
+        ensures { IfOk result (λ found. (id : ℕ) → listed found id ≡ None) }
+    {
+        let found = Listed::of(alloc, ids, Numbered::new(alloc))?;
+        Ok(found)
+    }
+
+    /// The marks of ids that ascend, by place.
+    pub fn of(alloc: Global, ids: Vec<u32>, marks: Numbered) -> Result<Listed, AllocError>
+        requires { AreRising ids.items }
+        ensures ids { IfOk result (λ found. found.ids ≡ ids.items) }
+        ensures marks { IfOk result (λ found. found.marks ≡ marks.marks.items) }
+        ensures others { IfOk result (λ found. found.others ≡ []) }
+    {
+        let ids = RisingIds::new(alloc, ids)?;
+        Ok(Listed {
+            ids,
+            marks,
+            others: BTreeMap::new(alloc),
+            room: usize::MAX,
+        })
+    }
+
+    /// All ids that may have a mark, each once.
+    fn all(&self, alloc: Global) -> Result<Vec<u32>, AllocError>
+        ensures distinct { IfOk result (λ ids. IsDistinct nat_eq ids.items) }
+        ensures all { IfOk result (λ ids. (id : ℕ) → IsSome (listed self.now id) →
+            Contains ids.items id) }
+    {
+        let mut all = self.ids.as_slice().to_vec(alloc)?;
+        for (id, _mark) in self.others.iter() {
+            all.push(*id)?;
+        }
+        Ok(all)
+    }
+
+    /// The ids whose labels are at most this long, each once, in no order.
+    pub(crate) fn near(&self, alloc: Global, most: u64) -> Result<Vec<u32>, AllocError>
+        ensures distinct { IfOk result (λ ids. IsDistinct nat_eq ids.items) }
+        ensures same { IfOk result
+            (λ ids. (id : ℕ) → Contains ids.items id ↔
+            IsTrue (is_within most (length_in (listed self.now) id))) }
+    {
+        let all = self.all(alloc)?;
+        let mut near = Vec::new(alloc);
+        for id in &all {
+            if is_near(self.get(*id), most) {
+                near.push(*id)?;
+            }
+        }
+        Ok(near)
+    }
+}
+
+/// The mark of an id among marks by id.
+fn other_mark(others: &BTreeMap<u32, Mark>, id: u32) -> Option<Mark>
+    ensures { result ≡ mark_at others.now.entries id }
+{
+    others.get(&id).copied()
+}
+
+/// Gives an id this mark among marks by id.
+fn set_other(others: &mut BTreeMap<u32, Mark>, id: u32, new: Mark) -> Result<(), AllocError>
+    ensures marks { OnOk result ((v : ℕ) →
+        mark_at others.new.entries v ≡ (if nat_eq id v then Some new else
+        mark_at others.old.entries v)) }
+    ensures same { OnErr result (others.new.entries ≡ others.old.entries) }
+{
+    others.insert(id, new)?;
+    Ok(())
+}
+
+/// Whether a mark is there and its label at most this long.
+fn is_near(mark: Option<Mark>, most: u64) -> bool
+    ensures { result ≡ is_within most (option_map (λ l. l.length) (option_map (λ m. m.label) mark)) }
+{
+    match mark {
+        None => false,
+        Some(mark) => mark.label.length <= most,
+    }
+}
+
+impl Marks for Listed {
+    ghost use Rattle.road_search.specs.Listing.{listed};
+
+    ghost mark = { λ s id. listed s id };
+
+    fn get(&self, id: u32) -> Option<Mark> {
+        match self.ids.place(id) {
+            None => other_mark(&self.others, id),
+            Some(place) => self.marks.at(place),
+        }
+    }
+
+    fn set(&mut self, id: u32, new: Mark) -> Result<(), AllocError> {
+        match self.ids.place(id) {
+            None => {
+                if self.others.len() >= self.room {
+                    return Err(AllocError);
+                }
+                set_other(&mut self.others, id, new)?;
+                Ok(())
+            }
+            Some(place) => {
+                let _ids = self.ids.as_slice();
+                self.marks.put(place, new)?;
+                Ok(())
+            }
+        }
+    }
+}

@@ -1,0 +1,75 @@
+//! Marks of positions, by the ids of their nodes.
+
+ghost use Rattle.std.specs.Prelude.{◌≡◌, IfOk, map as every};
+ghost use Rattle.std.specs.Option.{option_map};
+ghost use Rattle.road_search.specs.Listing.{listed};
+ghost use Rattle.road_search.specs.Nets.{id_at, named, AreNamed};
+ghost use Rattle.road_search.specs.Marking.{marked};
+
+use crate::label::Label;
+use crate::listed::Listed;
+use crate::marks::Mark;
+use crate::numbered::Numbered;
+use crate::places::rising_ids;
+use octet_text::NoMemory;
+use road_map::Map;
+use std::alloc::{AllocError, Global};
+
+/// The id of the node at a position, and the position itself where there is none.
+fn id_at(map: &Map, position: u32) -> u32
+    ensures { result ≡ id_at map.now.order position }
+{
+    if position < map.count() {
+        map.node(position).id
+    } else {
+        position
+    }
+}
+
+/// The mark of a position as that of an id.
+fn named(map: &Map, mark: Mark) -> Mark
+    ensures { result ≡ named map.now.order mark }
+{
+    let label = mark.label;
+    Mark {
+        label: Label {
+            length: label.length,
+            before: id_at(map, label.before),
+            hops: label.hops,
+        },
+        settled: mark.settled,
+    }
+}
+
+/// The mark of a position, if it has one, as that of an id.
+fn mark_named(map: &Map, mark: Option<Mark>) -> Option<Mark>
+    ensures { result ≡ option_map (named map.now.order) mark }
+{
+    match mark {
+        None => None,
+        Some(mark) => Some(named(map, mark)),
+    }
+}
+
+/// Marks of positions, each as that of an id.
+fn all_named(alloc: Global, map: &Map, marks: &[Option<Mark>]) -> Result<Numbered, AllocError>
+    ensures { IfOk result (λ all. all.marks.items ≡
+        every (option_map (named map.now.order)) marks.now) }
+{
+    let mut all = Vec::with_capacity(alloc, marks.len())?;
+    for mark in marks {
+        all.push(mark_named(map, *mark))?;
+    }
+    Ok(Numbered { marks: all })
+}
+
+/// Marks of positions, by the ids of their nodes.
+pub fn by_ids(alloc: Global, map: &Map, marks: &Numbered) -> Result<Listed, NoMemory>
+    ensures { IfOk result (λ found.
+        AreNamed map.now.order (marked marks.now.marks.items) (listed found)) }
+{
+    let ids = rising_ids(alloc, map)?;
+    let named = all_named(alloc, map, marks.marks.as_slice())?;
+    let found = Listed::of(alloc, ids, named)?;
+    Ok(found)
+}

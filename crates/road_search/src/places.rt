@@ -1,0 +1,19 @@
+//! The ascending ids of a map.
+
+ghost use Rattle.std.specs.Prelude.{◌≡◌, IfOk};
+ghost use Rattle.road_map.specs.Places.{AreRising};
+ghost use Rattle.road_map.specs.Walks.{ids};
+
+use octet_text::NoMemory;
+use road_map::Map;
+use std::alloc::Global;
+
+/// The ids of a map's nodes, ascending.
+pub fn rising_ids(alloc: Global, map: &Map) -> Result<Vec<u32>, NoMemory>
+    ensures ids { IfOk result (λ found. found.items ≡ ids map.now.order) }
+    ensures rise { IfOk result (λ found. AreRising found.items) }
+{
+    let _parts = map.parts();
+    let found = map.ids(alloc)?;
+    Ok(found.into_vec())
+}

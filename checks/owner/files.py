@@ -4,7 +4,8 @@
 Help and version; a bad number, `-` and a pipe; a desk that is a link, has two names or is open to others; mirrors that are
 a FIFO, a folder, a link to nothing, to the desk, to a full device or to a file; secrets that are none; versions that do not
 rise; and gates of spent one-time keys that were closed by a turned bit, behind which no slot signs two texts. Where this
-machine has strace, a refused check opens each file once. With --long each bit of the block and of the slots' fronts is
+machine has strace, a refused check opens each file once, and a link that is put into the place of the desk or of a mirror
+between the look at it and its opening is not followed. With --long each bit of the block and of the slots' fronts is
 turned. Nobody trusts this script.
 """
 import os
@@ -15,6 +16,7 @@ import stat
 import subprocess
 import sys
 import tempfile
+import time
 
 FIVE = "roads 1\nnode 1 0 0\nnode 2 10 0\nnode 3 20 0\nnode 4 10 10\nnode 5 50 50\nroad 1 2 4\nroad 2 3 5\nroad 1 4 3\nroad 4 3 7\n"
 SECONDS = 120
@@ -158,6 +160,43 @@ def of_desk_file(owner):
     os.chmod(".", 0o700)
 
 
+def swapped(owner, folder, words, name, target):
+    """How a command ended in whose time a link to TARGET took the place of a file, behind the look at it and before its opening."""
+    trace, held = pathlib.Path(f"{folder}/swap"), "open,openat"
+    trace.unlink(missing_ok=True)
+    how = ["strace", "-f", "-o", str(trace), "-P", name, "-e", "trace=%file", "-e", f"inject={held}:delay_enter=3000000:when=1"]
+    with subprocess.Popen([*how, owner.program, *words.split()], stdout=subprocess.PIPE, stderr=subprocess.PIPE) as running:
+        wanted = time.monotonic() + SECONDS
+        while not (trace.exists() and held[:4] in trace.read_text(encoding="utf-8")) and time.monotonic() < wanted:
+            time.sleep(0.01)
+        os.rename(name, f"{name}.looked")
+        os.symlink(target, name)
+        told, said = running.communicate(timeout=SECONDS)
+    os.remove(name)
+    os.rename(f"{name}.looked", name)
+    return running.returncode, told, said.decode()
+
+
+def of_swaps(owner, folder):
+    """A link that takes the place of the desk or of a mirror behind the look at it is not followed."""
+    if shutil.which("strace") is None:
+        print("skipped: a link put under a name that was looked at, since this machine has no strace")
+        return
+    before = desk()
+    shutil.copy("owner.desk", "other.desk")
+    ended = swapped(owner, folder, f"publish five.roads {PLAIN.format(2**34)}", "owner.desk", "other.desk")
+    says("a desk that became a link", ended, 7, "road_proof: owner.desk: ")
+    same("what was written", (ended[1], desk(), pathlib.Path("other.desk").read_bytes()), (b"", before, before))
+    os.remove("other.desk")
+    write("mirror-1", "")
+    write("foreign", "")
+    ended = swapped(owner, folder, f"publish five.roads {PLAIN.format(2**34)}", "mirror-1", "foreign")
+    says("a mirror that became a link", ended, 15, "road_proof: mirror-1: Something else put another file under its name just now.")
+    same("what was written to it", (os.path.getsize("foreign"), os.path.getsize("mirror-1")), (0, 0))
+    os.remove("mirror-1")
+    os.remove("foreign")
+
+
 def of_mirrors(owner):
     def lost(what, part, version):
         says(what, owner.publish(version), 15, f"road_proof: mirror-1: {part}", "lost mirror 1")
@@ -287,6 +326,7 @@ def main():
         of_signing(owner)
         of_replies(owner, folder)
         of_desk_file(owner)
+        of_swaps(owner, folder)
         of_mirrors(owner)
         of_terminals(owner)
         os.remove("owner.desk")

@@ -44,7 +44,8 @@ pub fn unsafe_desk<R: Files>(rt: &R, name: &str) -> Option<Unsafe> {
     }
 }
 
-fn unsafe_file(file: &Metadata, user: Option<u32>) -> Option<Unsafe> {
+/// Why a file is not safe as a desk of this user.
+pub fn unsafe_file(file: &Metadata, user: Option<u32>) -> Option<Unsafe> {
     if file.is_symlink() {
         Some(Unsafe::Link)
     } else if !file.is_file() {

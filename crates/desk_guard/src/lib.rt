@@ -6,6 +6,7 @@
 #![tactic(auto)]
 
 pub use desk_file::{Unsafe, folder_fault, unsafe_desk, unsafe_folder};
+pub use desk_files::DeskFiles;
 pub use doubt::{Doubt, doubt_of};
 pub use first_key::{has_name, is_first_key, key_in};
 pub use image::{Unseen, image_of};
@@ -19,6 +20,7 @@ pub use slots::Signed;
 pub use strange::Strange;
 
 mod desk_file;
+mod desk_files;
 mod doubt;
 mod first_key;
 mod image;

@@ -1,11 +1,11 @@
 //! An owner's mirrors: files that are there, also where they can't be opened.
 
-use crate::user::{is_own, user};
+use crate::user::{is_own, is_same_file, user};
 use mirror_out::FileMirror;
 use std::fmt::{self, Display, Formatter};
 use std::fs::{self, File, Metadata, OpenFile, OpenOptions};
 use std::io::{self, ErrorKind};
-use std::os::unix::fs::{FileTypeExt, MetadataExt};
+use std::os::unix::fs::FileTypeExt;
 use std::rt::Files;
 
 /// Why a mirror is lost before it is written to.
@@ -19,6 +19,8 @@ pub enum WhyLost {
     Owner,
     /// It leads to the owner's desk.
     Desk,
+    /// Another file stood under its name when it was looked at.
+    Changed,
 }
 
 impl Display for WhyLost {
@@ -30,6 +32,9 @@ impl Display for WhyLost {
                 "It is a link, and the link or what it leads to is another user's.",
             ),
             WhyLost::Desk => f.write_str("It leads to the owner's desk."),
+            WhyLost::Changed => f.write_str(
+                "Something else put another file under its name just now.",
+            ),
         }
     }
 }
@@ -87,10 +92,18 @@ fn open<R: Files<File = File>>(
     if is_same(rt, &target, desk) {
         return Err(WhyLost::Desk);
     }
-    match OpenOptions::new().append(true).open(rt, name) {
-        Ok(file) => Ok(file),
+    match opened(rt, name) {
+        Ok((_, opened)) if !is_same_file(&opened, &target) => Err(WhyLost::Changed),
+        Ok((file, _)) => Ok(file),
         Err(e) => Err(WhyLost::Refused(e)),
     }
+}
+
+/// The file of a name, to be written to behind what it holds, and a look at it.
+fn opened<R: Files<File = File>>(rt: &R, name: &str) -> io::Result<(File, Metadata)> {
+    let file = OpenOptions::new().append(true).open(rt, name)?;
+    let looked = file.metadata()?;
+    Ok((file, looked))
 }
 
 /// Whether a link and a file that it leads to are this user's. Devices are the system's.
@@ -102,7 +115,7 @@ fn is_ours<R: Files>(rt: &R, link: &Metadata, target: &Metadata) -> bool {
 /// Whether a file is the one of this name.
 fn is_same<R: Files>(rt: &R, file: &Metadata, name: &str) -> bool {
     match fs::metadata(rt, name) {
-        Ok(other) => file.dev() == other.dev() && file.ino() == other.ino(),
+        Ok(other) => is_same_file(file, &other),
         Err(_) => false,
     }
 }

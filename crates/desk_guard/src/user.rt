@@ -19,3 +19,8 @@ pub fn is_own(file: &Metadata, user: Option<u32>) -> bool {
         None => true,
     }
 }
+
+/// Whether two looks at a file are at the same one.
+pub fn is_same_file(one: &Metadata, other: &Metadata) -> bool {
+    one.dev() == other.dev() && one.ino() == other.ino()
+}

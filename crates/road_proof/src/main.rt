@@ -13,10 +13,10 @@ mod seen_desk;
 mod serve_hint;
 
 use command_files::Ended;
-use desk_guard::SignedSink;
+use desk_guard::{DeskFiles, SignedSink};
 use long_work::{is_for_eyes, tell_long_work};
 use mirror_files::{labels_of, sync_mirrors, tell_lost, told_mirrors};
-use owner_words::{is_safe, tell_folder, tell_secret, tell_signing};
+use owner_words::{is_safe, tell_folder, tell_secret, tell_signing, unfollowed};
 use road_command::{Command, MOST_WORDS, Words, command_of};
 use road_io::{FileDisk, FileLibrary, KeptLibrary, KeptSink, StdSink, StdSource};
 use road_run::run_on_files;
@@ -212,7 +212,7 @@ fn run_words(rt: HostRuntime, alloc: Global, words: &Words, begun: Option<Instan
     };
     let mut library = KeptLibrary::new(alloc, FileLibrary::new(rt), most_kept(words));
     let mut source = StdSource::new(&rt);
-    let mut disk = FileDisk::new(rt, "owner.desk");
+    let mut disk = FileDisk::new(DeskFiles::new(rt, unfollowed(words)), "owner.desk");
     let seen = match seen_desk(rt, alloc, words, &mut disk) {
         Ok(seen) => seen,
         Err(unfit) => return tell_unfit(rt, words, unfit, disk.last_error()),

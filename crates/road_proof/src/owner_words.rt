@@ -53,6 +53,14 @@ pub fn is_safe(rt: HostRuntime, words: &Words) -> bool {
     }
 }
 
+/// The name that is opened as the file itself or not at all: the desk's, where a command writes to it.
+pub fn unfollowed(words: &Words) -> Option<&'static str> {
+    match use_of(words) {
+        Use::Writes => Some("owner.desk"),
+        Use::Reads | Use::Not => None,
+    }
+}
+
 /// Says after a fault of the desk that its folder can't be listed or synced, where that is so.
 pub fn tell_folder(rt: HostRuntime, ended: Ended) {
     if !matches!(ended.fault, Some(Fault::Disk)) {

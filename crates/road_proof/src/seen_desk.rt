@@ -1,7 +1,9 @@
 //! The owner's desk, looked at before a command that signs with it.
 
 use command_files::Fault;
-use desk_guard::{Sight, Strange, Unseen, has_name, image_of, is_first_key, key_in, sight_of};
+use desk_guard::{
+    DeskFiles, Sight, Strange, Unseen, has_name, image_of, is_first_key, key_in, sight_of,
+};
 use key_desk::{Desk, StartError};
 use octet_text::NoMemory;
 use road_command::{Command, Words, command_of};
@@ -42,7 +44,7 @@ pub fn seen_desk(
     rt: HostRuntime,
     alloc: Global,
     words: &Words,
-    disk: &mut FileDisk<HostRuntime>,
+    disk: &mut FileDisk<DeskFiles<HostRuntime>>,
 ) -> Result<Option<Seen>, Unfit> {
     if !signs(words) {
         return Ok(None);
@@ -104,7 +106,7 @@ fn spend_waiting(
     rt: HostRuntime,
     alloc: Global,
     words: &Words,
-    disk: &mut FileDisk<HostRuntime>,
+    disk: &mut FileDisk<DeskFiles<HostRuntime>>,
     sight: Sight,
 ) -> Result<Sight, Unfit> {
     let (Some(Command::Publish { .. }), Some(waiting)) = (command_of(words), sight.waiting) else {

@@ -10,7 +10,7 @@ ghost use Rattle.road_run.specs.Runs.{RunsOver};
 use crate::laws::no_key_signs_twice;
 use crate::program::run;
 use command_files::Ended;
-use desk_guard::SignedSink;
+use desk_guard::{DeskFiles, SignedSink};
 use mirror_out::{FileMirror, Mirror};
 use road_command::Words;
 use road_io::{
@@ -34,24 +34,24 @@ pub fn run_on_files<R: Files<File = File> + Print + Input + Drop>(
     library: &mut KeptLibrary<FileLibrary<R>>,
     source: &mut StdSource<R>,
     sink: &mut KeptSink<SignedSink<StdSink<R>>>,
-    disk: &mut FileDisk<R>,
+    disk: &mut FileDisk<DeskFiles<R>>,
     mirrors: &mut Vec<FileMirror>,
 ) -> Ended
     ensures runs { RunsOver ⟦<KeptLibrary<FileLibrary<R>> as Library>⟧ ⟦<StdSource<R> as Source>⟧
-        ⟦<KeptSink<SignedSink<StdSink<R>>> as Sink>⟧ ⟦<FileDisk<R> as Disk>⟧ ⟦<FileMirror as Mirror>⟧
+        ⟦<KeptSink<SignedSink<StdSink<R>>> as Sink>⟧ ⟦<FileDisk<DeskFiles<R>> as Disk>⟧ ⟦<FileMirror as Mirror>⟧
         (request_of words.now) library.old library.new source.old source.new sink.old sink.new
         disk.old disk.new mirrors.old.items mirrors.new.items result.status (outcome_of result) }
     ensures lives { (states : List (_ × List Release)) →
-        EachTells ⟦<FileDisk<R> as Disk>⟧ disk.old states →
+        EachTells ⟦<FileDisk<DeskFiles<R>> as Disk>⟧ disk.old states →
         (life : IsLife ⟦<FileMirror as Mirror>⟧.octets ⟦<FileMirror as Mirror>⟧.named
         ⟦<FileMirror as Mirror>⟧.handed ⟦<FileMirror as Mirror>⟧.puts
         ⟦<FileMirror as Mirror>⟧.room
-        ⟦<FileDisk<R> as Disk>⟧ disk.old [] states) →
+        ⟦<FileDisk<DeskFiles<R>> as Disk>⟧ disk.old [] states) →
         NoneSignsTwice ⟦<FileMirror as Mirror>⟧.octets ⟦<FileMirror as Mirror>⟧.named
         ⟦<FileMirror as Mirror>⟧.handed ⟦<FileMirror as Mirror>⟧.puts
         ⟦<FileMirror as Mirror>⟧.room
-        ⟦<FileDisk<R> as Disk>⟧ disk.old [] states life }
+        ⟦<FileDisk<DeskFiles<R>> as Disk>⟧ disk.old [] states life }
 {
-    no_key_signs_twice::<FileDisk<R>, FileMirror>();
+    no_key_signs_twice::<FileDisk<DeskFiles<R>>, FileMirror>();
     run(alloc, words, library, source, sink, disk, mirrors)
 }

@@ -22,7 +22,7 @@ const HEADER: [u8; 104] = [
 
 // The route 1 3: nodes 1 and 3 at indices 0 and 4, their pair at index 1, and one digest of the node
 // cover.
-const REPLY: [u8; 251] = [
+pub(crate) const REPLY: [u8; 251] = [
     0, 0x52, 0x50, 0x46, 0x31, 0x04, 0x03, 0x04, 0, 0, 0, 0, 0, 0, 0, 0, 0x07, 0, 0, 0, 0x05, 0x11,
     0x11, 0x11, 0x11, 0x11, 0x11, 0x11, 0x11, 0x11, 0x11, 0x11, 0x11, 0x11, 0x11, 0x11, 0x11, 0x11,
     0x11, 0x11, 0x11, 0x11, 0x11, 0x11, 0x11, 0x11, 0x11, 0x11, 0x11, 0x11, 0x11, 0x11, 0x11, 0, 0,
@@ -68,7 +68,12 @@ const WRITTEN: Header = Header {
 };
 
 // The octets with another octet at an offset.
-fn changed(alloc: Global, octets: &[u8], place: usize, octet: u8) -> Result<Vec<u8>, Fail> {
+pub(crate) fn changed(
+    alloc: Global,
+    octets: &[u8],
+    place: usize,
+    octet: u8,
+) -> Result<Vec<u8>, Fail> {
     let mut other = octets.to_vec(alloc)?;
     if place < other.len() {
         other[place] = octet;

@@ -15,6 +15,8 @@ mod mirrors;
 #[cfg(test)]
 mod pieces;
 #[cfg(test)]
+mod placed;
+#[cfg(test)]
 mod publications;
 #[cfg(test)]
 mod real_files;

@@ -394,3 +394,30 @@ fn all_that_is_as_near_as_the_end_is_found(rt: HostRuntime) -> Result<(), Fail> 
     }
     Ok(())
 }
+
+/// How many nodes a line has: more than a search labels by id.
+const LINE: u32 = 1500;
+
+/// The map of a line and one node more, which no road joins: each node of the line has a road of length 1 to the next.
+fn line_and_one(alloc: Global) -> Result<Map, Fail> {
+    let mut roads = Vec::new(alloc);
+    for id in 1..LINE {
+        roads.push((id, id + 1, 1))?;
+    }
+    Ok(map_to(alloc, LINE + 1, roads.as_slice())?)
+}
+
+// A search that labels more than 1,024 nodes goes from position to position.
+#[test]
+fn a_route_over_many_nodes_is_found_by_position(rt: HostRuntime) -> Result<(), Fail> {
+    let map = line_and_one(rt.alloc())?;
+    let path = shortest(rt.alloc(), &map, 1, LINE)?;
+    assert_row(&rt, LINE, length_of(&path), Some(1499));
+    let line: Vec<u32> = (1..LINE + 1).collect(rt.alloc())?;
+    assert_row(&rt, LINE, ids_of(&path), line.as_slice());
+    let apart = shortest(rt.alloc(), &map, 1, LINE + 1)?;
+    assert_row(&rt, LINE + 1, length_of(&apart), None);
+    let unknown = shortest(rt.alloc(), &map, 1, LINE + 2)?;
+    assert_row(&rt, LINE + 2, length_of(&unknown), None);
+    Ok(())
+}

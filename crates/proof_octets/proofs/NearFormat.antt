@@ -1,5 +1,5 @@
 -- The reply's format is exact; which replies it encodes, how its writer encodes them, and how long they are.
-use Rattle.std.proofs.Common.{◌≡◌, ◌++◌, ◌+◌, ℕ, ◌^◌, ◌<◌, ◌≤◌, List, length, map, refl, sym, ap, subst, arith}
+use Rattle.std.proofs.Common.{◌≡◌, ◌++◌, ◌+◌, ℕ, ◌^◌, ◌<◌, ◌≤◌, List, length, map, refl, sym, ap, subst, arith, append_assoc, ◌∙◌}
 use Rattle.std.specs.Prelude.{All}
 use Rattle.std.specs.List.{AllByRecursion, flat_map}
 use Rattle.std.specs.Int.{w32, to_be_bytes}
@@ -9,6 +9,7 @@ use Rattle.octet_text.specs.Exact.{IsExact}
 use Rattle.octet_text.proofs.Fields.{behind_exact, seq_exact, mapped_exact}
 use Rattle.road_leaf.specs.declared.leaf.NodeLeaf.{NodeLeaf}
 use Rattle.road_leaf.specs.Leaves.{node_leaf, node_leaf_text}
+use Rattle.proof_octets.specs.declared.header.Header.{Header}
 use Rattle.proof_octets.specs.Headers.{header, leaf_kind}
 use Rattle.proof_octets.specs.Replies.{signature, node_item, node_items, joined, digests}
 use Rattle.proof_octets.proofs.FormatLaws.{header_exact, signature_exact, node_items_exact, digests_exact}
@@ -19,7 +20,7 @@ use Rattle.proof_octets.proofs.Lengths.{node_items_long}
 use Rattle.proof_octets.proofs.Writable.{node_texts_same, items_texts, few_arcs}
 use Rattle.proof_octets.specs.declared.near_reply.NearReply.{NearReply}
 use Rattle.proof_octets.specs.NearReplies.{near_name, near_of, near_parts, near_reply, IsGoodNear}
-use Rattle.proof_octets.specs.NearWriting.{near_text, CanWriteNear}
+use Rattle.proof_octets.specs.NearWriting.{near_front, near_text, CanWriteNear}
 
 pub near_exact : IsExact near_reply
 unfolding near_reply
@@ -58,6 +59,10 @@ near_fits a good = (
 )
 
 -- ---- what the writer appends, and asks
+
+-- the front of a reply, field by field
+pub near_first : (h : Header) (s rest : List ℕ) → near_front h s ++ rest ≡ near_name ++ (header.spell h ++ (signature.spell s ++ rest))
+near_first h s rest = append_assoc near_name (header.spell h ++ signature.spell s) rest ∙ ap (λ (t : List ℕ). near_name ++ t) (append_assoc (header.spell h) (signature.spell s) rest)
 
 pub near_written : (a : NearReply) → near_reply.Fits a → near_text a ≡ near_reply.spell a
 unfolding near_reply near_text node_items

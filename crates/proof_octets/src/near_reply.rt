@@ -4,7 +4,7 @@ ghost use Rattle.octet_text.specs.Format.{Gives, Reads, IsFound, ReadsAll, whole
 ghost use Rattle.octet_text.specs.Puts.{Puts};
 ghost use Rattle.octet_text.specs.declared.errors.ReadError.{ReadError};
 ghost use Rattle.proof_octets.specs.NearReplies.{near_reply, IsNamed};
-ghost use Rattle.proof_octets.specs.NearWriting.{near_text, CanWriteNear};
+ghost use Rattle.proof_octets.specs.NearWriting.{near_front, near_text, CanWriteNear};
 
 use crate::header::{Header, read_header};
 use crate::item_writing::put_node_items;
@@ -61,14 +61,28 @@ fn read_whole(alloc: Global, octets: &[u8]) -> Result<NearReply, ReadError>
     Ok(reply)
 }
 
+// What stands before the node items of a reply.
+pub(crate) fn put_near_front(
+    out: &mut Vec<u8>,
+    header: &Header,
+    signature: &[u8],
+) -> Result<(), NoMemory>
+    requires { length signature.now < 2 ^ 16 }
+    ensures { OnOk result (Puts out.old.items out.new.items
+        (near_front header.now signature.now)) }
+{
+    put_octets(out, b"RPN1")?;
+    put_octets(out, &header.write())?;
+    put_signature(out, signature)?;
+    Ok(())
+}
+
 // Appends the octets of a reply. After a refusal a part of them may stand there.
 fn put_near(alloc: Global, out: &mut Vec<u8>, reply: &NearReply) -> Result<(), NoMemory>
     requires { CanWriteNear reply.now }
     ensures { OnOk result (Puts out.old.items out.new.items (near_text reply.now)) }
 {
-    put_octets(out, b"RPN1")?;
-    put_octets(out, &reply.header.write())?;
-    put_signature(out, reply.signature.as_slice())?;
+    put_near_front(out, &reply.header, reply.signature.as_slice())?;
     put_node_items(alloc, out, &reply.places, &reply.nodes)?;
     put_digests(out, &reply.cover)?;
     Ok(())

@@ -48,7 +48,7 @@ impl Spans {
         let mut starts = Vec::new(alloc);
         add_starts(&mut starts, ids, 0, shift)?;
         let mut inner = Vec::new(alloc);
-        let parts = parts_of(alloc, ids, starts.as_slice(), &mut inner)?;
+        let parts = parts_of(alloc, ids, starts.as_slice(), shift, &mut inner)?;
         Ok(Spans {
             shift,
             starts,
@@ -83,8 +83,8 @@ fn have_gaps(ids: &[u32]) -> bool {
     ids[ids.len() - 1].wrapping_sub(ids[0]) as usize >= ids.len()
 }
 
-/// The least width, as a power of 2, at which the spans from the first id to the last are no more
-/// than the ids.
+/// The least width, as a power of 2, at which the spans from the first id to the last are at most
+/// about twice as many as the ids. Ids with few gaps have a span each.
 fn width_of(ids: &[u32]) -> u32
     ensures { result < 32 }
 {
@@ -93,7 +93,7 @@ fn width_of(ids: &[u32]) -> u32
     }
     let reach = ids[ids.len() - 1].wrapping_sub(ids[0]);
     for shift in 0..31u32 {
-        if ((reach >> shift) as usize) < ids.len() {
+        if ((reach >> shift) as usize) / 2 < ids.len() {
             return shift;
         }
     }
@@ -127,13 +127,17 @@ fn low_half(place: usize) -> u32 {
     (place & 0xFFFF_FFFF) as u32
 }
 
-/// How each span is parted, whose narrower spans are added.
+/// How each span of a width is parted, whose narrower spans are added. A span of width 1 has one id.
 fn parts_of(
     alloc: Global,
     ids: &[u32],
     starts: &[u32],
+    shift: u32,
     inner: &mut Vec<u32>,
 ) -> Result<Vec<Part>, AllocError> {
+    if shift == 0 {
+        return Ok(Vec::new(alloc));
+    }
     let mut parts = Vec::with_capacity(alloc, starts.len())?;
     for span in 1..starts.len() {
         let part = part_of(ids, starts[span - 1] as usize, starts[span] as usize, inner)?;

@@ -35,4 +35,5 @@ mod numbered;
 mod over_map;
 mod path;
 mod places;
+mod positions;
 mod survey;

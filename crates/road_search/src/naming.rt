@@ -16,7 +16,7 @@ use road_map::Map;
 use std::alloc::{AllocError, Global};
 
 /// The id of the node at a position, and the position itself where there is none.
-fn id_at(map: &Map, position: u32) -> u32
+pub fn id_at(map: &Map, position: u32) -> u32
     ensures { result ≡ id_at map.now.order position }
 {
     if position < map.count() {

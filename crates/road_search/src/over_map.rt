@@ -64,7 +64,12 @@ fn no_labels(alloc: Global) -> Labels
 }
 
 /// The distances from a node to one end and to all that is as near, while the labels are few.
-fn few_distances(alloc: Global, map: &Map, from: u32, to: u32) -> Result<Labels, NoMemory>
+pub(crate) fn few_distances(
+    alloc: Global,
+    map: &Map,
+    from: u32,
+    to: u32,
+) -> Result<Labels, NoMemory>
     requires { Knows map.now.parts from }
     ensures { IfOk result (MeasuresTo map.now.parts from to) }
 {

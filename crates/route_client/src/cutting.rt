@@ -7,9 +7,10 @@ ghost use Rattle.proof_octets.specs.Good.{IsGood};
 ghost use Rattle.proof_octets.specs.Replies.{reply_of, reply_text};
 ghost use Rattle.route_client.specs.Cutting.{cuts_at, end_at, nodes_at};
 
+use crate::leaf_lengths::text_length;
 use merkle_cover::Cut;
 use octet_text::NoMemory;
-use proof_octets::{Answer, text_length};
+use proof_octets::Answer;
 use road_leaf::{NodeLeaf, PairLeaf};
 use std::alloc::Global;
 

@@ -3,7 +3,6 @@
 -- Lin and Mouratidis, ICDE 2010 (what an honest provider sends: tuples and the integrity proof).
 use Rattle.std.specs.Prelude.{◌≡◌, ◌↔◌, ℕ, List, length, Contains, nat_eq}
 use Rattle.std.specs.List.{IsDistinct}
-use Rattle.sha2.specs.Sha256.{sha256}
 use Rattle.road_map.specs.declared.parts.Parts.{Parts}
 use Rattle.road_map.specs.Walks.{Knows}
 use Rattle.merkle_cover.specs.Covers.{IsRising, cover_of}
@@ -15,6 +14,9 @@ use Rattle.route_server.specs.Keeping.{Kept, IsKept, publication_in}
 use Rattle.proof_octets.specs.declared.query.NearQuery.{NearQuery}
 use Rattle.proof_octets.specs.declared.near_reply.NearReply.{NearReply}
 use Rattle.proof_octets.specs.NearReplies.{near_reply}
+use Rattle.proof_octets.specs.declared.placed_near.PlacedNear.{PlacedNear}
+use Rattle.proof_octets.specs.PlacedNear.{near_with, HasNearLeaves}
+use Rattle.road_leaf.specs.declared.leaf.NodeLeaf.{NodeLeaf}
 use Rattle.proof_octets.specs.Radius.{IsWithin}
 use Rattle.route_server.specs.declared.near_errors.NearRefusal.{NearRefusal}
 use Rattle.route_server.specs.declared.near_errors.NearRefusal.TheVariants.{UnknownNode, Memory}
@@ -52,3 +54,10 @@ WhyNot parts q Memory = Unit {0}
 pub record IsOver (hash : List ℕ → List ℕ) (k : Kept) (q : NearQuery) (a : NearReply) : Type 0 where
   pub kept : IsKept k
   pub says : IsNearReply hash k.order kept.book (publication_in hash k) q a
+
+-- and its leaves are those whose texts the book holds
+pub record IsToldOver (hash : List ℕ → List ℕ) (k : Kept) (q : NearQuery) (a : PlacedNear) :
+    Type 0 where
+  pub leaves : List NodeLeaf
+  pub over : IsOver hash k q (near_with a leaves)
+  pub told : HasNearLeaves a (node_texts k.nodes) leaves

@@ -1,34 +1,31 @@
-//! Leaves, brought out of a publication's book with their indices and their cover.
+//! What is brought out of a publication's book: indices of node leaves, and leaves of pairs, with their covers.
 ghost use Rattle.std.specs.Prelude.{◌≡◌, ◌<◌, ◌^◌, IfOk, All, length, nat_eq};
 ghost use Rattle.std.specs.List.{IsDistinct};
 ghost use Rattle.std.specs.Option.{option_copied};
-ghost use Rattle.road_map.specs.Maps.{IsMap};
 ghost use Rattle.road_map.specs.Walks.{Knows};
 ghost use Rattle.merkle_cover.specs.Covers.{IsRising};
-ghost use Rattle.proof_method.specs.Gathering.{IsOrderOf};
-ghost use Rattle.route_server.specs.Bringing.{AreAt, ArePairsAt, AreBrought};
-ghost use Rattle.route_server.specs.Fitting.{FitsFormats};
+ghost use Rattle.route_server.specs.Bringing.{ArePlaces, ArePairsAt, AreBrought};
+ghost use Rattle.route_server.specs.Headers.{node_texts};
 ghost use Rattle.route_server.specs.Keeping.{count_in};
 
-use crate::at_places::{cover_at, leaves_at, pairs_at};
+use crate::at_places::{cover_at, pairs_at};
 use crate::held::Held;
 use crate::leaf_tree::LeafTree;
 use crate::order::places_of;
-use book_model::{NodeLeaves, PairLeaves, Places};
+use book_model::{PairLeaves, Places};
+use merkle_cover::Texts;
 use octet_text::{Digests, Hasher, NoMemory};
 use proof_method::MethodBook;
 use road_leaf::PairLeaf;
 use std::alloc::Global;
 
-/// Leaves of nodes, and what shows that they stand under the root of the node tree.
-#[derive(Debug, Drop)]
-pub struct NodesBrought {
-    /// The indices of the leaves in the node tree, by ascending index.
-    pub places: Places,
-    /// The leaves at these indices.
-    pub nodes: NodeLeaves,
+/// Indices of node leaves, and what shows which leaves stand there under the root of the node tree.
+#[derive(Drop)]
+pub(crate) struct PlacesBrought {
+    /// The indices, ascending.
+    pub(crate) places: Places,
     /// The cover of all other indices.
-    pub cover: Digests,
+    pub(crate) cover: Digests,
 }
 
 /// Leaves of pairs, and what shows that they stand under the root of the pair tree.
@@ -56,28 +53,19 @@ fn places_from(alloc: Global, places: &[u32]) -> Result<Places, NoMemory>
     Ok(Places::from_vec(places))
 }
 
-/// The node leaves of a book at indices of an order of its ids, with the cover of all other indices.
-pub(crate) fn nodes_brought<H: Hasher, B: MethodBook>(
+/// Indices of the leaves of a tree, with the cover of all other indices.
+pub(crate) fn places_brought<H: Hasher>(
     alloc: Global,
-    book: &B,
-    order: &[u32],
     tree: &LeafTree<H>,
     places: Vec<u32>,
-) -> Result<NodesBrought, NoMemory>
-    requires map { IsMap (B.shown book.now).parts }
-    requires order { IsOrderOf (B.shown book.now).parts order.now }
-    requires fits { FitsFormats (B.kind book.now) (B.shown book.now) }
-    requires rising { IsRising (length order.now) places.items }
-    requires whole { length tree.now.texts ≡ length order.now }
-    ensures { IfOk result (AreAt H.hash (B.kind book.now) (B.shown book.now) order.now tree.now
-        places.items) }
+) -> Result<PlacesBrought, NoMemory>
+    requires { IsRising (length tree.now.texts) places.items }
+    ensures { IfOk result (ArePlaces H.hash tree.now places.items) }
 {
-    let nodes = leaves_at(alloc, book, order, &places)?;
     let cover = tree.cover(alloc, &places)?;
     numbers_fit(&places);
-    Ok(NodesBrought {
+    Ok(PlacesBrought {
         places: Places::from_vec(places),
-        nodes,
         cover,
     })
 }
@@ -103,19 +91,20 @@ pub(crate) fn pairs_brought<H: Hasher>(
 }
 
 impl<H: Hasher> Held<H> {
-    /// The leaves of some nodes, given in any order, with their indices and their cover.
-    pub(crate) fn bring(&self, alloc: Global, ids: &[u32]) -> Result<NodesBrought, NoMemory>
+    /// The indices of the leaves of some nodes, given in any order, and the cover of all others.
+    pub(crate) fn bring(&self, alloc: Global, ids: &[u32]) -> Result<PlacesBrought, NoMemory>
         requires distinct { IsDistinct nat_eq ids.now }
         requires known { All (Knows self.now.map.parts) ids.now }
         ensures { IfOk result (AreBrought H.hash self.now ids.now) }
     {
         let places = places_of(alloc, self.book.map(), &self.places, ids)?;
-        nodes_brought(
-            alloc,
-            &self.book,
-            self.order.as_slice(),
-            &self.nodes,
-            places,
-        )
+        places_brought(alloc, &self.nodes, places)
+    }
+
+    /// The texts of the node leaves, in their order.
+    pub(crate) fn node_texts(&self) -> &Texts
+        ensures { result.now ≡ node_texts self.now.nodes }
+    {
+        self.nodes.texts()
     }
 }

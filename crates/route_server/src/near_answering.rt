@@ -1,15 +1,14 @@
 //! The reply to a query for what lies within a radius.
 ghost use Rattle.std.specs.Prelude.{◌≡◌, ◌<◌, ◌≤◌, ◌^◌, IfOk, IfErr, length};
 ghost use Rattle.sha2.specs.Sha256.{sha256};
-ghost use Rattle.proof_octets.specs.NearReplies.{IsGoodNear};
-ghost use Rattle.route_server.specs.NearHonesty.{IsNearHonest, WhyNot, IsOver};
+ghost use Rattle.route_server.specs.NearHonesty.{IsNearHonest, WhyNot, IsToldOver};
 ghost use Rattle.road_map.specs.Walks.{Knows};
 ghost use Rattle.route_server.specs.Keeping.{publication_in};
 
 use crate::reaching::ids_within;
 use crate::{Held, NearRefusal, header_laws};
 use octet_text::{Hasher, NoMemory, Octets};
-use proof_octets::{Header, NearQuery, NearReply, near_range_laws};
+use proof_octets::{Header, NearQuery, PlacedNear, near_range_laws};
 use road_search::knows;
 use std::alloc::Global;
 
@@ -32,11 +31,10 @@ fn reply_from<H: Hasher>(
     alloc: Global,
     held: &Held<H>,
     query: NearQuery,
-) -> Result<NearReply, NoMemory>
+) -> Result<PlacedNear, NoMemory>
     requires known { Knows held.now.map.parts query.from }
     requires signature { length held.now.signature ≤ 1452 }
-    ensures over { IfOk result (IsOver H.hash held.now query) }
-    ensures good { IfOk result IsGoodNear }
+    ensures { IfOk result (IsToldOver H.hash held.now query) }
 {
     let map = held.map();
     let ids = ids_within(alloc, map, query)?;
@@ -45,11 +43,11 @@ fn reply_from<H: Hasher>(
     let header = held.header();
     version_fits(&header);
     header_laws::<H>();
-    Ok(NearReply {
+    near_range_laws();
+    Ok(PlacedNear {
         header,
         signature,
         places: brought.places,
-        nodes: brought.nodes,
         cover: brought.cover,
     })
 }
@@ -71,12 +69,11 @@ pub fn answer_near<H: Hasher>(
     ensures unknown { ¬ Knows held.now.map.parts query.from
         → result ≡ Err (NearRefusal.UnknownNode query.from) }
 {
-    near_range_laws();
     let map = held.map();
     if !knows(map, query.from) {
         return Err(NearRefusal::UnknownNode(query.from));
     }
     let reply = reply_from(alloc, held, query)?;
-    let octets = reply.write(alloc)?;
+    let octets = reply.write(alloc, held.node_texts())?;
     Ok(octets)
 }

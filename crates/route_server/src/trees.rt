@@ -9,11 +9,11 @@ ghost use Rattle.route_server.specs.Fitting.{FitsFormats, kind_of_leaves};
 ghost use Rattle.route_server.specs.Headers.{node_texts, pair_texts};
 ghost use Rattle.route_server.specs.Keeping.{leaves_in, count_in, root_in};
 
+use crate::leaf_texts::pair_texts;
 use crate::leaf_tree::LeafTree;
 use crate::texts::node_texts;
 use octet_text::{Digest32, Hasher, NoMemory};
 use proof_method::MethodBook;
-use proof_octets::pair_texts;
 use road_leaf::PairLeaf;
 use std::alloc::Global;
 

@@ -1,10 +1,7 @@
 use Rattle.std.proofs.Common.{subst, sym}
-use Rattle.road_map.specs.Rows.{LeadToRows, RowsRise}
+use Rattle.road_map.specs.Rows.{LeadToRows}
 use Rattle.road_map.proofs.NetLaws.{chart_leads}
 use Rattle.road_map.proofs.map.Map.build.Goals as goal
 
 pub net_of-requires-clause-lead : goal.net_of-requires-clause-lead
 net_of-requires-clause-lead c = subst LeadToRows (sym c.as_slice.ensures.value) (chart_leads c.args.parts c.in_ok-rows.rows.items c.in_ok-rows.ensures.chart)
-
-pub rising_ids_of-requires : goal.rising_ids_of-requires
-rising_ids_of-requires c = subst RowsRise (sym c.deref.ensures.value) c.in_ok-rows.ensures.chart.rise

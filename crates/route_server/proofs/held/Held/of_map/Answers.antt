@@ -1,4 +1,4 @@
-use Rattle.std.proofs.Common.{ℕ, List, refl, sym, subst, ◌∙◌}
+use Rattle.std.proofs.Common.{ℕ, List, sym, subst, ◌∙◌}
 use Rattle.road_map.specs.Maps.{Charted}
 use Rattle.book_model.specs.Books.{IsBookOf}
 use Rattle.method_books.specs.AnyBooks.{kind_in, shown_in}
@@ -24,7 +24,5 @@ over-requires-clause-planned g c =
       vectors = c.in_ok-book.ensures.vectors;
       fits = order_fits _ _ _ _ _ _ c.as_slice-2.ensures c.parts-parts.ensures.is_map c.in_ok-order.ensures.lists c.in_ok-book.ensures.method c.in_ok-book.ensures.allowed c.in_ok-book.ensures.book;
       places_are = subst (λ (o : List ℕ). HasPlaces map.order o c.in_ok-places.places.items) c.as_slice.ensures c.in_ok-places.ensures;
-      nodes_are = refl;
-      pairs_are = refl;
     } in
     subst (λ (m : Charted). IsPlanned kind m s order c.in_ok-places.places.items b) (sym c.in_ok-book.ensures.map) planned

@@ -1,4 +1,4 @@
-use Rattle.std.proofs.Common.{ℕ, List, Option, All, ap, sym, subst, ◌∙◌}
+use Rattle.std.proofs.Common.{ℕ, List, All, ap, sym, subst, ◌∙◌}
 use Rattle.road_leaf.specs.Leaves.{node_leaf}
 use Rattle.book_model.specs.Books.{Book, leaves_of}
 use Rattle.method_books.specs.AnyBooks.{kind_in, shown_in, charted_in}
@@ -15,7 +15,7 @@ use Rattle.route_server.proofs.held.Held.over.Goals.{In_ok-trees}
 pub trees_of-requires : goal.trees_of-requires
 trees_of-requires g c =
     let b = shown_in c.args.book in
-    let is = shown (kind_in c.args.book) (charted_in c.args.book) c.args.settings.now c.args.order c.args.places.items b _ _ c.requires.planned in
+    let is = shown (kind_in c.args.book) (charted_in c.args.book) c.args.settings.now c.args.order c.args.places.items b c.requires.planned in
     record {
       map = is.is_map;
       order = subst (IsOrderOf b.parts) (sym c.as_slice.ensures) is.lists;
@@ -27,15 +27,23 @@ trees_of-requires g c =
 abbrev tree_leaves : ℕ → Book → List ℕ → Leaves
 tree_leaves fan b order = record { fan = fan; texts = node_texts (leaves_of b order) }
 
+-- each leaf has an encoding
+spelled : (g : Over) (c : In_ok-trees g) → All (node_leaf (kind_of_leaves (kind_in c.args.book) (shown_in c.args.book).numbers)).Fits (leaves_of (shown_in c.args.book) c.args.order)
+spelled g c =
+    let b = shown_in c.args.book in
+    subst (λ (o : List ℕ). All (node_leaf (kind_of_leaves (kind_in c.args.book) b.numbers)).Fits (leaves_of b o)) c.as_slice.ensures c.in_ok-trees.ensures.nodes_fit
+
 -- it is held with its trees
 held : (g : Over) (c : In_ok-trees g) → IsHeldBook (kind_in c.args.book) (charted_in c.args.book) c.args.settings.now c.args.order c.args.places.items (shown_in c.args.book) c.in_ok-trees.trees.nodes c.in_ok-trees.trees.pairs
 held g c =
-    let kind = kind_in c.args.book in
     let b = shown_in c.args.book in
     let s = c.args.settings.now in
-    subst (λ (n : Leaves). IsHeldBook kind (charted_in c.args.book) s c.args.order c.args.places.items b n c.in_ok-trees.trees.pairs) (sym (c.in_ok-trees.ensures.nodes ∙ ap (tree_leaves s.fan b) c.as_slice.ensures))
-    (subst (λ (p : Option Leaves). IsHeldBook kind (charted_in c.args.book) s c.args.order c.args.places.items b (tree_leaves s.fan b c.args.order) p)
-    (sym c.in_ok-trees.ensures.pairs) c.requires.planned)
+    record {
+      planned = c.requires.planned;
+      spelled = spelled g c;
+      nodes_are = c.in_ok-trees.ensures.nodes ∙ ap (tree_leaves s.fan b) c.as_slice.ensures;
+      pairs_are = c.in_ok-trees.ensures.pairs;
+    }
 
 pub invariant_of-result : goal.invariant_of-result
 invariant_of-result g c = held g (goal.at.invariant_of-result g c).In_ok-trees
@@ -46,10 +54,9 @@ returns-clause-kept g c =
 
 pub returns-clause-spelled : goal.returns-clause-spelled
 returns-clause-spelled g c =
-    let b = shown_in c.args.book in
     record {
       kind = kind_in c.args.book;
       method = c.requires.planned.is_book.method;
-      nodes = subst (λ (o : List ℕ). All (node_leaf (kind_of_leaves (kind_in c.args.book) b.numbers)).Fits (leaves_of b o)) c.as_slice.ensures c.in_ok-trees.ensures.nodes_fit;
+      nodes = spelled g (goal.at.returns-clause-spelled g c).In_ok-trees;
       pairs = c.in_ok-trees.ensures.pairs_fit;
     }

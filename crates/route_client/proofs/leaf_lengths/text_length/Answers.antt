@@ -1,6 +1,6 @@
 use Rattle.std.proofs.Common.{length, ap, arith}
 use Rattle.proof_octets.proofs.TextLength.{text_long}
-use Rattle.proof_octets.proofs.leaf_lengths.text_length.Goals as goal
+use Rattle.route_client.proofs.leaf_lengths.text_length.Goals as goal
 
 pub length_added-requires : goal.length_added-requires
 length_added-requires c = omega (arith, text_long c.args.leaf.now, c.requires)

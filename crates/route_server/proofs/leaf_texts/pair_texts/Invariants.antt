@@ -1,7 +1,7 @@
 use Rattle.std.proofs.Common.{◌≡◌, ◌<◌, map, take, All}
 use Rattle.road_leaf.specs.declared.pair.PairLeaf.{PairLeaf}
 use Rattle.road_leaf.specs.Leaves.{pair_leaf}
-use Rattle.proof_octets.proofs.texts.pair_texts.Given as goal
+use Rattle.route_server.proofs.leaf_texts.pair_texts.Given as goal
 
 abbrev pub invariant-loop-leaf : goal.invariant-loop-leaf
 invariant-loop-leaf l = record {

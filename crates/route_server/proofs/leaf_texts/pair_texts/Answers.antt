@@ -3,7 +3,7 @@ use Rattle.std.proofs.lemmas.List.Elements.{All-more}
 use Rattle.road_leaf.specs.declared.pair.PairLeaf.{PairLeaf}
 use Rattle.road_leaf.specs.Leaves.{pair_leaf}
 use Rattle.proof_octets.proofs.TextRoom.{has_room, texts_more}
-use Rattle.proof_octets.proofs.texts.pair_texts.Goals as goal
+use Rattle.route_server.proofs.leaf_texts.pair_texts.Goals as goal
 
 pub push-requires : goal.push-requires
 push-requires c =

@@ -1,0 +1,169 @@
+//! Answers and replies that are written from the texts of their node leaves: octets worked out by hand.
+ghost use Rattle.std.specs.Prelude.{◌≡◌, ◌<◌, [], ◌∷◌, ◌++◌, length, map, IfOk, OnOk, All};
+ghost use Rattle.road_leaf.specs.Leaves.{node_leaf_text};
+ghost use Rattle.proof_octets.specs.NearReplies.{near_reply};
+ghost use Rattle.proof_octets.specs.Placed.{text_at};
+ghost use Rattle.proof_octets.specs.Replies.{reply, reply_of};
+
+use crate::asserts::assert_octets;
+use crate::formats::{REPLY, changed};
+use book_model::{Items, NodeLeaves, Places};
+use merkle_cover::Texts;
+use proof_octets::{Answer, NearReply, PlacedAnswer, PlacedNear, Reply, range_laws};
+use road_leaf::NodeLeaf;
+use std::alloc::Global;
+use std::test::Fail;
+
+fn text_of(alloc: Global, leaf: &NodeLeaf) -> Result<Vec<u8>, Fail>
+    ensures { IfOk result (λ text. text.items ≡ node_leaf_text leaf.now) }
+{
+    if leaf.arcs.as_slice().len() > 255 {
+        return Err(Fail::from("many arcs"));
+    }
+    let mut text = Vec::new(alloc);
+    leaf.write(&mut text)?;
+    Ok(text)
+}
+
+fn push(texts: &mut Texts, text: &[u8]) -> Result<(), Fail>
+    ensures { OnOk result (texts.new ≡ texts.old ++ text.now ∷ []) }
+{
+    if !texts.fits(text) {
+        return Err(Fail::from("no room"));
+    }
+    texts.push(text)?;
+    Ok(())
+}
+
+// The texts of two leaves, and one of no octets between them.
+fn texts_around(alloc: Global, first: &NodeLeaf, last: &NodeLeaf) -> Result<Texts, Fail>
+    ensures { IfOk result (λ texts. texts ≡
+        node_leaf_text first.now ∷ [] ∷ node_leaf_text last.now ∷ []) }
+{
+    let first = text_of(alloc, first)?;
+    let last = text_of(alloc, last)?;
+    let mut texts = Texts::new(alloc);
+    push(&mut texts, &first)?;
+    push(&mut texts, &[])?;
+    push(&mut texts, &last)?;
+    Ok(texts)
+}
+
+// Texts for two leaves at the indices 0 and 2.
+fn texts_for(alloc: Global, places: &Places, leaves: &NodeLeaves) -> Result<Texts, Fail>
+    ensures within { IfOk result (λ texts. All (λ p. p < length texts) places.now) }
+    ensures spelled { IfOk result (λ texts. map (text_at texts) places.now ≡
+        map node_leaf_text leaves.now) }
+{
+    let places = places.as_slice();
+    let leaves = leaves.as_slice();
+    if places.len() != 2 || places[0] != 0 || places[1] != 2 || leaves.len() != 2 {
+        return Err(Fail::from("other leaves"));
+    }
+    texts_around(alloc, &leaves[0], &leaves[1])
+}
+
+// The octets of an answer with two leaves, at the indices 0 and 2, from their texts.
+fn written(alloc: Global, answer: Answer) -> Result<Vec<u8>, Fail>
+    requires { reply.Fits (reply_of answer) }
+{
+    let texts = texts_for(alloc, &answer.node_places, &answer.items.nodes)?;
+    let Answer {
+        header,
+        signature,
+        items,
+        node_places,
+        pair_places,
+        node_cover,
+        pair_cover,
+    } = answer;
+    let Items {
+        route,
+        nodes: _,
+        pairs,
+    } = items;
+    let placed = PlacedAnswer {
+        header,
+        signature,
+        route,
+        node_places,
+        pair_places,
+        pairs,
+        node_cover,
+        pair_cover,
+    };
+    let octets = placed.write(alloc, &texts)?;
+    Ok(octets)
+}
+
+// The octets of a reply with two leaves, at the places 0 and 2, from their texts.
+fn written_near(alloc: Global, near: NearReply) -> Result<Vec<u8>, Fail>
+    requires { near_reply.Fits near }
+{
+    let texts = texts_for(alloc, &near.places, &near.nodes)?;
+    let NearReply {
+        header,
+        signature,
+        places,
+        nodes: _,
+        cover,
+    } = near;
+    let placed = PlacedNear {
+        header,
+        signature,
+        places,
+        cover,
+    };
+    let octets = placed.write(alloc, &texts)?;
+    Ok(octets)
+}
+
+#[test]
+fn an_answer_is_written_from_texts(rt: HostRuntime) -> Result<(), Fail> {
+    range_laws();
+    // The second leaf stands at the index 2.
+    let octets = changed(rt.alloc(), &REPLY, 163, 2)?;
+    if octets.len() > 10_000 {
+        return Err(Fail::from("many octets"));
+    }
+    let reply = Reply::read(rt.alloc(), &octets)?;
+    let Reply::Answer(answer) = reply else {
+        return Err(Fail::from("another kind"));
+    };
+    assert_octets(&rt, &written(rt.alloc(), answer)?, &octets);
+    Ok(())
+}
+
+#[test]
+fn an_answer_without_a_route_is_written_from_texts(rt: HostRuntime) -> Result<(), Fail> {
+    range_laws();
+    let mut octets = vec![in rt.alloc(); 3]?;
+    octets.extend_from_slice(&REPLY[1..110])?;
+    octets.extend_from_slice(&REPLY[122..])?;
+    let octets = changed(rt.alloc(), &octets, 151, 2)?;
+    if octets.len() > 10_000 {
+        return Err(Fail::from("many octets"));
+    }
+    let reply = Reply::read(rt.alloc(), &octets)?;
+    let Reply::Apart(answer) = reply else {
+        return Err(Fail::from("another kind"));
+    };
+    assert_octets(&rt, &written(rt.alloc(), answer)?, &octets);
+    Ok(())
+}
+
+#[test]
+fn a_reply_within_a_radius_is_written_from_texts(rt: HostRuntime) -> Result<(), Fail> {
+    // The header, the signature, the node items and the node cover of the answer, behind the name.
+    let mut octets = b"RPN1".to_vec(rt.alloc())?;
+    octets.extend_from_slice(&REPLY[1..110])?;
+    octets.extend_from_slice(&REPLY[122..186])?;
+    octets.extend_from_slice(&REPLY[211..247])?;
+    let octets = changed(rt.alloc(), &octets, 154, 2)?;
+    if octets.len() > 10_000 {
+        return Err(Fail::from("many octets"));
+    }
+    let near = NearReply::read(rt.alloc(), &octets)?;
+    assert_octets(&rt, &written_near(rt.alloc(), near)?, &octets);
+    Ok(())
+}

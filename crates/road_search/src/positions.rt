@@ -1,0 +1,59 @@
+//! A shortest route, found from position to position.
+
+ghost use Rattle.std.specs.Prelude.{◌≡◌, IfOk, IfSome, map as every};
+ghost use Rattle.std.specs.Option.{option_map};
+ghost use Rattle.road_map.specs.Walks.{Knows, distance};
+ghost use Rattle.road_map.specs.Routes.{IsShortest};
+ghost use Rattle.road_search.specs.Nets.{id_at};
+
+use crate::label_setting::search_to;
+use crate::labels::way_back;
+use crate::naming::id_at;
+use crate::numbered::Numbered;
+use crate::path::Path;
+use octet_text::NoMemory;
+use road_map::{Ids, Map, map_laws};
+use std::alloc::{AllocError, Global};
+
+/// The ids of the nodes at positions.
+fn ids_at(alloc: Global, map: &Map, positions: &[u32]) -> Result<Vec<u32>, AllocError>
+    ensures { IfOk result (λ ids. ids.items ≡ every (id_at map.now.order) positions.now) }
+{
+    let mut ids = Vec::with_capacity(alloc, positions.len())?;
+    for position in positions {
+        ids.push(id_at(map, *position))?;
+    }
+    Ok(ids)
+}
+
+/// A shortest route between two nodes, if a walk joins them. Only the nodes of the route are named by their ids.
+pub fn shortest_by_position(
+    alloc: Global,
+    map: &Map,
+    from: u32,
+    to: u32,
+) -> Result<Option<Path>, NoMemory>
+    requires { Knows map.now.parts from }
+    ensures route { IfOk result (λ answer.
+        IfSome answer (λ path. IsShortest map.now.parts from to path.ids path.length)) }
+    ensures length { IfOk result (λ answer.
+        option_map (λ path. path.length) answer ≡ distance map.now.parts from to) }
+{
+    map_laws();
+    let _parts = map.parts();
+    let start = map.place(from);
+    let Some(end) = map.position(to) else {
+        return Ok(None);
+    };
+    let mut marks = Numbered::new(alloc);
+    let net = map.net();
+    let _bound = search_to(alloc, net, &mut marks, start, end, u64::MAX)?;
+    let Some(mark) = marks.at(end as usize) else {
+        return Ok(None);
+    };
+    let way = way_back(&marks, alloc, end, mark.label.hops)?;
+    Ok(Some(Path {
+        ids: Ids::from_vec(ids_at(alloc, map, way.as_slice())?),
+        length: mark.label.length,
+    }))
+}

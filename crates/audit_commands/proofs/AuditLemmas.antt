@@ -115,12 +115,12 @@ module _ {D : Type 0} (g : Ghosts D) (old mid new : D) (desk : Desk) (seen : (c 
         behind f.0.own o t (inr (f.0.taken, f.0.answer, f.0.accepts, record { made = Err (build.Map e); makes = f.1.0; follows = tells }))
     by_answer (Err (audit.Install (install.Build (build.Plan e)))) o t f tells =
         behind f.0.own o t (inr (f.0.taken, f.0.answer, f.0.accepts, record { made = Err (build.Plan e); makes = f.1.0; follows = tells }))
-    by_answer (Err (audit.Install (install.Build build.Memory))) o t f tells = absurd tells
+    by_answer (Err (audit.Install (install.Build (build.Memory _)))) o t f tells = absurd tells
     by_answer (Err (audit.Install install.HeaderWrong)) o t f tells =
         behind f.0.own o t (inr (f.0.taken, f.0.answer, f.0.accepts, record { made = Ok f.1.0; makes = f.1.1; follows = inr (f.1.2, tells.0, tells.1) }))
-    by_answer (Err (audit.Install install.Memory)) o t f tells = absurd tells
+    by_answer (Err (audit.Install (install.Memory _))) o t f tells = absurd tells
     by_answer (Err (audit.Desk e)) o t f tells = absurd tells
-    by_answer (Err audit.Memory) o t f tells = absurd tells
+    by_answer (Err (audit.Memory _)) o t f tells = absurd tells
     by_answer (Ok (Forged own_key text signature)) o t f tells =
         behind_installed f.installed o t (inl (tells.0, forgery own_key text signature, forges_read key links (header_text (kind.header f.installed.reply.answer)) (kind.signature f.installed.reply.answer) (forgery own_key text signature) f.forges, tells.1))
     by_answer (Err audit.OtherPublication) o t f tells = behind_installed f.installed o t (inr (signed_read links _ f.signed, inl (tells.0, f.other, tells.1)))
@@ -165,13 +165,13 @@ module _ {D : Type 0} (g : Ghosts D) (old mid new : D) (desk : Desk) (seen : (c 
     rests_on m (Ok (Forged own_key text signature)) (Err OtherPublication) t f tells = absurd (cc)
     rests_on m (Err (audit.Refused e)) (Err OtherPublication) t f tells = absurd (cc)
     rests_on m (Err audit.OtherKey) (Err OtherPublication) t f tells = absurd (cc)
-    rests_on m (Err audit.Memory) (Err OtherPublication) t f tells = absurd tells
+    rests_on m (Err (audit.Memory _)) (Err OtherPublication) t f tells = absurd tells
     rests_on m (Err (audit.Desk e)) (Err OtherPublication) t f tells = absurd tells
     rests_on m (Err (audit.Install (install.Build (build.Map e)))) (Err OtherPublication) t f tells = absurd (cc)
     rests_on m (Err (audit.Install (install.Build (build.Plan e)))) (Err OtherPublication) t f tells = absurd (cc)
-    rests_on m (Err (audit.Install (install.Build build.Memory))) (Err OtherPublication) t f tells = absurd tells
+    rests_on m (Err (audit.Install (install.Build (build.Memory _)))) (Err OtherPublication) t f tells = absurd tells
     rests_on m (Err (audit.Install install.HeaderWrong)) (Err OtherPublication) t f tells = absurd (cc)
-    rests_on m (Err (audit.Install install.Memory)) (Err OtherPublication) t f tells = absurd tells
+    rests_on m (Err (audit.Install (install.Memory _))) (Err OtherPublication) t f tells = absurd tells
     rests_on m r (Err e) t f tells = tt
     rests_on m (Ok Right) (Ok Done) t f tells = all_signed m f.0.installed f.0.signed
     rests_on m (Ok (Collision left right)) (Ok Done) t f tells = absurd (cc)
@@ -195,20 +195,20 @@ module _ {D : Type 0} (g : Ghosts D) (old mid new : D) (desk : Desk) (seen : (c 
     rests_on m (Err audit.OtherKey) (Ok Evidence) t f tells = absurd (cc)
     rests_on m (Err audit.OtherPublication) (Ok Done) t f tells = absurd (cc)
     rests_on m (Err audit.OtherPublication) (Ok Evidence) t f tells = absurd (cc)
-    rests_on m (Err audit.Memory) (Ok Done) t f tells = absurd tells
-    rests_on m (Err audit.Memory) (Ok Evidence) t f tells = absurd tells
+    rests_on m (Err (audit.Memory _)) (Ok Done) t f tells = absurd tells
+    rests_on m (Err (audit.Memory _)) (Ok Evidence) t f tells = absurd tells
     rests_on m (Err (audit.Desk e)) (Ok Done) t f tells = absurd tells
     rests_on m (Err (audit.Desk e)) (Ok Evidence) t f tells = absurd tells
     rests_on m (Err (audit.Install (install.Build (build.Map e)))) (Ok Done) t f tells = absurd (cc)
     rests_on m (Err (audit.Install (install.Build (build.Map e)))) (Ok Evidence) t f tells = absurd (cc)
     rests_on m (Err (audit.Install (install.Build (build.Plan e)))) (Ok Done) t f tells = absurd (cc)
     rests_on m (Err (audit.Install (install.Build (build.Plan e)))) (Ok Evidence) t f tells = absurd (cc)
-    rests_on m (Err (audit.Install (install.Build build.Memory))) (Ok Done) t f tells = absurd tells
-    rests_on m (Err (audit.Install (install.Build build.Memory))) (Ok Evidence) t f tells = absurd tells
+    rests_on m (Err (audit.Install (install.Build (build.Memory _)))) (Ok Done) t f tells = absurd tells
+    rests_on m (Err (audit.Install (install.Build (build.Memory _)))) (Ok Evidence) t f tells = absurd tells
     rests_on m (Err (audit.Install install.HeaderWrong)) (Ok Done) t f tells = absurd (cc)
     rests_on m (Err (audit.Install install.HeaderWrong)) (Ok Evidence) t f tells = absurd (cc)
-    rests_on m (Err (audit.Install install.Memory)) (Ok Done) t f tells = absurd tells
-    rests_on m (Err (audit.Install install.Memory)) (Ok Evidence) t f tells = absurd tells
+    rests_on m (Err (audit.Install (install.Memory _))) (Ok Done) t f tells = absurd tells
+    rests_on m (Err (audit.Install (install.Memory _))) (Ok Evidence) t f tells = absurd tells
 
     -- and a fault
     pub rests_otherwise : AtEachMoment g mid new Stays → (r : Result Finding (AuditError E)) (f : Fault) → IsFound r → WhyNot (LookFailed r) (Tells line r) f → RestsOn g new (IsBrought kind octets) (ClashIn kind p octets) key links (Err f) []

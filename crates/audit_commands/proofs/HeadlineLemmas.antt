@@ -189,7 +189,7 @@ module _ {Q A X E : Type 0} (kind : ReplyKind Q A X E) (line : E → List ℕ) (
             signed = subst (look_everywhere g disk).Signed (brings w.octets w.rests.header w.rests.signature octets w.rests.brought).0 w.rests.signed.sealed;
           }
   finds g disk old new (Err MirrorLost) lost a w = absurd (lost refl)
-  finds g disk old new (Err Memory) lost a w = tt
+  finds g disk old new (Err (Memory _)) lost a w = tt
   finds g disk old new (Err Library) lost a w = tt
   finds g disk old new (Err Sink) lost a w = tt
   finds g disk old new (Err Disk) lost a w = tt

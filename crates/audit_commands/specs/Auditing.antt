@@ -112,7 +112,7 @@ abbrev pub Tells : {E : Type 0} → (E → List ℕ) → Result Finding (AuditEr
 Tells line (Ok finding) outcome text = TellsFinding finding outcome text
 Tells line (Err (audit.Refused e)) outcome text = (outcome ≡ Ok Refused) × (text ≡ line e)
 Tells line (Err audit.OtherKey) outcome text = (outcome ≡ Err OtherKey) × (text ≡ [])
-Tells line (Err (audit.Install (install.Build build.Memory))) outcome text = ⊥
+Tells line (Err (audit.Install (install.Build (build.Memory _)))) outcome text = ⊥
 Tells line (Err (audit.Install (install.Build e))) outcome text =
     (outcome ≡ Err (fault_of_build e)) × (text ≡ [])
 Tells line (Err (audit.Install install.HeaderWrong)) outcome text = (outcome ≡ Err HeaderWrong) ×

@@ -168,7 +168,7 @@ FindsTruth g disk Brings Hashed key links p accepted Truth old new (Ok Evidence)
     Appends old new text
 FindsTruth g disk Brings Hashed key links p accepted Truth old new
     (Err OtherPublication) = IsOthers g disk p accepted
-FindsTruth g disk Brings Hashed key links p accepted Truth old new (Err Memory) = Unit {0}
+FindsTruth g disk Brings Hashed key links p accepted Truth old new (Err (Memory _)) = Unit {0}
 FindsTruth g disk Brings Hashed key links p accepted Truth old new (Err Library) = Unit {0}
 FindsTruth g disk Brings Hashed key links p accepted Truth old new (Err Sink) = Unit {0}
 FindsTruth g disk Brings Hashed key links p accepted Truth old new (Err Disk) = Unit {0}

@@ -4,9 +4,9 @@ ghost use Rattle.std.specs.Prelude.{◌≡◌, IfOk, string_bytes};
 ghost use Rattle.audit_commands.specs.ReduceLine.{chain_line, reduced_line, signed_line};
 
 use lms_reduce::Reduced;
-use octet_text::{Digest32, NoMemory};
+use octet_text::{Digest32, NoMemory, hex_of, print};
 use road_line::line_of_collision;
-use std::alloc::{AllocError, Global};
+use std::alloc::Global;
 
 /// The line of a collision, or of a chain's value.
 pub fn line_of_reduced(alloc: Global, reduced: &Reduced) -> Result<Vec<u8>, NoMemory>
@@ -29,10 +29,8 @@ pub fn line_of_reduced(alloc: Global, reduced: &Reduced) -> Result<Vec<u8>, NoMe
 pub fn line_of_signed(alloc: Global, slot: u32) -> Result<Vec<u8>, NoMemory>
     ensures { IfOk result (λ line. line.items ≡ signed_line slot) }
 {
-    match signed(alloc, slot) {
-        Ok(text) => Ok(text.into_bytes()),
-        Err(_) => Err(NoMemory),
-    }
+    let text = signed(alloc, slot)?;
+    Ok(text.into_bytes())
 }
 
 /// The line of a value of a chain.
@@ -45,31 +43,26 @@ fn line_of_chain(
 ) -> Result<Vec<u8>, NoMemory>
     ensures { IfOk result (λ line. line.items ≡ chain_line slot at step value.now) }
 {
-    match chain(alloc, slot, at, step, value) {
-        Ok(text) => Ok(text.into_bytes()),
-        Err(_) => Err(NoMemory),
-    }
+    let text = chain(alloc, slot, at, step, value)?;
+    Ok(text.into_bytes())
 }
 
-fn signed(alloc: Global, slot: u32) -> Result<String, AllocError>
+fn signed(alloc: Global, slot: u32) -> Result<String, NoMemory>
     ensures { IfOk result (λ text. string_bytes text ≡ signed_line slot) }
 {
     let mut text = String::new(alloc);
-    writeln!(text, "signed {slot}")?;
+    print(&mut text, format_args!("signed {slot}\n"))?;
     Ok(text)
 }
 
-fn chain(
-    alloc: Global,
-    slot: u32,
-    at: u16,
-    step: u8,
-    value: &Digest32,
-) -> Result<String, AllocError>
+fn chain(alloc: Global, slot: u32, at: u16, step: u8, value: &Digest32) -> Result<String, NoMemory>
     ensures { IfOk result (λ text. string_bytes text ≡ chain_line slot at step value.now) }
 {
-    let digits = hex::encode(alloc, value)?;
+    let digits = hex_of(alloc, value)?;
     let mut text = String::new(alloc);
-    writeln!(text, "chain {slot} {at} {step} {digits}")?;
+    print(
+        &mut text,
+        format_args!("chain {slot} {at} {step} {digits}\n"),
+    )?;
     Ok(text)
 }

@@ -1,6 +1,7 @@
 //! The command `reduce`.
 
 ghost use Rattle.std.specs.Prelude.{◌≡◌, ◌≤◌, ◌⊎◌, true, length, take, IfOk, IfErr, IfSome, ◌≢◌, Err, ◌∷◌, []};
+ghost use Rattle.octet_text.specs.Want.{no_memory};
 ghost use Rattle.std.specs.Option.{option_copied, option_map};
 ghost use Rattle.road_io.specs.Causes.{Rose};
 ghost use Rattle.road_io.specs.Disk.{Stays};
@@ -102,7 +103,7 @@ fn find_in<D: Disk>(
         TellsSlot D.Disk disk.new area (key_of desk.old area) text.now sig.now told.end
         told.text.items) }
     ensures verdict { IfOk result (λ told. MayEnd TellsNone told.end) }
-    ensures refused { IfErr result (λ fault. (fault ≡ Fault.Memory) ⊎ ((fault ≡ Fault.Disk) ×
+    ensures refused { IfErr result (λ fault. (fault ≡ Fault.Memory no_memory) ⊎ ((fault ≡ Fault.Disk) ×
         Rose (D.faults disk.old) (D.faults disk.new))) }
     ensures faults { D.faults disk.old ≤ D.faults disk.new }
     ensures unfaulted { result ≢ Err Fault.Disk → D.faults disk.new ≡ D.faults disk.old }
@@ -114,7 +115,7 @@ fn find_in<D: Disk>(
         Ok(found) => match desk.area(area) {
             Ok(key) => match tell(alloc, key, front(found, &room), text, sig) {
                 Ok(told) => Ok(told),
-                Err(NoMemory) => Err(Fault::Memory),
+                Err(none) => Err(Fault::Memory(none)),
             },
             Err(AreaError::Closed) => unreachable!(),
         },
@@ -159,6 +160,6 @@ fn tell(
             text: line_of_refused(alloc, CheckError::BadSignature(why))?,
             end: Ok(Conclusion::Refused),
         }),
-        Err(ReduceError::Memory) => Err(NoMemory),
+        Err(ReduceError::Memory(none)) => Err(none),
     }
 }

@@ -58,18 +58,20 @@ pub(crate) fn tell<T: Telling>(
     match answer {
         Ok(finding) => match line_of(alloc, &finding) {
             Ok(told) => Ok(told),
-            Err(NoMemory) => Err(Fault::Memory),
+            Err(none) => Err(Fault::Memory(none)),
         },
         Err(AuditError::Refused(why)) => match refusal::<T>(alloc, why) {
             Ok(told) => Ok(told),
-            Err(NoMemory) => Err(Fault::Memory),
+            Err(none) => Err(Fault::Memory(none)),
         },
         Err(AuditError::OtherKey) => Err(Fault::OtherKey),
         Err(AuditError::Install(InstallError::Build(fault))) => Err(not_built(fault)),
         Err(AuditError::Install(InstallError::HeaderWrong)) => Err(Fault::HeaderWrong),
         Err(AuditError::OtherPublication) => Err(Fault::OtherPublication),
         Err(AuditError::Desk(_)) => Err(Fault::Disk),
-        Err(AuditError::Memory | AuditError::Install(InstallError::Memory)) => Err(Fault::Memory),
+        Err(AuditError::Memory(none) | AuditError::Install(InstallError::Memory(none))) => Err(
+            Fault::Memory(none),
+        ),
     }
 }
 

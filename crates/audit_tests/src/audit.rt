@@ -11,7 +11,7 @@ use crate::owners::{
 use book_model::Query;
 use key_desk::Desk;
 use lms_tree::Link;
-use octet_text::{NoMemory, Toy};
+use octet_text::Toy;
 use proof_judge::Refusal;
 use road_io::Disk;
 use route_audit::{AuditError, Finding, audit};
@@ -27,20 +27,17 @@ const ASKED: Query = Query { from: 1, to: 3 };
 type Found = Result<Finding, AuditError<CheckError>>;
 
 /// The octets of the reply over what is held.
-fn answer(alloc: Global, held: &Held<Toy>) -> Result<Vec<u8>, NoMemory> {
+fn answer(alloc: Global, held: &Held<Toy>) -> Result<Vec<u8>, Fail> {
     if held.signature().len() > 1452 {
-        return Err(NoMemory);
+        return Err(Fail::from("a long signature"));
     }
-    held.answer(alloc, ASKED)
+    Ok(held.answer(alloc, ASKED)?)
 }
 
 /// The octets of the reply over the publication of a version with this signature.
 pub(crate) fn reply(alloc: Global, version: u64, signature: Vec<u8>) -> Result<Vec<u8>, Fail> {
     let held = installed(alloc, version, signature)?;
-    match answer(alloc, &held) {
-        Ok(octets) => Ok(octets),
-        Err(error) => Err(Fail::from(error)),
-    }
+    answer(alloc, &held)
 }
 
 /// The same, signed by the desk.
@@ -93,7 +90,7 @@ fn audited<D: Disk>(
         version,
     } = case;
     if octets.len() > 10_000 || chain.len() > 7 {
-        return Ok(Err(AuditError::Memory));
+        return Err(Fail::from("many octets or links"));
     }
     let publication = publication(alloc, version, Vec::new(alloc))?;
     Ok(audit::<Toy, D>(alloc, &key, chain, octets, ASKED, publication, desk, disk))

@@ -7,7 +7,7 @@ use crate::asserts::{assert_octets, assert_same};
 use crate::octets::spliced;
 use crate::owners::{SECOND, SECOND_MOVED, installed, owner, publication, sealed};
 use key_desk::Desk;
-use near_proof::{AuditError, Finding, NearError, NearQuery, NearRefusal, answer_near, audit_near};
+use near_proof::{AuditError, Finding, NearError, NearQuery, answer_near, audit_near};
 use octet_text::Toy;
 use road_io::Disk;
 use route_server::Held;
@@ -21,20 +21,17 @@ const ASKED: NearQuery = NearQuery { from: 1, radius: 4 };
 type Found = Result<Finding, AuditError<NearError>>;
 
 /// The octets of the reply over what is held.
-fn answer(alloc: Global, held: &Held<Toy>) -> Result<Vec<u8>, NearRefusal> {
+fn answer(alloc: Global, held: &Held<Toy>) -> Result<Vec<u8>, Fail> {
     if held.signature().len() > 1452 {
-        return Err(NearRefusal::Memory);
+        return Err(Fail::from("a long signature"));
     }
-    answer_near(alloc, held, ASKED)
+    Ok(answer_near(alloc, held, ASKED)?)
 }
 
 /// The octets of the reply over the publication of version 3 with this signature.
 fn reply(alloc: Global, signature: Vec<u8>) -> Result<Vec<u8>, Fail> {
     let held = installed(alloc, 3, signature)?;
-    match answer(alloc, &held) {
-        Ok(octets) => Ok(octets),
-        Err(error) => Err(Fail::from(error)),
-    }
+    answer(alloc, &held)
 }
 
 /// The same, signed by the desk.
@@ -59,7 +56,7 @@ fn audited<D: Disk>(
     ensures { Fits D.Disk desk.new disk.new }
 {
     if octets.len() > 10_000 {
-        return Ok(Err(AuditError::Memory));
+        return Err(Fail::from("many octets"));
     }
     let public = desk.public();
     let publication = publication(alloc, version, Vec::new(alloc))?;

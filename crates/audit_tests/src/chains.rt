@@ -27,11 +27,16 @@ pub(crate) fn link_to(alloc: Global, secret: u8, next: [u8; 56]) -> Result<([u8;
 }
 
 // Why octets are refused under a key and a chain, where they are.
-fn refusal(alloc: Global, public: &[u8], chain: &[Link], octets: &[u8]) -> Option<CheckError> {
+fn refusal(
+    alloc: Global,
+    public: &[u8],
+    chain: &[Link],
+    octets: &[u8],
+) -> Result<Option<CheckError>, Fail> {
     if octets.len() > 10_000 || chain.len() > 7 {
-        return Some(CheckError::Memory);
+        return Err(Fail::from("many octets or links"));
     }
-    check::<Sha>(alloc, public, chain, octets, ASKED, 3).err()
+    Ok(check::<Sha>(alloc, public, chain, octets, ASKED, 3).err())
 }
 
 // Asserts how octets are refused under a key and a chain, or that they are accepted.
@@ -42,8 +47,9 @@ fn assert_ends(
     chain: &[Link],
     octets: &[u8],
     why: Option<CheckError>,
-) {
-    assert_same(rt, &refusal(alloc, public, chain, octets), &why);
+) -> Result<(), Fail> {
+    assert_same(rt, &refusal(alloc, public, chain, octets)?, &why);
+    Ok(())
 }
 
 #[test]
@@ -52,9 +58,8 @@ fn a_later_key_is_accepted_along_its_chain(rt: HostRuntime) -> Result<(), Fail> 
     let reply = octets_of(alloc, REPLY)?;
     let (first, link) = link_to(alloc, 1, PUBLIC)?;
     let no_match = Some(CheckError::BadSignature(SealError::NoMatch));
-    assert_ends(&rt, alloc, &first, &[], &reply, no_match);
-    assert_ends(&rt, alloc, &first, &[link], &reply, None);
-    Ok(())
+    assert_ends(&rt, alloc, &first, &[], &reply, no_match)?;
+    assert_ends(&rt, alloc, &first, &[link], &reply, None)
 }
 
 #[test]
@@ -63,9 +68,8 @@ fn the_first_key_is_accepted_both_ways(rt: HostRuntime) -> Result<(), Fail> {
     let reply = octets_of(alloc, REPLY)?;
     let (public, link) = link_to(alloc, 0, [7; 56])?;
     assert_octets(&rt, &public, &PUBLIC);
-    assert_ends(&rt, alloc, &public, &[], &reply, None);
-    assert_ends(&rt, alloc, &public, &[link], &reply, None);
-    Ok(())
+    assert_ends(&rt, alloc, &public, &[], &reply, None)?;
+    assert_ends(&rt, alloc, &public, &[link], &reply, None)
 }
 
 // The key that leads to the public key, and a chain from it to that key and back.
@@ -82,9 +86,8 @@ fn the_first_bad_link_is_named(rt: HostRuntime) -> Result<(), Fail> {
     let (first, mut chain) = there_and_back(alloc)?;
     chain[1].key[8] ^= 1;
     let second = Some(CheckError::BadChain(1, SealError::NoMatch));
-    assert_ends(&rt, alloc, &first, &chain, &reply, second);
+    assert_ends(&rt, alloc, &first, &chain, &reply, second)?;
     chain[0].key[8] ^= 1;
     let both = Some(CheckError::BadChain(0, SealError::NoMatch));
-    assert_ends(&rt, alloc, &first, &chain, &reply, both);
-    Ok(())
+    assert_ends(&rt, alloc, &first, &chain, &reply, both)
 }

@@ -21,6 +21,9 @@ const ASKED: Query = Query { from: 1, to: 3 };
 
 const LONG: Query = Query { from: 3, to: 5 };
 
+// What a client answers of octets.
+type Answered = Result<Checked, CheckError>;
+
 // The check of octets under the first so many octets of the public key.
 fn checked<H: Hasher>(
     alloc: Global,
@@ -28,12 +31,12 @@ fn checked<H: Hasher>(
     octets: &[u8],
     query: Query,
     least: u64,
-) -> Result<Checked, CheckError> {
+) -> Result<Answered, Fail> {
     let public = PUBLIC.get(..key).unwrap_or(&[]);
     if octets.len() > 10_000 {
-        return Err(CheckError::Memory);
+        return Err(Fail::from("many octets"));
     }
-    check::<H>(alloc, public, &[], octets, query, least)
+    Ok(check::<H>(alloc, public, &[], octets, query, least))
 }
 
 // The version and the length that a client takes from a reply: the example of the crate `route_client`.
@@ -78,14 +81,20 @@ fn assert_no_answer(
     query: Query,
     least: u64,
     why: CheckError,
-) {
-    let refused = checked::<Sha>(alloc, 56, octets, query, least).err();
+) -> Result<(), Fail> {
+    let refused = checked::<Sha>(alloc, 56, octets, query, least)?.err();
     assert_same(rt, &refused, &Some(why));
+    Ok(())
 }
 
 // The same of any version.
-fn assert_refused(rt: &impl Abort, alloc: Global, octets: &[u8], why: CheckError) {
-    assert_no_answer(rt, alloc, octets, ASKED, 0, why);
+fn assert_refused(
+    rt: &impl Abort,
+    alloc: Global,
+    octets: &[u8],
+    why: CheckError,
+) -> Result<(), Fail> {
+    assert_no_answer(rt, alloc, octets, ASKED, 0, why)
 }
 
 // Asserts that a reply with other octets from an offset up to another is refused for this reason.
@@ -99,8 +108,7 @@ fn assert_found(
     why: CheckError,
 ) -> Result<(), Fail> {
     let octets = spliced(alloc, reply, from, to, others)?;
-    assert_refused(rt, alloc, &octets, why);
-    Ok(())
+    assert_refused(rt, alloc, &octets, why)
 }
 
 // Asserts that the reply in hex is accepted as an answer to a query, with this length and route.
@@ -113,7 +121,7 @@ fn assert_accepted(
     route: &[u32],
 ) -> Result<(), Fail> {
     let reply = octets_of(alloc, text)?;
-    let accepted = route_in(checked::<Sha>(alloc, 56, &reply, query, 1)?)?;
+    let accepted = route_in(checked::<Sha>(alloc, 56, &reply, query, 1)??)?;
     assert_same(rt, &accepted.length, &length);
     assert_same(rt, &accepted.route.as_slice(), &route);
     Ok(())
@@ -124,7 +132,7 @@ fn a_signed_answer_is_accepted(rt: HostRuntime) -> Result<(), Fail> {
     let alloc = rt.alloc();
     assert_accepted(&rt, alloc, REPLY, ASKED, 9, &[1, 2, 3])?;
     let reply = octets_of(alloc, REPLY)?;
-    let accepted = route_in(checked::<Sha>(alloc, 56, &reply, ASKED, 3)?)?;
+    let accepted = route_in(checked::<Sha>(alloc, 56, &reply, ASKED, 3)??)?;
     assert_same(&rt, &accepted.version, &3);
     let header = reply.get(1..105).unwrap_or(&[]);
     assert_octets(&rt, &accepted.header.write(), header);
@@ -135,25 +143,24 @@ fn a_signed_answer_is_accepted(rt: HostRuntime) -> Result<(), Fail> {
 fn the_first_failing_test_is_named(rt: HostRuntime) -> Result<(), Fail> {
     let alloc = rt.alloc();
     let reply = octets_of(alloc, REPLY)?;
-    assert_no_answer(&rt, alloc, &reply, ASKED, 4, CheckError::Stale(3));
-    assert_refused(&rt, alloc, &[], CheckError::Malformed(0));
-    assert_refused(&rt, alloc, &[2], CheckError::NotAnswer(2));
-    assert_refused(&rt, alloc, &[1, 0], CheckError::Malformed(1));
+    assert_no_answer(&rt, alloc, &reply, ASKED, 4, CheckError::Stale(3))?;
+    assert_refused(&rt, alloc, &[], CheckError::Malformed(0))?;
+    assert_refused(&rt, alloc, &[2], CheckError::NotAnswer(2))?;
+    assert_refused(&rt, alloc, &[1, 0], CheckError::Malformed(1))?;
     let cut = reply.get(..1610).unwrap_or(&[]);
-    assert_refused(&rt, alloc, cut, CheckError::Malformed(1607));
+    assert_refused(&rt, alloc, cut, CheckError::Malformed(1607))?;
     let other_end = Query { from: 1, to: 2 };
     let broken = CheckError::Judged(Refusal::BadRoute(3));
-    assert_no_answer(&rt, alloc, &reply, other_end, 0, broken);
-    Ok(())
+    assert_no_answer(&rt, alloc, &reply, other_end, 0, broken)
 }
 
 #[test]
 fn another_key_and_another_hash_are_named(rt: HostRuntime) -> Result<(), Fail> {
     let reply = octets_of(rt.alloc(), REPLY)?;
-    let other_key = checked::<Sha>(rt.alloc(), 55, &reply, ASKED, 0).err();
+    let other_key = checked::<Sha>(rt.alloc(), 55, &reply, ASKED, 0)?.err();
     let bad_key = CheckError::BadSignature(SealError::BadKey);
     assert_same(&rt, &other_key, &Some(bad_key));
-    let other_hash = checked::<Toy>(rt.alloc(), 56, &reply, ASKED, 0).err();
+    let other_hash = checked::<Toy>(rt.alloc(), 56, &reply, ASKED, 0)?.err();
     let differs = CheckError::BadCover(1, CoverFault::Differs);
     assert_same(&rt, &other_hash, &Some(differs));
     Ok(())
@@ -287,8 +294,7 @@ fn assert_judged(
     let reply = octets_of(alloc, text)?;
     let others = octets_of(alloc, others)?;
     let octets = spliced(alloc, &reply, 1399, to, &others)?;
-    assert_no_answer(rt, alloc, &octets, query, 0, CheckError::Judged(refusal));
-    Ok(())
+    assert_no_answer(rt, alloc, &octets, query, 0, CheckError::Judged(refusal))
 }
 
 #[test]
@@ -321,8 +327,7 @@ fn a_route_to_its_own_start_is_shorter(rt: HostRuntime) -> Result<(), Fail> {
     let to_itself = spliced(alloc, &full, 1411, 1415, &[0, 0, 0, 1])?;
     let back = Query { from: 1, to: 1 };
     let shorter = CheckError::Judged(Refusal::Shorter(0));
-    assert_no_answer(&rt, alloc, &to_itself, back, 0, shorter);
-    Ok(())
+    assert_no_answer(&rt, alloc, &to_itself, back, 0, shorter)
 }
 
 #[test]
@@ -342,11 +347,15 @@ fn apart_reply(alloc: Global, signed: &str, rest: &str) -> Result<Vec<u8>, Fail>
     spliced(alloc, &whole, 0, 1, &[3])
 }
 
-// What is accepted of it, without what a header has: its version, where there is no route.
-fn apart_version(alloc: Global, octets: &[u8], query: Query) -> Result<Option<u64>, CheckError> {
+// What a client says of an answer without a route, without what a header has: its version.
+type Said = Result<Option<u64>, CheckError>;
+
+// What is said of such a reply to a query, and none where it has a route.
+fn apart_version(alloc: Global, octets: &[u8], query: Query) -> Result<Said, Fail> {
     match checked::<Sha>(alloc, 56, octets, query, 3)? {
-        Checked::Route(_) => Ok(None),
-        Checked::Apart { version, .. } => Ok(Some(version)),
+        Ok(Checked::Route(_)) => Ok(Ok(None)),
+        Ok(Checked::Apart { version, .. }) => Ok(Ok(Some(version))),
+        Err(why) => Ok(Err(why)),
     }
 }
 
@@ -356,15 +365,15 @@ fn assert_apart(
     alloc: Global,
     (signed, rest): (&str, &str),
     (from, to): (u32, u32),
-    wanted: Result<Option<u64>, CheckError>,
+    wanted: Said,
 ) -> Result<(), Fail> {
     let octets = apart_reply(alloc, signed, rest)?;
-    let said = apart_version(alloc, &octets, Query { from, to });
+    let said = apart_version(alloc, &octets, Query { from, to })?;
     assert_same(rt, &said, &wanted);
     Ok(())
 }
 
-fn refused(refusal: Refusal) -> Result<Option<u64>, CheckError> {
+fn refused(refusal: Refusal) -> Said {
     Err(CheckError::Judged(refusal))
 }
 
@@ -414,7 +423,7 @@ fn a_left_out_pair_of_borders_of_two_sides_is_found(rt: HostRuntime) -> Result<(
     let alloc = rt.alloc();
     let whole = octets_of(alloc, SIX_APART)?;
     let ends = Query { from: 1, to: 5 };
-    assert_same(&rt, &apart_version(alloc, &whole, ends), &Ok(Some(3)));
+    assert_same(&rt, &apart_version(alloc, &whole, ends)?, &Ok(Some(3)));
     let missing = refused(Refusal::MissingPair(4, 5));
     let lacking = (SIX_APART, SIX_APART_WITHOUT_PAIR);
     assert_apart(&rt, alloc, lacking, (1, 5), missing)

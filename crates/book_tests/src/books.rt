@@ -3,6 +3,7 @@
 use crate::same::{assert_row, assert_same};
 use book_model::{PlanError, Query, Settings};
 use proof_method::{GatherError, MethodBook, ids_by_id};
+use road_map::MapError;
 use std::alloc::Global;
 use std::process::Abort;
 use test_maps::map_of;
@@ -21,18 +22,16 @@ pub(crate) fn settings_of(method: u8, p1: u64, p2: u64, p3: u64) -> Settings {
     }
 }
 
-/// The book of the map of rows, or why there is none.
+/// The book of the map of rows, or why the map has none.
 pub(crate) fn book_of<B: MethodBook>(
     alloc: Global,
     nodes: &[(u32, i32, i32)],
     roads: &[(u32, u32, u32)],
     settings: &Settings,
-) -> Result<B, PlanError> {
-    let Ok(map) = map_of(alloc, nodes, roads) else {
-        return Err(PlanError::Memory);
-    };
+) -> Result<Result<B, PlanError>, MapError> {
+    let map = map_of(alloc, nodes, roads)?;
     let order = ids_by_id(alloc, &map)?;
-    B::plan(alloc, map, settings, order.as_slice())
+    Ok(B::plan(alloc, map, settings, order.as_slice()))
 }
 
 /// Two ends, and what is gathered for them: the ids of the route and of the leaves, and the indices

@@ -6,13 +6,15 @@ use crate::judging::items_of;
 use crate::same::assert_row;
 use book_model::{Numbers, Query};
 use method_judges::Hyp;
+use octet_text::{NoMemory, push};
 use proof_judge::{Judge, Refusal};
 use road_leaf::{Extra, NodeLeaf, PairLeaf};
-use std::alloc::{AllocError, Global};
+use std::alloc::Global;
+use std::test::Fail;
 use test_maps::leaf_with;
 
 // The leaf of one of the nodes 1 to 4, with its cell.
-fn leaf_of(alloc: Global, id: u32) -> Result<NodeLeaf, AllocError> {
+fn leaf_of(alloc: Global, id: u32) -> Result<NodeLeaf, NoMemory> {
     let cell = Extra::Cell {
         cell: if id == 3 { 1 } else { 0 },
         border: id != 1,
@@ -20,22 +22,25 @@ fn leaf_of(alloc: Global, id: u32) -> Result<NodeLeaf, AllocError> {
     leaf_with(alloc, id, cell)
 }
 
-fn leaves_of(alloc: Global, ids: &[u32]) -> Result<Vec<NodeLeaf>, AllocError> {
+fn leaves_of(alloc: Global, ids: &[u32]) -> Result<Vec<NodeLeaf>, NoMemory> {
     let mut leaves = Vec::new(alloc);
     for id in ids {
-        leaves.push(leaf_of(alloc, *id)?)?;
+        push(&mut leaves, leaf_of(alloc, *id)?)?;
     }
     Ok(leaves)
 }
 
-fn judged(alloc: Global, ids: &[u32], pairs: &[PairLeaf], route: &[u32]) -> Result<u64, Refusal> {
+// What a judge answers of a route: its length, or the first fault.
+type Verdict = Result<u64, Refusal>;
+
+fn judged(alloc: Global, ids: &[u32], pairs: &[PairLeaf], route: &[u32]) -> Result<Verdict, Fail> {
     let leaves = leaves_of(alloc, ids)?;
     let items = items_of(alloc, route, leaves, pairs)?;
     let numbers = Numbers {
         first: 3,
         second: 1,
     };
-    Hyp::judge(alloc, numbers, &items, Query { from: 1, to: 3 })
+    Ok(Hyp::judge(alloc, numbers, &items, Query { from: 1, to: 3 }))
 }
 
 const NEAR: PairLeaf = PairLeaf {
@@ -51,12 +56,7 @@ const FAR: PairLeaf = PairLeaf {
 };
 
 // The ids whose leaves are at hand, the pairs that are, a route, and the verdict.
-type Row = (
-    &'static [u32],
-    &'static [PairLeaf],
-    &'static [u32],
-    Result<u64, Refusal>,
-);
+type Row = (&'static [u32], &'static [PairLeaf], &'static [u32], Verdict);
 
 const ALL: &[u32] = &[1, 2, 3, 4];
 
@@ -75,13 +75,10 @@ static ROWS: [Row; 5] = [
 ];
 
 #[test]
-fn all_pairs_of_borders_are_asked_for(rt: HostRuntime) {
+fn all_pairs_of_borders_are_asked_for(rt: HostRuntime) -> Result<(), Fail> {
     for (ids, pairs, route, verdict) in &ROWS {
-        assert_row(
-            &rt,
-            *pairs,
-            judged(rt.alloc(), *ids, *pairs, *route),
-            *verdict,
-        );
+        let judged = judged(rt.alloc(), *ids, *pairs, *route)?;
+        assert_row(&rt, *pairs, judged, *verdict);
     }
+    Ok(())
 }

@@ -3,18 +3,22 @@
 use crate::judging::items_of;
 use crate::same::{assert_printed, assert_row, assert_same};
 use book_model::Query;
+use octet_text::NoMemory;
 use proof_judge::{NodesById, PairsById, Refusal, arcs_of, begin, find_pair};
 use road_leaf::PairLeaf;
 use road_map::Arc;
 use std::alloc::{AllocError, Global};
+use std::test::Fail;
 use test_maps::leaves_of;
 
 // The length of a route from 1 to 3 over the leaves of some ids, or the first fault.
-fn walked(alloc: Global, ids: &[u32], route: &[u32]) -> Result<u64, Refusal> {
+fn walked(alloc: Global, ids: &[u32], route: &[u32]) -> Result<Result<u64, Refusal>, Fail> {
     let leaves = leaves_of(alloc, ids)?;
     let items = items_of(alloc, route, leaves, &[])?;
-    let (_by_id, length) = begin(alloc, &items, Query { from: 1, to: 3 })?;
-    Ok(length)
+    match begin(alloc, &items, Query { from: 1, to: 3 }) {
+        Ok((_by_id, length)) => Ok(Ok(length)),
+        Err(fault) => Ok(Err(fault)),
+    }
 }
 
 // The ids whose leaves are at hand, a route, and its length or the first fault.
@@ -34,10 +38,11 @@ static WALKS: [Walk; 9] = [
 ];
 
 #[test]
-fn a_route_is_walked_over_the_leaves_at_hand(rt: HostRuntime) {
+fn a_route_is_walked_over_the_leaves_at_hand(rt: HostRuntime) -> Result<(), Fail> {
     for (ids, route, length) in &WALKS {
-        assert_row(&rt, *ids, walked(rt.alloc(), *ids, *route), *length);
+        assert_row(&rt, *ids, walked(rt.alloc(), *ids, *route)?, *length);
     }
+    Ok(())
 }
 
 // The id of the leaf that is found by an id.
@@ -79,7 +84,7 @@ static PAIRS: [PairLeaf; 3] = [
 ];
 
 #[test]
-fn the_first_pair_of_two_ids_counts(rt: HostRuntime) -> Result<(), AllocError> {
+fn the_first_pair_of_two_ids_counts(rt: HostRuntime) -> Result<(), NoMemory> {
     let by_id = PairsById::new(rt.alloc(), &PAIRS)?;
     assert_same(&rt, find_pair(&PAIRS, 3, 1), Some(PAIRS[1]));
     assert_same(&rt, by_id.find(3, 1), Some(PAIRS[1]));

@@ -2,10 +2,11 @@
 ghost use Rattle.std.specs.Prelude.{◌≤◌, length, IfOk};
 
 use book_model::{Items, NodeLeaves, PairLeaves};
-use proof_judge::Refusal;
+use octet_text::copied;
 use road_leaf::{NodeLeaf, PairLeaf};
 use road_map::Ids;
 use std::alloc::Global;
+use std::test::Fail;
 
 /// The items of a route and of leaves, as many as a test has of them, and of pairs.
 pub(crate) fn items_of(
@@ -13,16 +14,16 @@ pub(crate) fn items_of(
     route: &[u32],
     leaves: Vec<NodeLeaf>,
     pairs: &[PairLeaf],
-) -> Result<Items, Refusal>
+) -> Result<Items, Fail>
     ensures route { IfOk result (λ items. length items.route ≤ 65536) }
     ensures nodes { IfOk result (λ items. length items.nodes ≤ 65536) }
 {
     if route.len() > 65_536 || leaves.len() > 65_536 {
-        return Err(Refusal::Memory);
+        return Err(Fail::from("many items"));
     }
     Ok(Items {
-        route: Ids::from_vec(route.to_vec(alloc)?),
+        route: Ids::from_vec(copied(alloc, route)?),
         nodes: NodeLeaves::from_vec(leaves),
-        pairs: PairLeaves::from_vec(pairs.to_vec(alloc)?),
+        pairs: PairLeaves::from_vec(copied(alloc, pairs)?),
     })
 }

@@ -4,29 +4,30 @@ ghost use Rattle.std.specs.Prelude.{◌≤◌, length};
 use crate::same::assert_same;
 use book_model::{Items, NodeLeaves, Numbers, PairLeaves, Query};
 use method_judges::{ItemLeaves, Ldm, bound};
+use octet_text::{NoMemory, copied, push};
 use proof_judge::{Judge, NodesById, Refusal};
 use road_leaf::{Codes, Extra, NodeLeaf};
 use road_map::{Arc, Arcs, Ids};
-use std::alloc::{AllocError, Global};
+use std::alloc::Global;
 
-fn leaf(alloc: Global, id: u32, arcs: &[Arc], extra: Extra) -> Result<NodeLeaf, AllocError> {
+fn leaf(alloc: Global, id: u32, arcs: &[Arc], extra: Extra) -> Result<NodeLeaf, NoMemory> {
     Ok(NodeLeaf {
         id,
         x: 0,
         y: 0,
-        arcs: Arcs::from_vec(arcs.to_vec(alloc)?),
+        arcs: Arcs::from_vec(copied(alloc, arcs)?),
         extra,
     })
 }
 
-fn own(alloc: Global, code: u16) -> Result<Extra, AllocError> {
-    let codes = [code].to_vec(alloc)?;
+fn own(alloc: Global, code: u16) -> Result<Extra, NoMemory> {
+    let codes = copied(alloc, &[code])?;
     Ok(Extra::Own(Codes::from_vec(codes)))
 }
 
 // The leaf of one of the nodes 1 to 5 on a line, 10 apart, where node 1 is the landmark and the
 // step is 1.
-fn on_a_line(alloc: Global, id: u32) -> Result<NodeLeaf, AllocError> {
+fn on_a_line(alloc: Global, id: u32) -> Result<NodeLeaf, NoMemory> {
     match id {
         1 => leaf(alloc, 1, &[Arc { to: 2, length: 10 }], own(alloc, 0)?),
         2 => leaf(
@@ -53,7 +54,7 @@ fn on_a_line(alloc: Global, id: u32) -> Result<NodeLeaf, AllocError> {
 
 // The leaf of one of the nodes 1 to 4 of a map with two ways from 1 to 3, of lengths 9 over 2 and
 // 10 over 4, where node 1 is the landmark and the step is 4. Node 4 refers to node 1.
-fn on_two_ways(alloc: Global, id: u32) -> Result<NodeLeaf, AllocError> {
+fn on_two_ways(alloc: Global, id: u32) -> Result<NodeLeaf, NoMemory> {
     match id {
         1 => leaf(
             alloc,
@@ -85,18 +86,18 @@ fn on_two_ways(alloc: Global, id: u32) -> Result<NodeLeaf, AllocError> {
     }
 }
 
-fn on_the_line(alloc: Global, ids: &[u32]) -> Result<Vec<NodeLeaf>, AllocError> {
+fn on_the_line(alloc: Global, ids: &[u32]) -> Result<Vec<NodeLeaf>, NoMemory> {
     let mut leaves = Vec::new(alloc);
     for id in ids {
-        leaves.push(on_a_line(alloc, *id)?)?;
+        push(&mut leaves, on_a_line(alloc, *id)?)?;
     }
     Ok(leaves)
 }
 
-fn on_the_ways(alloc: Global, ids: &[u32]) -> Result<Vec<NodeLeaf>, AllocError> {
+fn on_the_ways(alloc: Global, ids: &[u32]) -> Result<Vec<NodeLeaf>, NoMemory> {
     let mut leaves = Vec::new(alloc);
     for id in ids {
-        leaves.push(on_two_ways(alloc, *id)?)?;
+        push(&mut leaves, on_two_ways(alloc, *id)?)?;
     }
     Ok(leaves)
 }
@@ -106,7 +107,7 @@ fn line_judged(alloc: Global, ids: &[u32], route: &[u32]) -> Result<u64, Refusal
 {
     let leaves = on_the_line(alloc, ids)?;
     let items = Items {
-        route: Ids::from_vec(route.to_vec(alloc)?),
+        route: Ids::from_vec(copied(alloc, route)?),
         nodes: NodeLeaves::from_vec(leaves),
         pairs: PairLeaves::from_vec(Vec::new(alloc)),
     };
@@ -126,7 +127,7 @@ fn ways_judged(alloc: Global, ids: &[u32], route: &[u32]) -> Result<u64, Refusal
 {
     let leaves = on_the_ways(alloc, ids)?;
     let items = Items {
-        route: Ids::from_vec(route.to_vec(alloc)?),
+        route: Ids::from_vec(copied(alloc, route)?),
         nodes: NodeLeaves::from_vec(leaves),
         pairs: PairLeaves::from_vec(Vec::new(alloc)),
     };

@@ -6,12 +6,13 @@ use book_model::{Numbers, PlanError, Query};
 use method_books::{DijBook, FullBook};
 use proof_method::{GatherError, MethodBook};
 use road_leaf::PairLeaf;
+use road_map::MapError;
 use std::alloc::Global;
 use std::test::Fail;
 use test_maps::{NODES, ROADS, apart};
 
-fn dij_of(alloc: Global, roads: &[(u32, u32, u32)]) -> Result<DijBook, PlanError> {
-    book_of(alloc, &NODES, roads, &settings_of(1, 0, 0, 0))
+fn dij_of(alloc: Global, roads: &[(u32, u32, u32)]) -> Result<DijBook, Fail> {
+    Ok(book_of(alloc, &NODES, roads, &settings_of(1, 0, 0, 0))??)
 }
 
 static BY_DIJ: [Gathered; 4] = [
@@ -80,15 +81,19 @@ fn roads_without_length_are_roads(rt: HostRuntime) -> Result<(), Fail> {
 static PARAMETERS: [(u64, u64, u64, u8); 3] = [(1, 0, 2, 3), (0, 1, 1, 4), (0, 0, 1, 5)];
 
 #[test]
-fn dij_has_no_parameter(rt: HostRuntime) {
+fn dij_has_no_parameter(rt: HostRuntime) -> Result<(), Fail> {
     for (p1, p2, p3, index) in &PARAMETERS {
         let settings = settings_of(1, *p1, *p2, *p3);
-        let book: Result<DijBook, PlanError> = book_of(rt.alloc(), &NODES, &ROADS, &settings);
+        let book: Result<DijBook, PlanError> = book_of(rt.alloc(), &NODES, &ROADS, &settings)?;
         assert_same(&rt, book.err(), Some(PlanError::Settings(*index)));
     }
+    Ok(())
 }
 
-fn full_of(alloc: Global, nodes: &[(u32, i32, i32)]) -> Result<FullBook, PlanError> {
+// A book of FULL, or why there is none.
+type Planned = Result<FullBook, PlanError>;
+
+fn full_of(alloc: Global, nodes: &[(u32, i32, i32)]) -> Result<Planned, MapError> {
     book_of(alloc, nodes, &ROADS, &settings_of(2, 0, 0, 0))
 }
 
@@ -101,7 +106,7 @@ static PAIRS: [(usize, u32, u32, u64); 4] = [
 
 #[test]
 fn full_signs_all_pairs(rt: HostRuntime) -> Result<(), Fail> {
-    let book = full_of(rt.alloc(), &NODES)?;
+    let book = full_of(rt.alloc(), &NODES)??;
     assert_same(&rt, book.pairs().len(), 10);
     for (place, a, b, distance) in &PAIRS {
         let pair = PairLeaf {
@@ -121,7 +126,7 @@ static BY_FULL: [Gathered; 2] = [
 
 #[test]
 fn full_gathers_the_pair_of_the_ends(rt: HostRuntime) -> Result<(), Fail> {
-    let book = full_of(rt.alloc(), &NODES)?;
+    let book = full_of(rt.alloc(), &NODES)??;
     for row in &BY_FULL {
         assert_gathered(&rt, rt.alloc(), &book, row)?;
     }
@@ -129,20 +134,18 @@ fn full_gathers_the_pair_of_the_ends(rt: HostRuntime) -> Result<(), Fail> {
 }
 
 // How many pairs are signed of so many nodes.
-fn pairs_of(alloc: Global, count: u32) -> Result<usize, PlanError> {
-    let Ok(nodes) = apart(alloc, count) else {
-        return Err(PlanError::Memory);
-    };
-    let book = full_of(alloc, &nodes)?;
-    Ok(book.pairs().len())
+fn pairs_of(alloc: Global, count: u32) -> Result<Result<usize, PlanError>, MapError> {
+    let nodes = apart(alloc, count)?;
+    match full_of(alloc, &nodes)? {
+        Ok(book) => Ok(Ok(book.pairs().len())),
+        Err(why) => Ok(Err(why)),
+    }
 }
 
 #[test]
-fn full_has_at_most_1024_nodes(rt: HostRuntime) {
-    assert_same(&rt, pairs_of(rt.alloc(), 1024), Ok(523_776));
-    assert_same(
-        &rt,
-        pairs_of(rt.alloc(), 1025),
-        Err(PlanError::TooManyNodes(1025)),
-    );
+fn full_has_at_most_1024_nodes(rt: HostRuntime) -> Result<(), Fail> {
+    assert_same(&rt, pairs_of(rt.alloc(), 1024)?, Ok(523_776));
+    let many = Err(PlanError::TooManyNodes(1025));
+    assert_same(&rt, pairs_of(rt.alloc(), 1025)?, many);
+    Ok(())
 }

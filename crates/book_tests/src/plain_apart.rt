@@ -7,10 +7,11 @@ use crate::same::assert_row;
 use book_model::{Numbers, Query};
 use method_books::{DijBook, FullBook};
 use method_judges::{Dij, Full};
+use octet_text::{NoMemory, push};
 use proof_judge::{Judge, Refusal};
 use road_leaf::{Extra, NodeLeaf, PairLeaf};
 use road_map::Arcs;
-use std::alloc::{AllocError, Global};
+use std::alloc::Global;
 use std::test::Fail;
 use test_maps::{NODES, ROADS, leaf_with};
 
@@ -20,7 +21,7 @@ const NO_NUMBERS: Numbers = Numbers {
 };
 
 // The leaf of one of the nodes 1 to 5.
-fn leaf_of(alloc: Global, id: u32) -> Result<NodeLeaf, AllocError> {
+fn leaf_of(alloc: Global, id: u32) -> Result<NodeLeaf, NoMemory> {
     if id != 5 {
         return leaf_with(alloc, id, Extra::Plain);
     }
@@ -34,23 +35,26 @@ fn leaf_of(alloc: Global, id: u32) -> Result<NodeLeaf, AllocError> {
 }
 
 // The leaves of some of them.
-fn leaves_of(alloc: Global, ids: &[u32]) -> Result<Vec<NodeLeaf>, AllocError> {
+fn leaves_of(alloc: Global, ids: &[u32]) -> Result<Vec<NodeLeaf>, NoMemory> {
     let mut leaves = Vec::new(alloc);
     for id in ids {
-        leaves.push(leaf_of(alloc, *id)?)?;
+        push(&mut leaves, leaf_of(alloc, *id)?)?;
     }
     Ok(leaves)
 }
 
+// What a judge answers.
+type Verdict = Result<(), Refusal>;
+
 // The verdict of DIJ over the leaves of some ids.
-fn by_search(alloc: Global, query: Query, ids: &[u32]) -> Result<(), Refusal> {
+fn by_search(alloc: Global, query: Query, ids: &[u32]) -> Result<Verdict, Fail> {
     let leaves = leaves_of(alloc, ids)?;
     let items = items_of(alloc, &[], leaves, &[])?;
-    Dij::judge_apart(alloc, NO_NUMBERS, &items, query)
+    Ok(Dij::judge_apart(alloc, NO_NUMBERS, &items, query))
 }
 
 // Two ends, the ids whose leaves are at hand, and the verdict.
-type Search = (u32, u32, &'static [u32], Result<(), Refusal>);
+type Search = (u32, u32, &'static [u32], Verdict);
 
 static SEARCHES: [Search; 8] = [
     (1, 5, &[1, 2, 3, 4, 5], Ok(())),
@@ -64,21 +68,22 @@ static SEARCHES: [Search; 8] = [
 ];
 
 #[test]
-fn dij_judges_apart_by_the_search_over_the_items(rt: HostRuntime) {
+fn dij_judges_apart_by_the_search_over_the_items(rt: HostRuntime) -> Result<(), Fail> {
     for (from, to, ids, verdict) in &SEARCHES {
         let query = Query {
             from: *from,
             to: *to,
         };
-        assert_row(&rt, query, by_search(rt.alloc(), query, *ids), *verdict);
+        assert_row(&rt, query, by_search(rt.alloc(), query, *ids)?, *verdict);
     }
+    Ok(())
 }
 
 // The verdict of FULL with some pairs.
-fn by_pair(alloc: Global, query: Query, pairs: &[PairLeaf]) -> Result<(), Refusal> {
+fn by_pair(alloc: Global, query: Query, pairs: &[PairLeaf]) -> Result<Verdict, Fail> {
     let leaves = leaves_of(alloc, &[1, 3, 5])?;
     let items = items_of(alloc, &[], leaves, pairs)?;
-    Full::judge_apart(alloc, NO_NUMBERS, &items, query)
+    Ok(Full::judge_apart(alloc, NO_NUMBERS, &items, query))
 }
 
 const BOTH: [PairLeaf; 2] = [
@@ -95,7 +100,7 @@ const BOTH: [PairLeaf; 2] = [
 ];
 
 // Two ends, the pairs that are at hand, and the verdict.
-type Pairing = (u32, u32, &'static [PairLeaf], Result<(), Refusal>);
+type Pairing = (u32, u32, &'static [PairLeaf], Verdict);
 
 static PAIRINGS: [Pairing; 6] = [
     (1, 5, &BOTH, Ok(())),
@@ -107,21 +112,22 @@ static PAIRINGS: [Pairing; 6] = [
 ];
 
 #[test]
-fn full_judges_apart_by_the_pair_of_the_ends(rt: HostRuntime) {
+fn full_judges_apart_by_the_pair_of_the_ends(rt: HostRuntime) -> Result<(), Fail> {
     for (from, to, pairs, verdict) in &PAIRINGS {
         let query = Query {
             from: *from,
             to: *to,
         };
-        assert_row(&rt, query, by_pair(rt.alloc(), query, *pairs), *verdict);
+        assert_row(&rt, query, by_pair(rt.alloc(), query, *pairs)?, *verdict);
     }
+    Ok(())
 }
 
 static BY_DIJ: [Apart; 2] = [(1, 5, &[1, 2, 3, 4, 5], &[]), (5, 1, &[1, 5], &[])];
 
 #[test]
 fn dij_gathers_what_a_walk_leads_to(rt: HostRuntime) -> Result<(), Fail> {
-    let book: DijBook = book_of(rt.alloc(), &NODES, &ROADS, &settings_of(1, 0, 0, 0))?;
+    let book: DijBook = book_of(rt.alloc(), &NODES, &ROADS, &settings_of(1, 0, 0, 0))??;
     for row in &BY_DIJ {
         assert_gathered_apart(&rt, rt.alloc(), &book, row)?;
     }
@@ -132,7 +138,7 @@ static BY_FULL: [Apart; 2] = [(1, 5, &[1, 5], &[3]), (5, 1, &[1, 5], &[3])];
 
 #[test]
 fn full_gathers_the_pair_of_the_ends_apart(rt: HostRuntime) -> Result<(), Fail> {
-    let book: FullBook = book_of(rt.alloc(), &NODES, &ROADS, &settings_of(2, 0, 0, 0))?;
+    let book: FullBook = book_of(rt.alloc(), &NODES, &ROADS, &settings_of(2, 0, 0, 0))??;
     for row in &BY_FULL {
         assert_gathered_apart(&rt, rt.alloc(), &book, row)?;
     }

@@ -7,6 +7,7 @@ use method_judges::{Dij, Full};
 use proof_judge::{Judge, Refusal};
 use road_leaf::PairLeaf;
 use std::alloc::Global;
+use std::test::Fail;
 use test_maps::leaves_of;
 
 const NO_NUMBERS: Numbers = Numbers {
@@ -14,15 +15,19 @@ const NO_NUMBERS: Numbers = Numbers {
     second: 0,
 };
 
+// What a judge answers of a route: its length, or the first fault.
+type Verdict = Result<u64, Refusal>;
+
 // The verdict of DIJ on a route from 1 to 3, over the leaves of some ids.
-fn by_search(alloc: Global, ids: &[u32], route: &[u32]) -> Result<u64, Refusal> {
+fn by_search(alloc: Global, ids: &[u32], route: &[u32]) -> Result<Verdict, Fail> {
     let leaves = leaves_of(alloc, ids)?;
     let items = items_of(alloc, route, leaves, &[])?;
-    Dij::judge(alloc, NO_NUMBERS, &items, Query { from: 1, to: 3 })
+    let query = Query { from: 1, to: 3 };
+    Ok(Dij::judge(alloc, NO_NUMBERS, &items, query))
 }
 
 // The ids whose leaves are at hand, a route, and the verdict.
-type Search = (&'static [u32], &'static [u32], Result<u64, Refusal>);
+type Search = (&'static [u32], &'static [u32], Verdict);
 
 static SEARCHES: [Search; 9] = [
     (&[1, 2, 3, 4], &[1, 2, 3], Ok(9)),
@@ -37,19 +42,20 @@ static SEARCHES: [Search; 9] = [
 ];
 
 #[test]
-fn dij_judges_by_the_search_over_the_items(rt: HostRuntime) {
+fn dij_judges_by_the_search_over_the_items(rt: HostRuntime) -> Result<(), Fail> {
     for (ids, route, verdict) in &SEARCHES {
-        assert_row(&rt, *ids, by_search(rt.alloc(), *ids, *route), *verdict);
+        assert_row(&rt, *ids, by_search(rt.alloc(), *ids, *route)?, *verdict);
     }
+    Ok(())
 }
 
 // The verdict of FULL on a route between its own ends, with some pairs.
-fn by_pair(alloc: Global, pairs: &[PairLeaf], route: &[u32]) -> Result<u64, Refusal> {
+fn by_pair(alloc: Global, pairs: &[PairLeaf], route: &[u32]) -> Result<Verdict, Fail> {
     let leaves = leaves_of(alloc, &[1, 2, 3, 4])?;
     let items = items_of(alloc, route, leaves, pairs)?;
     let from = route.first().copied().unwrap_or(0);
     let to = route.last().copied().unwrap_or(0);
-    Full::judge(alloc, NO_NUMBERS, &items, Query { from, to })
+    Ok(Full::judge(alloc, NO_NUMBERS, &items, Query { from, to }))
 }
 
 const BOTH: [PairLeaf; 2] = [
@@ -66,7 +72,7 @@ const BOTH: [PairLeaf; 2] = [
 ];
 
 // The pairs that are at hand, a route, and the verdict.
-type Pairing = (&'static [PairLeaf], &'static [u32], Result<u64, Refusal>);
+type Pairing = (&'static [PairLeaf], &'static [u32], Verdict);
 
 static PAIRINGS: [Pairing; 7] = [
     (&BOTH, &[1, 2, 3], Ok(9)),
@@ -79,8 +85,9 @@ static PAIRINGS: [Pairing; 7] = [
 ];
 
 #[test]
-fn full_judges_by_the_pair_of_the_ends(rt: HostRuntime) {
+fn full_judges_by_the_pair_of_the_ends(rt: HostRuntime) -> Result<(), Fail> {
     for (pairs, route, verdict) in &PAIRINGS {
-        assert_row(&rt, *route, by_pair(rt.alloc(), *pairs, *route), *verdict);
+        assert_row(&rt, *route, by_pair(rt.alloc(), *pairs, *route)?, *verdict);
     }
+    Ok(())
 }

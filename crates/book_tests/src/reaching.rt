@@ -4,19 +4,19 @@ use crate::same::{assert_printed, assert_row, assert_same};
 use book_model::Query;
 use proof_method::{GatherError, leaf_adding, reach};
 use road_leaf::{Extra, NodeLeaf};
-use road_map::Arc;
+use road_map::{Arc, MapError};
 use road_search::knows;
 use std::alloc::{AllocError, Global};
 use std::process::Abort;
 use std::test::Fail;
 use test_maps::{NODES, ROADS, map_of};
 
-fn reached(alloc: Global, from: u32, to: u32) -> Result<u64, GatherError> {
-    let Ok(map) = map_of(alloc, &NODES, &ROADS) else {
-        return Err(GatherError::Memory);
-    };
-    let reached = reach(alloc, &map, Query { from, to })?;
-    Ok(reached.length)
+fn reached(alloc: Global, from: u32, to: u32) -> Result<Result<u64, GatherError>, MapError> {
+    let map = map_of(alloc, &NODES, &ROADS)?;
+    match reach(alloc, &map, Query { from, to }) {
+        Ok(reached) => Ok(Ok(reached.length)),
+        Err(why) => Ok(Err(why)),
+    }
 }
 
 static ENDS: [(u32, u32, Result<u64, GatherError>); 4] = [
@@ -27,10 +27,11 @@ static ENDS: [(u32, u32, Result<u64, GatherError>); 4] = [
 ];
 
 #[test]
-fn a_shortest_route_is_reached_or_there_is_a_reason(rt: HostRuntime) {
+fn a_shortest_route_is_reached_or_there_is_a_reason(rt: HostRuntime) -> Result<(), Fail> {
     for (from, to, length) in &ENDS {
-        assert_row(&rt, *to, reached(rt.alloc(), *from, *to), *length);
+        assert_row(&rt, *to, reached(rt.alloc(), *from, *to)?, *length);
     }
+    Ok(())
 }
 
 #[test]

@@ -4,10 +4,10 @@
 use crate::books::{Apart, assert_gathered_apart, book_of, settings_of};
 use crate::judging::items_of;
 use crate::same::assert_row;
-use book_model::{PlanError, Query};
+use book_model::Query;
 use method_books::{HypBook, LdmBook};
 use method_judges::{Hyp, Ldm};
-use octet_text::NoMemory;
+use octet_text::{NoMemory, push};
 use proof_judge::{Judge, Refusal};
 use proof_method::MethodBook;
 use road_leaf::{NodeLeaf, PairLeaf};
@@ -18,13 +18,13 @@ use std::test::Fail;
 use test_maps::{NODES, ROADS};
 
 // One landmark, which is 1, and codes of two bits: the node 4 refers to 1.
-fn by_landmark(alloc: Global) -> Result<LdmBook, PlanError> {
-    book_of(alloc, &NODES, &ROADS, &settings_of(3, 1, 2, 0))
+fn by_landmark(alloc: Global) -> Result<LdmBook, Fail> {
+    Ok(book_of(alloc, &NODES, &ROADS, &settings_of(3, 1, 2, 0))??)
 }
 
 // Three columns: 2, 3 and 4 are borders.
-fn by_cells(alloc: Global) -> Result<HypBook, PlanError> {
-    book_of(alloc, &NODES, &ROADS, &settings_of(4, 3, 1, 0))
+fn by_cells(alloc: Global) -> Result<HypBook, Fail> {
+    Ok(book_of(alloc, &NODES, &ROADS, &settings_of(4, 3, 1, 0))??)
 }
 
 static BY_LANDMARK: [Apart; 3] = [
@@ -66,7 +66,7 @@ static OVER_BORDERS: [Apart; 2] = [(1, 3, &[1, 3], &[1]), (4, 1, &[1, 4], &[2])]
 
 #[test]
 fn pairs_of_borders_on_two_sides_are_gathered(rt: HostRuntime) -> Result<(), Fail> {
-    let book: HypBook = book_of(rt.alloc(), &FOUR, &TWO_ROADS, &settings_of(4, 2, 1, 0))?;
+    let book: HypBook = book_of(rt.alloc(), &FOUR, &TWO_ROADS, &settings_of(4, 2, 1, 0))??;
     for row in &OVER_BORDERS {
         assert_gathered_apart(&rt, rt.alloc(), &book, row)?;
     }
@@ -81,28 +81,25 @@ fn leaves_of<B: MethodBook>(
     let mut leaves = Vec::new(alloc);
     for id in ids {
         if knows(book.map(), *id) {
-            leaves.push(book.node_leaf(alloc, *id)?)?;
+            push(&mut leaves, book.node_leaf(alloc, *id)?)?;
         }
     }
     Ok(leaves)
 }
 
+// What a judge answers.
+type Verdict = Result<(), Refusal>;
+
 // The verdict of a method's judge on the leaves of these ids and on these pairs.
-fn judged<B: MethodBook, J: Judge>(alloc: Global, book: &B, row: &Row) -> Result<(), Refusal> {
+fn judged<B: MethodBook, J: Judge>(alloc: Global, book: &B, row: &Row) -> Result<Verdict, Fail> {
     let (from, to, ids, pairs, _verdict) = *row;
     let leaves = leaves_of(alloc, book, ids)?;
     let items = items_of(alloc, &[], leaves, pairs)?;
-    J::judge_apart(alloc, book.numbers(), &items, Query { from, to })
+    Ok(J::judge_apart(alloc, book.numbers(), &items, Query { from, to }))
 }
 
 // Two ends, the ids whose leaves are at hand, the pairs that are, and the verdict.
-type Row = (
-    u32,
-    u32,
-    &'static [u32],
-    &'static [PairLeaf],
-    Result<(), Refusal>,
-);
+type Row = (u32, u32, &'static [u32], &'static [PairLeaf], Verdict);
 
 const ALL: &[u32] = &[1, 2, 3, 4, 5];
 
@@ -121,7 +118,7 @@ static LDM_ROWS: [Row; 7] = [
 fn landmarks_tell_nodes_apart(rt: HostRuntime) -> Result<(), Fail> {
     let book = by_landmark(rt.alloc())?;
     for row in &LDM_ROWS {
-        let verdict = judged::<LdmBook, Ldm>(rt.alloc(), &book, row);
+        let verdict = judged::<LdmBook, Ldm>(rt.alloc(), &book, row)?;
         assert_row(&rt, row.2, verdict, row.4);
     }
     Ok(())
@@ -153,7 +150,7 @@ static HYP_ROWS: [Row; 7] = [
 fn borders_of_two_sides_are_not_joined(rt: HostRuntime) -> Result<(), Fail> {
     let book = by_cells(rt.alloc())?;
     for row in &HYP_ROWS {
-        let verdict = judged::<HypBook, Hyp>(rt.alloc(), &book, row);
+        let verdict = judged::<HypBook, Hyp>(rt.alloc(), &book, row)?;
         assert_row(&rt, row.2, verdict, row.4);
     }
     Ok(())

@@ -6,9 +6,10 @@ use crate::books::{Gathered, assert_gathered, book_of, settings_of};
 use crate::same::assert_same;
 use book_model::{PlanError, Query};
 use method_books::HypBook;
+use octet_text::{NoMemory, push};
 use proof_method::{GatherError, MethodBook};
 use road_leaf::PairLeaf;
-use std::alloc::{AllocError, Global};
+use std::alloc::Global;
 use std::process::Abort;
 use std::test::Fail;
 use test_maps::{NODES, ROADS};
@@ -33,7 +34,7 @@ static PAIRS: [PairLeaf; 3] = [
 
 #[test]
 fn borders_of_three_columns(rt: HostRuntime) -> Result<(), Fail> {
-    let book: HypBook = book_of(rt.alloc(), &NODES, &ROADS, &settings_of(4, 3, 1, 0))?;
+    let book: HypBook = book_of(rt.alloc(), &NODES, &ROADS, &settings_of(4, 3, 1, 0))??;
     assert_same(&rt, book.pairs(), PAIRS.as_slice());
     let apart = book.gather(rt.alloc(), Query { from: 1, to: 5 });
     assert_same(&rt, apart.err(), Some(GatherError::NoRoute));
@@ -48,12 +49,13 @@ static PARAMETERS: [(u64, u64, u64, u8); 4] = [
 ];
 
 #[test]
-fn parameters_are_tested_in_turn(rt: HostRuntime) {
+fn parameters_are_tested_in_turn(rt: HostRuntime) -> Result<(), Fail> {
     for (p1, p2, p3, index) in &PARAMETERS {
         let settings = settings_of(4, *p1, *p2, *p3);
-        let book: Result<HypBook, PlanError> = book_of(rt.alloc(), &NODES, &ROADS, &settings);
+        let book: Result<HypBook, PlanError> = book_of(rt.alloc(), &NODES, &ROADS, &settings)?;
         assert_same(&rt, book.err(), Some(PlanError::Settings(*index)));
     }
+    Ok(())
 }
 
 // A map, its columns, how many pairs its book has, and what that gathers.
@@ -106,7 +108,7 @@ static BOOKS: [Worked; 8] = [
 
 fn assert_worked(rt: &impl Abort, alloc: Global, row: &Worked) -> Result<(), Fail> {
     let (nodes, roads, columns, pairs, gathered) = row;
-    let book: HypBook = book_of(alloc, *nodes, *roads, &settings_of(4, *columns, 1, 0))?;
+    let book: HypBook = book_of(alloc, *nodes, *roads, &settings_of(4, *columns, 1, 0))??;
     assert_same(rt, book.pairs().len(), *pairs);
     assert_gathered(rt, alloc, &book, gathered)?;
     Ok(())
@@ -121,20 +123,20 @@ fn cells_and_ends_of_all_kinds(rt: HostRuntime) -> Result<(), Fail> {
 }
 
 // So many nodes, each in the other column than the one before.
-fn zigzag(alloc: Global, count: u32) -> Result<Vec<(u32, i32, i32)>, AllocError> {
+fn zigzag(alloc: Global, count: u32) -> Result<Vec<(u32, i32, i32)>, NoMemory> {
     let mut places = Vec::new(alloc);
     for id in 0..count {
         let x = if id % 2 == 0 { 0 } else { 1 };
-        places.push((id, x, 0))?;
+        push(&mut places, (id, x, 0))?;
     }
     Ok(places)
 }
 
 // The roads of a way through them.
-fn way_of(alloc: Global, count: u32) -> Result<Vec<(u32, u32, u32)>, AllocError> {
+fn way_of(alloc: Global, count: u32) -> Result<Vec<(u32, u32, u32)>, NoMemory> {
     let mut ways = Vec::new(alloc);
     for id in 1..count {
-        ways.push((id - 1, id, 1))?;
+        push(&mut ways, (id - 1, id, 1))?;
     }
     Ok(ways)
 }
@@ -144,7 +146,7 @@ fn more_than_2048_borders_are_too_many(rt: HostRuntime) -> Result<(), Fail> {
     let places = zigzag(rt.alloc(), 2049)?;
     let ways = way_of(rt.alloc(), 2049)?;
     let settings = settings_of(4, 2, 1, 0);
-    let book: Result<HypBook, PlanError> = book_of(rt.alloc(), &places, &ways, &settings);
+    let book: Result<HypBook, PlanError> = book_of(rt.alloc(), &places, &ways, &settings)?;
     assert_same(&rt, book.err(), Some(PlanError::TooManyBorders(2049)));
     Ok(())
 }

@@ -6,7 +6,7 @@ use crate::same::{assert_row, assert_same};
 use book_model::{Numbers, PlanError, Query};
 use method_books::LdmBook;
 use method_judges::Ldm;
-use octet_text::NoMemory;
+use octet_text::{NoMemory, push};
 use proof_judge::{Judge, Refusal};
 use proof_method::MethodBook;
 use road_leaf::{Extra, NodeLeaf};
@@ -20,8 +20,8 @@ use test_maps::{NODES, ROADS};
 const LINE: [(u32, u32, u32); 4] = [(1, 2, 10), (2, 3, 10), (3, 4, 10), (4, 5, 10)];
 
 // A book over these roads with one landmark and codes of so many bits.
-fn coded(alloc: Global, roads: &[(u32, u32, u32)], bits: u64) -> Result<LdmBook, PlanError> {
-    book_of(alloc, &NODES, roads, &settings_of(3, 1, bits, 0))
+fn coded(alloc: Global, roads: &[(u32, u32, u32)], bits: u64) -> Result<LdmBook, Fail> {
+    Ok(book_of(alloc, &NODES, roads, &settings_of(3, 1, bits, 0))??)
 }
 
 // A step, and one landmark.
@@ -36,7 +36,7 @@ fn leaves_of(alloc: Global, book: &LdmBook, ids: &[u32]) -> Result<Vec<NodeLeaf>
     let mut leaves = Vec::new(alloc);
     for id in ids {
         if knows(book.map(), *id) {
-            leaves.push(book.node_leaf(alloc, *id)?)?;
+            push(&mut leaves, book.node_leaf(alloc, *id)?)?;
         }
     }
     Ok(leaves)
@@ -48,10 +48,10 @@ fn judged(
     ids: &[u32],
     route: &[u32],
     query: Query,
-) -> Result<u64, Refusal> {
+) -> Result<Result<u64, Refusal>, Fail> {
     let leaves = leaves_of(alloc, book, ids)?;
     let items = items_of(alloc, route, leaves, &[])?;
-    Ldm::judge(alloc, book.numbers(), &items, query)
+    Ok(Ldm::judge(alloc, book.numbers(), &items, query))
 }
 
 // What a leaf says of one landmark: a code of its own, or the node that it refers to and its error.
@@ -134,9 +134,9 @@ fn all_that_is_gathered_is_asked_for(rt: HostRuntime) -> Result<(), Fail> {
     let book = coded(rt.alloc(), &LINE, 16)?;
     assert_gathered(&rt, rt.alloc(), &book, &OVER_LINE)?;
     let query = Query { from: 3, to: 5 };
-    let whole = judged(rt.alloc(), &book, &[2, 3, 4, 5], &[3, 4, 5], query);
+    let whole = judged(rt.alloc(), &book, &[2, 3, 4, 5], &[3, 4, 5], query)?;
     assert_same(&rt, whole, Ok(20));
-    let cut = judged(rt.alloc(), &book, &[3, 4, 5], &[3, 4, 5], query);
+    let cut = judged(rt.alloc(), &book, &[3, 4, 5], &[3, 4, 5], query)?;
     assert_same(&rt, cut, Err(Refusal::MissingTuple(2)));
     Ok(())
 }
@@ -149,7 +149,7 @@ fn roads_of_length_0_have_one_code(rt: HostRuntime) -> Result<(), Fail> {
     assert_same(&rt, book.numbers().first, 1);
     assert_gathered(&rt, rt.alloc(), &book, &OF_LENGTH_0)?;
     let query = Query { from: 2, to: 3 };
-    let verdict = judged(rt.alloc(), &book, &[1, 2, 3], &[2, 3], query);
+    let verdict = judged(rt.alloc(), &book, &[1, 2, 3], &[2, 3], query)?;
     assert_same(&rt, verdict, Ok(0));
     Ok(())
 }
@@ -165,10 +165,11 @@ static PARAMETERS: [(u64, u64, u64, Option<PlanError>); 7] = [
 ];
 
 #[test]
-fn parameters_have_ranges(rt: HostRuntime) {
+fn parameters_have_ranges(rt: HostRuntime) -> Result<(), Fail> {
     for (p1, p2, p3, error) in &PARAMETERS {
         let settings = settings_of(3, *p1, *p2, *p3);
-        let book: Result<LdmBook, PlanError> = book_of(rt.alloc(), &NODES, &ROADS, &settings);
+        let book: Result<LdmBook, PlanError> = book_of(rt.alloc(), &NODES, &ROADS, &settings)?;
         assert_row(&rt, settings, book.err(), *error);
     }
+    Ok(())
 }

@@ -1,47 +1,27 @@
--- Over their files, `check` has one end, which is no fault where they were read.
-use Rattle.std.proofs.Common.{◌≡◌, List, ℕ, refl}
+-- Over their files, `check` has one end.
+use Rattle.std.proofs.Common.{◌≡◌, List, ℕ}
 use Rattle.std.specs.declared.option.Option.{Option}
 use Rattle.std.specs.declared.result.Result.{Result}
-use Rattle.std.specs.declared.result.Result.TheVariants.{Ok, Err}
 use Rattle.sha2.specs.Sha256.{sha256}
 use Rattle.road_io.specs.Contents.{Folder}
 use Rattle.book_model.specs.declared.items.Query.{Query}
 use Rattle.route_client.specs.declared.accepted.Checked.{Checked}
 use Rattle.route_client.specs.declared.errors.CheckError.{CheckError}
+use Rattle.route_client.specs.declared.errors.CheckError.TheVariants.{Memory}
 use Rattle.route_client.specs.Verdicts.{IsVerdict}
 use Rattle.lms_tree.specs.declared.links.Link.{Link}
-use Rattle.command_files.specs.Endings.{TellsNone, MayEnd}
+use Rattle.road_line.specs.VerdictLine.{accepted_line, refused_line}
 use Rattle.command_files.proofs.OneEnd.{HasOneEnd}
-use Rattle.command_files.specs.declared.fault.Fault.{Fault}
-use Rattle.command_files.specs.declared.ended.Conclusion.{Conclusion}
-use Rattle.command_files.specs.declared.ended.Conclusion.TheVariants.{Done, Refused}
 use Rattle.client_commands.specs.Checking.{EndsCheck, ends_check}
-use Rattle.client_commands.proofs.CheckFiles.{one_over_files}
+use Rattle.client_commands.proofs.CheckFiles.{one_end, one_over_files}
+use Rattle.octet_text.specs.Want.{no_memory}
 
 -- octets have one verdict at most
 abbrev pub OneVerdict : Type 0
 OneVerdict = (hash : List ℕ → List ℕ) (key : List ℕ) (links : List Link) (octets : List ℕ) (q : Query) (least : ℕ) (v w : Result Checked CheckError)
     → IsVerdict hash key links octets q least v → IsVerdict hash key links octets q least w → v ≡ w
 
-differ : (x : Checked) (e : CheckError) → Ok x ≡ Err e → ⊥
-differ x e is = cc
-
--- over a key and octets, `check` has one end
-one_check : OneVerdict → (key : List ℕ) (links : List Link) (octets : List ℕ) (q : Query) (least : ℕ) (o e : Result Conclusion Fault) (s t : List ℕ) → EndsCheck key links octets q least o s → EndsCheck key links octets q least e t → o ≡ e
-one_check one key links octets q least (Ok Done) (Ok Done) s t h k = refl
-one_check one key links octets q least (Ok Done) (Ok Refused) s t h k = absurd (differ h.0 k.0 (one sha256 key links octets q least (Ok h.0) (Err k.0) h.1 k.2))
-one_check one key links octets q least (Ok Done) e s t h k = absurd k
-one_check one key links octets q least (Ok Refused) (Ok Done) s t h k = absurd (differ k.0 h.0 (one sha256 key links octets q least (Ok k.0) (Err h.0) k.1 h.2))
-one_check one key links octets q least (Ok Refused) (Ok Refused) s t h k = refl
-one_check one key links octets q least (Ok Refused) e s t h k = absurd k
-one_check one key links octets q least o e s t h k = absurd h
-
--- and so over its files
 pub only_check : OneVerdict → (key reply : List ℕ) (q : Query) (least : ℕ) (chain : Option (List ℕ)) (folder : Folder) → HasOneEnd (ends_check key reply q least chain folder)
-only_check one key reply q least chain folder =
-    one_over_files (λ k links octets. EndsCheck k links octets q least) (λ k links octets. one_check one k links octets q least) key reply chain folder
-
--- that end is no fault
-pub no_fault : (key : List ℕ) (links : List Link) (octets : List ℕ) (q : Query) (least : ℕ) (o : Result Conclusion Fault) (text : List ℕ) → EndsCheck key links octets q least o text → MayEnd TellsNone o
-no_fault key links octets q least (Ok v) text h = tt
-no_fault key links octets q least (Err f) text h = absurd h
+only_check one key reply q least =
+    one_over_files (λ k links octets. EndsCheck k links octets q least)
+    (λ k links octets. one_end (IsVerdict sha256 k links octets q least) (Memory no_memory) accepted_line refused_line (one sha256 k links octets q least)) key reply

@@ -2,7 +2,7 @@
 
 ghost use Rattle.std.specs.Prelude.{IfOk, length, ◌<◌, ◌≤◌, ◌^◌, ◌∷◌, [], ◌++◌};
 ghost use Rattle.std.specs.Option.{option_map};
-ghost use Rattle.command_files.specs.Endings.{Promises, TellsNone, NoDisk};
+ghost use Rattle.command_files.specs.Endings.{Promises, TellsNone, NoDisk, MayEnd};
 ghost use Rattle.command_files.specs.Asking.{AsksFront, if_named};
 ghost use Rattle.command_files.specs.Spared.{SparesLibrary, SparesBut};
 ghost use Rattle.client_commands.specs.Checking.{EndsCheck, ends_check};
@@ -43,7 +43,7 @@ pub fn check<L: Library, K: Sink>(
     let chain = load_chain(alloc, library, chain)?;
     match verdict_on(alloc, &key, chain.as_slice(), &reply, query, least) {
         Ok(told) => write_told(sink, &told),
-        Err(NoMemory) => Err(Fault::Memory),
+        Err(none) => Err(Fault::Memory(none)),
     }
 }
 
@@ -58,7 +58,8 @@ fn verdict_on(
 ) -> Result<Told, NoMemory>
     requires short { length reply.now < 2 ^ 32 }
     requires few { length chain.now ≤ 7 }
-    ensures { IfOk result (λ told.
+    ensures verdict { IfOk result (λ told. MayEnd TellsNone told.end) }
+    ensures told { IfOk result (λ told.
         EndsCheck key.now chain.now reply.now query least told.end told.text.items) }
 {
     match check_reply::<Sha>(alloc, key, chain, reply, query, least) {
@@ -66,7 +67,7 @@ fn verdict_on(
             text: line_of_accepted(alloc, &checked)?,
             end: Ok(Conclusion::Done),
         }),
-        Err(CheckError::Memory) => Err(NoMemory),
+        Err(CheckError::Memory(none)) => Err(none),
         Err(refusal) => Ok(Told {
             text: line_of_refused(alloc, refusal)?,
             end: Ok(Conclusion::Refused),

@@ -20,7 +20,7 @@ use Rattle.command_books.specs.Installing.{fault_of_build, AfterBuild, EndsBuild
 pub no_book : (DiskFailed : Type 0) (parts : Parts) (s : Settings) (Next : Header → Ending) (e : BuildError) → Makes sha256 sha256 parts s (Err e) → WhyNot DiskFailed (EndsBuilding parts s Next) (fault_of_build e)
 no_book DiskFailed parts s Next (build.Map e) h = record { made = Err (build.Map e); makes = h; follows = (refl, refl) }
 no_book DiskFailed parts s Next (build.Plan e) h = record { made = Err (build.Plan e); makes = h; follows = (refl, refl) }
-no_book DiskFailed parts s Next build.Memory h = tt
+no_book DiskFailed parts s Next (build.Memory _) h = tt
 
 -- a header that is not the publication's
 pub wrong_header : (p : Publication) (Next : Ending) (h : Header) → HasHeader sha256 sha256 p.parts p.settings h → h ≢ p.header → EndsInstalling p Next (Err HeaderWrong) []
@@ -39,4 +39,4 @@ not_installed p Next o text h = record { made = h.made; makes = h.makes; follows
     after (Ok x) (inr k) = inr k
     after (Err (build.Map e)) k = k
     after (Err (build.Plan e)) k = k
-    after (Err build.Memory) k = absurd k
+    after (Err (build.Memory _)) k = absurd k

@@ -14,11 +14,12 @@ use Rattle.command_books.specs.Installing.{AfterBuild, EndsBuilding, IfInstalled
 use Rattle.command_files.specs.Endings.{Ending}
 use Rattle.command_files.specs.declared.fault.Fault.{Fault}
 use Rattle.command_files.specs.declared.ended.Conclusion.{Conclusion}
+use Rattle.octet_text.specs.Want.{no_memory}
 
 -- parts and settings make one thing at most
 abbrev pub OneMaking : Type 0
 OneMaking = (hash sha : List ℕ → List ℕ) (parts : Parts) (s : Settings) (one other : Result Header BuildError)
-    → Makes hash sha parts s one → Makes hash sha parts s other → one ≢ Err build.Memory → other ≢ Err build.Memory → one ≡ other
+    → Makes hash sha parts s one → Makes hash sha parts s other → one ≢ Err (build.Memory no_memory) → other ≢ Err (build.Memory no_memory) → one ≡ other
 
 -- what follows is one
 module _ (Next : Header → Ending) (o p : Result Conclusion Fault) (t u : List ℕ) where
@@ -26,7 +27,7 @@ module _ (Next : Header → Ending) (o p : Result Conclusion Fault) (t u : List 
   after_one one (Ok h) a b = one h a b
   after_one one (Err (build.Map e)) a b = a.0 ∙ sym b.0
   after_one one (Err (build.Plan e)) a b = a.0 ∙ sym b.0
-  after_one one (Err build.Memory) a b = absurd a
+  after_one one (Err (build.Memory _)) a b = absurd a
 
   pub one_building : OneMaking → (parts : Parts) (s : Settings) → ((h : Header) → Next h o t → Next h p u → o ≡ p) → EndsBuilding parts s Next o t → EndsBuilding parts s Next p u → o ≡ p
   one_building makings parts s one h k =

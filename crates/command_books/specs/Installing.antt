@@ -19,12 +19,12 @@ use Rattle.command_files.specs.declared.ended.Conclusion.{Conclusion}
 abbrev pub fault_of_build : BuildError → Fault
 fault_of_build (build.Map e) = Map e
 fault_of_build (build.Plan e) = Plan e
-fault_of_build build.Memory = Memory
+fault_of_build (build.Memory none) = Memory none
 
 -- what follows a header that was made, or the first reason why there is none
 abbrev pub AfterBuild : (Header → Ending) → Result Header BuildError → Ending
 AfterBuild Next (Ok h) outcome text = Next h outcome text
-AfterBuild Next (Err build.Memory) outcome text = ⊥
+AfterBuild Next (Err (build.Memory _)) outcome text = ⊥
 AfterBuild Next (Err e) outcome text = (outcome ≡ Err (fault_of_build e)) × (text ≡ [])
 
 -- parts and settings have a header, and this follows it, or they have none, for the first reason

@@ -22,7 +22,7 @@ pub fn install(alloc: Global, publication: Publication) -> Result<Held<Sha>, Fau
         Ok(held) => Ok(held),
         Err(InstallError::Build(fault)) => Err(not_built(fault)),
         Err(InstallError::HeaderWrong) => Err(Fault::HeaderWrong),
-        Err(InstallError::Memory) => Err(Fault::Memory),
+        Err(InstallError::Memory(none)) => Err(Fault::Memory(none)),
     }
 }
 
@@ -33,6 +33,6 @@ pub fn not_built(fault: BuildError) -> Fault
     match fault {
         BuildError::Map(fault) => Fault::Map(fault),
         BuildError::Plan(fault) => Fault::Plan(fault),
-        BuildError::Memory => Fault::Memory,
+        BuildError::Memory(none) => Fault::Memory(none),
     }
 }

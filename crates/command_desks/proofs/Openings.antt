@@ -25,6 +25,7 @@ use Rattle.command_files.specs.declared.fault.Fault.{Fault}
 use Rattle.command_files.specs.declared.ended.Conclusion.{Conclusion}
 use Rattle.desk_areas.specs.Faults.{IsUsable}
 use Rattle.command_desks.specs.Opening.{EndsOpening, IsKeyOn, HasBlocks}
+use Rattle.octet_text.specs.Want.{no_memory}
 
 -- the block of the last open area is that of the desk's key
 key_block : (desk : Desk) (c : List ℕ) → HasAreas desk c → HasKey desk.key (base_of c (length desk.earlier)) c
@@ -58,7 +59,7 @@ opened desk = Ok desk
 
 -- a desk that was opened stands on a disk whose key can be used
 pub usable_by : {X : Type 0} (content : Option (List ℕ)) (desk : X) (view : Desk) → HasBlocks content view
-    → ForSome content (λ c. IsOpen c → IsBadBlock c → (opened desk ≡ Err start.BadBlock) ⊎ ((opened desk ≡ Err start.DiskFault) ⊎ (opened desk ≡ Err start.Memory))) → ForSome content IsUsable
+    → ForSome content (λ c. IsOpen c → IsBadBlock c → (opened desk ≡ Err start.BadBlock) ⊎ ((opened desk ≡ Err start.DiskFault) ⊎ (opened desk ≡ Err (start.Memory no_memory)))) → ForSome content IsUsable
 usable_by content desk view blocks else_bad c is = record {
   open_gate = (blocks c is).0;
   good_block = λ bad. elim (else_bad c is (blocks c is).0 bad) [ inl e ↦ cc | inr other ↦ elim other [ inl e ↦ cc | inr e ↦ cc ] ];

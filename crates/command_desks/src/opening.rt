@@ -34,7 +34,7 @@ pub fn open_desk<D: Disk>(alloc: Global, disk: &mut D) -> Result<Desk, Fault>
         Err(StartError::NoKey) => Err(Fault::NoKey),
         Err(StartError::BadBlock) => Err(Fault::BadBlock),
         Err(StartError::DiskFault) => Err(Fault::Disk),
-        Err(StartError::Memory) => Err(Fault::Memory),
+        Err(StartError::Memory(none)) => Err(Fault::Memory(none)),
         Err(StartError::Held) => unreachable!(),
     }
 }

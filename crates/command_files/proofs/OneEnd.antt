@@ -8,6 +8,7 @@ use Rattle.command_files.specs.Exact.{IsExact}
 use Rattle.command_files.specs.declared.fault.Fault.{Fault}
 use Rattle.command_files.specs.declared.fault.Fault.TheVariants.{TruncatedFrame, FrameTooLong, Library, Source, Sink, Disk, Memory, UnknownNode, NoRoute, TooManyFrames, MirrorLost}
 use Rattle.command_files.specs.declared.ended.Conclusion.{Conclusion}
+use Rattle.octet_text.specs.Want.{no_memory}
 
 -- they call for one outcome at most
 abbrev pub HasOneEnd : Ending → Type 0
@@ -24,9 +25,9 @@ pub exact_end : (E : Ending) → HasOneEnd E → (old new : Option (List ℕ)) (
     → (outcome ≡ Err Library → ⊥) → (outcome ≡ Err Sink → ⊥) → (outcome ≡ Err Disk → ⊥) → (outcome ≡ Err MirrorLost → ⊥) → IsExact E outcome
 exact_end E one old new outcome a library sink disk mirror = by_end (called outcome a library sink disk mirror)
   where
-    called : (o : Result Conclusion Fault) → Answered E old new o → (o ≡ Err Library → ⊥) → (o ≡ Err Sink → ⊥) → (o ≡ Err Disk → ⊥) → (o ≡ Err MirrorLost → ⊥) → o ≢ Err Memory → (text : List ℕ) × E o text
+    called : (o : Result Conclusion Fault) → Answered E old new o → (o ≡ Err Library → ⊥) → (o ≡ Err Sink → ⊥) → (o ≡ Err Disk → ⊥) → (o ≡ Err MirrorLost → ⊥) → o ≢ Err (Memory no_memory) → (text : List ℕ) × E o text
     called (Ok verdict) a l k d g m = (a.0, a.1)
-    called (Err Memory) a l k d g m = absurd (m refl)
+    called (Err (Memory _)) a l k d g m = absurd (m refl)
     called (Err Library) a l k d g m = absurd (l refl)
     called (Err Sink) a l k d g m = absurd (k refl)
     called (Err Disk) a l k d g m = absurd (d refl)
@@ -39,7 +40,7 @@ exact_end E one old new outcome a library sink disk mirror = by_end (called outc
     called (Err Source) a l k d g m = (a.0, a.1)
     called (Err fault) a l k d g m = ([], a)
 
-    by_end : (outcome ≢ Err Memory → (text : List ℕ) × E outcome text) → IsExact E outcome
+    by_end : (outcome ≢ Err (Memory no_memory) → (text : List ℕ) × E outcome text) → IsExact E outcome
     by_end end = record {
       called_for = end;
       only_one = λ other text full h. one outcome other (end full).0 text (end full).1 h;

@@ -13,6 +13,7 @@ use Rattle.command_files.specs.Endings.{Ending, Answered, IsSilent, TellsNone, E
 use Rattle.command_files.specs.Exact.{NoneFailed, IsExact}
 use Rattle.command_files.specs.Spared.{BlamesLibrary, SparesBut, SparesLibrary}
 use Rattle.command_files.specs.Reading.{octets_in, chain_at, as_spelled, Fails, Gives}
+use Rattle.octet_text.specs.Want.{no_memory}
 
 abbrev Outcome : Type 0
 Outcome = Result Conclusion Fault
@@ -61,7 +62,7 @@ of_disk = refl
 of_used_up : status_of (Err KeysUsedUp) ≡ 8
 of_used_up = refl
 
-of_short_memory : status_of (Err Memory) ≡ 9
+of_short_memory : status_of (Err (Memory no_memory)) ≡ 9
 of_short_memory = refl
 
 of_no_route : status_of (Err NoRoute) ≡ 11
@@ -130,8 +131,8 @@ module _ (E : Ending) (old new : Option (List ℕ)) where
   used_up_is_called_for h = h
 
   -- nothing is written where a file, the disk or memory fails
-  silent_at_memory : IsSilent TellsNone old new (Err Memory) → Keeps old new
-  silent_at_memory h = h Memory refl (λ is. cc) (λ told. told)
+  silent_at_memory : IsSilent TellsNone old new (Err (Memory no_memory)) → Keeps old new
+  silent_at_memory h = h (Memory no_memory) refl (λ is. cc) (λ told. told)
 
   silent_at_disk : IsSilent TellsNone old new (Err Disk) → Keeps old new
   silent_at_disk h = h Disk refl (λ is. cc) (λ told. told)
@@ -202,7 +203,7 @@ first_fault_ends Next outcome text h = h
 
 -- where memory is said to be short, no fault was counted
 abbrev short : Outcome
-short = Err Memory
+short = Err (Memory no_memory)
 
 memory_blames_none : ¬ BlamesLibrary short
 memory_blames_none b = b

@@ -14,6 +14,7 @@ use Rattle.command_files.specs.declared.fault.Fault.{Fault}
 use Rattle.command_files.specs.declared.fault.Fault.TheVariants.{Words, Missing, TooLong, TruncatedFrame, FrameTooLong, Library, Source, Sink, Disk, Memory, UnknownNode, NoRoute, TooManyFrames, MirrorLost}
 use Rattle.command_files.specs.declared.ended.Conclusion.{Conclusion}
 use Rattle.command_files.specs.declared.ended.Conclusion.TheVariants.{Done}
+use Rattle.octet_text.specs.Want.{no_memory}
 
 -- a run that met a fault
 abbrev pub failed : Fault → Result Conclusion Fault
@@ -74,10 +75,10 @@ module _ (Ends : Folder → Ending) (Tells : Fault → Type 0) (DiskFailed : Typ
   nothing = over_any files (λ folder. Unit {0}) (λ folder. tt)
 
   -- out of memory
-  pub no_memory : Promises Ends Tells DiskFailed files l l' old old k k' (Err Memory)
-  no_memory = record {
+  pub out_of_memory : Promises Ends Tells DiskFailed files l l' old old k k' (Err (Memory no_memory))
+  out_of_memory = record {
     answered = nothing;
-    untold = no_untold files l l' (Err Memory) (λ e. cc) (λ e. cc);
+    untold = no_untold files l l' (Err (Memory no_memory)) (λ e. cc) (λ e. cc);
     silent = λ g e n t. keeps_same old;
     library = λ e. absurd (cc);
     sink = λ e. absurd (cc);
@@ -89,7 +90,7 @@ module _ (Ends : Folder → Ending) (Tells : Fault → Type 0) (DiskFailed : Typ
 
   module _ (E : Ending) (lift : (o : Result Conclusion Fault) (text : List ℕ) → E o text → CallsFor Ends files o text) where
     put : (f : Fault) → WhyNot DiskFailed E f → IfSome files (λ folder. Answered (Ends folder) old old (Err f))
-    put Memory h = nothing
+    put (Memory _) h = nothing
     put Disk h = nothing
     put Words h = absurd h
     put Missing h = absurd h
@@ -218,7 +219,7 @@ module _ (Ends : Folder → Ending) (Tells : Fault → Type 0) (DiskFailed : Typ
 
 -- why work was not done, told of other work
 pub why_map : (A B : Type 0) (E F : Ending) → (A → B) → ((o : Result Conclusion Fault) (text : List ℕ) → E o text → F o text) → (f : Fault) → WhyNot A E f → WhyNot B F f
-why_map A B E F disk ends Memory h = tt
+why_map A B E F disk ends (Memory _) h = tt
 why_map A B E F disk ends Disk h = disk h
 why_map A B E F disk ends Words h = absurd h
 why_map A B E F disk ends Missing h = absurd h

@@ -28,7 +28,7 @@ EndsReading read Next outcome text = MatchResult read (λ x. Next x outcome text
 -- or a fault of frames or of their source, may have a text beside a fault.
 abbrev pub Answered : Ending → Option (List ℕ) → Option (List ℕ) → Result Conclusion Fault → Type 0
 Answered Ends old new (Ok verdict) = (text : List ℕ) × Ends (Ok verdict) text × Appends old new text
-Answered Ends old new (Err Memory) = Unit {0}
+Answered Ends old new (Err (Memory _)) = Unit {0}
 Answered Ends old new (Err Library) = Unit {0}
 Answered Ends old new (Err Disk) = Unit {0}
 Answered Ends old new (Err Source) = (text : List ℕ) × Ends (Err Source) text × Appends old new text
@@ -103,7 +103,7 @@ NoEnd outcome text = ⊥
 -- a command's work after its files was not done, as its ends say, unless memory ran out or the
 -- disk failed
 abbrev pub WhyNot : Type 0 → Ending → Fault → Type 0
-WhyNot DiskFailed Ends Memory = Unit {0}
+WhyNot DiskFailed Ends (Memory _) = Unit {0}
 WhyNot DiskFailed Ends Disk = DiskFailed
 WhyNot DiskFailed Ends Words = ⊥
 WhyNot DiskFailed Ends Missing = ⊥

@@ -7,6 +7,7 @@ use Rattle.command_files.specs.declared.fault.Fault.{Fault}
 use Rattle.command_files.specs.declared.fault.Fault.TheVariants.{Memory}
 use Rattle.command_files.specs.declared.ended.Conclusion.{Conclusion}
 use Rattle.command_files.specs.Endings.{Ending}
+use Rattle.octet_text.specs.Want.{no_memory}
 
 -- no object outside failed
 pub record NoneFailed (library_before library_now sink_before sink_now disk_before disk_now : ℕ) :
@@ -17,6 +18,6 @@ pub record NoneFailed (library_before library_now sink_before sink_now disk_befo
 
 -- unless memory runs out, the outcome is one that the files call for, and they call for no other
 pub record IsExact (Ends : Ending) (outcome : Result Conclusion Fault) : Type 0 where
-  pub called_for : outcome ≢ Err Memory → (text : List ℕ) × Ends outcome text
-  pub only_one : (other : Result Conclusion Fault) (text : List ℕ) → outcome ≢ Err Memory →
+  pub called_for : outcome ≢ Err (Memory no_memory) → (text : List ℕ) × Ends outcome text
+  pub only_one : (other : Result Conclusion Fault) (text : List ℕ) → outcome ≢ Err (Memory no_memory) →
       Ends other text → outcome ≡ other

@@ -20,6 +20,7 @@ use Rattle.road_reader.specs.declared.error.RoadError.{RoadError}
 use Rattle.command_files.specs.Spared.{SparesLibrary}
 use Rattle.command_files.specs.declared.fault.Fault.{Fault}
 use Rattle.command_files.specs.declared.fault.Fault.TheVariants.{Missing, TooLong, Road, Dimacs, Map, Malformed, BadHex, Library, Memory}
+use Rattle.octet_text.specs.Want.{no_memory}
 
 -- ---- what the files say
 
@@ -64,13 +65,13 @@ chain_at folder (Some name) = spelled_in chain_file (octets_at folder name)
 
 -- the first reason why parts make no map
 abbrev pub IsMapFault : Parts → MapError → Type 0
-IsMapFault parts fault = FaultOf parts fault × (fault ≢ map_errors.Memory)
+IsMapFault parts fault = FaultOf parts fault × (fault ≢ map_errors.Memory no_memory)
 
 -- ---- what functions give of it
 
 -- a function that gave no value met this fault, unless memory or the library failed
 abbrev pub Fails : {Y : Type 0} → Fault → Result Y Fault → Type 0
-Fails Memory read = Unit {0}
+Fails (Memory _) read = Unit {0}
 Fails Library read = Unit {0}
 Fails fault read = read ≡ Err fault
 
@@ -81,7 +82,7 @@ Gives view (Err fault) read = Fails fault read
 
 -- a function that gave no map met this fault of the file or of its parts
 abbrev pub FailsMap : Fault → Result Parts Fault → Type 0
-FailsMap Memory read = Unit {0}
+FailsMap (Memory _) read = Unit {0}
 FailsMap Library read = Unit {0}
 FailsMap (Map fault) read = (parts : Parts) × (read ≡ Ok parts) × IsMapFault parts fault
 FailsMap fault read = read ≡ Err fault
@@ -100,7 +101,7 @@ IsOfFiles (Dimacs fault) = Unit {0}
 IsOfFiles (Malformed at) = Unit {0}
 IsOfFiles BadHex = Unit {0}
 IsOfFiles Library = Unit {0}
-IsOfFiles Memory = Unit {0}
+IsOfFiles (Memory _) = Unit {0}
 IsOfFiles fault = ⊥
 
 -- the same, and those of maps

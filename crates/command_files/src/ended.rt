@@ -78,7 +78,7 @@ fn status_of_fault(fault: Fault) -> u8
         Fault::Sink => 6,
         Fault::Disk => 7,
         Fault::KeysUsedUp => 8,
-        Fault::Memory => 9,
+        Fault::Memory(_) => 9,
         Fault::UnknownNode(_) | Fault::NoRoute => 11,
         Fault::Held
         | Fault::NoKey

@@ -2,6 +2,7 @@
 
 use book_model::PlanError;
 use dimacs_reader::DimacsError;
+use octet_text::NoMemory;
 use road_map::MapError;
 use road_reader::RoadError;
 use thiserror::Error;
@@ -65,7 +66,7 @@ pub enum Fault {
     KeysUsedUp,
     /// Out of memory.
     #[error("Out of memory.")]
-    Memory,
+    Memory(NoMemory),
     /// The first of the two ends that is no node of the map.
     #[error("The map has no node {0}.")]
     UnknownNode(u32),

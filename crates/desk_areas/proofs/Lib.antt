@@ -5,6 +5,7 @@ pub mod CallLemmas
 pub mod Frame
 pub mod Growth
 pub mod KeyLemmas
+pub mod Moments
 pub mod OnOks
 pub mod Pairs
 pub mod Pieces

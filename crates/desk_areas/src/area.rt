@@ -1,5 +1,6 @@
 //! An area: a key with its slots.
 ghost use Rattle.std.specs.Prelude.{◌≡◌, ◌+◌, ◌*◌, ◌^◌, ◌<◌, ◌≤◌, length, IfOk, IsErr, Err};
+ghost use Rattle.octet_text.specs.Want.{no_memory};
 ghost use Rattle.desk_areas.specs.Keys.{key_from};
 ghost use Rattle.desk_areas.specs.Layout.{slots_of, place_in};
 
@@ -89,11 +90,11 @@ pub fn place_in(base: u64, number: u32) -> u64
 pub fn build_key(alloc: Global, kind: u32, secret: &[u8; 48]) -> Result<Key, StartError>
     requires { 0 < slots_of kind }
     ensures key { IfOk result (λ key. key ≡ key_from kind secret.now) }
-    ensures memory { IsErr result → result ≡ Err StartError.Memory }
+    ensures memory { IsErr result → result ≡ Err (StartError.Memory no_memory) }
 {
     match Key::build(alloc, kind, &array_at(secret, 0), &array_at(secret, 16)) {
         Ok(key) => Ok(key),
-        Err(KeyError::Memory) => Err(StartError::Memory),
+        Err(KeyError::Memory(none)) => Err(StartError::Memory(none)),
         Err(KeyError::Kind) => unreachable!(),
     }
 }

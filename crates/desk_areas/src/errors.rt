@@ -1,7 +1,7 @@
 //! Why no desk is opened.
 
+use octet_text::NoMemory;
 use road_io::Failed;
-use std::alloc::{AllocError, AllocFailed};
 use thiserror::Error;
 
 /// Why no desk was opened.
@@ -22,7 +22,7 @@ pub enum StartError {
     DiskFault,
     /// Out of memory.
     #[error("Out of memory.")]
-    Memory,
+    Memory(NoMemory),
 }
 
 impl From<Failed> for StartError {
@@ -36,24 +36,13 @@ impl From<Failed> for StartError {
     }
 }
 
-impl From<AllocError> for StartError {
+impl From<NoMemory> for StartError {
     ghost use Rattle.std.specs.Prelude.{◌≡◌};
     ghost use Rattle.desk_areas.specs.declared.errors.StartError.TheVariants.{Memory};
 
-    ghost from_gives = { λ _ e. e ≡ Memory };
+    ghost from_gives = { λ none e. e ≡ Memory none };
 
-    fn from(_: AllocError) -> Self {
-        StartError::Memory
-    }
-}
-
-impl<T: Drop> From<AllocFailed<T>> for StartError {
-    ghost use Rattle.std.specs.Prelude.{◌≡◌};
-    ghost use Rattle.desk_areas.specs.declared.errors.StartError.TheVariants.{Memory};
-
-    ghost from_gives = { λ _ e. e ≡ Memory };
-
-    fn from(_: AllocFailed<T>) -> Self {
-        StartError::Memory
+    fn from(none: NoMemory) -> Self {
+        StartError::Memory(none)
     }
 }

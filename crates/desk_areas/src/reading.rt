@@ -1,5 +1,6 @@
 //! The reading of areas: their blocks, gates and links.
 ghost use Rattle.std.specs.Prelude.{◌≡◌, ◌≢◌, ◌+◌, ◌*◌, ◌<◌, ◌≤◌, ◌-◌, ◌^◌, ◌↔◌, List, ℕ, Some, length, take, drop, min, IfOk, OnOk, IfSome, IfNone, IsErrOf, IsErr, Err, ◌⊎◌, true, false, slice_index_or, get_or};
+ghost use Rattle.octet_text.specs.Want.{no_memory};
 ghost use Rattle.std.specs.List.{count_by};
 ghost use Rattle.std.specs.Option.{ForSome};
 ghost use Rattle.road_io.specs.Causes.{HasCause, Rose, RoseBy};
@@ -15,7 +16,7 @@ ghost use Rattle.lms_tree.specs.Links.{IsLink};
 use crate::area::{Area, Count, build_key, place_in, slots_of};
 use crate::errors::StartError;
 use lms_tree::{Key, is_link};
-use octet_text::array_at;
+use octet_text::{array_at, push};
 use road_io::{Disk, Failed};
 use std::alloc::Global;
 
@@ -84,14 +85,14 @@ fn read_gates<D: Disk>(
         Rose (D.faults disk.old) (D.faults disk.new) }
     ensures kept { result ≢ Err StartError.DiskFault → D.faults disk.new ≡ D.faults disk.old }
     ensures other { IsErr result → (result ≡ Err StartError.DiskFault) ⊎
-        (result ≡ Err StartError.Memory) }
+        (result ≡ Err (StartError.Memory no_memory)) }
     ensures counted { OnOk result (Called slots (D.calls disk.old) (D.calls disk.new)) }
     ensures few { CalledUpTo slots (D.calls disk.old) (D.calls disk.new) }
 {
     let mut counts = Vec::new(alloc);
     for slot in 0..slots {
         let spent = read_gate(disk, place_in(base, slot))?;
-        counts.push(if spent { Count::Spent } else { Count::Free })?;
+        push(&mut counts, if spent { Count::Spent } else { Count::Free })?;
     }
     Ok(counts)
 }

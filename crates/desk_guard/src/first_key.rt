@@ -34,7 +34,7 @@ pub fn is_first_key(alloc: Global, image: &[u8], public: &[u8; 56]) -> Result<bo
     };
     match Key::build(alloc, kind, &i, &seed) {
         Ok(key) => Ok(key.public() == *public),
-        Err(KeyError::Memory) => Err(NoMemory),
+        Err(KeyError::Memory(none)) => Err(none),
         Err(KeyError::Kind) => Ok(true),
     }
 }

@@ -3,6 +3,7 @@ ghost use Rattle.std.specs.Prelude.{◌≤◌};
 ghost use Rattle.road_io.specs.Disk.{Stays};
 ghost use Rattle.road_io.specs.Moments.{AtEachMoment};
 
+use octet_text::{NoMemory, filled};
 use road_io::Disk;
 use std::alloc::Global;
 
@@ -15,7 +16,7 @@ pub enum Unseen {
     /// The disk failed.
     Failed,
     /// There was no memory.
-    Memory,
+    Memory(NoMemory),
 }
 
 /// The octets of a disk, as many as eight keys take at most. It changes no image.
@@ -26,8 +27,9 @@ pub fn image_of<D: Disk>(alloc: Global, disk: &mut D) -> Result<Vec<u8>, Unseen>
         return Err(Unseen::Failed);
     };
     let length = length.min(MOST) as usize;
-    let Ok(mut image) = vec![in alloc; 0u8; length] else {
-        return Err(Unseen::Memory);
+    let mut image = match filled(alloc, 0u8, length) {
+        Ok(image) => image,
+        Err(none) => return Err(Unseen::Memory(none)),
     };
     match disk.read_at(0, &mut image) {
         Ok(()) => Ok(image),

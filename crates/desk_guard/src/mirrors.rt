@@ -4,7 +4,7 @@ ghost use Rattle.road_command.specs.Requests.{request_of};
 ghost use Rattle.desk_guard.specs.Asking.{IsPublish};
 
 use crate::owner_mirror::{OwnerMirror, mirror_of};
-use octet_text::NoMemory;
+use octet_text::{NoMemory, print, push};
 use road_command::{Command, Words, command_of};
 use std::alloc::Global;
 use std::fs::File;
@@ -36,9 +36,10 @@ fn mirrors_there<R: Files<File = File>>(
 ) -> Result<Vec<OwnerMirror>, NoMemory> {
     let mut mirrors: Vec<OwnerMirror> = Vec::new(alloc);
     for label in 1..=MOST {
-        let name = format!(in alloc; "mirror-{label}")?;
+        let mut name = String::new(alloc);
+        print(&mut name, format_args!("mirror-{label}"))?;
         if let Some(mirror) = mirror_of(rt, label, name.as_str(), "owner.desk") {
-            mirrors.push(mirror)?;
+            push(&mut mirrors, mirror)?;
         }
     }
     Ok(mirrors)

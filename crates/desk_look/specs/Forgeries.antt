@@ -88,4 +88,4 @@ abbrev pub Looked : Look → List ℕ → List Link → List ℕ → List ℕ �
 Looked look key links header signature (Ok None) = AreSigned look links header
 Looked look key links header signature (Ok (Some f)) = Forges look key links header signature f
 Looked look key links header signature (Err (Desk e)) = look.Fails e
-Looked look key links header signature (Err Memory) = Unit {0}
+Looked look key links header signature (Err (Memory _)) = Unit {0}

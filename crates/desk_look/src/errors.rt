@@ -1,6 +1,7 @@
 //! Why a desk doesn't say whether texts are signed.
 
 use key_desk::DeskError;
+use octet_text::NoMemory;
 use thiserror::Error;
 
 /// Why a desk doesn't say whether texts are signed.
@@ -11,5 +12,5 @@ pub enum LookError {
     Desk(DeskError),
     /// Out of memory.
     #[error("Out of memory.")]
-    Memory,
+    Memory(NoMemory),
 }

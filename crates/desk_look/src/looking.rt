@@ -121,7 +121,7 @@ pub fn look<D: Disk>(
         Ok(signed) => {
             match find_forgery(alloc, desk, public, chain, header, signature, signed) {
                 Ok(found) => Ok(found),
-                Err(NoMemory) => Err(LookError::Memory),
+                Err(none) => Err(LookError::Memory(none)),
             }
         }
     }

@@ -3,7 +3,7 @@
 use crate::asserts::{assert_octets, assert_same};
 use book_model::Settings;
 use mem_io::{MemSink, MemSource};
-use octet_text::{List, NoMemory, Octets, Sha, put_i32, put_octets, put_u32, put_u64};
+use octet_text::{List, Octets, Sha, put_i32, put_octets, put_u32, put_u64};
 use proof_octets::{Header, Publication};
 use route_server::Held;
 use route_service::{Guard, ServeError, Service, next_frame, serve};
@@ -60,12 +60,13 @@ fn install(alloc: Global, version: u64) -> Result<Vec<u8>, Fail> {
     Ok(body)
 }
 
-fn put_frame(input: &mut Vec<u8>, body: &[u8]) -> Result<(), NoMemory> {
+fn put_frame(input: &mut Vec<u8>, body: &[u8]) -> Result<(), Fail> {
     if body.len() > 1_000_000 {
-        return Err(NoMemory);
+        return Err(Fail::from("a long body"));
     }
     put_u32(input, body.len() as u32)?;
-    put_octets(input, body)
+    put_octets(input, body)?;
+    Ok(())
 }
 
 // Serves an input from version 1 on.

@@ -8,6 +8,7 @@ use Rattle.dimacs_reader.specs.declared.error.DimacsError.{DimacsError}
 use Rattle.dimacs_reader.specs.declared.error.DimacsError.TheVariants.{NoProblem, Count, Memory}
 use Rattle.dimacs_reader.specs.Told.{told_lines}
 use Rattle.dimacs_reader.specs.Dimacs.{◌>>=◌, where_holds, graph_size_of, arc_of, each_of, graph_from, graph_of, place_count_of, place_of, places_from, places_of}
+use Rattle.octet_text.specs.Want.{no_memory}
 
 -- a graph of these arcs, if they are as many as they should
 abbrev pub counted : GraphSize → List Arc → Result Graph DimacsError
@@ -28,7 +29,7 @@ module _ (text : List ℕ) (number : ℕ) (words : List (List ℕ)) (lines : Lis
   graph_sized size is =
       ap graph_from begins ∙ ap (λ (said : Result GraphSize DimacsError). said >>= (λ size. each_of (arc_of size.nodes) lines >>= counted size)) (sym is)
 
-  pub graph_bad_arc : (size : GraphSize) (fault : DimacsError) → Ok size ≡ graph_size_of number words → (fault ≡ Memory) ⊎ (each_of (arc_of size.nodes) lines ≡ Err fault) → (fault ≡ Memory) ⊎ (graph_of text ≡ Err fault)
+  pub graph_bad_arc : (size : GraphSize) (fault : DimacsError) → Ok size ≡ graph_size_of number words → (fault ≡ Memory no_memory) ⊎ (each_of (arc_of size.nodes) lines ≡ Err fault) → (fault ≡ Memory no_memory) ⊎ (graph_of text ≡ Err fault)
   graph_bad_arc size fault is (inl memory) = inl memory
   graph_bad_arc size fault is (inr bad) = inr (graph_sized size is ∙ ap (λ (said : Result (List Arc) DimacsError). said >>= counted size) bad)
 
@@ -61,7 +62,7 @@ module _ (nodes : ℕ) (text : List ℕ) (number : ℕ) (words : List (List ℕ)
   places_sized count is =
       ap (places_from nodes) begins ∙ ap (λ (said : Result ℕ DimacsError). said >>= (λ count. each_of (place_of count) lines >>= all_placed nodes count)) (sym is)
 
-  pub places_bad : (count : ℕ) (fault : DimacsError) → Ok count ≡ place_count_of number words → (fault ≡ Memory) ⊎ (each_of (place_of count) lines ≡ Err fault) → (fault ≡ Memory) ⊎ (places_of nodes text ≡ Err fault)
+  pub places_bad : (count : ℕ) (fault : DimacsError) → Ok count ≡ place_count_of number words → (fault ≡ Memory no_memory) ⊎ (each_of (place_of count) lines ≡ Err fault) → (fault ≡ Memory no_memory) ⊎ (places_of nodes text ≡ Err fault)
   places_bad count fault is (inl memory) = inl memory
   places_bad count fault is (inr bad) = inr (places_sized count is ∙ ap (λ (said : Result (List Node) DimacsError). said >>= all_placed nodes count) bad)
 

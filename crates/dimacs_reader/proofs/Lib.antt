@@ -10,3 +10,4 @@ pub mod ArcLaws
 pub mod CountLaws
 pub mod ListLaws
 pub mod SortedArcs
+pub mod RoadLaws

@@ -20,6 +20,7 @@ use Rattle.dimacs_reader.specs.Dimacs.{◌>>=◌, where_holds, where_none, most_
 use Rattle.dimacs_reader.proofs.FileLaws.{counted, all_placed}
 use Rattle.dimacs_reader.proofs.NodeLaws.{InRange}
 use Rattle.dimacs_reader.proofs.FitLaws.{place_fits, arc_fits}
+use Rattle.octet_text.specs.Want.{no_memory}
 
 -- what a step that went well went through
 bind_ok : {A B : Type 0} (said : Result A DimacsError) (next : A → Result B DimacsError) (y : B) → (said >>= next) ≡ Ok y → (x : A) × (said ≡ Ok x) × (next x ≡ Ok y)
@@ -187,7 +188,7 @@ dimacs_after : (text places : List ℕ) (said : Result Graph DimacsError) → gr
 unfolding dimacs_of
 dimacs_after text places said h = ap (λ (said : Result Graph DimacsError). said >>= with_graph places) h
 
-pub bad_graph : (text places : List ℕ) (fault : DimacsError) → (fault ≡ Memory) ⊎ (graph_of text ≡ Err fault) → (fault ≡ Memory) ⊎ (dimacs_of text places ≡ Err fault)
+pub bad_graph : (text places : List ℕ) (fault : DimacsError) → (fault ≡ Memory no_memory) ⊎ (graph_of text ≡ Err fault) → (fault ≡ Memory no_memory) ⊎ (dimacs_of text places ≡ Err fault)
 bad_graph text places fault (inl memory) = inl memory
 bad_graph text places fault (inr bad) = inr (dimacs_after text places (Err fault) bad)
 
@@ -195,7 +196,7 @@ module _ (text places : List ℕ) (graph : Graph) (read : graph_of text ≡ Ok g
   placing : (said : Result (List Node) DimacsError) → places_of graph.nodes places ≡ said → dimacs_of text places ≡ (said >>= with_places graph)
   placing said h = dimacs_after text places (Ok graph) read ∙ ap (λ (said : Result (List Node) DimacsError). said >>= with_places graph) h
 
-  pub bad_places : (fault : DimacsError) → (fault ≡ Memory) ⊎ (places_of graph.nodes places ≡ Err fault) → (fault ≡ Memory) ⊎ (dimacs_of text places ≡ Err fault)
+  pub bad_places : (fault : DimacsError) → (fault ≡ Memory no_memory) ⊎ (places_of graph.nodes places ≡ Err fault) → (fault ≡ Memory no_memory) ⊎ (dimacs_of text places ≡ Err fault)
   bad_places fault (inl memory) = inl memory
   bad_places fault (inr bad) = inr (placing (Err fault) bad)
 
@@ -209,7 +210,7 @@ module _ (text places : List ℕ) (graph : Graph) (read : graph_of text ≡ Ok g
     pub bad_nodes : (fault : DimacsError) → Err fault ≡ nodes_from graph.nodes list → dimacs_of text places ≡ Err fault
     bad_nodes fault bad = naming (Err fault) bad
 
-    pub bad_pairs : (nodes : List Node) (fault : DimacsError) → Ok nodes ≡ nodes_from graph.nodes list → (fault ≡ Memory) ⊎ ((index : ℕ) × (fault ≡ Unpaired index) × (first_unpaired graph.arcs ≡ Some index)) → (fault ≡ Memory) ⊎ (dimacs_of text places ≡ Err fault)
+    pub bad_pairs : (nodes : List Node) (fault : DimacsError) → Ok nodes ≡ nodes_from graph.nodes list → (fault ≡ Memory no_memory) ⊎ ((index : ℕ) × (fault ≡ Unpaired index) × (first_unpaired graph.arcs ≡ Some index)) → (fault ≡ Memory no_memory) ⊎ (dimacs_of text places ≡ Err fault)
     bad_pairs nodes fault named (inl memory) = inl memory
     bad_pairs nodes fault named (inr bad) =
         inr (naming (Ok nodes) named

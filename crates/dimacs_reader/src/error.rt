@@ -1,6 +1,6 @@
 //! Why two texts are no road files of the challenge.
 
-use std::alloc::AllocError;
+use octet_text::NoMemory;
 use thiserror::Error;
 
 /// The first fault of a graph and its coordinates.
@@ -39,16 +39,16 @@ pub enum DimacsError {
     Unpaired(u32),
     /// Out of memory.
     #[error("There is not enough memory to read the two files.")]
-    Memory,
+    Memory(NoMemory),
 }
 
-impl From<AllocError> for DimacsError {
+impl From<NoMemory> for DimacsError {
     ghost use Rattle.std.specs.Prelude.{◌≡◌};
     ghost use Rattle.dimacs_reader.specs.declared.error.DimacsError.TheVariants.{Memory};
 
-    ghost from_gives = { λ _ e. e ≡ Memory };
+    ghost from_gives = { λ none e. e ≡ Memory none };
 
-    fn from(_none: AllocError) -> DimacsError {
-        DimacsError::Memory
+    fn from(none: NoMemory) -> DimacsError {
+        DimacsError::Memory(none)
     }
 }

@@ -1,6 +1,7 @@
 //! Graph files.
 
 ghost use Rattle.std.specs.Prelude.{◌≡◌, ◌+◌, ◌^◌, ◌<◌, ◌⊎◌, Ok, Err, IfOk, IfErr, length};
+ghost use Rattle.octet_text.specs.Want.{no_memory};
 ghost use Rattle.road_reader.specs.Lines.{words_of};
 ghost use Rattle.dimacs_reader.specs.Told.{told_lines};
 ghost use Rattle.dimacs_reader.specs.Fields.{arc_in};
@@ -10,6 +11,7 @@ use crate::arc::{Arc, Arcs};
 use crate::error::DimacsError;
 use crate::lines::next_line;
 use crate::problem::graph_size;
+use octet_text::push;
 use road_reader::{FourWords, Line, Lines, four_words, natural};
 use std::alloc::Global;
 
@@ -59,14 +61,14 @@ fn read_arcs(alloc: Global, nodes: u32, mut lines: Lines) -> Result<Vec<Arc>, Di
     ensures arcs { IfOk result (λ arcs.
         each_of (arc_of nodes) (told_lines lines.entry.passed lines.entry.rest.now) ≡ Ok
         arcs.items) }
-    ensures fault { IfErr result (λ fault. (fault ≡ DimacsError.Memory)
+    ensures fault { IfErr result (λ fault. (fault ≡ DimacsError.Memory no_memory)
         ⊎ (each_of (arc_of nodes) (told_lines lines.entry.passed lines.entry.rest.now) ≡ Err
         fault)) }
 {
     let mut arcs = Vec::new(alloc);
     while let Some(line) = next_line(&mut lines) {
         let arc = read_arc(nodes, line)?;
-        arcs.push(arc).map_err(|_| DimacsError::Memory)?;
+        push(&mut arcs, arc)?;
     }
     Ok(arcs)
 }
@@ -75,7 +77,7 @@ fn read_arcs(alloc: Global, nodes: u32, mut lines: Lines) -> Result<Vec<Arc>, Di
 pub fn read_graph(alloc: Global, text: &[u8]) -> Result<Graph, DimacsError>
     requires { length text.now < 2 ^ 32 }
     ensures graph { IfOk result (λ graph. graph_of text.now ≡ Ok graph) }
-    ensures fault { IfErr result (λ fault. (fault ≡ DimacsError.Memory) ⊎
+    ensures fault { IfErr result (λ fault. (fault ≡ DimacsError.Memory no_memory) ⊎
         (graph_of text.now ≡ Err fault)) }
 {
     let mut lines = Lines {

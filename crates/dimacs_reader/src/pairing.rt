@@ -1,21 +1,23 @@
 //! Pairs of arcs: each arc between two nodes has an arc back of its own.
 
 ghost use Rattle.std.specs.Prelude.{◌≡◌, ◌+◌, ◌-◌, ◌^◌, ◌<◌, ◌⊎◌, ℕ, nat_lt, true, None, Some, IfOk, IfErr, OnOk, IsPermutation, length, count_by, get_or, set};
+ghost use Rattle.octet_text.specs.Want.{no_memory};
 ghost use Rattle.dimacs_reader.specs.declared.arc.Arc.{Arc};
 ghost use Rattle.dimacs_reader.specs.Dimacs.{is_arc, first_unpaired, road_of, roads_of};
 ghost use Rattle.dimacs_reader.specs.Left.{AreSorted, precedes, place_in, left_of, has_back, TakesBack};
 
 use crate::arc::Arc;
 use crate::error::DimacsError;
+use octet_text::{NoMemory, copied, filled, push};
 use road_map::Road;
-use std::alloc::{AllocError, Global};
+use std::alloc::Global;
 
 /// Arcs by ascending ends and lengths.
-fn sorted_arcs(alloc: Global, arcs: &[Arc]) -> Result<Vec<Arc>, AllocError>
+fn sorted_arcs(alloc: Global, arcs: &[Arc]) -> Result<Vec<Arc>, NoMemory>
     ensures sorted { IfOk result (λ sorted. AreSorted sorted.items) }
     ensures same { IfOk result (λ sorted. IsPermutation arcs.now sorted.items) }
 {
-    let mut sorted = arcs.to_vec(alloc)?;
+    let mut sorted = copied(alloc, arcs)?;
     sorted.sort_unstable_by_key(|arc| (arc.from, arc.to, arc.length));
     Ok(sorted)
 }
@@ -54,12 +56,12 @@ fn place_in(sorted: &[Arc], arc: Arc) -> Option<usize>
     }
 }
 
-/// No number above 0.
-fn zeros(alloc: Global, count: usize) -> Result<Vec<u32>, AllocError>
-    ensures long { IfOk result (λ left. length left.items ≡ count) }
+/// As many zeros as there are arcs.
+fn zeros(alloc: Global, arcs: &[Arc]) -> Result<Vec<u32>, NoMemory>
+    ensures long { IfOk result (λ left. length left.items ≡ length arcs.now) }
     ensures zero { IfOk result (λ left. (k : ℕ) → get_or left.items k 0 ≡ 0) }
 {
-    vec![in alloc; 0; count]
+    filled(alloc, 0, arcs.len())
 }
 
 /// One more at an index.
@@ -72,14 +74,14 @@ fn add_one(left: &mut Vec<u32>, place: usize)
 }
 
 /// How many of each arc there are, at its first index among sorted arcs.
-fn count_arcs(alloc: Global, sorted: &[Arc]) -> Result<Vec<u32>, AllocError>
+fn count_arcs(alloc: Global, sorted: &[Arc]) -> Result<Vec<u32>, NoMemory>
     requires few { length sorted.now < 2 ^ 32 }
     requires sorted { AreSorted sorted.now }
     ensures long { IfOk result (λ left. length left.items ≡ length sorted.now) }
     ensures counts { IfOk result (λ left. (arc : Arc) →
         left_of sorted.now left.items arc ≡ count_by (is_arc arc) sorted.now) }
 {
-    let mut left = zeros(alloc, sorted.len())?;
+    let mut left = zeros(alloc, sorted)?;
     for arc in sorted {
         let place = place_in(sorted, *arc).unwrap();
         add_one(&mut left, place);
@@ -149,7 +151,7 @@ fn find_unpaired(sorted: &[Arc], left: Vec<u32>, arcs: &[Arc]) -> Option<u32>
 pub fn check_pairs(alloc: Global, arcs: &[Arc]) -> Result<(), DimacsError>
     requires { length arcs.now < 2 ^ 32 }
     ensures paired { OnOk result (first_unpaired arcs.now ≡ None) }
-    ensures fault { IfErr result (λ fault. (fault ≡ DimacsError.Memory)
+    ensures fault { IfErr result (λ fault. (fault ≡ DimacsError.Memory no_memory)
         ⊎ ((index : ℕ) × (fault ≡ DimacsError.Unpaired index) ×
         (first_unpaired arcs.now ≡ Some index))) }
 {
@@ -162,14 +164,16 @@ pub fn check_pairs(alloc: Global, arcs: &[Arc]) -> Result<(), DimacsError>
 }
 
 /// A road for each arc of which the first id is less.
-#[tactic(auto, unfolding(crate::specs::Dimacs::roads_of))]
-pub fn roads(alloc: Global, arcs: &[Arc]) -> Result<Vec<Road>, AllocError>
+pub fn roads(alloc: Global, arcs: &[Arc]) -> Result<Vec<Road>, NoMemory>
     ensures { IfOk result (λ roads. roads.items ≡ roads_of arcs.now) }
 {
-    arcs.iter()
-        .filter(|arc| arc.from < arc.to)
-        .map(|arc| road(*arc))
-        .collect(alloc)
+    let mut roads = Vec::new(alloc);
+    for arc in arcs {
+        if arc.from < arc.to {
+            push(&mut roads, road(*arc))?;
+        }
+    }
+    Ok(roads)
 }
 
 fn road(arc: Arc) -> Road

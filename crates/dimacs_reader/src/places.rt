@@ -1,6 +1,7 @@
 //! Coordinate files, and nodes by their ids.
 
 ghost use Rattle.std.specs.Prelude.{◌≡◌, ◌+◌, ◌^◌, ◌<◌, ◌≤◌, ◌⊎◌, Ok, Err, IfOk, IfErr, length, All};
+ghost use Rattle.octet_text.specs.Want.{no_memory};
 ghost use Rattle.std.specs.List.Sorted.{IsNonDecreasingBy, IsPermutation};
 ghost use Rattle.road_map.specs.Least.{IsLeast};
 ghost use Rattle.road_map.specs.Maps.{StandsTwice};
@@ -13,6 +14,7 @@ use crate::error::DimacsError;
 use crate::graph::is_id;
 use crate::lines::next_line;
 use crate::problem::place_count;
+use octet_text::push;
 use road_map::{Node, Nodes};
 use road_reader::{FourWords, Line, Lines, coordinate, four_words, natural};
 use std::alloc::Global;
@@ -47,14 +49,14 @@ fn list_places(alloc: Global, nodes: u32, mut lines: Lines) -> Result<Vec<Node>,
     ensures places { IfOk result (λ places.
         each_of (place_of nodes) (told_lines lines.entry.passed lines.entry.rest.now) ≡ Ok
         places.items) }
-    ensures fault { IfErr result (λ fault. (fault ≡ DimacsError.Memory)
+    ensures fault { IfErr result (λ fault. (fault ≡ DimacsError.Memory no_memory)
         ⊎ (each_of (place_of nodes)
         (told_lines lines.entry.passed lines.entry.rest.now) ≡ Err fault)) }
 {
     let mut places = Vec::new(alloc);
     while let Some(line) = next_line(&mut lines) {
         let place = read_place(nodes, line)?;
-        places.push(place).map_err(|_| DimacsError::Memory)?;
+        push(&mut places, place)?;
     }
     Ok(places)
 }
@@ -63,7 +65,7 @@ fn list_places(alloc: Global, nodes: u32, mut lines: Lines) -> Result<Vec<Node>,
 pub fn read_places(alloc: Global, nodes: u32, text: &[u8]) -> Result<Vec<Node>, DimacsError>
     requires { length text.now < 2 ^ 32 }
     ensures places { IfOk result (λ places. places_of nodes text.now ≡ Ok places.items) }
-    ensures fault { IfErr result (λ fault. (fault ≡ DimacsError.Memory) ⊎
+    ensures fault { IfErr result (λ fault. (fault ≡ DimacsError.Memory no_memory) ⊎
         (places_of nodes text.now ≡ Err fault)) }
 {
     let mut lines = Lines {

@@ -1,6 +1,7 @@
 //! A graph and its coordinates, read.
 
 ghost use Rattle.std.specs.Prelude.{◌≡◌, ◌^◌, ◌<◌, ◌⊎◌, Ok, Err, IfOk, IfErr, length};
+ghost use Rattle.octet_text.specs.Want.{no_memory};
 ghost use Rattle.dimacs_reader.specs.Dimacs.{dimacs_of};
 
 use crate::error::DimacsError;
@@ -20,7 +21,7 @@ pub fn read_dimacs(alloc: Global, graph: &[u8], places: &[u8]) -> Result<Parts, 
     requires graph { length graph.now < 2 ^ 32 }
     requires places { length places.now < 2 ^ 32 }
     ensures parts { IfOk result (λ parts. dimacs_of graph.now places.now ≡ Ok parts) }
-    ensures fault { IfErr result (λ fault. (fault ≡ DimacsError.Memory) ⊎
+    ensures fault { IfErr result (λ fault. (fault ≡ DimacsError.Memory no_memory) ⊎
         (dimacs_of graph.now places.now ≡ Err fault)) }
 {
     let graph = read_graph(alloc, graph)?;

@@ -43,18 +43,18 @@ const ROOT_OF_ONE_NODE: Digest32 = [
     0x3c, 0x58, 0xab, 0x48, 0x6b, 0x1a, 0x83, 0xd6, 0xe6, 0x15, 0x11, 0x42, 0xb0, 0xf2, 0x4b, 0xf2,
 ];
 
-fn texts_of(alloc: Global, parts: &[&[u8]]) -> Result<Texts, NoMemory> {
+fn texts_of(alloc: Global, parts: &[&[u8]]) -> Result<Texts, Fail> {
     let mut texts = Texts::new(alloc);
     for part in parts {
         if !texts.fits(part) {
-            return Err(NoMemory);
+            return Err(Fail::from("no room"));
         }
         texts.push(part)?;
     }
     Ok(texts)
 }
 
-fn five_leaves(alloc: Global) -> Result<Texts, NoMemory> {
+fn five_leaves(alloc: Global) -> Result<Texts, Fail> {
     texts_of(alloc, &[b"a", b"bc", b"", b"def", b"g"])
 }
 

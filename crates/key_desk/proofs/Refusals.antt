@@ -24,6 +24,7 @@ use Rattle.key_desk.specs.Succession.{last_number, CanSucceed, IsLastSpent, HasN
 use Rattle.key_desk.proofs.Counts.{own_here, count_here}
 use Rattle.key_desk.proofs.ReadGood.{key_is}
 use Rattle.key_desk.proofs.Successors.{last_on}
+use Rattle.octet_text.specs.Want.{no_memory}
 
 -- ---- refusals of a desk
 
@@ -35,35 +36,35 @@ none_refused desk name can TooManyKeys h = omega (arith, can.few, h)
 none_refused desk name can NoSuccession h = can.free h.1
 none_refused desk name can SameSecret h = can.other h.2
 none_refused desk name can DiskFault h = h
-none_refused desk name can Memory h = h
+none_refused desk name can (Memory _) h = h
 
 -- there is one first reason
 pub one_refusal : (desk : Desk) (name : List ℕ) (e f : SucceedError) → DeskRefuses desk name e → DeskRefuses desk name f → e ≡ f
 one_refusal desk name NoKey f h k = absurd h
 one_refusal desk name BadBlock f h k = absurd h
 one_refusal desk name DiskFault f h k = absurd h
-one_refusal desk name Memory f h k = absurd h
+one_refusal desk name (Memory _) f h k = absurd h
 one_refusal desk name TooManyKeys TooManyKeys h k = refl
 one_refusal desk name TooManyKeys NoSuccession h k = absurd (omega (arith, h, k.0))
 one_refusal desk name TooManyKeys SameSecret h k = absurd (omega (arith, h, k.0))
 one_refusal desk name TooManyKeys NoKey h k = absurd k
 one_refusal desk name TooManyKeys BadBlock h k = absurd k
 one_refusal desk name TooManyKeys DiskFault h k = absurd k
-one_refusal desk name TooManyKeys Memory h k = absurd k
+one_refusal desk name TooManyKeys (Memory _) h k = absurd k
 one_refusal desk name NoSuccession TooManyKeys h k = absurd (omega (arith, h.0, k))
 one_refusal desk name NoSuccession NoSuccession h k = refl
 one_refusal desk name NoSuccession SameSecret h k = absurd (k.1 h.1)
 one_refusal desk name NoSuccession NoKey h k = absurd k
 one_refusal desk name NoSuccession BadBlock h k = absurd k
 one_refusal desk name NoSuccession DiskFault h k = absurd k
-one_refusal desk name NoSuccession Memory h k = absurd k
+one_refusal desk name NoSuccession (Memory _) h k = absurd k
 one_refusal desk name SameSecret TooManyKeys h k = absurd (omega (arith, h.0, k))
 one_refusal desk name SameSecret NoSuccession h k = absurd (h.1 k.1)
 one_refusal desk name SameSecret SameSecret h k = refl
 one_refusal desk name SameSecret NoKey h k = absurd k
 one_refusal desk name SameSecret BadBlock h k = absurd k
 one_refusal desk name SameSecret DiskFault h k = absurd k
-one_refusal desk name SameSecret Memory h k = absurd k
+one_refusal desk name SameSecret (Memory _) h k = absurd k
 
 -- a reason is called for
 pub called : (desk : Desk) (name : List ℕ) (e : SucceedError) → DeskRefuses desk name e → IsDeskCalledFor desk name e
@@ -73,10 +74,10 @@ called desk name TooManyKeys h = h
 called desk name NoSuccession h = h
 called desk name SameSecret h = h
 called desk name DiskFault h = tt
-called desk name Memory h = tt
+called desk name (Memory _) h = tt
 
 -- a fault of the disk and out of memory are always allowed
-pub called_else : (desk : Desk) (name : List ℕ) (e : SucceedError) → (e ≡ DiskFault) ⊎ (e ≡ Memory) → IsDeskCalledFor desk name e
+pub called_else : (desk : Desk) (name : List ℕ) (e : SucceedError) → (e ≡ DiskFault) ⊎ (e ≡ Memory no_memory) → IsDeskCalledFor desk name e
 called_else desk name e (inl is) = subst (IsDeskCalledFor desk name) (sym is) tt
 called_else desk name e (inr is) = subst (IsDeskCalledFor desk name) (sym is) tt
 
@@ -146,7 +147,7 @@ module _ {D : Type 0} (g : Ghosts D) (desk : Desk) (disk : D) (fits : Fits g des
   to_image name NoSuccession h = (usable, not_eighth h.0, used h.1)
   to_image name SameSecret h = (usable, not_eighth h.0, unused h.1, named name h.2)
   to_image name DiskFault h = absurd h
-  to_image name Memory h = absurd h
+  to_image name (Memory _) h = absurd h
 
   few_now : (IsCurrent x 7 → ⊥) → length desk.earlier < 7
   few_now other = elim (cases_eq (length desk.earlier) 7) [
@@ -162,7 +163,7 @@ module _ {D : Type 0} (g : Ghosts D) (desk : Desk) (disk : D) (fits : Fits g des
   from_image name NoSuccession h = (few_now h.1, spent_now h.2)
   from_image name SameSecret h = (few_now h.1, (λ spent. h.2 (used spent)), named_now name h.3)
   from_image name DiskFault h = absurd h
-  from_image name Memory h = absurd h
+  from_image name (Memory _) h = absurd h
 
 -- what a desk says is what its disk calls for
 pub called_on : (content : Option (List ℕ)) (desk : Desk) (name : List ℕ) (e : SucceedError) → ((c : List ℕ) → content ≡ Some c → (f : SucceedError) → DeskRefuses desk name f → Refuses c name f)
@@ -173,7 +174,7 @@ called_on content desk name TooManyKeys each h = λ c is. each c is TooManyKeys 
 called_on content desk name NoSuccession each h = λ c is. each c is NoSuccession h
 called_on content desk name SameSecret each h = λ c is. each c is SameSecret h
 called_on content desk name DiskFault each h = tt
-called_on content desk name Memory each h = tt
+called_on content desk name (Memory _) each h = tt
 
 -- one error in two answers
 pub same_error : {X E : Type 0} (e f : E) → ◌≡◌ {A = Result X E} (Err e) (Err f) → e ≡ f
@@ -187,7 +188,7 @@ start_called content name start.NoKey no_key bad = no_key refl
 start_called content name start.BadBlock no_key bad = bad refl
 start_called content name start.DiskFault no_key bad = tt
 start_called content name start.Held no_key bad = tt
-start_called content name start.Memory no_key bad = tt
+start_called content name (start.Memory _) no_key bad = tt
 
 -- the disk failed where the call that opens says so
 pub start_fault : (e : StartError) → started e ≡ DiskFault → e ≡ start.DiskFault
@@ -195,68 +196,68 @@ start_fault start.DiskFault is = refl
 start_fault start.NoKey is = absurd cc
 start_fault start.BadBlock is = absurd cc
 start_fault start.Held is = absurd cc
-start_fault start.Memory is = absurd cc
+start_fault (start.Memory _) is = absurd cc
 
 -- the answer of a call that started nothing
 abbrev not_started : {X : Type 0} → SucceedError → Result X SucceedError
 not_started e = Err e
 
 pub start_called_else : {X : Type 0} (x : List ℕ) (name : List ℕ) (e : StartError) → (e ≡ start.NoKey → IsOpen x → ⊥) → (e ≡ start.BadBlock → IsOpen x × IsBadBlock x)
-    → (f : SucceedError) → Refuses x name f → (not_started {X = X} (started e) ≡ Err f) ⊎ ((not_started {X = X} (started e) ≡ Err DiskFault) ⊎ (not_started {X = X} (started e) ≡ Err Memory))
+    → (f : SucceedError) → Refuses x name f → (not_started {X = X} (started e) ≡ Err f) ⊎ ((not_started {X = X} (started e) ≡ Err DiskFault) ⊎ (not_started {X = X} (started e) ≡ Err (Memory no_memory)))
 start_called_else x name start.DiskFault no_key bad f h = inr (inl refl)
 start_called_else x name start.Held no_key bad f h = inr (inr refl)
-start_called_else x name start.Memory no_key bad f h = inr (inr refl)
+start_called_else x name (start.Memory _) no_key bad f h = inr (inr refl)
 start_called_else x name start.NoKey no_key bad NoKey h = inl refl
 start_called_else x name start.NoKey no_key bad BadBlock h = absurd (no_key refl h.0)
 start_called_else x name start.NoKey no_key bad TooManyKeys h = absurd (no_key refl h.0.open_gate)
 start_called_else x name start.NoKey no_key bad NoSuccession h = absurd (no_key refl h.0.open_gate)
 start_called_else x name start.NoKey no_key bad SameSecret h = absurd (no_key refl h.0.open_gate)
 start_called_else x name start.NoKey no_key bad DiskFault h = absurd h
-start_called_else x name start.NoKey no_key bad Memory h = absurd h
+start_called_else x name start.NoKey no_key bad (Memory _) h = absurd h
 start_called_else x name start.BadBlock no_key bad NoKey h = absurd (h (bad refl).0)
 start_called_else x name start.BadBlock no_key bad BadBlock h = inl refl
 start_called_else x name start.BadBlock no_key bad TooManyKeys h = absurd (h.0.good_block (bad refl).1)
 start_called_else x name start.BadBlock no_key bad NoSuccession h = absurd (h.0.good_block (bad refl).1)
 start_called_else x name start.BadBlock no_key bad SameSecret h = absurd (h.0.good_block (bad refl).1)
 start_called_else x name start.BadBlock no_key bad DiskFault h = absurd h
-start_called_else x name start.BadBlock no_key bad Memory h = absurd h
+start_called_else x name start.BadBlock no_key bad (Memory _) h = absurd h
 
 -- there is one first reason over what a disk holds
 pub one_reason : (x name : List ℕ) (e f : SucceedError) → Refuses x name e → Refuses x name f → e ≡ f
 one_reason x name DiskFault f h k = absurd h
-one_reason x name Memory f h k = absurd h
+one_reason x name (Memory _) f h k = absurd h
 one_reason x name NoKey NoKey h k = refl
 one_reason x name NoKey BadBlock h k = absurd (h k.0)
 one_reason x name NoKey TooManyKeys h k = absurd (h k.0.open_gate)
 one_reason x name NoKey NoSuccession h k = absurd (h k.0.open_gate)
 one_reason x name NoKey SameSecret h k = absurd (h k.0.open_gate)
 one_reason x name NoKey DiskFault h k = absurd k
-one_reason x name NoKey Memory h k = absurd k
+one_reason x name NoKey (Memory _) h k = absurd k
 one_reason x name BadBlock NoKey h k = absurd (k h.0)
 one_reason x name BadBlock BadBlock h k = refl
 one_reason x name BadBlock TooManyKeys h k = absurd (k.0.good_block h.1)
 one_reason x name BadBlock NoSuccession h k = absurd (k.0.good_block h.1)
 one_reason x name BadBlock SameSecret h k = absurd (k.0.good_block h.1)
 one_reason x name BadBlock DiskFault h k = absurd k
-one_reason x name BadBlock Memory h k = absurd k
+one_reason x name BadBlock (Memory _) h k = absurd k
 one_reason x name TooManyKeys NoKey h k = absurd (k h.0.open_gate)
 one_reason x name TooManyKeys BadBlock h k = absurd (h.0.good_block k.1)
 one_reason x name TooManyKeys TooManyKeys h k = refl
 one_reason x name TooManyKeys NoSuccession h k = absurd (k.1 h.1)
 one_reason x name TooManyKeys SameSecret h k = absurd (k.1 h.1)
 one_reason x name TooManyKeys DiskFault h k = absurd k
-one_reason x name TooManyKeys Memory h k = absurd k
+one_reason x name TooManyKeys (Memory _) h k = absurd k
 one_reason x name NoSuccession NoKey h k = absurd (k h.0.open_gate)
 one_reason x name NoSuccession BadBlock h k = absurd (h.0.good_block k.1)
 one_reason x name NoSuccession TooManyKeys h k = absurd (h.1 k.1)
 one_reason x name NoSuccession NoSuccession h k = refl
 one_reason x name NoSuccession SameSecret h k = absurd (k.2 h.2)
 one_reason x name NoSuccession DiskFault h k = absurd k
-one_reason x name NoSuccession Memory h k = absurd k
+one_reason x name NoSuccession (Memory _) h k = absurd k
 one_reason x name SameSecret NoKey h k = absurd (k h.0.open_gate)
 one_reason x name SameSecret BadBlock h k = absurd (h.0.good_block k.1)
 one_reason x name SameSecret TooManyKeys h k = absurd (h.1 k.1)
 one_reason x name SameSecret NoSuccession h k = absurd (h.2 k.2)
 one_reason x name SameSecret SameSecret h k = refl
 one_reason x name SameSecret DiskFault h k = absurd k
-one_reason x name SameSecret Memory h k = absurd k
+one_reason x name SameSecret (Memory _) h k = absurd k

@@ -16,6 +16,7 @@ use Rattle.desk_areas.specs.Keys.{key_at}
 use Rattle.desk_areas.specs.Layout.{slots_of, place_in, base_of, gate_at, gate_of, last_slot, IsAreaOpen, IsOpen, IsCurrent, SignsAtMost}
 use Rattle.desk_areas.specs.Blank.{HasKey, IsBlankArea}
 use Rattle.key_desk.specs.Desk.{count_at, key_of}
+use Rattle.octet_text.specs.Want.{no_memory}
 
 -- the number of the slot that signs the next key
 abbrev pub last_number : Desk → ℕ
@@ -83,19 +84,19 @@ Refuses image name NoSuccession = IsUsable image × (IsCurrent image 7 → ⊥) 
 Refuses image name SameSecret = IsUsable image × (IsCurrent image 7 → ⊥) × (IsLastSpent image → ⊥) ×
     HasName image name
 Refuses image name DiskFault = ⊥
-Refuses image name Memory = ⊥
+Refuses image name (Memory _) = ⊥
 
 -- A refusal is the one that what the disk holds calls for. This says nothing of a fault of the disk
 -- or of memory that ran out.
 abbrev pub IsCalledFor : Option (List ℕ) → List ℕ → SucceedError → Type 0
 IsCalledFor content name DiskFault = Unit {0}
-IsCalledFor content name Memory = Unit {0}
+IsCalledFor content name (Memory _) = Unit {0}
 IsCalledFor content name e = ForSome content (λ c. Refuses c name e)
 
 -- what the disk calls for is answered, unless the disk failed or memory ran out
 abbrev pub AnswersRefusal : {X : Type 0} → List ℕ → List ℕ → Result X SucceedError → Type 0
 AnswersRefusal image name answer = (e : SucceedError) → Refuses image name e → (answer ≡ Err e) ⊎
-    ((answer ≡ Err DiskFault) ⊎ (answer ≡ Err Memory))
+    ((answer ≡ Err DiskFault) ⊎ (answer ≡ Err (Memory no_memory)))
 
 -- a desk has a key of this name
 abbrev pub HasKeyNamed : Desk → List ℕ → Type 0
@@ -118,7 +119,7 @@ pub record CanFollow (desk : Desk) (name : List ℕ) : Type 0 where
 
 abbrev pub IsDeskCalledFor : Desk → List ℕ → SucceedError → Type 0
 IsDeskCalledFor desk name DiskFault = Unit {0}
-IsDeskCalledFor desk name Memory = Unit {0}
+IsDeskCalledFor desk name (Memory _) = Unit {0}
 IsDeskCalledFor desk name e = DeskRefuses desk name e
 
 -- what a desk refuses is answered
@@ -130,5 +131,5 @@ abbrev pub started : StartError → SucceedError
 started start.NoKey = NoKey
 started start.BadBlock = BadBlock
 started start.DiskFault = DiskFault
-started start.Held = Memory
-started start.Memory = Memory
+started start.Held = Memory no_memory
+started (start.Memory none) = Memory none

@@ -13,6 +13,7 @@ ghost use Rattle.desk_areas.specs.Keys.{key_from};
 
 use crate::desk::Desk;
 use desk_areas::{Count, StartError, build_key, clear_first, look_for_key, open_first, slots_of};
+use octet_text::filled;
 use road_io::Disk;
 use std::alloc::Global;
 
@@ -65,8 +66,8 @@ impl Desk {
         let len = look_for_key(disk)?;
         let slots = slots_of(kind);
         let key = build_key(alloc, kind, secret)?;
-        let zeros = vec![in alloc; 0u8; 63 + 128 * slots as usize]?;
-        let counts = vec![in alloc; Count::Free; slots as usize]?;
+        let zeros = filled(alloc, 0u8, 63 + 128 * slots as usize)?;
+        let counts = filled(alloc, Count::Free, slots as usize)?;
         clear_first(disk, len, &zeros)?;
         open_first(disk, kind, secret)?;
         Ok(Desk::from_parts(Vec::new(alloc), 0, key, counts))

@@ -1,5 +1,6 @@
 //! The keys of a desk, and the links from each of them to the next.
 ghost use Rattle.std.specs.Prelude.{◌≡◌, ◌+◌, ◌<◌, ◌≤◌, ◌↔◌, Ok, Err, true, false, length, IfOk, IsErr, IsErrOf};
+ghost use Rattle.octet_text.specs.Want.{no_memory};
 ghost use Rattle.lms_tree.specs.ChainFiles.{chain_file, link_row};
 ghost use Rattle.lms_tree.specs.Chains.{chained};
 ghost use Rattle.lms_tree.specs.Links.{link_text};
@@ -9,8 +10,8 @@ ghost use Rattle.key_desk.specs.Links.{link_of};
 use crate::desk::{Desk, signature_len};
 use desk_areas::slots_of;
 use lms_tree::{Key, Link, link_text, verify};
-use octet_text::Octets;
-use std::alloc::{AllocError, AllocFailed, Global};
+use octet_text::{NoMemory, Octets, filled, push};
+use std::alloc::Global;
 use thiserror::Error;
 
 /// Why a desk doesn't tell its links.
@@ -21,28 +22,17 @@ pub enum LinksError {
     Closed,
     /// Out of memory.
     #[error("Out of memory.")]
-    Memory,
+    Memory(NoMemory),
 }
 
-impl From<AllocError> for LinksError {
+impl From<NoMemory> for LinksError {
     ghost use Rattle.std.specs.Prelude.{◌≡◌};
     ghost use Rattle.key_desk.specs.declared.links.LinksError.TheVariants.{Memory};
 
-    ghost from_gives = { λ _ e. e ≡ Memory };
+    ghost from_gives = { λ none e. e ≡ Memory none };
 
-    fn from(_: AllocError) -> Self {
-        LinksError::Memory
-    }
-}
-
-impl<T: Drop> From<AllocFailed<T>> for LinksError {
-    ghost use Rattle.std.specs.Prelude.{◌≡◌};
-    ghost use Rattle.key_desk.specs.declared.links.LinksError.TheVariants.{Memory};
-
-    ghost from_gives = { λ _ e. e ≡ Memory };
-
-    fn from(_: AllocFailed<T>) -> Self {
-        LinksError::Memory
+    fn from(none: NoMemory) -> Self {
+        LinksError::Memory(none)
     }
 }
 
@@ -108,7 +98,7 @@ impl Desk {
             (λ link. verified (public_key (key_of self.now area))
             (link_text link.key) link.signature ≡ Ok tt) }
         ensures fits { IfOk result (λ link. link_row.Fits link) }
-        ensures memory { IsErr result → result ≡ Err LinksError.Memory }
+        ensures memory { IsErr result → result ≡ Err (LinksError.Memory no_memory) }
     {
         let next = self.public_of(area + 1);
         link_to(alloc, self.key_in(area), next)
@@ -132,7 +122,7 @@ impl Desk {
         let count = self.earlier().len() as u32;
         for area in 0..count {
             let link = self.link_from(alloc, area)?;
-            links.push(link)?;
+            push(&mut links, link)?;
         }
         Ok(links)
     }
@@ -174,10 +164,10 @@ fn link_to(alloc: Global, key: &Key, next: [u8; 56]) -> Result<Link, LinksError>
     ensures good { IfOk result (λ link.
         verified (public_key key.now) (link_text link.key) link.signature ≡ Ok tt) }
     ensures fits { IfOk result (λ link. link_row.Fits link) }
-    ensures memory { IsErr result → result ≡ Err LinksError.Memory }
+    ensures memory { IsErr result → result ≡ Err (LinksError.Memory no_memory) }
 {
     let length = signature_len(key.kind());
-    let mut signature = vec![in alloc; 0u8; length as usize]?;
+    let mut signature = filled(alloc, 0u8, length as usize)?;
     sign_link(key, &next, &mut signature);
     Ok(Link {
         key: next,

@@ -1,5 +1,6 @@
 //! The opening of a desk over what a disk holds.
 ghost use Rattle.std.specs.Prelude.{◌≡◌, ◌≢◌, ◌+◌, ◌*◌, ◌<◌, ◌≤◌, ◌-◌, List, ℕ, Some, length, IfOk, OnOk, IsErr, IsErrOf, Err, ◌⊎◌, true};
+ghost use Rattle.octet_text.specs.Want.{no_memory};
 ghost use Rattle.std.specs.Option.{ForSome};
 ghost use Rattle.road_io.specs.Causes.{Rose, RoseBy};
 ghost use Rattle.road_io.specs.Disk.{Narrows, Stays};
@@ -12,6 +13,7 @@ ghost use Rattle.key_desk.specs.Stands.{KeepsStanding};
 
 use crate::desk::Desk;
 use desk_areas::{Area, Count, Found, StartError, place_in, read_gate, read_next};
+use octet_text::push;
 use road_io::Disk;
 use std::alloc::Global;
 
@@ -34,7 +36,7 @@ impl Desk {
             (result ≡ Err StartError.DiskFault)) }
         ensures bad_block_else { ForSome (D.content disk.new)
             (λ c. IsOpen c → IsBadBlock c → (result ≡ Err StartError.BadBlock) ⊎
-            ((result ≡ Err StartError.DiskFault) ⊎ (result ≡ Err StartError.Memory))) }
+            ((result ≡ Err StartError.DiskFault) ⊎ (result ≡ Err (StartError.Memory no_memory)))) }
         ensures no_key { IsErrOf result StartError.NoKey →
             ForSome (D.content disk.new) (λ c. IsOpen c → ⊥) }
         ensures bad_block { IsErrOf result StartError.BadBlock →
@@ -101,7 +103,7 @@ impl Desk {
                 None => return Ok(Desk::with_current(earlier, base, area)),
                 Some(key) => {
                     base = place_in(base, area.counts().len() as u32);
-                    earlier.push(area)?;
+                    push(&mut earlier, area)?;
                     named = Some(key);
                 }
             }

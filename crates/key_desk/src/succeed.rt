@@ -1,5 +1,6 @@
 //! The next key: a new area after all others, which the last slot of the current one signs.
 ghost use Rattle.std.specs.Prelude.{◌≡◌, ◌≢◌, ◌⊎◌, ◌+◌, ◌*◌, ◌^◌, ◌↔◌, ◌<◌, ◌≤◌, ◌-◌, List, ℕ, suc, Err, length, take, replicate, IfOk, OnOk, OnErr, IfErr, IsErrOf, IsErr, true, false};
+ghost use Rattle.octet_text.specs.Want.{no_memory};
 ghost use Rattle.std.specs.Option.{ForSome};
 ghost use Rattle.road_io.specs.Causes.{HasCause, Rose, RoseBy};
 ghost use Rattle.road_io.specs.Disk.{Narrows, Stays};
@@ -22,9 +23,9 @@ use desk_areas::{
     put_text, slots_of,
 };
 use lms_tree::{Key, link_text};
-use octet_text::array_at;
+use octet_text::{NoMemory, array_at, filled, push};
 use road_io::{Disk, Failed};
-use std::alloc::{AllocError, AllocFailed, Global};
+use std::alloc::Global;
 use thiserror::Error;
 
 // Adds a blank area, and then lets the last slot of the current area sign its key.
@@ -101,7 +102,7 @@ pub enum SucceedError {
     DiskFault,
     /// Out of memory.
     #[error("Out of memory.")]
-    Memory,
+    Memory(NoMemory),
 }
 
 impl From<Failed> for SucceedError {
@@ -115,25 +116,14 @@ impl From<Failed> for SucceedError {
     }
 }
 
-impl<T: Drop> From<AllocFailed<T>> for SucceedError {
+impl From<NoMemory> for SucceedError {
     ghost use Rattle.std.specs.Prelude.{◌≡◌};
     ghost use Rattle.key_desk.specs.declared.succeed.SucceedError.TheVariants.{Memory};
 
-    ghost from_gives = { λ _ e. e ≡ Memory };
+    ghost from_gives = { λ none e. e ≡ Memory none };
 
-    fn from(_: AllocFailed<T>) -> Self {
-        SucceedError::Memory
-    }
-}
-
-impl From<AllocError> for SucceedError {
-    ghost use Rattle.std.specs.Prelude.{◌≡◌};
-    ghost use Rattle.key_desk.specs.declared.succeed.SucceedError.TheVariants.{Memory};
-
-    ghost from_gives = { λ _ e. e ≡ Memory };
-
-    fn from(_: AllocError) -> Self {
-        SucceedError::Memory
+    fn from(none: NoMemory) -> Self {
+        SucceedError::Memory(none)
     }
 }
 
@@ -183,7 +173,7 @@ impl Desk {
         requires few { length self.earlier < 7 }
         requires counts { counts.items ≡ replicate (slots_of key.kind) Count.Free }
         ensures next { IfOk result (λ next. next ≡ next_desk self key) }
-        ensures memory { IsErr result → result ≡ Err SucceedError.Memory }
+        ensures memory { IsErr result → result ≡ Err (SucceedError.Memory no_memory) }
     {
         let Desk {
             mut earlier,
@@ -194,7 +184,7 @@ impl Desk {
         } = self;
         let slots = old_counts.len();
         old_counts[slots - 1] = Count::Spent;
-        earlier.push(Area::from_parts(old_key, old_counts))?;
+        push(&mut earlier, Area::from_parts(old_key, old_counts))?;
         Ok(Desk::from_parts(earlier, base + 64 + 128 * slots as u64, key, counts))
     }
 }
@@ -312,7 +302,7 @@ impl Desk {
         ensures unspent { IfOk result
             (λ next. EachImage D.Disk disk.new (IsUnspent next.key next.base)) }
         ensures only { IfErr result
-            (λ e. (e ≡ SucceedError.DiskFault) ⊎ (e ≡ SucceedError.Memory)) }
+            (λ e. (e ≡ SucceedError.DiskFault) ⊎ (e ≡ SucceedError.Memory no_memory)) }
         ensures untouched { IsErr result → result ≢ Err SucceedError.DiskFault →
             disk.new ≡ disk.old }
         ensures faults { D.faults disk.old ≤ D.faults disk.new }
@@ -325,11 +315,12 @@ impl Desk {
         let slots = slots_of(kind);
         let key = match build_key(alloc, kind, secret) {
             Ok(key) => key,
-            Err(_) => return Err(SucceedError::Memory),
+            Err(StartError::Memory(none)) => return Err(SucceedError::Memory(none)),
+            Err(_) => unreachable!(),
         };
         let link = link_text(&key.public());
-        let zeros = vec![in alloc; 0u8; 64 + 128 * slots as usize]?;
-        let counts = vec![in alloc; Count::Free; slots as usize]?;
+        let zeros = filled(alloc, 0u8, 64 + 128 * slots as usize)?;
+        let counts = filled(alloc, Count::Free, slots as usize)?;
         let base = self.base();
         let own_slots = self.counts().len() as u32;
         let next = self.into_next(key, counts)?;
@@ -338,15 +329,16 @@ impl Desk {
     }
 }
 
-// Why nothing could be read.
+// Why nothing could be read. No key is refused for one that stands.
 fn started(e: StartError) -> SucceedError
+    requires { e ≢ StartError.Held }
     ensures { result ≡ started e }
 {
     match e {
         StartError::NoKey => SucceedError::NoKey,
         StartError::BadBlock => SucceedError::BadBlock,
         StartError::DiskFault => SucceedError::DiskFault,
-        // No key is refused for one that stands.
-        StartError::Held | StartError::Memory => SucceedError::Memory,
+        StartError::Memory(none) => SucceedError::Memory(none),
+        StartError::Held => unreachable!(),
     }
 }

@@ -14,7 +14,7 @@ ghost use Rattle.landmarks.specs.declared.coding.CodeError.TheVariants as code_e
 use crate::lengths::{Lengths, greatest_in, ids_of, lengths_from};
 use crate::picking::picks;
 use crate::table::{CodeTable, NO_CODE};
-use octet_text::NoMemory;
+use octet_text::{NoMemory, push, room_for};
 use road_leaf::Codes;
 use road_map::{Map, map_laws};
 use road_search::Survey;
@@ -29,14 +29,14 @@ pub enum CodeError {
     Bits,
     /// Out of memory.
     #[error("Out of memory.")]
-    Memory,
+    Memory(NoMemory),
 }
 
 impl From<NoMemory> for CodeError {
-    ghost from_gives = { λ _ e. e ≡ code_error.Memory };
+    ghost from_gives = { λ none e. e ≡ code_error.Memory none };
 
-    fn from(_none: NoMemory) -> CodeError {
-        CodeError::Memory
+    fn from(none: NoMemory) -> CodeError {
+        CodeError::Memory(none)
     }
 }
 
@@ -91,9 +91,9 @@ fn codes_at(alloc: Global, step: u64, rows: &[Lengths], place: usize) -> Result<
         IsCodable step place row }
     ensures { IfOk result (λ codes. codes ≡ map (code_in step place) rows.now) }
 {
-    let mut codes = Vec::with_capacity(alloc, rows.len())?;
+    let mut codes = room_for(alloc, rows)?;
     for row in rows {
-        codes.push(code_at(step, row.as_slice(), place))?;
+        push(&mut codes, code_at(step, row.as_slice(), place))?;
     }
     Ok(Codes::from_vec(codes))
 }
@@ -106,9 +106,9 @@ fn coded(alloc: Global, step: u64, ids: &[u32], rows: &[Lengths]) -> Result<Vec<
         rows.now ≡ rows_of dist ids.now chosen →
         codes.items ≡ map (codes_of dist step chosen) ids.now) }
 {
-    let mut codes = Vec::with_capacity(alloc, ids.len())?;
+    let mut codes = room_for(alloc, ids)?;
     for place in 0..ids.len() {
-        codes.push(codes_at(alloc, step, rows, place)?)?;
+        push(&mut codes, codes_at(alloc, step, rows, place)?)?;
     }
     Ok(codes)
 }
@@ -138,9 +138,9 @@ fn rows_from(alloc: Global, map: &Map, chosen: &[u32]) -> Result<Vec<Lengths>, N
         rows.items ≡ rows_of (distance map.now.parts) (by_id map.now.parts.nodes) chosen.now) }
 {
     let mut survey = Survey::of(alloc, map);
-    let mut rows = Vec::with_capacity(alloc, chosen.len())?;
+    let mut rows = room_for(alloc, chosen)?;
     for id in chosen {
-        rows.push(lengths_from(alloc, map, &mut survey, *id)?)?;
+        push(&mut rows, lengths_from(alloc, map, &mut survey, *id)?)?;
     }
     Ok(rows)
 }

@@ -9,7 +9,7 @@ ghost use Rattle.book_model.specs.Landmarks.{greatest_of};
 ghost use Rattle.landmarks.specs.Rows.{row_of, lessers, Gives};
 
 use book_model::book_laws;
-use octet_text::NoMemory;
+use octet_text::{NoMemory, push};
 use road_map::Map;
 use road_search::{Survey, rising_ids};
 use std::alloc::Global;
@@ -55,7 +55,7 @@ pub fn no_lengths(alloc: Global, ids: &[u32]) -> Result<Lengths, NoMemory>
 {
     let mut items = Vec::new(alloc);
     for _id in ids {
-        items.push(None)?;
+        push(&mut items, None)?;
     }
     Ok(Lengths { items })
 }
@@ -66,9 +66,9 @@ fn lengths_of(alloc: Global, survey: &Survey<'_>, count: u32) -> Result<Lengths,
     ensures { IfOk result (λ lengths. (f : ℕ → Option ℕ) → Gives survey.now f →
         lengths ≡ map f (ids survey.now.map.order)) }
 {
-    let mut items = Vec::with_capacity(alloc, count as usize)?;
+    let mut items = Vec::new(alloc);
     for position in 0..count {
-        items.push(survey.length(position))?;
+        push(&mut items, survey.length(position))?;
     }
     Ok(Lengths { items })
 }
@@ -114,7 +114,7 @@ pub fn nearer(
 {
     let mut items = Vec::new(alloc);
     for (i, length) in near.iter().enumerate() {
-        items.push(lesser_of(*length, other[i]))?;
+        push(&mut items, lesser_of(*length, other[i]))?;
     }
     Ok(Lengths { items })
 }

@@ -11,10 +11,10 @@ ghost use Rattle.landmarks.specs.declared.picking.PickError.TheVariants as pick_
 
 use crate::laws::landmark_laws;
 use crate::lengths::{Lengths, ids_of, lengths_from, nearer, no_lengths};
-use octet_text::NoMemory;
+use octet_text::{NoMemory, push};
 use road_map::Map;
 use road_search::Survey;
-use std::alloc::{AllocError, Global};
+use std::alloc::Global;
 use thiserror::Error;
 
 /// Why no landmarks are picked.
@@ -25,14 +25,14 @@ pub enum PickError {
     Count,
     /// Out of memory.
     #[error("Out of memory.")]
-    Memory,
+    Memory(NoMemory),
 }
 
 impl From<NoMemory> for PickError {
-    ghost from_gives = { λ _ e. e ≡ pick_error.Memory };
+    ghost from_gives = { λ none e. e ≡ pick_error.Memory none };
 
-    fn from(_none: NoMemory) -> PickError {
-        PickError::Memory
+    fn from(none: NoMemory) -> PickError {
+        PickError::Memory(none)
     }
 }
 
@@ -122,8 +122,8 @@ fn pick_next(
     };
     let row = lengths_from(alloc, map, survey, id)?;
     picked.near = nearer(alloc, picked.near.as_slice(), row.as_slice())?;
-    picked.chosen.push(id)?;
-    picked.rows.push(row)?;
+    push(&mut picked.chosen, id)?;
+    push(&mut picked.rows, row)?;
     Ok(())
 }
 

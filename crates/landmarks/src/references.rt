@@ -6,9 +6,9 @@ ghost use Rattle.landmarks.specs.Tables.{codes_in};
 ghost use Rattle.landmarks.specs.Near.{near_gap, near_in};
 
 use crate::table::{CodeTable, NO_CODE};
-use octet_text::NoMemory;
+use octet_text::{NoMemory, copied, push, room_for};
 use road_leaf::{Codes, Extra};
-use std::alloc::{AllocError, Global};
+use std::alloc::Global;
 
 /// How many of the last nodes that kept their own codes may stand for a node.
 const CANDIDATES: usize = 64;
@@ -69,17 +69,17 @@ fn extra_for(
     let recent = &kept[kept.len().saturating_sub(CANDIDATES)..];
     match find_near(table, recent, codes, threshold) {
         Some((reference, error)) => Ok(Extra::Near { reference, error }),
-        None => Ok(Extra::Own(Codes::from_vec(codes.to_vec(alloc)?))),
+        None => Ok(Extra::Own(Codes::from_vec(copied(alloc, codes)?))),
     }
 }
 
 /// Notes a node that keeps its own codes.
-fn keep(kept: &mut Vec<u32>, extra: &Extra, id: u32) -> Result<(), AllocError>
+fn keep(kept: &mut Vec<u32>, extra: &Extra, id: u32) -> Result<(), NoMemory>
     ensures { OnOk result (reverse kept.new.items ≡ kept_after extra.now id
         (reverse kept.old.items)) }
 {
     if let Extra::Own(_) = extra {
-        kept.push(id)?;
+        push(kept, id)?;
     }
     Ok(())
 }
@@ -99,12 +99,12 @@ pub fn compress(
     ensures { IfOk result (λ extras.
         extras.items ≡ extras_of (codes_in table.now) threshold [] order.now) }
 {
-    let mut extras = Vec::with_capacity(alloc, order.len())?;
+    let mut extras = room_for(alloc, order)?;
     let mut kept = Vec::new(alloc);
     for id in order {
         let extra = extra_for(alloc, table, &kept, *id, threshold)?;
         keep(&mut kept, &extra, *id)?;
-        extras.push(extra)?;
+        push(&mut extras, extra)?;
     }
     Ok(extras)
 }

@@ -3,7 +3,6 @@
 use crate::same::{assert_printed, assert_row};
 use command_files::{Fault, load_hex};
 use mem_io::MemLibrary;
-use octet_text::NoMemory;
 use road_map::MapError;
 use std::alloc::{AllocError, Global};
 
@@ -12,7 +11,7 @@ fn spelled(
     alloc: Global,
     library: &mut MemLibrary,
     text: &str,
-) -> Result<Result<[u8; 2], Fault>, NoMemory> {
+) -> Result<Result<[u8; 2], Fault>, AllocError> {
     library.put("hex", text.as_bytes())?;
     Ok(load_hex(alloc, library, "hex"))
 }
@@ -31,7 +30,7 @@ static TEXTS: [(&str, Result<[u8; 2], Fault>); 10] = [
 ];
 
 #[test]
-fn hex_files_are_exactly_their_digits(rt: HostRuntime) -> Result<(), NoMemory> {
+fn hex_files_are_exactly_their_digits(rt: HostRuntime) -> Result<(), AllocError> {
     let mut library = MemLibrary::new(rt.alloc(), Vec::new(rt.alloc()));
     for (text, octets) in &TEXTS {
         let found = spelled(rt.alloc(), &mut library, *text)?;

@@ -1,11 +1,12 @@
 //! A table of messages.
 
 use crate::same::{assert_printed, assert_row, assert_same};
+use command_files::{Ended, Fault};
 use dimacs_reader::DimacsError;
 use lms_tree::SealError;
 use proof_judge::Refusal;
 use road_command::{MOST_WORDS, Words, command_of};
-use road_line::{line_of_refused, read_refused, read_refused_near};
+use road_line::{line_of_refused, line_of_refused_near, read_refused, read_refused_near};
 use road_map::MapError;
 use road_tell::{
     Look, ShortName, Unusable, WrongHex, asked_of, bad_number, faulty_file, look_of, place_of,
@@ -15,6 +16,7 @@ use route_client::{CheckError, CoverFault, NearError};
 use std::alloc::{AllocError, Global};
 use std::process::Abort;
 use std::test::Fail;
+use test_maps::refusal;
 
 fn words_of(rt: &impl Abort, alloc: Global, line: &str) -> Result<Words, Fail> {
     let mut words = Words::new(alloc);
@@ -529,6 +531,22 @@ fn a_refusal_on_a_radius_is_read_back(rt: HostRuntime) {
     for (line, why) in &NEAR_LINES {
         assert_row(&rt, *why, read_refused_near(*line), Some(*why));
     }
+}
+
+#[test]
+fn a_want_of_memory_has_a_line_and_a_status(rt: HostRuntime) -> Result<(), Fail> {
+    let Some(none) = refusal(rt.alloc()) else {
+        return Err(Fail::from("no memory was refused"));
+    };
+    let wanted = b"refused Memory\n".as_slice();
+    let line = line_of_refused(rt.alloc(), CheckError::Memory(none))?;
+    assert_same(&rt, line.as_slice(), wanted);
+    let near = line_of_refused_near(rt.alloc(), NearError::Memory(none))?;
+    assert_same(&rt, near.as_slice(), wanted);
+    let fault = Fault::Memory(none);
+    assert_printed(&rt, rt.alloc(), fault, "Out of memory.")?;
+    assert_same(&rt, Ended::of(Err(fault)).status, 9);
+    Ok(())
 }
 
 #[test]

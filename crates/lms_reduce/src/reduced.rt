@@ -1,7 +1,7 @@
 //! What a forgery comes down to, and why one does not.
 
 use lms_tree::SealError;
-use octet_text::{Digest32, Octets};
+use octet_text::{Digest32, NoMemory, Octets};
 use thiserror::Error;
 
 /// What a verified signature on a text comes down to whose slot has not signed that text.
@@ -37,5 +37,5 @@ pub enum ReduceError {
     Signed(u32),
     /// Out of memory.
     #[error("There is no memory for the two texts.")]
-    Memory,
+    Memory(NoMemory),
 }

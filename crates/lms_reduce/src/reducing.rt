@@ -122,6 +122,6 @@ pub fn reduce(
     }
     match reduce_good(alloc, key, q, spent, text, sig) {
         Ok(reduced) => Ok(reduced),
-        Err(NoMemory) => Err(ReduceError::Memory),
+        Err(none) => Err(ReduceError::Memory(none)),
     }
 }

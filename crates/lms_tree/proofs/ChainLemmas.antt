@@ -150,7 +150,7 @@ module _ {A : Type 0} (f : Format A) where
 
   pub fails : (e : ReadError) (front : List A) (count i : ℕ) (left : Left) (total : Result (List A × Left) ℕ) → i < count → nat_eq (length left.text) 0 ≡ false → Fails e (f.read left)
       → Begun f front (count - i) left total → Fails e total
-  fails errors.Memory front count i left total lt some h so_far = tt
+  fails (errors.Memory _) front count i left total lt some h so_far = tt
   fails (errors.Malformed m) front count i left total lt some h so_far =
       let k : count - i ≡ suc (count - (i + 1)) = omega arith in
       let one : (many_at f (count - i) left >>= put_front front) ≡ Err m.at = rw (k, some, h) refl in
@@ -184,7 +184,7 @@ told_whole : (text : List ℕ) (left : Left) (read : Result (List Link × Left) 
 told_whole text left read at is h = ap (λ (q : Result (List Link × Left) ℕ). q >>= ended) (sym (at_start text left at is) ∙ h)
 
 pub whole_fails : (text : List ℕ) (left : Left) (e : ReadError) → left.at ≡ 0 → left.text ≡ text → Fails e (many_at link_row 7 left) → Fails e (whole chain_file text)
-whole_fails text left errors.Memory at is h = tt
+whole_fails text left (errors.Memory _) at is h = tt
 whole_fails text left (errors.Malformed m) at is h = told_whole text left (Err m.at) at is h
 
 ended_here : (links : List Link) (rest : Left) (b : Bool) → nat_eq (length rest.text) 0 ≡ b → ended (links, rest) ≡ cond b (Ok links) (Err rest.at)

@@ -6,7 +6,7 @@ ghost use Rattle.lms_tree.specs.ChainFiles.{link_row, many, chain_file};
 
 use crate::links::Link;
 use octet_text::{
-    Cursor, List, Malformed, NoMemory, Octets, ReadError, Short, put_octets, put_u16,
+    Cursor, List, Malformed, NoMemory, Octets, ReadError, Short, copied, push, put_octets, put_u16,
 };
 use std::alloc::Global;
 
@@ -44,7 +44,7 @@ fn read_some(alloc: Global, cursor: &mut Cursor<'_>, most: u32) -> Result<Vec<Li
             return Ok(links);
         }
         let link = read_link(alloc, cursor)?;
-        links.push(link)?;
+        push(&mut links, link)?;
     }
     Ok(links)
 }
@@ -75,7 +75,7 @@ fn read_signature(alloc: Global, cursor: &mut Cursor<'_>) -> Result<Octets, Read
 {
     let size = cursor.u16_in(0, 1452)?;
     let octets = cursor.take_octets(u32::from(size))?;
-    Ok(Octets::from_vec(Vec::from_slice(alloc, octets)?))
+    Ok(Octets::from_vec(copied(alloc, octets)?))
 }
 
 /// The octets of the file of a chain.

@@ -5,7 +5,7 @@ ghost use Rattle.lms_tree.specs.Nodes.{HasNodes};
 use crate::hashes::{inner, leaf};
 use crate::kinds::{LMOTS_SHA256_N32_W8, height, is_kind};
 use lms_ots::{public_hash, sign_ots};
-use octet_text::{Digest32, NoMemory, array_at, write_array};
+use octet_text::{Digest32, NoMemory, array_at, filled, write_array};
 use std::alloc::Global;
 use std::marker::Model;
 use thiserror::Error;
@@ -16,16 +16,7 @@ mod parts;
 fn zeros(alloc: Global, count: usize) -> Result<Vec<Digest32>, NoMemory>
     ensures { IfOk result (λ v. length v.items ≡ count) }
 {
-    let mut nodes = Vec::new(alloc);
-    if nodes.reserve(count).is_err() {
-        return Err(NoMemory);
-    }
-    for _made in 0..count {
-        if nodes.push([0; 32]).is_err() {
-            return Err(NoMemory);
-        }
-    }
-    Ok(nodes)
+    filled(alloc, [0; 32], count)
 }
 
 // A node of the tree, by the nodes after it.
@@ -80,7 +71,7 @@ pub enum KeyError {
     Kind,
     /// Out of memory.
     #[error("There is no memory for the nodes of the tree.")]
-    Memory,
+    Memory(NoMemory),
 }
 
 /// A private key with the nodes of its tree, 64 for height 5 and 2,048 for height 10.
@@ -124,7 +115,7 @@ impl Key {
                 seed: *seed,
                 nodes,
             }),
-            Err(NoMemory) => Err(KeyError::Memory),
+            Err(none) => Err(KeyError::Memory(none)),
         }
     }
 

@@ -24,7 +24,7 @@ OverMap parts Ends o text = IsMap parts → Ends parts o text
 
 -- why there is no line
 why_none : (parts : Parts) (from to : ℕ) (f : Fault) → GivesLine parts from to (Err f) → WhyNot NoDisk (OverMap parts (EndsRoute from to)) f
-why_none parts from to Memory h = tt
+why_none parts from to (Memory _) h = tt
 why_none parts from to (UnknownNode id) h = λ is. (is, h, refl)
 why_none parts from to NoRoute h = λ is. (is, h, refl)
 why_none parts from to f h = absurd h

@@ -41,5 +41,5 @@ abbrev pub GivesLine : Parts → ℕ → ℕ → Result (Vec ℕ Global) Fault �
 GivesLine parts from to (Ok text) = IsRouteLine parts from to text.items
 GivesLine parts from to (Err (UnknownNode id)) = IsFirstUnknown parts from to id
 GivesLine parts from to (Err NoRoute) = AreApart parts from to
-GivesLine parts from to (Err Memory) = Unit {0}
+GivesLine parts from to (Err (Memory _)) = Unit {0}
 GivesLine parts from to (Err fault) = ⊥

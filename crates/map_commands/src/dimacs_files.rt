@@ -31,8 +31,9 @@ pub fn dimacs<L: Library, K: Sink>(
     ensures sink { SparesBut Fault.Sink result (K.faults sink.old) (K.faults sink.new) }
 {
     let parts = load_dimacs(alloc, library, graph, places)?;
-    let Ok(text) = print_roads(alloc, &parts) else {
-        return Err(Fault::Memory);
+    let text = match print_roads(alloc, &parts) {
+        Ok(text) => text,
+        Err(none) => return Err(Fault::Memory(none)),
     };
     write_text(sink, &text)
 }
@@ -53,7 +54,7 @@ fn load_dimacs<L: Library>(
     let places = load_file(alloc, library, places)?;
     match read_dimacs(alloc, &graph, &places) {
         Ok(parts) => Ok(parts),
-        Err(DimacsError::Memory) => Err(Fault::Memory),
+        Err(DimacsError::Memory(none)) => Err(Fault::Memory(none)),
         Err(fault) => Err(Fault::Dimacs(fault)),
     }
 }

@@ -46,9 +46,9 @@ fn shortest_line(alloc: Global, map: &Map, from: u32, to: u32) -> Result<Vec<u8>
     match shortest(alloc, map, from, to) {
         Ok(Some(path)) => match line_of_route(alloc, path.length, path.ids.as_slice()) {
             Ok(line) => Ok(line),
-            Err(_) => Err(Fault::Memory),
+            Err(none) => Err(Fault::Memory(none)),
         },
         Ok(None) => Err(Fault::NoRoute),
-        Err(_) => Err(Fault::Memory),
+        Err(none) => Err(Fault::Memory(none)),
     }
 }

@@ -9,11 +9,11 @@ ghost use Rattle.map_commands.specs.RootLine.{IsPlainTextAt, plain_texts, root_l
 
 use command_files::{Conclusion, Fault, load_map, write_text};
 use merkle_cover::Rising;
-use octet_text::{Digest32, NoMemory, Sha};
+use octet_text::{Digest32, NoMemory, Sha, copied, hex_of, print};
 use road_io::{Library, Sink};
 use road_leaf::{Extra, NodeLeaf};
 use road_map::{Arc, Arcs, Map, Node};
-use std::alloc::{AllocError, Global};
+use std::alloc::Global;
 
 /// Writes how many nodes a file's map has, and the root of the tree over their plain leaves. The
 /// fan-out is one of a tree, from 2 to 32.
@@ -34,8 +34,9 @@ pub fn root<L: Library, K: Sink>(
     ensures sink { SparesBut Fault.Sink result (K.faults sink.old) (K.faults sink.new) }
 {
     let map = load_map(alloc, library, roads)?;
-    let Ok(line) = root_line(alloc, &map, fan) else {
-        return Err(Fault::Memory);
+    let line = match root_line(alloc, &map, fan) {
+        Ok(line) => line,
+        Err(none) => return Err(Fault::Memory(none)),
     };
     write_text(sink, &line)
 }
@@ -87,18 +88,16 @@ fn leaf_text(alloc: Global, map: &Map, position: u32) -> Result<Vec<u8>, NoMemor
 fn line_of_root(alloc: Global, count: usize, root: &Digest32) -> Result<Vec<u8>, NoMemory>
     ensures { IfOk result (λ line. line.items ≡ root_line count root.now) }
 {
-    match printed(alloc, count, root) {
-        Ok(text) => Ok(text.into_bytes()),
-        Err(_) => Err(NoMemory),
-    }
+    let text = printed(alloc, count, root)?;
+    Ok(text.into_bytes())
 }
 
-fn printed(alloc: Global, count: usize, root: &Digest32) -> Result<String, AllocError>
+fn printed(alloc: Global, count: usize, root: &Digest32) -> Result<String, NoMemory>
     ensures { IfOk result (λ text. string_bytes text ≡ root_line count root.now) }
 {
-    let digits = hex::encode(alloc, root)?;
+    let digits = hex_of(alloc, root)?;
     let mut text = String::new(alloc);
-    writeln!(text, "{count} {digits}")?;
+    print(&mut text, format_args!("{count} {digits}\n"))?;
     Ok(text)
 }
 
@@ -113,7 +112,7 @@ fn plain_leaf(alloc: Global, node: Node, arcs: &[Arc]) -> Result<NodeLeaf, NoMem
           extra = Extra.Plain;
         }) }
 {
-    let arcs = arcs.to_vec(alloc)?;
+    let arcs = copied(alloc, arcs)?;
     Ok(NodeLeaf {
         id: node.id,
         x: node.x,

@@ -53,7 +53,7 @@ fn text_again(alloc: Global, text: &[u8], kind: LeafKind) -> Result<Vec<u8>, Lea
     let mut out = Vec::new(alloc);
     match leaf.write(&mut out) {
         Ok(()) => Ok(out),
-        Err(NoMemory) => Err(LeafError::Memory),
+        Err(none) => Err(LeafError::Memory(none)),
     }
 }
 

@@ -1,11 +1,12 @@
 //! Maps that are made and refused, with the answers that the rules of maps give.
 
 use crate::same::{assert_printed, assert_row, assert_same};
+use octet_text::{NoMemory, push};
 use road_map::{Arc, Map, MapError, Node, Parts};
-use std::alloc::{AllocError, Global};
+use std::alloc::Global;
 use std::process::Abort;
 use std::test::Fail;
-use test_maps::{NODES, apart, map_of};
+use test_maps::{NODES, apart, map_of, refusal};
 
 const FOUR: [(u32, i32, i32); 4] = [(40, 0, 0), (7, 0, 0), (900, 0, 0), (8, 0, 0)];
 
@@ -103,10 +104,10 @@ fn the_first_fault_is_named(rt: HostRuntime) {
 }
 
 /// A road from the first of so many nodes to each other.
-fn rays(alloc: Global, count: u32) -> Result<Vec<(u32, u32, u32)>, AllocError> {
+fn rays(alloc: Global, count: u32) -> Result<Vec<(u32, u32, u32)>, NoMemory> {
     let mut roads = Vec::new(alloc);
     for id in 2..=count {
-        roads.push((id, 1, 1))?;
+        push(&mut roads, (id, 1, 1))?;
     }
     Ok(roads)
 }
@@ -139,7 +140,7 @@ fn neighbours_and_nodes_are_limited(rt: HostRuntime) {
     }
 }
 
-static PRINTED: [(MapError, &str); 7] = [
+static PRINTED: [(MapError, &str); 6] = [
     (MapError::Empty, "The map has no node."),
     (
         MapError::TooMany,
@@ -158,13 +159,16 @@ static PRINTED: [(MapError, &str); 7] = [
         MapError::Crowded(7),
         "The node 7 has more than 255 neighbours.",
     ),
-    (MapError::Memory, "Out of memory."),
 ];
 
 #[test]
-fn faults_are_printed(rt: HostRuntime) -> Result<(), AllocError> {
+fn faults_are_printed(rt: HostRuntime) -> Result<(), Fail> {
     for (fault, text) in &PRINTED {
         assert_printed(&rt, rt.alloc(), *fault, *text)?;
     }
+    let Some(none) = refusal(rt.alloc()) else {
+        return Err(Fail::from("no memory was refused"));
+    };
+    assert_printed(&rt, rt.alloc(), MapError::Memory(none), "Out of memory.")?;
     Ok(())
 }

@@ -1,4 +1,5 @@
-//! What no clause says: published digests, octets written out, and texts of refusals.
+//! What no clause says: published digests, octets written out, growth that succeeds, and texts of
+//! refusals.
 ghost use Rattle.std.specs.Prelude.{ℕ, ◌≡◌};
 ghost use Rattle.std.specs.Int.{w16, to_be_bytes};
 ghost use Rattle.octet_text.specs.Format.{u16, any};
@@ -6,10 +7,15 @@ ghost use Rattle.octet_text.specs.Format.{u16, any};
 use crate::same::{assert_printed, assert_same};
 use octet_text::{
     Cursor, Digest32, Digests, Hasher, Malformed, NoMemory, Octets, PutRow, ReadError, Row, Sha,
-    Short, Toy, digest_of_pieces, put_i32, put_octets, put_rows, put_u8, put_u16, put_u32, put_u64,
-    read_rows,
+    Short, Toy, collected, copied, digest_of_pieces, extend, fill_up, filled, hex_of, insert,
+    insert_at, insert_key, octets_of_hex, print, push, push_heap, push_str, put_i32, put_octets,
+    put_rows, put_u8, put_u16, put_u32, put_u64, read_rows, room_for, share, shared, sort_by_key,
+    text_of, with_room,
 };
-use std::alloc::{AllocError, Global};
+use std::alloc::Global;
+use std::collections::{BTreeMap, BTreeSet, BinaryHeap};
+use std::test::Fail;
+use test_maps::refusal;
 
 const OF_NOTHING: Digest32 = [
     0xe3, 0xb0, 0xc4, 0x42, 0x98, 0xfc, 0x1c, 0x14, 0x9a, 0xfb, 0xf4, 0xc8, 0x99, 0x6f, 0xb9, 0x24,
@@ -162,12 +168,82 @@ fn rows_are_read(rt: HostRuntime) -> Result<(), ReadError> {
 }
 
 #[test]
-fn refusals_are_whole_sentences(rt: HostRuntime) -> Result<(), AllocError> {
+fn lists_grow(rt: HostRuntime) -> Result<(), Fail> {
+    let mut list = copied(rt.alloc(), &[1u8, 4])?;
+    insert_at(&mut list, 1, 3)?;
+    push(&mut list, 5)?;
+    extend(&mut list, &[6, 7])?;
+    fill_up(&mut list, 8, 9)?;
+    assert_same(&rt, list.as_slice(), [1u8, 3, 4, 5, 6, 7, 9, 9].as_slice());
+    sort_by_key(&mut list, |item| *item % 4)?;
+    assert_same(&rt, list.as_slice(), [4u8, 1, 5, 9, 9, 6, 3, 7].as_slice());
+    Ok(())
+}
+
+#[test]
+fn lists_are_made(rt: HostRuntime) -> Result<(), Fail> {
+    let for_five: Vec<u16> = room_for(rt.alloc(), &[0u8; 5])?;
+    assert_same(&rt, (for_five.len(), for_five.capacity() >= 5), (0, true));
+    let for_three: Vec<u16> = with_room(rt.alloc(), 3, &[0u8; 0])?;
+    assert_same(&rt, (for_three.len(), for_three.capacity() >= 3), (0, true));
+    let sevens = filled(rt.alloc(), 7u8, 3)?;
+    assert_same(&rt, sevens.as_slice(), [7u8, 7, 7].as_slice());
+    let line: Vec<u32> = collected(rt.alloc(), 1..4u32)?;
+    assert_same(&rt, line.as_slice(), [1u32, 2, 3].as_slice());
+    Ok(())
+}
+
+#[test]
+fn maps_sets_heaps_and_holders_grow(rt: HostRuntime) -> Result<(), Fail> {
+    let mut map = BTreeMap::new(rt.alloc());
+    assert_same(&rt, insert(&mut map, 2u8, 5u8)?, None);
+    assert_same(&rt, insert(&mut map, 2, 6)?, Some(5));
+    assert_same(&rt, map.get(&2).copied(), Some(6));
+    let mut set = BTreeSet::new(rt.alloc());
+    assert_same(&rt, insert_key(&mut set, 3u8)?, true);
+    assert_same(&rt, insert_key(&mut set, 3)?, false);
+    let mut heap = BinaryHeap::new(rt.alloc());
+    push_heap(&mut heap, 3u8)?;
+    push_heap(&mut heap, 9)?;
+    push_heap(&mut heap, 4)?;
+    assert_same(&rt, heap.pop(), Some(9));
+    let first = shared(rt.alloc(), 7u8)?;
+    let second = share(&first)?;
+    assert_same(&rt, (*first, *second), (7, 7));
+    Ok(())
+}
+
+#[test]
+fn texts_grow(rt: HostRuntime) -> Result<(), Fail> {
+    let mut text = text_of(rt.alloc(), "5 nodes")?;
+    push_str(&mut text, ", ")?;
+    print(&mut text, format_args!("{} roads", 12u8))?;
+    assert_same(&rt, text.as_str(), "5 nodes, 12 roads");
+    let digits = hex_of(rt.alloc(), &[0, 0xaf])?;
+    assert_same(&rt, digits.as_str(), "00af");
+    let octets = octets_of_hex(rt.alloc(), b"00Af")??;
+    assert_same(&rt, octets.as_slice(), [0u8, 0xaf].as_slice());
+    match octets_of_hex(rt.alloc(), b"0g")? {
+        Ok(_) => Err(Fail::from("a letter that is no digit")),
+        Err(why) => {
+            let wanted = "Invalid character 'g' at position 1";
+            Ok(assert_printed(&rt, rt.alloc(), why, wanted)?)
+        }
+    }
+}
+
+#[test]
+fn refusals_are_whole_sentences(rt: HostRuntime) -> Result<(), Fail> {
     let short = Short { at: 3 };
     let wanted = "Too few octets are left at offset 3.";
     assert_printed(&rt, rt.alloc(), short, wanted)?;
     let read = ReadError::Malformed(Malformed { at: 4 });
     let wanted = "The field at offset 4 can't be read.";
     assert_printed(&rt, rt.alloc(), read, wanted)?;
-    assert_printed(&rt, rt.alloc(), NoMemory, "Out of memory.")
+    let Some(none) = refusal(rt.alloc()) else {
+        return Err(Fail::from("no memory was refused"));
+    };
+    assert_printed(&rt, rt.alloc(), none, "Out of memory.")?;
+    assert_printed(&rt, rt.alloc(), ReadError::Memory(none), "Out of memory.")?;
+    Ok(())
 }

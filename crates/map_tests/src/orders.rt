@@ -3,7 +3,7 @@
 ghost use Rattle.std.specs.Prelude.{◌≤◌};
 
 use crate::same::assert_row;
-use road_map::{Ids, Map};
+use road_map::{Ids, Map, MapError};
 use road_order::{OrderError, order};
 use std::alloc::Global;
 use std::test::Fail;
@@ -18,28 +18,27 @@ static ORDERS: [(u8, [u32; 5]); 5] = [
 ];
 
 /// The ids of the five nodes in an order.
-fn ordered(alloc: Global, kind: u8) -> Result<Ids, OrderError> {
-    match map_of(alloc, &NODES, &ROADS) {
-        Ok(map) => order(alloc, &map, kind, 7),
-        Err(_) => Err(OrderError::Memory),
-    }
+fn ordered(alloc: Global, kind: u8) -> Result<Result<Ids, OrderError>, MapError> {
+    let map = map_of(alloc, &NODES, &ROADS)?;
+    Ok(order(alloc, &map, kind, 7))
 }
 
 #[test]
-fn orders_of_five_nodes(rt: HostRuntime) -> Result<(), OrderError> {
+fn orders_of_five_nodes(rt: HostRuntime) -> Result<(), Fail> {
     for (kind, wanted) in &ORDERS {
-        let ids = ordered(rt.alloc(), *kind)?;
+        let ids = ordered(rt.alloc(), *kind)??;
         assert_row(&rt, *kind, ids.as_slice(), wanted.as_slice());
     }
     Ok(())
 }
 
 #[test]
-fn unknown_kinds_are_refused(rt: HostRuntime) {
+fn unknown_kinds_are_refused(rt: HostRuntime) -> Result<(), Fail> {
     for kind in [6, 7, 255] {
-        let ids = ordered(rt.alloc(), kind);
+        let ids = ordered(rt.alloc(), kind)?;
         assert_row(&rt, kind, ids.err(), Some(OrderError::Kind));
     }
+    Ok(())
 }
 
 /// The nodes from 1 to a count, scattered, with the roads of a ring.

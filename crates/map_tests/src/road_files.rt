@@ -6,6 +6,7 @@ use road_reader::{Draw, GridError, RoadError, grid_roads, print_roads, read_road
 use std::alloc::{AllocError, Global};
 use std::process::Abort;
 use std::test::Fail;
+use test_maps::{NODES, ROADS, parts_of};
 
 /// A map of five nodes and four roads, but for its last line.
 const FRONT: &[u8] = b"roads 1
@@ -80,49 +81,12 @@ fn assert_listed(
     Ok(())
 }
 
-static NODES: [Node; 5] = [
-    Node { id: 1, x: 0, y: 0 },
-    Node { id: 2, x: 10, y: 0 },
-    Node { id: 3, x: 20, y: 0 },
-    Node {
-        id: 4,
-        x: 10,
-        y: 10,
-    },
-    Node {
-        id: 5,
-        x: 50,
-        y: 50,
-    },
-];
-
-static ROADS: [Road; 4] = [
-    Road {
-        a: 1,
-        b: 2,
-        length: 4,
-    },
-    Road {
-        a: 2,
-        b: 3,
-        length: 5,
-    },
-    Road {
-        a: 1,
-        b: 4,
-        length: 3,
-    },
-    Road {
-        a: 4,
-        b: 3,
-        length: 7,
-    },
-];
-
 #[test]
 fn a_text_lists_nodes_and_roads(rt: HostRuntime) -> Result<(), Fail> {
     let text = joined(rt.alloc(), FRONT, LAST)?;
-    assert_listed(&rt, rt.alloc(), text.as_slice(), &NODES, &ROADS)?;
+    let five = parts_of(rt.alloc(), &NODES, &ROADS)?;
+    let (nodes, roads) = (five.nodes.as_slice(), five.roads.as_slice());
+    assert_listed(&rt, rt.alloc(), text.as_slice(), nodes, roads)?;
     assert_listed(&rt, rt.alloc(), b"roads 1", &[], &[])?;
     Ok(())
 }

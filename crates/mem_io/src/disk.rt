@@ -6,9 +6,8 @@ ghost use Rattle.mem_io.specs.Journal.{content_at, LeftAt, entry_end, entry_at, 
 ghost use Rattle.mem_io.specs.JournalLaws.{read_left};
 ghost use Rattle.mem_io.specs.declared.disk.Entry.TheVariants.{Sync};
 
-use octet_text::NoMemory;
 use road_io::{Disk, Failed};
-use std::alloc::Global;
+use std::alloc::{AllocError, Global};
 
 // A write: its octets stand in the journal's data.
 #[derive(Clone, Copy)]
@@ -99,7 +98,7 @@ impl MemDisk {
         journal: u64,
         fails: Vec<u64>,
         stop: Option<u64>,
-    ) -> Result<MemDisk, NoMemory>
+    ) -> Result<MemDisk, AllocError>
         ensures empty { IfOk result (λ disk. disk_content disk ≡ []) }
         ensures fresh { IfOk result (IsNewDisk room journal) }
         ensures plan { IfOk result (λ disk. (disk.fails.items ≡ fails.items) × (disk.stop ≡ stop)) }

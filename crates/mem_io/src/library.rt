@@ -5,9 +5,9 @@ ghost use Rattle.std.specs.Option.{option_copied};
 ghost use Rattle.std.specs.Str.{bytes_eq};
 ghost use Rattle.std.specs.String.{string_bytes};
 
-use octet_text::NoMemory;
+use octet_text::copied;
 use road_io::{Library, LoadError, Record};
-use std::alloc::Global;
+use std::alloc::{AllocError, Global};
 
 /// A file of a library in memory.
 #[derive(Drop)]
@@ -45,7 +45,7 @@ impl MemLibrary {
     }
 
     /// Puts a file under a name, in place of what was there.
-    pub fn put(&mut self, name: &str, octets: &[u8]) -> Result<(), NoMemory>
+    pub fn put(&mut self, name: &str, octets: &[u8]) -> Result<(), AllocError>
         ensures ok { OnOk result (files_of self.new name.now ≡ Some octets.now) }
         ensures others { (other : List ℕ) → other ≢ name.now →
             files_of self.new other ≡ files_of self.old other }
@@ -53,14 +53,14 @@ impl MemLibrary {
         ensures plan { HasSamePlan self.old self.new }
     {
         let Ok(name) = String::from_str(self.alloc, name) else {
-            return Err(NoMemory);
+            return Err(AllocError);
         };
         let Ok(octets) = octets.to_vec(self.alloc) else {
-            return Err(NoMemory);
+            return Err(AllocError);
         };
         match self.files.insert(0, NamedFile { name, octets }) {
             Ok(()) => Ok(()),
-            Err(_) => Err(NoMemory),
+            Err(_) => Err(AllocError),
         }
     }
 }
@@ -115,9 +115,9 @@ impl Library for MemLibrary {
         if file.octets.len() > most {
             return Err(LoadError::TooLong);
         }
-        match file.octets.to_vec(alloc) {
+        match copied(alloc, &file.octets) {
             Ok(octets) => Ok(octets),
-            Err(_) => Err(LoadError::Memory),
+            Err(none) => Err(LoadError::Memory(none)),
         }
     }
 }

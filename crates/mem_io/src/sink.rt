@@ -2,9 +2,8 @@
 ghost use Rattle.std.specs.Prelude.{◌≡◌, ◌<◌, ◌≤◌, ◌↔◌, ◌+◌, ◌-◌, ◌^◌, IsTrue, List, ℕ, length, min, IfOk, OnOk, OnErr, vec_capacity};
 ghost use Rattle.std.specs.declared.option.Option.TheVariants.{Some};
 
-use octet_text::NoMemory;
 use road_io::{Failed, Sink};
-use std::alloc::Global;
+use std::alloc::{AllocError, Global};
 
 /// A sink in memory, with room for so many octets, which takes at most `piece` of them at once.
 /// Its calls are numbered from 0. Those that were planned to fail do, and those past its room.
@@ -29,7 +28,7 @@ impl MemSink {
         room: usize,
         piece: usize,
         fails: Vec<u64>,
-    ) -> Result<MemSink, NoMemory>
+    ) -> Result<MemSink, AllocError>
         requires { 0 < piece }
         ensures { IfOk result (IsNewSink room piece fails.items) }
     {
@@ -42,7 +41,7 @@ impl MemSink {
                 calls: 0,
                 faults: 0,
             }),
-            Err(_) => Err(NoMemory),
+            Err(none) => Err(none),
         }
     }
 

@@ -2,7 +2,7 @@
 ghost use Rattle.std.specs.Prelude.{◌≡◌, ◌≢◌, ◌≤◌, [], ◌∷◌, ◌++◌, length, slice_get, vec_len, vec_capacity, IfOk, Some};
 
 use crate::spots::Spot;
-use octet_text::{Digest32, NoMemory};
+use octet_text::{Digest32, NoMemory, room_for};
 use std::alloc::Global;
 
 // The digests of a cover that are made, and where all of them stand.
@@ -19,7 +19,7 @@ impl Covering {
         ensures spots { IfOk result (λ c. c.spots ≡ spots) }
         ensures none { IfOk result (λ c. c.digests.items ≡ []) }
     {
-        let digests = Vec::with_capacity(alloc, spots.len())?;
+        let digests = room_for(alloc, &spots)?;
         Ok(Covering { spots, digests })
     }
 

@@ -4,7 +4,7 @@ ghost use Rattle.merkle_cover.specs.Covers.{cover_below};
 ghost use Rattle.merkle_cover.specs.Folding.{CanWalk, SplitsAt, HasLevels, digest_in};
 
 use crate::folds::is_next_below;
-use octet_text::{Digest32, Digests, NoMemory};
+use octet_text::{Digest32, Digests, NoMemory, push};
 
 // A tree's levels, and chosen leaves.
 #[derive(Drop)]
@@ -43,10 +43,8 @@ pub(crate) fn cover_place(
 {
     if !is_next_below(walk.places, item, (place + 1) * span) {
         let digest = digest_of(walk.levels, level as usize, place as usize);
-        return match out.push(digest) {
-            Ok(()) => Ok(item),
-            Err(_) => Err(NoMemory),
-        };
+        push(out, digest)?;
+        return Ok(item);
     }
     if level == 0 {
         return Ok(item + 1);

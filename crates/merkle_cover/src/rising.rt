@@ -1,5 +1,6 @@
 //! A tree's root and a cover of it, from texts that come one at a time.
 ghost use Rattle.std.specs.Prelude.{◌≡◌, ◌≢◌, ℕ, suc, ◌+◌, ◌-◌, ◌*◌, ◌/◌, ◌^◌, ◌<◌, ◌≤◌, List, [], ◌∷◌, ◌++◌, length, take, drop, slice_get, slice_index_or, IfOk, IfErr, OnOk, Some, None, Err};
+ghost use Rattle.octet_text.specs.Want.{no_memory};
 ghost use Rattle.std.specs.List.{range_with_len, sum_by};
 ghost use Rattle.merkle_cover.specs.Covers.{IsRising, cover_of};
 ghost use Rattle.merkle_cover.specs.declared.rising.RisingError.{RisingError};
@@ -11,7 +12,7 @@ ghost use Rattle.merkle_cover.specs.Trees.{root};
 use crate::covering::Covering;
 use crate::folds::{fault_of, leaf_digest, top_of};
 use crate::spots::{Spot, cover_spots};
-use octet_text::{Digest32, Digests, Hasher, NoMemory, digest_of_pieces};
+use octet_text::{Digest32, Digests, Hasher, NoMemory, digest_of_pieces, filled};
 use std::alloc::Global;
 use std::marker::{Model, PhantomData};
 use thiserror::Error;
@@ -33,7 +34,7 @@ pub enum RisingError {
     Place(u32),
     /// Out of memory.
     #[error("Out of memory.")]
-    Memory,
+    Memory(NoMemory),
 }
 
 /// A tree's root, and the cover of the chosen leaves.
@@ -174,7 +175,7 @@ fn seed<H: Hasher>(
     let (top, _) = top_of(u64::from(leaves), u64::from(fan));
     let spots = cover_spots(alloc, leaves, fan, places)?;
     let cover = Covering::new(alloc, spots)?;
-    let waiting = Vec::from_elem(alloc, [0; 32], top as usize * fan as usize)?;
+    let waiting = filled(alloc, [0; 32], top as usize * fan as usize)?;
     Ok(Rising {
         outline: Outline { leaves, fan, top },
         pushed: 0,
@@ -206,7 +207,7 @@ impl<H: Hasher> Rising<H> {
             Takes H.hash fan places.now texts r) }
         ensures good { OnOk result (first_rising_refusal leaves fan places.now ≡ None) }
         ensures refused { IfErr result
-            (λ e. e ≢ RisingError.Memory → first_rising_refusal leaves fan places.now ≡ Some e) }
+            (λ e. e ≢ RisingError.Memory no_memory → first_rising_refusal leaves fan places.now ≡ Some e) }
         ensures told { (e : RisingError) → first_rising_refusal leaves fan places.now ≡ Some e →
             result ≡ Err e }
     {
@@ -223,7 +224,7 @@ impl<H: Hasher> Rising<H> {
             Some(index) => Err(RisingError::Place(index)),
             None => match seed::<H>(alloc, leaves, fan, places) {
                 Ok(rising) => Ok(rising),
-                Err(NoMemory) => Err(RisingError::Memory),
+                Err(none) => Err(RisingError::Memory(none)),
             },
         }
     }
@@ -242,7 +243,7 @@ impl<H: Hasher> Rising<H> {
     {
         match Rising::new(alloc, leaves, fan, &[]) {
             Ok(rising) => Ok(rising),
-            Err(RisingError::Memory) => Err(NoMemory),
+            Err(RisingError::Memory(none)) => Err(none),
             Err(_) => unreachable!(),
         }
     }

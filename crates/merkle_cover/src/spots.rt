@@ -5,7 +5,7 @@ ghost use Rattle.merkle_cover.specs.Folding.{CanWalk, SplitsAt};
 ghost use Rattle.merkle_cover.specs.Covers.{IsRising};
 
 use crate::folds::{is_next_below, top_of};
-use octet_text::NoMemory;
+use octet_text::{NoMemory, push};
 use std::alloc::Global;
 
 // A position of a level.
@@ -39,10 +39,8 @@ fn spots_at(
         ++ spots_below chosen.now.leaves chosen.now.fan chosen.now.places.now level place) }
 {
     if !is_next_below(chosen.places, item, (place + 1) * span) {
-        return match out.push(Spot { level, place }) {
-            Ok(()) => Ok(item),
-            Err(_) => Err(NoMemory),
-        };
+        push(out, Spot { level, place })?;
+        return Ok(item);
     }
     if level == 0 {
         return Ok(item + 1);

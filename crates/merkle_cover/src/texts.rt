@@ -2,7 +2,7 @@
 ghost use Rattle.std.specs.Prelude.{◌≡◌, ℕ, ◌+◌, ◌-◌, ◌<◌, ◌≤◌, ◌^◌, List, [], ◌∷◌, ◌++◌, length, take, drop, slice_index, slice_index_or, OnOk, OnErr, IsTrue, ◌↔◌};
 ghost use Rattle.merkle_cover.specs.Texts.{total_length, HasRoom};
 
-use octet_text::NoMemory;
+use octet_text::{NoMemory, extend, push};
 use std::alloc::Global;
 use std::marker::Model;
 
@@ -51,13 +51,11 @@ impl Texts {
         ensures err { OnErr result (self.new ≡ self.old) }
     {
         let before = self.octets.len();
-        if self.octets.extend_from_slice(text).is_err() {
-            return Err(NoMemory);
-        }
+        extend(&mut self.octets, text)?;
         let end = self.octets.len() as u32;
-        if self.ends.push(end).is_err() {
+        if let Err(none) = push(&mut self.ends, end) {
             self.octets.truncate(before);
-            return Err(NoMemory);
+            return Err(none);
         }
         Ok(())
     }

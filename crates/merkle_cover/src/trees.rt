@@ -1,5 +1,6 @@
 //! Trees of digests over texts.
 ghost use Rattle.std.specs.Prelude.{◌≡◌, ◌≢◌, ℕ, ◌+◌, ◌-◌, ◌*◌, ◌^◌, ◌<◌, ◌≤◌, List, [], ◌∷◌, length, map, min, take, drop, slice_index, slice_index_or, IfOk, IfErr, OnOk, Option, Some, None, Ok, Err};
+ghost use Rattle.octet_text.specs.Want.{no_memory};
 ghost use Rattle.std.specs.Int.{div_ceil};
 ghost use Rattle.std.specs.List.{range_with_len, flat_map};
 ghost use Rattle.merkle_cover.specs.Trees.{tree_of, level_over, leaf_count, root, IsShaped};
@@ -10,7 +11,7 @@ ghost use Rattle.merkle_cover.specs.Refusals.{first_refusal};
 use crate::covers::{CoverWalk, cover_place};
 use crate::folds::{leaf_digest, top_of};
 use crate::texts::Texts;
-use octet_text::{Digest32, Digests, Hasher, NoMemory, digest_of_pieces};
+use octet_text::{Digest32, Digests, Hasher, NoMemory, digest_of_pieces, push};
 use std::alloc::Global;
 use std::marker::{Model, PhantomData};
 use thiserror::Error;
@@ -29,7 +30,7 @@ pub enum TreeError {
     TooMany,
     /// Out of memory.
     #[error("Out of memory.")]
-    Memory,
+    Memory(NoMemory),
 }
 
 /// A tree over texts, with the digests of all its positions.
@@ -57,9 +58,7 @@ fn leaf_level<H: Hasher>(alloc: Global, leaves: &Texts) -> Result<Digests, NoMem
 {
     let mut digests = Vec::new(alloc);
     for index in 0..leaves.count() {
-        if digests.push(leaf_digest::<H>(leaves.text(index))).is_err() {
-            return Err(NoMemory);
-        }
+        push(&mut digests, leaf_digest::<H>(leaves.text(index)))?;
     }
     Ok(Digests::from_vec(digests))
 }
@@ -86,12 +85,8 @@ fn level_above<H: Hasher>(
 {
     let mut digests = Vec::new(alloc);
     for place in 0..below.len().div_ceil(fan) {
-        if digests
-            .push(digest_of_pieces::<H>(1, group(below, place, fan)))
-            .is_err()
-        {
-            return Err(NoMemory);
-        }
+        let digest = digest_of_pieces::<H>(1, group(below, place, fan));
+        push(&mut digests, digest)?;
     }
     Ok(Digests::from_vec(digests))
 }
@@ -120,17 +115,13 @@ fn tree_over<H: Hasher>(alloc: Global, leaves: &Texts, fan: u8) -> Result<Tree<H
     let first = leaf_level::<H>(alloc, leaves)?;
     let mut count = count_of(&first);
     let mut levels = Vec::new(alloc);
-    if levels.push(first).is_err() {
-        return Err(NoMemory);
-    }
+    push(&mut levels, first)?;
     let mut last = 0;
     while count > 1 {
         let below: &Digests = &levels[last];
         let next = level_above::<H>(alloc, below.as_slice(), fan as usize)?;
         count = count_of(&next);
-        if levels.push(next).is_err() {
-            return Err(NoMemory);
-        }
+        push(&mut levels, next)?;
         last += 1;
     }
     let top: &Digests = &levels[last];
@@ -153,7 +144,7 @@ impl<H: Hasher> Tree<H> {
         ensures fan { IfOk result (λ tree. tree.fan ≡ fan) }
         ensures good { OnOk result (first_refusal (length leaves.now) fan ≡ None) }
         ensures refused { IfErr result
-            (λ e. e ≢ TreeError.Memory → first_refusal (length leaves.now) fan ≡ Some e) }
+            (λ e. e ≢ TreeError.Memory no_memory → first_refusal (length leaves.now) fan ≡ Some e) }
         ensures told { (e : TreeError) → first_refusal (length leaves.now) fan ≡ Some e →
             result ≡ Err e }
     {
@@ -169,7 +160,7 @@ impl<H: Hasher> Tree<H> {
         }
         match tree_over::<H>(alloc, leaves, fan) {
             Ok(tree) => Ok(tree),
-            Err(NoMemory) => Err(TreeError::Memory),
+            Err(none) => Err(TreeError::Memory(none)),
         }
     }
 

@@ -7,10 +7,10 @@ ghost use Rattle.std.specs.List.{IsDistinct, list_any};
 ghost use Rattle.std.specs.List.Sorted.{IsNonDecreasingBy};
 ghost use Rattle.method_books.specs.LdmBooks.{extra_in};
 
-use octet_text::NoMemory;
+use octet_text::{NoMemory, collected, push, room_for};
 use road_leaf::Extra;
 use road_map::RisingIds;
-use std::alloc::{AllocError, Global};
+use std::alloc::Global;
 use std::marker::Model;
 
 /// What the leaf of each node says of codes, by ascending id.
@@ -67,11 +67,7 @@ fn extra_at(entries: &[(u32, Extra)], place: usize) -> Option<&Extra>
 }
 
 /// What leaves say of codes, each beside the id of its leaf, in no order.
-fn with_ids(
-    alloc: Global,
-    order: &[u32],
-    extras: Vec<Extra>,
-) -> Result<Vec<(u32, Extra)>, AllocError>
+fn with_ids(alloc: Global, order: &[u32], extras: Vec<Extra>) -> Result<Vec<(u32, Extra)>, NoMemory>
     requires long { length extras.items ≡ length order.now }
     requires distinct { IsDistinct nat_eq order.now }
     ensures distinct { IfOk result (λ entries. IsDistinct nat_eq (keys_of entries.items)) }
@@ -79,16 +75,16 @@ fn with_ids(
     ensures covers { IfOk result (λ entries. (id : ℕ) →
         is_some (lookup (nat_eq id) entries.items) ≡ list_any (nat_eq id) order.now) }
 {
-    let mut entries = Vec::with_capacity(alloc, extras.len())?;
+    let mut entries = room_for(alloc, &extras)?;
     let mut extras = extras;
     while let Some(extra) = extras.pop() {
-        entries.push((order[extras.len()], extra))?;
+        push(&mut entries, (order[extras.len()], extra))?;
     }
     Ok(entries)
 }
 
 /// The same by ascending id.
-fn sorted(alloc: Global, order: &[u32], extras: Vec<Extra>) -> Result<Vec<(u32, Extra)>, AllocError>
+fn sorted(alloc: Global, order: &[u32], extras: Vec<Extra>) -> Result<Vec<(u32, Extra)>, NoMemory>
     requires long { length extras.items ≡ length order.now }
     requires distinct { IsDistinct nat_eq order.now }
     ensures distinct { IfOk result (λ entries. IsDistinct nat_eq (keys_of entries.items)) }
@@ -103,8 +99,8 @@ fn sorted(alloc: Global, order: &[u32], extras: Vec<Extra>) -> Result<Vec<(u32, 
 }
 
 /// The ids of entries, in their order.
-fn ids_of(alloc: Global, entries: &[(u32, Extra)]) -> Result<Vec<u32>, AllocError>
+fn ids_of(alloc: Global, entries: &[(u32, Extra)]) -> Result<Vec<u32>, NoMemory>
     ensures { IfOk result (λ ids. ids.items ≡ keys_of entries.now) }
 {
-    entries.iter().map(|entry| entry.0).collect(alloc)
+    collected(alloc, entries.iter().map(|entry| entry.0))
 }

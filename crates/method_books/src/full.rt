@@ -11,7 +11,7 @@ ghost use Rattle.method_books.specs.PlainBooks.{plain_book};
 use crate::dij::first_parameter;
 use crate::rising::rising;
 use book_model::{Numbers, PairLeaves, Places, PlanError, Query, Settings};
-use octet_text::NoMemory;
+use octet_text::{NoMemory, push};
 use pair_dist::{PairError, pair_leaves, place_of_pair};
 use proof_method::{Found, GatherError, MethodBook, ends, ids_by_id, leaf_adding, reach};
 use road_leaf::{Extra, NodeLeaf, PairLeaf};
@@ -60,7 +60,7 @@ impl MethodBook for FullBook {
         match pair_leaves(alloc, &map, ids.as_slice()) {
             Ok(pairs) => Ok(FullBook { map, pairs }),
             Err(PairError::TooMany) => Err(PlanError::TooManyNodes(count as u32)),
-            Err(PairError::Memory) => Err(PlanError::Memory),
+            Err(PairError::Memory(none)) => Err(PlanError::Memory(none)),
         }
     }
 
@@ -137,6 +137,6 @@ fn pair_of_ends(alloc: Global, book: &FullBook, query: Query) -> Result<Places, 
     if query.from == query.to {
         return Ok(Places::from_vec(places));
     }
-    places.push(place_between(book, query))?;
+    push(&mut places, place_between(book, query))?;
     Ok(Places::from_vec(places))
 }

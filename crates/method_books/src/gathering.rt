@@ -11,20 +11,20 @@ ghost use Rattle.proof_method.specs.Gathering.{Lists};
 ghost use Rattle.method_books.specs.HypBooks.{with_length, StandsAt, IsPairAt, Adds, AddsAll, HasPairs, IsInRow, IsWantedPlace};
 
 use book_model::Places;
-use octet_text::NoMemory;
+use octet_text::{NoMemory, collected, insert_key, push};
 use pair_dist::place_of_pair;
 use road_leaf::PairLeaf;
 use road_map::Ids;
 use road_search::Labels;
-use std::alloc::{AllocError, Global};
+use std::alloc::Global;
 use std::collections::BTreeSet;
 
 /// Adds some ids.
-fn add_ids(set: &mut BTreeSet<u32>, ids: &[u32]) -> Result<(), AllocError>
+fn add_ids(set: &mut BTreeSet<u32>, ids: &[u32]) -> Result<(), NoMemory>
     ensures { OnOk result (Adds (Contains ids.now) set.old set.new) }
 {
     for id in ids {
-        set.insert(*id)?;
+        insert_key(set, *id)?;
     }
     Ok(())
 }
@@ -52,18 +52,14 @@ pub fn wanted_nodes(
 }
 
 /// The borders that inner walks lead to, by ascending id, each with its least length.
-pub fn reached(
-    alloc: Global,
-    borders: &[u32],
-    labels: &Labels,
-) -> Result<Vec<(u32, u64)>, AllocError>
+pub fn reached(alloc: Global, borders: &[u32], labels: &Labels) -> Result<Vec<(u32, u64)>, NoMemory>
     ensures { IfOk result (λ v. v.items ≡ filter_map
         (with_length (length_at labels.now)) borders.now) }
 {
     let mut list = Vec::new(alloc);
     for id in borders {
         if let Some(length) = labels.get(*id) {
-            list.push((*id, length))?;
+            push(&mut list, (*id, length))?;
         }
     }
     Ok(list)
@@ -91,7 +87,7 @@ fn add_pair(
     most: u64,
     near: (u32, u64),
     far: (u32, u64),
-) -> Result<(), AllocError>
+) -> Result<(), NoMemory>
     requires rise { PairsRise pairs.now }
     requires few { length pairs.now < 2 ^ 32 }
     requires there { HasPairs pairs.now borders.now }
@@ -100,7 +96,7 @@ fn add_pair(
     ensures { OnOk result (Adds (IsPairAt pairs.now most near far) places.old places.new) }
 {
     if near.0 != far.0 && near.1 < most && far.1 < most - near.1 {
-        places.insert(place_between(pairs, borders, near.0, far.0))?;
+        insert_key(places, place_between(pairs, borders, near.0, far.0))?;
     }
     Ok(())
 }
@@ -113,7 +109,7 @@ fn add_row(
     most: u64,
     near: (u32, u64),
     far: &[(u32, u64)],
-) -> Result<(), AllocError>
+) -> Result<(), NoMemory>
     requires rise { PairsRise pairs.now }
     requires few { length pairs.now < 2 ^ 32 }
     requires there { HasPairs pairs.now borders.now }
@@ -135,7 +131,7 @@ fn add_rows(
     most: u64,
     near: &[(u32, u64)],
     far: &[(u32, u64)],
-) -> Result<(), AllocError>
+) -> Result<(), NoMemory>
     requires rise { PairsRise pairs.now }
     requires few { length pairs.now < 2 ^ 32 }
     requires there { HasPairs pairs.now borders.now }
@@ -151,12 +147,12 @@ fn add_rows(
 }
 
 /// The numbers of a set, ascending.
-fn in_order(alloc: Global, set: BTreeSet<u32>) -> Result<Vec<u32>, AllocError>
+fn in_order(alloc: Global, set: BTreeSet<u32>) -> Result<Vec<u32>, NoMemory>
     ensures keys { IfOk result (λ v. v.items ≡ set.keys) }
     ensures ordered { tree_set.IsOrdered nat_cmp set }
 {
     let _count = set.len();
-    set.into_iter().collect(alloc)
+    collected(alloc, set.into_iter())
 }
 
 /// The places of the pairs of a border near the start and another near the end whose lengths are

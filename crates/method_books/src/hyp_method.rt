@@ -1,6 +1,7 @@
 //! The book of HYP.
 
 ghost use Rattle.std.specs.Prelude.{◌≡◌, ◌==◌, ◌<◌, ◌≤◌, ◌⊎◌, ℕ, IfOk, OnOk, IfErr, IfNone, Contains, length, slice_get};
+ghost use Rattle.octet_text.specs.Want.{no_memory};
 ghost use Rattle.std.specs.List.{filter};
 ghost use Rattle.road_map.specs.declared.parts.Parts.{Parts};
 ghost use Rattle.road_map.specs.declared.parts.Node.{Node};
@@ -13,7 +14,7 @@ ghost use Rattle.method_books.specs.Grids.{IsGridOf};
 
 use crate::grid::{Grid, is_border_at};
 use book_model::{PairLeaves, PlanError, Settings};
-use octet_text::NoMemory;
+use octet_text::{NoMemory, push};
 use pair_dist::{PairError, pair_leaves};
 use road_map::{Ids, Map};
 use std::alloc::Global;
@@ -62,7 +63,7 @@ pub fn borders(alloc: Global, map: &Map, grid: &Grid) -> Result<Ids, NoMemory>
     for position in 0..map.count() {
         let id = map.node(position).id;
         if is_border_at(map, grid, position) {
-            found.push(id)?;
+            push(&mut found, id)?;
         }
     }
     Ok(Ids::from_vec(found))
@@ -76,13 +77,13 @@ pub fn table_of(alloc: Global, map: &Map, borders: &Ids) -> Result<PairLeaves, P
         leaves ≡ pairs_of (distance map.now.parts) borders.now) }
     ensures few { OnOk result (length borders.now ≤ 2048) }
     ensures refused { IfErr result
-        (λ e. (e ≡ plan_error.Memory) ⊎
+        (λ e. (e ≡ plan_error.Memory no_memory) ⊎
         ((e ≡ plan_error.TooManyBorders (length borders.now)) × (2048 < length borders.now))) }
 {
     let ids = borders.as_slice();
     match pair_leaves(alloc, map, ids) {
         Ok(pairs) => Ok(pairs),
         Err(PairError::TooMany) => Err(PlanError::TooManyBorders(ids.len() as u32)),
-        Err(PairError::Memory) => Err(PlanError::Memory),
+        Err(PairError::Memory(none)) => Err(PlanError::Memory(none)),
     }
 }

@@ -9,7 +9,7 @@ ghost use Rattle.method_books.specs.LdmBooks.{extra_in};
 use crate::extras::Extras;
 use book_model::Numbers;
 use method_judges::Lookup;
-use octet_text::NoMemory;
+use octet_text::{NoMemory, copied};
 use road_leaf::{Codes, Extra};
 use road_map::{Arc, Map};
 use road_search::rising_ids;
@@ -64,7 +64,7 @@ pub fn copy(alloc: Global, extra: &Extra) -> Result<Extra, NoMemory>
 {
     match extra {
         Extra::Plain => Ok(Extra::Plain),
-        Extra::Own(codes) => Ok(Extra::Own(Codes::from_vec(codes.as_slice().to_vec(alloc)?))),
+        Extra::Own(codes) => Ok(Extra::Own(Codes::from_vec(copied(alloc, codes.as_slice())?))),
         Extra::Near { reference, error } => Ok(Extra::Near {
             reference: *reference,
             error: *error,

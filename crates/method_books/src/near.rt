@@ -10,33 +10,33 @@ ghost use Rattle.proof_method.specs.Gathering.{Lists};
 ghost use Rattle.method_books.specs.LdmBooks.{extra_in, reference_of, reference_in, IsNear, IsNeeded};
 
 use crate::ldm_method::LdmBook;
-use octet_text::NoMemory;
+use octet_text::{NoMemory, copied, push};
 use proof_method::rising;
 use road_leaf::Extra;
 use road_map::{Ids, Map};
 use road_search::{Labels, knows};
-use std::alloc::{AllocError, Global};
+use std::alloc::Global;
 
 /// Adds those of some ids that are nodes of the map.
-fn add_known(ids: &mut Vec<u32>, map: &Map, near: &[u32]) -> Result<(), AllocError>
+fn add_known(ids: &mut Vec<u32>, map: &Map, near: &[u32]) -> Result<(), NoMemory>
     ensures { OnOk result ((id : ℕ) → Contains ids.new.items id ↔
         (Contains ids.old.items id ⊎ (Contains near.now id × Knows map.now.parts id))) }
 {
     for id in near {
         if knows(map, *id) {
-            ids.push(*id)?;
+            push(ids, *id)?;
         }
     }
     Ok(())
 }
 
 /// Adds the node whose codes stand for those of a node, if there is one.
-fn add_reference(ids: &mut Vec<u32>, book: &LdmBook, id: u32) -> Result<(), AllocError>
+fn add_reference(ids: &mut Vec<u32>, book: &LdmBook, id: u32) -> Result<(), NoMemory>
     ensures { OnOk result (ids.new.items ≡ ids.old.items ++ option_to_list
         (reference_in book.now.extras.entries id)) }
 {
     if let Some(Extra::Near { reference, .. }) = book.extras.get(id) {
-        ids.push(*reference)?;
+        push(ids, *reference)?;
     }
     Ok(())
 }
@@ -46,7 +46,7 @@ fn with_references(alloc: Global, book: &LdmBook, ids: &[u32]) -> Result<Vec<u32
     ensures { IfOk result (λ all. all.items ≡ ids.now ++ filter_map
         (reference_in book.now.extras.entries) ids.now) }
 {
-    let mut all = ids.to_vec(alloc)?;
+    let mut all = copied(alloc, ids)?;
     for id in ids {
         add_reference(&mut all, book, *id)?;
     }
@@ -62,7 +62,7 @@ pub fn needed(alloc: Global, book: &LdmBook, route: &Ids, labels: &Labels) -> Re
 {
     let _parts = book.map.parts();
     let near = labels.near(alloc, u64::MAX)?;
-    let mut ids = route.as_slice().to_vec(alloc)?;
+    let mut ids = copied(alloc, route.as_slice())?;
     add_known(&mut ids, &book.map, &near)?;
     let all = with_references(alloc, book, &ids)?;
     Ok(rising(all))

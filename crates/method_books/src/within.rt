@@ -9,7 +9,7 @@ ghost use Rattle.proof_method.specs.Apart.{IsEnd, WantedApart};
 ghost use Rattle.method_books.specs.PlainBooks.{plain_book};
 
 use book_model::Query;
-use octet_text::NoMemory;
+use octet_text::{NoMemory, push};
 use proof_method::rising;
 use road_map::{Ids, Map, map_laws};
 use road_search::{Labels, WholeMap, search};
@@ -34,6 +34,6 @@ pub fn component(alloc: Global, map: &Map, query: Query) -> Result<Ids, NoMemory
     let _parts = map.parts();
     let labels = search(alloc, &WholeMap { map }, query.from, u64::MAX)?;
     let mut ids = labels.near(alloc, u64::MAX)?;
-    ids.push(query.to)?;
+    push(&mut ids, query.to)?;
     Ok(rising(ids))
 }

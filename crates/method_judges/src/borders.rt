@@ -7,10 +7,11 @@ ghost use Rattle.road_search.specs.Labelling.{length_at};
 ghost use Rattle.method_judges.specs.Scans.{border_length, IsBorderList};
 
 use crate::hyp_items::is_marked;
+use octet_text::{NoMemory, collected, insert};
 use proof_judge::NodesById;
 use road_leaf::NodeLeaf;
 use road_search::Labels;
-use std::alloc::{AllocError, Global};
+use std::alloc::Global;
 use std::collections::BTreeMap;
 
 /// The least inner length of an id, if it is a border.
@@ -25,13 +26,13 @@ fn inner_length(by_id: &NodesById<'_>, labels: &Labels, id: u32) -> Option<u64>
 }
 
 /// Notes a length, if it is there.
-fn note(near: &mut BTreeMap<u32, u64>, id: u32, length: Option<u64>) -> Result<(), AllocError>
+fn note(near: &mut BTreeMap<u32, u64>, id: u32, length: Option<u64>) -> Result<(), NoMemory>
     ensures { OnOk result ((q : ℕ) →
         get nat_cmp near.new q ≡ (if is_some length &&
         (id == q) then length else get nat_cmp near.old q)) }
 {
     if let Some(length) = length {
-        near.insert(id, length)?;
+        insert(near, id, length)?;
     }
     Ok(())
 }
@@ -42,7 +43,7 @@ fn borders(
     nodes: &[NodeLeaf],
     by_id: &NodesById<'_>,
     labels: &Labels,
-) -> Result<BTreeMap<u32, u64>, AllocError>
+) -> Result<BTreeMap<u32, u64>, NoMemory>
     requires { by_id.now ≡ nodes.now }
     ensures { IfOk result (λ near. (id : ℕ) →
         get nat_cmp near id ≡ border_length nodes.now (length_at labels.now) id) }
@@ -56,12 +57,12 @@ fn borders(
 }
 
 /// The borders by ascending id.
-fn in_order(alloc: Global, near: BTreeMap<u32, u64>) -> Result<Vec<(u32, u64)>, AllocError>
+fn in_order(alloc: Global, near: BTreeMap<u32, u64>) -> Result<Vec<(u32, u64)>, NoMemory>
     ensures entries { IfOk result (λ v. v.items ≡ near.entries) }
     ensures ordered { IsOrdered nat_cmp near }
 {
     let _count = near.len();
-    near.into_iter().collect(alloc)
+    collected(alloc, near.into_iter())
 }
 
 /// All borders by ascending id, each with its least inner length.
@@ -70,7 +71,7 @@ pub fn listed(
     nodes: &[NodeLeaf],
     by_id: &NodesById<'_>,
     labels: &Labels,
-) -> Result<Vec<(u32, u64)>, AllocError>
+) -> Result<Vec<(u32, u64)>, NoMemory>
     requires { by_id.now ≡ nodes.now }
     ensures { IfOk result (λ v. IsBorderList nodes.now (length_at labels.now) v.items) }
 {

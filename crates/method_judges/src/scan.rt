@@ -5,10 +5,11 @@ ghost use Rattle.road_search.specs.Labelling.{length_at};
 ghost use Rattle.method_judges.specs.Scans.{PairFault, scan_row, scan, IsScan};
 
 use crate::borders::listed;
+use octet_text::NoMemory;
 use proof_judge::{NodesById, PairsById, Refusal, joined_fault};
 use road_leaf::NodeLeaf;
 use road_search::Labels;
-use std::alloc::{AllocError, Global};
+use std::alloc::Global;
 
 /// What two borders are at fault with, where their inner lengths are together below a limit.
 pub trait Faults {
@@ -130,7 +131,7 @@ pub fn scanned<F: Faults>(
     by_id: &NodesById<'_>,
     near: &Labels,
     far: &Labels,
-) -> Result<Option<Refusal>, AllocError>
+) -> Result<Option<Refusal>, NoMemory>
     requires { by_id.now ≡ nodes.now }
     ensures { IfOk result (IsScan (F.fault_of faults.now) (F.limit faults.now) nodes.now
         (length_at near.now) (length_at far.now)) }

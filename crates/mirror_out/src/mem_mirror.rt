@@ -5,9 +5,8 @@ ghost use Rattle.std.specs.Bool.{OnTrue, OnFalse};
 ghost use Rattle.mirror_out.specs.Promises.{puts_before};
 
 use crate::Mirror;
-use octet_text::NoMemory;
 use road_io::{Failed, Record};
-use std::alloc::Global;
+use std::alloc::{AllocError, Global};
 
 /// A mirror in memory, with room for so many octets. Its puts are numbered from 0. It promises those
 /// before the next that was planned to fail, and the octets of its free room, and fails exactly
@@ -43,7 +42,7 @@ impl MemMirror {
         label: u32,
         room: usize,
         fails: Vec<u64>,
-    ) -> Result<MemMirror, NoMemory>
+    ) -> Result<MemMirror, AllocError>
         ensures { IfOk result (IsNewMirror label room fails.items) }
     {
         let taken = Vec::with_capacity(alloc, room)?;

@@ -3,7 +3,7 @@ ghost use Rattle.std.specs.Prelude.{◌≡◌, ◌+◌, ◌≤◌, ◌++◌, Lis
 ghost use Rattle.mirror_out.specs.Mirrors.{Spreads, Took, PromisedLess};
 
 use crate::Mirror;
-use octet_text::NoMemory;
+use octet_text::{NoMemory, room_for};
 use std::alloc::Global;
 
 /// What hands each piece to each mirror of a list, drops those that fail, and keeps their labels.
@@ -37,7 +37,7 @@ impl Spreader {
         ensures most { IfOk result (λ spreader. most_of spreader ≡ vec_len mirrors.now) }
     {
         let most = mirrors.len();
-        let lost = Vec::with_capacity(alloc, most)?;
+        let lost = room_for(alloc, mirrors)?;
         Ok(Spreader { lost, most })
     }
 

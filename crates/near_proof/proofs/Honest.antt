@@ -46,6 +46,7 @@ use Rattle.route_client.specs.Verdicts.{nodes_covered, pairs_covered, passed, re
 use Rattle.near_proof.specs.Honest.{IsSigned, keys_along, Leads, AreKnown, AreAccepted, AnswersAreAccepted, UnknownNodesAreTold}
 use Rattle.near_proof.proofs.Chosen.{node_texts_chosen, pair_texts_chosen, is_covered}
 use Rattle.near_proof.proofs.Ordered.{is_order, has_vectors}
+use Rattle.octet_text.specs.Want.{no_memory}
 
 -- the laws of every method that honest replies rest on
 pub record MethodLaws : Type 0 where
@@ -243,6 +244,6 @@ same_ok : (h j : Header) → ◌≡◌ {A = Result Header BuildError} (Ok h) (Ok
 same_ok h j e = cc
 
 -- one header at most, of what is made at most once
-pub one_of : ((hash sha : List ℕ → List ℕ) (parts : Parts) (s : Settings) (v w : Result Header BuildError) → Makes hash sha parts s v → Makes hash sha parts s w → v ≢ Err build.Memory → w ≢ Err build.Memory → v ≡ w)
+pub one_of : ((hash sha : List ℕ → List ℕ) (parts : Parts) (s : Settings) (v w : Result Header BuildError) → Makes hash sha parts s v → Makes hash sha parts s w → v ≢ Err (build.Memory no_memory) → w ≢ Err (build.Memory no_memory) → v ≡ w)
     → (hash sha : List ℕ → List ℕ) (parts : Parts) (s : Settings) (h j : Header) → HasHeader hash sha parts s h → HasHeader hash sha parts s j → h ≡ j
 one_of law hash sha parts s h j has other = same_ok h j (law hash sha parts s (Ok h) (Ok j) has other (λ e. absurd cc) (λ e. absurd cc))

@@ -42,6 +42,7 @@ use Rattle.command_files.proofs.Written.{CallsFor, over, over_any, reads, refuse
 use Rattle.owner_commands.specs.NextKey.{fault_of, EndsSuccession, ends_succession, IsNextKey, LinksFile, AddsKey}
 use Rattle.owner_commands.specs.Signing.{StaysRefused}
 use Rattle.owner_commands.specs.ChainLine.{link_on, IsChainOn, TellsLinks, EndsLinks}
+use Rattle.octet_text.specs.Want.{no_memory}
 
 -- ---- a succession
 
@@ -54,7 +55,7 @@ not_followed DiskFailed old new kind secret why.TooManyKeys narrows called faile
 not_followed DiskFailed old new kind secret why.NoSuccession narrows called failed = inr (why.NoSuccession, refl, still_so old new (λ c. Refuses c (take 16 secret) why.NoSuccession) (narrows (λ is. cc)) called, refl)
 not_followed DiskFailed old new kind secret why.SameSecret narrows called failed = inr (why.SameSecret, refl, still_so old new (λ c. Refuses c (take 16 secret) why.SameSecret) (narrows (λ is. cc)) called, refl)
 not_followed DiskFailed old new kind secret why.DiskFault narrows called failed = failed refl
-not_followed DiskFailed old new kind secret why.Memory narrows called failed = tt
+not_followed DiskFailed old new kind secret (why.Memory _) narrows called failed = tt
 
 -- an answer that was given
 abbrev pub given : {X : Type 0} → X → Result X SucceedError
@@ -62,14 +63,14 @@ given x = Ok x
 
 -- what succeeded was refused by nothing
 pub unrefused : {X : Type 0} (content : Option (List ℕ)) (secret : List ℕ) (desk : X)
-    → ForSome content (λ c. (e : SucceedError) → Refuses c (take 16 secret) e → (given desk ≡ Err e) ⊎ ((given desk ≡ Err why.DiskFault) ⊎ (given desk ≡ Err why.Memory)))
+    → ForSome content (λ c. (e : SucceedError) → Refuses c (take 16 secret) e → (given desk ≡ Err e) ⊎ ((given desk ≡ Err why.DiskFault) ⊎ (given desk ≡ Err (why.Memory no_memory))))
     → ForSome content (λ c. (e : SucceedError) → Refuses c (take 16 secret) e → ⊥)
 unrefused content secret desk else_so c is e h = elim (else_so c is e h) [ inl x ↦ cc | inr other ↦ elim other [ inl x ↦ cc | inr x ↦ cc ] ]
 
 -- the line of the key that follows, after no refusal
 pub next_line : {X : Type 0} (content : Option (List ℕ)) (kind number : ℕ) (secret line public : List ℕ) (desk : X) (key : KeyOf) → number ≡ kind → key ≡ key_from number secret → public ≡ public_key key
     → line ≡ encode_lower public ++ codes "\n"
-    → ForSome content (λ c. (e : SucceedError) → Refuses c (take 16 secret) e → (given desk ≡ Err e) ⊎ ((given desk ≡ Err why.DiskFault) ⊎ (given desk ≡ Err why.Memory)))
+    → ForSome content (λ c. (e : SucceedError) → Refuses c (take 16 secret) e → (given desk ≡ Err e) ⊎ ((given desk ≡ Err why.DiskFault) ⊎ (given desk ≡ Err (why.Memory no_memory))))
     → EndsSuccession content kind secret (Ok Done) line
 next_line content kind number secret line public desk key is made of_key spelled else_so =
     let of_kind : key ≡ key_from kind secret = made ∙ ap (λ (n : ℕ). key_from n secret) is in
@@ -125,7 +126,7 @@ stays_followed g old new why.TooManyKeys m = m (λ is. cc)
 stays_followed g old new why.NoSuccession m = m (λ is. cc)
 stays_followed g old new why.SameSecret m = m (λ is. cc)
 stays_followed g old new why.DiskFault m = tt
-stays_followed g old new why.Memory m = m (λ is. cc)
+stays_followed g old new (why.Memory _) m = m (λ is. cc)
 
 -- ---- a chain
 

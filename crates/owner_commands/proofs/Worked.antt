@@ -36,6 +36,7 @@ use Rattle.owner_commands.specs.Publishing.{TellsLost}
 use Rattle.owner_commands.specs.Signing.{StaysRefused, Wrote, WroteSealed, SealsWhatItWrites, SealsWhatItMirrors, SpreadSealed}
 use Rattle.owner_commands.specs.StandingKeys.{KeysStand, last_of, next_text, WroteChain, ChainsWhatItWrites}
 use Rattle.owner_commands.specs.Releases.{Release, header_release, link_release, AreApart, AllApart, AllStand}
+use Rattle.octet_text.specs.Want.{no_memory}
 
 -- ---- what was refused changes no image
 
@@ -55,7 +56,7 @@ module _ {D : Type 0} (g : Ghosts D) (old new : D) where
   at_used_up : StaysRefused g old new KeysUsedUp → AtEachMoment g old new Stays
   at_used_up h = h
 
-  at_short_memory : StaysRefused g old new Memory → AtEachMoment g old new Stays
+  at_short_memory : StaysRefused g old new (Memory no_memory) → AtEachMoment g old new Stays
   at_short_memory h = h
 
   at_no_key : StaysRefused g old new NoKey → AtEachMoment g old new Stays
@@ -68,10 +69,10 @@ module _ {D : Type 0} (g : Ghosts D) (old new : D) where
   no_key_without_a_file : (files : Option Folder) (secret : List ℕ) (kind : ℕ) → KeepsKey g old new files secret kind (Err Missing) → AtEachMoment g old new Stays
   no_key_without_a_file files secret kind h = h.untouched
 
-  no_key_without_memory : (files : Option Folder) (secret : List ℕ) (kind : ℕ) → KeepsKey g old new files secret kind (Err Memory) → AtEachMoment g old new Stays
+  no_key_without_memory : (files : Option Folder) (secret : List ℕ) (kind : ℕ) → KeepsKey g old new files secret kind (Err (Memory no_memory)) → AtEachMoment g old new Stays
   no_key_without_memory files secret kind h = h.untouched
 
-  no_next_key_without_memory : (files : Option Folder) (name : List ℕ) (kind : ℕ) → AddsKey g old new files name kind (Err Memory) → AtEachMoment g old new Stays
+  no_next_key_without_memory : (files : Option Folder) (name : List ℕ) (kind : ℕ) → AddsKey g old new files name kind (Err (Memory no_memory)) → AtEachMoment g old new Stays
   no_next_key_without_memory files name kind h = h.untouched
 
   -- where the disk failed, an image with an open gate is one from before, or has the key of the file's secret
@@ -117,8 +118,8 @@ module _ {D : Type 0} (g : Ghosts D) (old new : D) (taken_before taken_now : Opt
   silent_at_disk : IsSilent TellsLost taken_before taken_now (Err Disk) → Keeps taken_before taken_now
   silent_at_disk = silent_at Disk (λ is. cc) (λ told. told)
 
-  silent_at_memory : IsSilent TellsLost taken_before taken_now (Err Memory) → Keeps taken_before taken_now
-  silent_at_memory = silent_at Memory (λ is. cc) (λ told. told)
+  silent_at_memory : IsSilent TellsLost taken_before taken_now (Err (Memory no_memory)) → Keeps taken_before taken_now
+  silent_at_memory = silent_at (Memory no_memory) (λ is. cc) (λ told. told)
 
   silent_at_used_up : IsSilent TellsLost taken_before taken_now (Err KeysUsedUp) → Keeps taken_before taken_now
   silent_at_used_up = silent_at KeysUsedUp (λ is. cc) (λ told. told)

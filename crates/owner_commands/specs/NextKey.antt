@@ -37,7 +37,7 @@ fault_of why.TooManyKeys = TooManyKeys
 fault_of why.NoSuccession = NoSuccession
 fault_of why.SameSecret = SameSecret
 fault_of why.DiskFault = Disk
-fault_of why.Memory = Memory
+fault_of (why.Memory none) = Memory none
 
 -- `succeed` with a secret: the line of the new public key where nothing refuses it, and the first
 -- refusal where one does

@@ -48,6 +48,6 @@ fn line_on<D: Disk>(alloc: Global, disk: &mut D) -> Result<Vec<u8>, Fault>
     let desk = open_desk(alloc, disk)?;
     match line_of_desk(alloc, &desk.public(), desk.left(), desk.size()) {
         Ok(line) => Ok(line),
-        Err(_) => Err(Fault::Memory),
+        Err(none) => Err(Fault::Memory(none)),
     }
 }

@@ -53,7 +53,7 @@ fn chain_on<D: Disk>(alloc: Global, disk: &mut D) -> Result<Vec<u8>, Fault>
     let desk = open_desk(alloc, disk)?;
     match desk.links(alloc) {
         Ok(links) => verified_chain(alloc, &desk.public_of(0), &links),
-        Err(LinksError::Memory) => Err(Fault::Memory),
+        Err(LinksError::Memory(none)) => Err(Fault::Memory(none)),
         Err(LinksError::Closed) => unreachable!(),
     }
 }

@@ -85,7 +85,7 @@ fn make_key<D: Disk>(
         Ok(desk) => Ok(line_of_key(&desk.public())),
         Err(StartError::Held) => Err(Fault::Held),
         Err(StartError::DiskFault) => Err(Fault::Disk),
-        Err(StartError::Memory) => Err(Fault::Memory),
+        Err(StartError::Memory(none)) => Err(Fault::Memory(none)),
         Err(StartError::NoKey | StartError::BadBlock) => unreachable!(),
     }
 }

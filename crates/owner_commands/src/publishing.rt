@@ -58,8 +58,9 @@ pub fn publish<L: Library, K: Sink, D: Disk, M: Mirror>(
     ensures few { CalledUpTo most_publish_calls (D.calls disk.old) (D.calls disk.new) }
 {
     let parts = load_parts(alloc, library, roads)?;
-    let Ok(mut spreader) = Spreader::new(alloc, mirrors) else {
-        return Err(Fault::Memory);
+    let mut spreader = match Spreader::new(alloc, mirrors) {
+        Ok(spreader) => spreader,
+        Err(none) => return Err(Fault::Memory(none)),
     };
     let publication = signed(alloc, disk, parts, settings)?;
     match send(&publication, sink, &mut spreader, mirrors) {
@@ -93,6 +94,6 @@ fn signed<D: Disk>(
         Err(PublishError::Desk(DeskError::KeysUsedUp)) => Err(Fault::KeysUsedUp),
         Err(PublishError::Desk(DeskError::DiskFault)) => Err(Fault::Disk),
         Err(PublishError::Desk(DeskError::Closed)) => unreachable!(),
-        Err(PublishError::Memory) => Err(Fault::Memory),
+        Err(PublishError::Memory(none)) => Err(Fault::Memory(none)),
     }
 }

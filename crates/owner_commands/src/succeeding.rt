@@ -94,6 +94,6 @@ fn not_followed(e: SucceedError) -> Fault
         SucceedError::NoSuccession => Fault::NoSuccession,
         SucceedError::SameSecret => Fault::SameSecret,
         SucceedError::DiskFault => Fault::Disk,
-        SucceedError::Memory => Fault::Memory,
+        SucceedError::Memory(none) => Fault::Memory(none),
     }
 }

@@ -4,6 +4,7 @@
 //! and such a signature, given out, can help to forge another.
 
 ghost use Rattle.std.specs.Prelude.{◌≡◌, ◌++◌, codes, Ok, Err, IfOk, IfErr, ◌≤◌, ◌<◌, length};
+ghost use Rattle.octet_text.specs.Want.{no_memory};
 ghost use Rattle.hex.specs.Hex.{encode_lower};
 ghost use Rattle.lms_tree.specs.ChainFiles.{chain_file};
 ghost use Rattle.lms_tree.specs.Chains.{chained};
@@ -42,14 +43,14 @@ pub(crate) fn verified_chain(
     requires fits { chain_file.Fits links.now }
     requires chained { chained first.now links.now ≡ Ok tt }
     ensures spelled { IfOk result (λ chain. chain.items ≡ chain_file.spell links.now) }
-    ensures memory { IfErr result (λ e. e ≡ Fault.Memory) }
+    ensures memory { IfErr result (λ e. e ≡ Fault.Memory no_memory) }
 {
     if follow(first, links).is_err() {
         return Err(Fault::BadBlock);
     }
     match write_links(alloc, links) {
         Ok(chain) => Ok(chain),
-        Err(_) => Err(Fault::Memory),
+        Err(none) => Err(Fault::Memory(none)),
     }
 }
 

@@ -8,10 +8,10 @@ ghost use Rattle.pair_dist.specs.Chains.{AreWalls, IsLink, IsLinkBelow, IsChain,
 
 use crate::rows::Rows;
 use crate::walled::Walled;
-use octet_text::NoMemory;
+use octet_text::{NoMemory, copied, filled, push};
 use road_map::{Arc, Arcs};
 use road_search::{Ground, Marks, Numbered, search_in};
-use std::alloc::{AllocError, Global};
+use std::alloc::Global;
 use std::marker::Model;
 
 /// The arcs out of each position, at its number, each to the number of a position.
@@ -66,11 +66,11 @@ impl Ground for Chain {
 }
 
 /// A wall at each of some positions, among so many positions.
-pub fn walls_at(alloc: Global, count: u32, places: &[u32]) -> Result<Vec<bool>, AllocError>
+pub fn walls_at(alloc: Global, count: u32, places: &[u32]) -> Result<Vec<bool>, NoMemory>
     requires { (i p : ℕ) → slice_get places.now i ≡ Some p → p < count }
     ensures { IfOk result (λ walls. AreWalls places.now walls.items) }
 {
-    let mut walls = vec![in alloc; false; count as usize]?;
+    let mut walls = filled(alloc, false, count as usize)?;
     for place in places {
         walls[*place as usize] = true;
     }
@@ -95,7 +95,7 @@ fn add_link<T: Marks, R: Rows>(
     places: &[u32],
     own: usize,
     number: usize,
-) -> Result<bool, AllocError>
+) -> Result<bool, NoMemory>
     requires few { length places.now ≤ 65536 }
     requires within { number < length places.now }
     requires least { (v : ℕ) → IsLeastPassing
@@ -115,10 +115,13 @@ fn add_link<T: Marks, R: Rows>(
     if length > u64::from(u32::MAX) {
         return Ok(false);
     }
-    row.push(Arc {
-        to: number as u32,
-        length: length as u32,
-    })?;
+    push(
+        row,
+        Arc {
+            to: number as u32,
+            length: length as u32,
+        },
+    )?;
     Ok(true)
 }
 
@@ -129,7 +132,7 @@ fn link<T: Marks, R: Rows>(
     marks: &T,
     places: &[u32],
     own: usize,
-) -> Result<Option<Arcs>, AllocError>
+) -> Result<Option<Arcs>, NoMemory>
     requires few { length places.now ≤ 65536 }
     requires least { (v : ℕ) → IsLeastPassing
         (walled_ways (R.rows walled.now.rows.now) walled.now.walls.now walled.now.start) walled.now.start
@@ -143,7 +146,7 @@ fn link<T: Marks, R: Rows>(
             return Ok(None);
         }
     }
-    Ok(Some(Arcs::from_vec(row.as_slice().to_vec(alloc)?)))
+    Ok(Some(Arcs::from_vec(copied(alloc, row.as_slice())?)))
 }
 
 /// The chain of some positions, by a search from each that goes on from no other, unless an arc of it
@@ -177,7 +180,7 @@ pub fn chain_of<R: Rows>(
             return Ok(None);
         }
         room -= count;
-        chain.push(row)?;
+        push(&mut chain, row)?;
     }
     Ok(Some(Chain { rows: chain }))
 }

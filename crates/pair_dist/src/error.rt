@@ -4,7 +4,6 @@ ghost use Rattle.std.specs.Prelude.{◌≡◌};
 ghost use Rattle.pair_dist.specs.declared.error.PairError.TheVariants as pair_error;
 
 use octet_text::NoMemory;
-use std::alloc::AllocError;
 use thiserror::Error;
 
 /// Why there is no table of the pairs of some nodes.
@@ -15,21 +14,13 @@ pub enum PairError {
     TooMany,
     /// Out of memory.
     #[error("Out of memory.")]
-    Memory,
+    Memory(NoMemory),
 }
 
 impl From<NoMemory> for PairError {
-    ghost from_gives = { λ _ e. e ≡ pair_error.Memory };
+    ghost from_gives = { λ none e. e ≡ pair_error.Memory none };
 
-    fn from(_none: NoMemory) -> PairError {
-        PairError::Memory
-    }
-}
-
-impl From<AllocError> for PairError {
-    ghost from_gives = { λ _ e. e ≡ pair_error.Memory };
-
-    fn from(_none: AllocError) -> PairError {
-        PairError::Memory
+    fn from(none: NoMemory) -> PairError {
+        PairError::Memory(none)
     }
 }

@@ -13,8 +13,9 @@ ghost use Rattle.pair_dist.specs.Chains.{Begins};
 use crate::chain::walls_at;
 use crate::walled::is_wall;
 use book_model::{Frame, frame_of, slot};
+use octet_text::{NoMemory, copied, push, room_for};
 use road_map::{Map, Net, Node};
-use std::alloc::{AllocError, Global};
+use std::alloc::Global;
 
 /// The cell of a node, in a grid of as many columns as rows over a frame.
 fn cell_of(frame: &Frame, columns: u32, node: Node) -> u32
@@ -30,7 +31,7 @@ fn cell_of(frame: &Frame, columns: u32, node: Node) -> u32
 }
 
 /// The cells of all nodes, by position.
-fn cells_of(alloc: Global, map: &Map, columns: u32) -> Result<Vec<u32>, AllocError>
+fn cells_of(alloc: Global, map: &Map, columns: u32) -> Result<Vec<u32>, NoMemory>
     requires some { 0 < columns }
     requires few { columns ≤ 65535 }
     ensures { IfOk result (λ cells. length cells.items ≡ length map.now.order) }
@@ -38,10 +39,10 @@ fn cells_of(alloc: Global, map: &Map, columns: u32) -> Result<Vec<u32>, AllocErr
     let parts = map.parts();
     let frame = frame_of(parts.nodes.as_slice());
     let count = map.count();
-    let mut cells = Vec::with_capacity(alloc, count as usize)?;
+    let mut cells = room_for(alloc, parts.nodes.as_slice())?;
     for position in 0..count {
         let node = map.node(position);
-        cells.push(cell_of(&frame, columns, node))?;
+        push(&mut cells, cell_of(&frame, columns, node))?;
     }
     Ok(cells)
 }
@@ -76,7 +77,7 @@ fn places_along(
     net: &Net,
     cells: &[u32],
     places: &[u32],
-) -> Result<Vec<u32>, AllocError>
+) -> Result<Vec<u32>, NoMemory>
     requires few { length cells.now < 2 ^ 32 }
     requires within { (i p : ℕ) → slice_get places.now i ≡ Some p → p < length cells.now }
     ensures front { IfOk result (λ finer. Begins places.now finer.items) }
@@ -85,10 +86,10 @@ fn places_along(
 {
     let count = cells.len() as u32;
     let walls = walls_at(alloc, count, places)?;
-    let mut finer = places.to_vec(alloc)?;
+    let mut finer = copied(alloc, places)?;
     for position in 0..count {
         if !is_wall(walls.as_slice(), position) && crosses(net, cells, position) {
-            finer.push(position)?;
+            push(&mut finer, position)?;
         }
     }
     Ok(finer)
@@ -104,7 +105,7 @@ pub fn finer_places(
     map: &Map,
     net: &Net,
     places: &[u32],
-) -> Result<Option<Vec<u32>>, AllocError>
+) -> Result<Option<Vec<u32>>, NoMemory>
     requires within { (i p : ℕ) → slice_get places.now i ≡ Some p → p < length map.now.order }
     requires few { length places.now ≤ 2048 }
     ensures few { IfOk result (λ found. IfSome found (λ finer. length finer.items ≤ 65536)) }

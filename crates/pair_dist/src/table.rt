@@ -14,11 +14,11 @@ use crate::finer::finer_places;
 use crate::rows::Rows;
 use crate::thin::thinned;
 use book_model::PairLeaves;
-use octet_text::NoMemory;
+use octet_text::{NoMemory, push};
 use road_leaf::PairLeaf;
 use road_map::{Map, Net, map_laws};
 use road_search::{Ground, Marks, Numbered, search_in};
-use std::alloc::{AllocError, Global};
+use std::alloc::Global;
 
 /// The distance as a leaf says it: the greatest number where no walk leads there.
 fn said_length<T: Marks>(marks: &T, station: u32) -> u64
@@ -28,26 +28,26 @@ fn said_length<T: Marks>(marks: &T, station: u32) -> u64
 }
 
 /// The positions of some nodes.
-fn positions(alloc: Global, map: &Map, chosen: &[u32]) -> Result<Vec<u32>, AllocError>
+fn positions(alloc: Global, map: &Map, chosen: &[u32]) -> Result<Vec<u32>, NoMemory>
     requires { (id : ℕ) → Contains chosen.now id → Knows map.now.parts id }
     ensures { IfOk result (λ places. ArePlaces map.now.order chosen.now places.items) }
 {
     let _parts = map.parts();
     let mut places = Vec::new(alloc);
     for id in chosen {
-        places.push(map.place(*id))?;
+        push(&mut places, map.place(*id))?;
     }
     Ok(places)
 }
 
 /// The numbers up to a count.
-fn numbers(alloc: Global, count: u32) -> Result<Vec<u32>, AllocError>
+fn numbers(alloc: Global, count: u32) -> Result<Vec<u32>, NoMemory>
     ensures long { IfOk result (λ v. length v.items ≡ count) }
     ensures each { IfOk result (λ v. (i n : ℕ) → slice_get v.items i ≡ Some n → n ≡ i) }
 {
-    let mut found = Vec::with_capacity(alloc, count as usize)?;
+    let mut found = Vec::new(alloc);
     for number in 0..count {
-        found.push(number)?;
+        push(&mut found, number)?;
     }
     Ok(found)
 }
@@ -61,7 +61,7 @@ fn add_row<T: Marks>(
     chosen: &[u32],
     stations: &[u32],
     first: usize,
-) -> Result<(), AllocError>
+) -> Result<(), NoMemory>
     requires long { length stations.now ≡ length chosen.now }
     requires finds { Finds (distance chart.now.parts a) (length_in (T.mark marks.now)) chosen.now
         stations.now }
@@ -70,11 +70,14 @@ fn add_row<T: Marks>(
 {
     for place in first..chosen.len() {
         let distance = said_length(marks, stations[place]);
-        leaves.push(PairLeaf {
-            a,
-            b: chosen[place],
-            distance,
-        })?;
+        push(
+            leaves,
+            PairLeaf {
+                a,
+                b: chosen[place],
+                distance,
+            },
+        )?;
     }
     Ok(())
 }

@@ -6,9 +6,9 @@ ghost use Rattle.pair_dist.specs.Chains.{too_long};
 ghost use Rattle.pair_dist.specs.Thinning.{AreSteps, IsNeedless, IsThinned, Agrees};
 
 use crate::chain::Chain;
-use octet_text::NoMemory;
+use octet_text::{NoMemory, filled, push, room_for};
 use road_map::{Arc, Arcs};
-use std::alloc::{AllocError, Global};
+use std::alloc::Global;
 
 /// Lowers the length of where the second of two arcs leads to that of both, where each is longer than 0.
 fn lower(lengths: &mut Vec<u64>, first: Arc, second: Arc)
@@ -50,10 +50,10 @@ fn lower_beyond(lengths: &mut Vec<u64>, rows: &[Arcs], row: &[Arc], first: Arc)
 
 /// The least length of two arcs to each number, one of a row and one out of where it leads: the
 /// greatest number where there are none.
-fn lengths_beyond(alloc: Global, rows: &[Arcs], row: &[Arc]) -> Result<Vec<u64>, AllocError>
+fn lengths_beyond(alloc: Global, rows: &[Arcs], row: &[Arc]) -> Result<Vec<u64>, NoMemory>
     ensures { IfOk result (λ lengths. AreSteps rows.now row.now lengths.items) }
 {
-    let mut lengths = vec![in alloc; u64::MAX; rows.len()]?;
+    let mut lengths = filled(alloc, u64::MAX, rows.len())?;
     for first in row {
         lower_beyond(&mut lengths, rows, row, *first);
     }
@@ -71,23 +71,23 @@ fn is_needless(lengths: &[u64], arc: Arc) -> bool
 }
 
 /// Puts an arc after others, unless it is needless.
-fn put_needed(thin: &mut Vec<Arc>, lengths: &[u64], arc: Arc) -> Result<(), AllocError>
+fn put_needed(thin: &mut Vec<Arc>, lengths: &[u64], arc: Arc) -> Result<(), NoMemory>
     ensures { OnOk result ((thin.new.items ≡ thin.old.items ++ arc ∷ []) ⊎
         ((thin.new.items ≡ thin.old.items) × IsNeedless lengths.now arc)) }
 {
     if !is_needless(lengths, arc) {
-        thin.push(arc)?;
+        push(thin, arc)?;
     }
     Ok(())
 }
 
 /// The arcs of a row that are not needless.
-fn needed(alloc: Global, row: &[Arc], lengths: &[u64]) -> Result<Arcs, AllocError>
+fn needed(alloc: Global, row: &[Arc], lengths: &[u64]) -> Result<Arcs, NoMemory>
     ensures among { IfOk result (λ thin. (a : Arc) → Contains thin a → Contains row.now a) }
     ensures rest { IfOk result (λ thin. (a : Arc) → Contains row.now a → Contains thin a ⊎
         IsNeedless lengths.now a) }
 {
-    let mut thin = Vec::with_capacity(alloc, row.len())?;
+    let mut thin = room_for(alloc, row)?;
     for arc in row {
         put_needed(&mut thin, lengths, *arc)?;
     }
@@ -95,7 +95,7 @@ fn needed(alloc: Global, row: &[Arc], lengths: &[u64]) -> Result<Arcs, AllocErro
 }
 
 /// The row at a number, without the arcs that two others are no longer than.
-fn thin_row(alloc: Global, rows: &[Arcs], row: &[Arc]) -> Result<Arcs, AllocError>
+fn thin_row(alloc: Global, rows: &[Arcs], row: &[Arc]) -> Result<Arcs, NoMemory>
     ensures { IfOk result (IsThinned rows.now row.now) }
 {
     let lengths = lengths_beyond(alloc, rows, row)?;

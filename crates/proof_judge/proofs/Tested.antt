@@ -14,10 +14,11 @@ use Rattle.book_model.specs.Books.{Kind}
 use Rattle.road_leaf.specs.declared.leaf.NodeLeaf.{NodeLeaf}
 use Rattle.proof_judge.specs.Apart.{ApartVerdict, ApartTests, JudgedApart, end_lacking}
 use Rattle.proof_judge.specs.SharedTests.{UnlessMemory, RefusesBefore, RefusesApart}
+use Rattle.octet_text.specs.Want.{no_memory}
 
 pub unless : {A : Type 0} (P : Result A Refusal → Type 0) (v : Result A Refusal) → P v → UnlessMemory P v
 unless P (Ok d) h = h
-unless P (Err Memory) h = tt
+unless P (Err (Memory _)) h = tt
 unless P (Err (RepeatedNode id)) h = h
 unless P (Err (BadRoute i)) h = h
 unless P (Err (MissingTuple id)) h = h
@@ -27,7 +28,7 @@ unless P (Err (Disagrees d)) h = h
 
 pub unless-map : {A : Type 0} (P Q : Result A Refusal → Type 0) (v : Result A Refusal) → ((v : Result A Refusal) → P v → Q v) → UnlessMemory P v → UnlessMemory Q v
 unless-map P Q (Ok d) to h = to (Ok d) h
-unless-map P Q (Err Memory) to h = tt
+unless-map P Q (Err (Memory _)) to h = tt
 unless-map P Q (Err (RepeatedNode id)) to h = to (Err (RepeatedNode id)) h
 unless-map P Q (Err (BadRoute i)) to h = to (Err (BadRoute i)) h
 unless-map P Q (Err (MissingTuple id)) to h = to (Err (MissingTuple id)) h
@@ -67,7 +68,7 @@ search_tests w from limit to len None lengths h next v t = (None, lacks_least w 
 search_tests w from limit to len (Some id) lengths h next v t = (Some id, lacks_least w from limit len (Some id) lengths h, t)
 
 -- what repeated ids refuse, every method refuses
-pub refused_fault : (g : Items) (q : Query) (nodes : List NodeLeaf) (e : Refusal) → nodes ≡ g.nodes → ((e ≡ Memory) ⊎ ((id : ℕ) × (e ≡ RepeatedNode id) × IsLeast (StandsTwice nodes) (Some id))) → RefusesBefore g q e
+pub refused_fault : (g : Items) (q : Query) (nodes : List NodeLeaf) (e : Refusal) → nodes ≡ g.nodes → ((e ≡ Memory no_memory) ⊎ ((id : ℕ) × (e ≡ RepeatedNode id) × IsLeast (StandsTwice nodes) (Some id))) → RefusesBefore g q e
 refused_fault g q nodes e same (inl m) = subst (RefusesBefore g q) (sym m) (λ k n. tt)
 refused_fault g q nodes e same (inr f) = subst (RefusesBefore g q) (sym f.1) (refused_twice g q f.0 (subst (λ xs. IsLeast (StandsTwice xs) (Some f.0)) same f.2))
 
@@ -83,7 +84,7 @@ pub judged_apart : (k : Kind) (n : Numbers) (g : Items) (q : Query) (v : ApartVe
 judged_apart k n g q v distinct ends h = unless-map (ApartTests k n g q) (JudgedApart k n g q) v (λ v own. (None, distinct, subst (λ o. Then MissingTuple (ApartTests k n g q) o v) (sym ends) own)) h
 
 -- what repeated ids refuse, every method refuses
-pub apart_fault : (g : Items) (q : Query) (nodes : List NodeLeaf) (e : Refusal) → nodes ≡ g.nodes → ((e ≡ Memory) ⊎ ((id : ℕ) × (e ≡ RepeatedNode id) × IsLeast (StandsTwice nodes) (Some id))) → RefusesApart g q e
+pub apart_fault : (g : Items) (q : Query) (nodes : List NodeLeaf) (e : Refusal) → nodes ≡ g.nodes → ((e ≡ Memory no_memory) ⊎ ((id : ℕ) × (e ≡ RepeatedNode id) × IsLeast (StandsTwice nodes) (Some id))) → RefusesApart g q e
 apart_fault g q nodes e same (inl m) = subst (RefusesApart g q) (sym m) (λ k n. tt)
 apart_fault g q nodes e same (inr f) = subst (RefusesApart g q) (sym f.1) (λ k n. (Some f.0, subst (λ xs. IsLeast (StandsTwice xs) (Some f.0)) same f.2, refl))
 

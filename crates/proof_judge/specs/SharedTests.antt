@@ -23,7 +23,7 @@ HopSays nodes index r q (Err e) = (rest : Verdict) →
 
 -- what a verdict meets, unless memory runs out
 abbrev pub UnlessMemory : {A : Type 0} → (Result A Refusal → Type 0) → Result A Refusal → Type 0
-UnlessMemory P (Err Memory) = Unit {0}
+UnlessMemory P (Err (Memory _)) = Unit {0}
 UnlessMemory P v = P v
 
 -- the refusals that come before the tests of a method's own

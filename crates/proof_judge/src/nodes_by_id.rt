@@ -1,6 +1,7 @@
 //! Node items at hand by their ids.
 
 ghost use Rattle.std.specs.Prelude.{◌≡◌, ℕ, None, Some, IfOk, OnOk, IfErr, ◌⊎◌};
+ghost use Rattle.octet_text.specs.Want.{no_memory};
 ghost use Rattle.std.specs.Option.{option_map};
 ghost use Rattle.road_map.specs.Least.{IsLeast};
 ghost use Rattle.proof_judge.specs.ItemWalks.{item_at, StandsTwice};
@@ -8,7 +9,7 @@ ghost use Rattle.road_map.specs.Places.{AreRising};
 
 use crate::places::{Place, ids_of, repeated_id, sorted_places};
 use crate::refusal::Refusal;
-use octet_text::NoMemory;
+use octet_text::{NoMemory, copied};
 use road_leaf::NodeLeaf;
 use road_map::RisingIds;
 use std::alloc::Global;
@@ -41,7 +42,7 @@ impl<'a> NodesById<'a> {
         ensures nodes { IfOk result (λ by_id. by_id ≡ nodes.now) }
         ensures distinct { OnOk result (IsLeast (StandsTwice nodes.now) None) }
         ensures fault { IfErr result
-            (λ e. (e ≡ Refusal.Memory) ⊎
+            (λ e. (e ≡ Refusal.Memory no_memory) ⊎
             ((id : ℕ) × (e ≡ Refusal.RepeatedNode id) ×
             IsLeast (StandsTwice nodes.now) (Some id))) }
     {
@@ -70,7 +71,7 @@ impl<'a> NodesById<'a> {
     pub fn ids(&self, alloc: Global) -> Result<Vec<u32>, NoMemory>
         ensures { IfOk result (λ ids. AreRising ids.items) }
     {
-        let ids = self.ids.as_slice().to_vec(alloc)?;
+        let ids = copied(alloc, self.ids.as_slice())?;
         Ok(ids)
     }
 }

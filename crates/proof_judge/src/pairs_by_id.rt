@@ -5,8 +5,9 @@ ghost use Rattle.proof_judge.specs.Judgement.{pair_at};
 ghost use Rattle.proof_judge.specs.ById.{named_in, is_before, AreSorted};
 
 use crate::pairs::names;
+use octet_text::{NoMemory, copied, sort_by_key};
 use road_leaf::PairLeaf;
-use std::alloc::{AllocError, Global};
+use std::alloc::Global;
 use std::marker::Model;
 
 /// Pair items, and the same items by their two ids.
@@ -30,13 +31,13 @@ impl<'a> Model for PairsById<'a> {
 }
 
 /// Items sorted by their two ids, those of the same two in the order that they had.
-fn sorted_pairs(alloc: Global, pairs: &[PairLeaf]) -> Result<Vec<PairLeaf>, AllocError>
+fn sorted_pairs(alloc: Global, pairs: &[PairLeaf]) -> Result<Vec<PairLeaf>, NoMemory>
     ensures sorted { IfOk result (λ sorted. AreSorted sorted.items) }
     ensures same { IfOk result (λ sorted. (a b : ℕ) →
         named_in sorted.items a b ≡ named_in pairs.now a b) }
 {
-    let mut sorted = pairs.to_vec(alloc)?;
-    sorted.sort_by_key(|pair| (pair.a, pair.b))?;
+    let mut sorted = copied(alloc, pairs)?;
+    sort_by_key(&mut sorted, |pair| (pair.a, pair.b))?;
     Ok(sorted)
 }
 
@@ -67,7 +68,7 @@ fn find_sorted(sorted: &[PairLeaf], a: u32, b: u32) -> Option<PairLeaf>
 
 impl<'a> PairsById<'a> {
     /// Puts pair items by their two ids.
-    pub fn new(alloc: Global, pairs: &'a [PairLeaf]) -> Result<PairsById<'a>, AllocError>
+    pub fn new(alloc: Global, pairs: &'a [PairLeaf]) -> Result<PairsById<'a>, NoMemory>
         ensures { IfOk result (λ by_id. by_id ≡ pairs.now) }
     {
         let sorted = sorted_pairs(alloc, pairs)?;

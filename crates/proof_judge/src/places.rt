@@ -6,8 +6,9 @@ ghost use Rattle.road_map.specs.Least.{IsLeast};
 ghost use Rattle.proof_judge.specs.declared.places.Place.{Place};
 ghost use Rattle.proof_judge.specs.ById.{IsPlaceIn, AsMany, IsTaken};
 
+use octet_text::{NoMemory, collected, push, room_for};
 use road_leaf::NodeLeaf;
-use std::alloc::{AllocError, Global};
+use std::alloc::Global;
 
 /// The id of an item, and where it stands.
 #[derive(Clone, Copy, Debug)]
@@ -17,21 +18,21 @@ pub struct Place {
 }
 
 /// The indices of items, in their order.
-fn places(alloc: Global, nodes: &[NodeLeaf]) -> Result<Vec<Place>, AllocError>
+fn places(alloc: Global, nodes: &[NodeLeaf]) -> Result<Vec<Place>, NoMemory>
     ensures as_many { IfOk result (λ places. AsMany nodes.now places.items) }
     ensures placed { IfOk result (λ places.
         (p : Place) → Contains places.items p → IsPlaceIn nodes.now p) }
 {
-    let mut places = Vec::with_capacity(alloc, nodes.len())?;
+    let mut places = room_for(alloc, nodes)?;
     for (index, node) in nodes.iter().enumerate() {
         let id = node.id;
-        places.push(Place { id, index })?;
+        push(&mut places, Place { id, index })?;
     }
     Ok(places)
 }
 
 /// The indices of items, sorted by id.
-pub fn sorted_places(alloc: Global, nodes: &[NodeLeaf]) -> Result<Vec<Place>, AllocError>
+pub fn sorted_places(alloc: Global, nodes: &[NodeLeaf]) -> Result<Vec<Place>, NoMemory>
     ensures sorted { IfOk result (λ places. IsNonDecreasingBy (λ p. p.id) places.items) }
     ensures as_many { IfOk result (λ places. AsMany nodes.now places.items) }
     ensures placed { IfOk result (λ places.
@@ -56,8 +57,8 @@ pub fn repeated_id(places: &[Place]) -> Option<u32>
 }
 
 /// The ids of indices, in their order.
-pub fn ids_of(alloc: Global, places: &[Place]) -> Result<Vec<u32>, AllocError>
+pub fn ids_of(alloc: Global, places: &[Place]) -> Result<Vec<u32>, NoMemory>
     ensures { IfOk result (λ ids. ids.items ≡ map (λ p. p.id) places.now) }
 {
-    places.iter().map(|place| place.id).collect(alloc)
+    collected(alloc, places.iter().map(|place| place.id))
 }

@@ -4,7 +4,6 @@ ghost use Rattle.std.specs.Prelude.{◌≡◌};
 ghost use Rattle.proof_judge.specs.declared.refusal.Refusal.TheVariants as refusals;
 
 use octet_text::NoMemory;
-use std::alloc::AllocError;
 use thiserror::Error;
 
 /// The first test that items do not pass.
@@ -31,21 +30,13 @@ pub enum Refusal {
     Disagrees(u64),
     /// Out of memory.
     #[error("Out of memory.")]
-    Memory,
-}
-
-impl From<AllocError> for Refusal {
-    ghost from_gives = { λ _ e. e ≡ refusals.Memory };
-
-    fn from(_none: AllocError) -> Refusal {
-        Refusal::Memory
-    }
+    Memory(NoMemory),
 }
 
 impl From<NoMemory> for Refusal {
-    ghost from_gives = { λ _ e. e ≡ refusals.Memory };
+    ghost from_gives = { λ none e. e ≡ refusals.Memory none };
 
-    fn from(_none: NoMemory) -> Refusal {
-        Refusal::Memory
+    fn from(none: NoMemory) -> Refusal {
+        Refusal::Memory(none)
     }
 }

@@ -5,7 +5,7 @@ ghost use Rattle.proof_method.specs.Apart.{IsEnd};
 ghost use Rattle.proof_method.specs.Gathering.{Lists};
 
 use book_model::Query;
-use octet_text::NoMemory;
+use octet_text::{NoMemory, push};
 use road_map::Ids;
 use std::alloc::Global;
 
@@ -23,7 +23,7 @@ pub fn ends(alloc: Global, query: Query) -> Result<Ids, NoMemory>
     ensures { IfOk result (Lists (IsEnd query)) }
 {
     let mut ids = Vec::new(alloc);
-    ids.push(query.from)?;
-    ids.push(query.to)?;
+    push(&mut ids, query.from)?;
+    push(&mut ids, query.to)?;
     Ok(rising(ids))
 }

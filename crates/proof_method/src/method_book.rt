@@ -1,6 +1,7 @@
 //! The trait of books.
 
 ghost use Rattle.std.specs.Prelude.{◌≡◌, ℕ, ◌⊎◌, Option, None, Some, Err, is_some, IfOk, OnOk, IfErr};
+ghost use Rattle.octet_text.specs.Want.{no_memory};
 ghost use Rattle.road_map.specs.Walks.{Knows};
 ghost use Rattle.road_map.specs.Maps.{Charted};
 ghost use Rattle.book_model.specs.Books.{Kind, Book, leaf, IsBookOf};
@@ -48,7 +49,7 @@ pub trait MethodBook: Drop + Sized {
         ensures allowed { OnOk result
             (own_fault (planned settings.now.method) map.parts settings.now ≡ None) }
         ensures refused { IfErr result
-            (λ e. (e ≡ plan_error.Memory) ⊎
+            (λ e. (e ≡ plan_error.Memory no_memory) ⊎
             (own_fault (planned settings.now.method) map.parts settings.now ≡ Some e)) };
 
     /// The map.

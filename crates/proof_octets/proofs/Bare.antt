@@ -6,6 +6,7 @@ use Rattle.octet_text.specs.declared.errors.ReadError.{ReadError}
 use Rattle.octet_text.specs.declared.errors.ReadError.TheVariants.{Malformed, Memory}
 use Rattle.proof_octets.specs.declared.reply.Reply.{Reply}
 use Rattle.proof_octets.specs.Replies.{reply, BringsNone}
+use Rattle.octet_text.specs.Want.{no_memory}
 
 -- what is read whole is read, with nothing left
 if_ended : (b : Bool) (x r : Reply) (at : ℕ) (left : Left) → ◌≡◌ {A = Result Reply ℕ} (if b then Ok x else Err at) (Ok r) →
@@ -36,8 +37,8 @@ short_of_bare left octets P at text memory short r none e =
 
 -- where memory is no answer, what is read is the answer
 pub bare_is_read : (result : Result Reply ReadError) (w : Result Reply ℕ) →
-    Reads (λ r. r) result w → (result ≡ Err Memory → (r : Reply) → BringsNone r → w ≢ Ok r) →
+    Reads (λ r. r) result w → (result ≡ Err (Memory no_memory) → (r : Reply) → BringsNone r → w ≢ Ok r) →
     (r : Reply) → BringsNone r → w ≡ Ok r → result ≡ Ok r
 bare_is_read (Ok x) w reads memory r none e = cc
-bare_is_read (Err Memory) w reads memory r none e = absurd (memory refl r none e)
+bare_is_read (Err (Memory _)) w reads memory r none e = absurd (memory refl r none e)
 bare_is_read (Err (Malformed m)) w reads memory r none e = cc

@@ -30,7 +30,7 @@ use Rattle.proof_octets.proofs.Good.{reply_is, is_routed, is_apart}
 
 -- what fails at a step fails after it
 pub fails_then : {A B : Type 0} (e : ReadError) (r : Result A ℕ) (k : A → Result B ℕ) → Fails e r → Fails e (r >>= k)
-fails_then errors.Memory r k h = tt
+fails_then (errors.Memory _) r k h = tt
 fails_then {A} (errors.Malformed m) r k h = ap (λ (q : Result A ℕ). q >>= k) h
 
 -- what was read first

@@ -100,7 +100,7 @@ pair_long : (i : PairItem) → length ((pair_item 0).spell i) ≡ 21
 unfolding pair_leaf
 pair_long i = refl
 
-pairs_long : (places : List ℕ) (pairs : List PairLeaf) → length pairs ≡ length places → length (pair_items.spell (places, pairs)) ≡ 4 + 21 * length places
+pub pairs_long : (places : List ℕ) (pairs : List PairLeaf) → length pairs ≡ length places → length (pair_items.spell (places, pairs)) ≡ 4 + 21 * length places
 unfolding pair_items
 pairs_long places pairs e =
     let items = joined_pairs places pairs in

@@ -1,5 +1,6 @@
 //! The reply to a query for what lies within a radius.
 ghost use Rattle.std.specs.Prelude.{◌≡◌, ◌<◌, ◌^◌, length, Err, IfOk, OnOk};
+ghost use Rattle.octet_text.specs.Want.{no_memory};
 ghost use Rattle.octet_text.specs.Format.{Gives, Reads, IsFound, ReadsAll, whole};
 ghost use Rattle.octet_text.specs.Puts.{Puts};
 ghost use Rattle.octet_text.specs.declared.errors.ReadError.{ReadError};
@@ -31,7 +32,7 @@ pub struct NearReply {
 #[tactic(auto, unfolding(crate::specs::NearReplies::near_reply), using(crate::proofs::Named::begun))]
 fn read_near(alloc: Global, cursor: &mut Cursor<'_>) -> Result<NearReply, ReadError>
     ensures gives { Gives (λ a. a) result cursor.new (near_reply.read cursor.old) }
-    ensures named { result ≡ Err ReadError.Memory → IsNamed cursor.old.text }
+    ensures named { result ≡ Err (ReadError.Memory no_memory) → IsNamed cursor.old.text }
 {
     cursor.name(b"RPN1")?;
     let header = read_header(cursor)?;
@@ -51,7 +52,7 @@ fn read_near(alloc: Global, cursor: &mut Cursor<'_>) -> Result<NearReply, ReadEr
 fn read_whole(alloc: Global, octets: &[u8]) -> Result<NearReply, ReadError>
     requires { length octets.now < 2 ^ 32 }
     ensures reads { Reads (λ r. r) result (whole near_reply octets.now) }
-    ensures named { result ≡ Err ReadError.Memory → IsNamed octets.now }
+    ensures named { result ≡ Err (ReadError.Memory no_memory) → IsNamed octets.now }
 {
     let mut cursor = Cursor::new(octets);
     let reply = read_near(alloc, &mut cursor)?;
@@ -98,7 +99,7 @@ impl NearReply {
         ensures found { IsFound (λ r. r) near_reply octets.now result }
         ensures only { ReadsAll (λ r. r) near_reply octets.now result }
         ensures exact { Reads (λ r. r) result (whole near_reply octets.now) }
-        ensures named { result ≡ Err ReadError.Memory → IsNamed octets.now }
+        ensures named { result ≡ Err (ReadError.Memory no_memory) → IsNamed octets.now }
     {
         read_whole(alloc, octets)
     }

@@ -11,7 +11,7 @@ use crate::lists::way_length;
 use crate::reply_writing::{put_back, put_front};
 use book_model::{PairLeaves, Places};
 use merkle_cover::Texts;
-use octet_text::{Digests, NoMemory, Octets, put_u8};
+use octet_text::{Digests, NoMemory, Octets, put_u8, with_room};
 use road_map::Ids;
 use std::alloc::Global;
 
@@ -85,7 +85,9 @@ impl PlacedAnswer {
         ensures { (leaves : List NodeLeaf) → HasLeaves self.now texts.now leaves →
             IfOk result (λ v. v.items ≡ reply.spell (reply_of (with_leaves self.now leaves))) }
     {
-        let mut out = Vec::with_capacity(alloc, placed_length(self, texts))?;
+        let places = self.node_places.as_slice();
+        let most = places.len().saturating_mul(1024);
+        let mut out = with_room(alloc, placed_length(self, texts).min(most), places)?;
         put_placed(&mut out, self, texts)?;
         Ok(out)
     }

@@ -11,7 +11,7 @@ use crate::lists::put_digests;
 use crate::near_reply::put_near_front;
 use book_model::Places;
 use merkle_cover::Texts;
-use octet_text::{Digests, NoMemory, Octets};
+use octet_text::{Digests, NoMemory, Octets, with_room};
 use std::alloc::Global;
 
 /// A reply whose leaves are told by their places alone, in a list that holds the text of each leaf of
@@ -57,7 +57,9 @@ impl PlacedNear {
         ensures { (leaves : List NodeLeaf) → HasNearLeaves self.now texts.now leaves →
             IfOk result (λ v. v.items ≡ near_reply.spell (near_with self.now leaves)) }
     {
-        let mut out = Vec::with_capacity(alloc, placed_length(self, texts))?;
+        let places = self.places.as_slice();
+        let most = places.len().saturating_mul(1024);
+        let mut out = with_room(alloc, placed_length(self, texts).min(most), places)?;
         put_placed(&mut out, self, texts)?;
         Ok(out)
     }

@@ -2,7 +2,8 @@
 ghost use Rattle.std.specs.Prelude.{◌≡◌};
 
 use crate::{Library, LoadError};
-use std::alloc::{AllocError, Global};
+use octet_text::{NoMemory, extend, text_of};
+use std::alloc::Global;
 
 /// The front of a file that was loaded.
 #[derive(Drop)]
@@ -14,11 +15,11 @@ pub struct Kept {
 
 impl Kept {
     /// The front of these octets, at most so many.
-    fn of(alloc: Global, name: &str, octets: &[u8], most: usize) -> Result<Kept, AllocError> {
-        let name = String::from_str(alloc, name)?;
+    fn of(alloc: Global, name: &str, octets: &[u8], most: usize) -> Result<Kept, NoMemory> {
+        let name = text_of(alloc, name)?;
         let (text, _) = octets.split_at(octets.len().min(most));
         let mut front = Vec::new(alloc);
-        front.extend_from_slice(text)?;
+        extend(&mut front, text)?;
         Ok(Kept {
             name,
             front,

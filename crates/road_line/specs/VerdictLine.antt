@@ -43,7 +43,7 @@ judged_words (judged.MissingTuple id) = codes "MissingTuple " ++ decimal id
 judged_words (judged.MissingPair a b) = codes "MissingPair " ++ decimal a ++ codes " " ++ decimal b
 judged_words (judged.Shorter length) = codes "Shorter " ++ decimal length
 judged_words (judged.Disagrees distance) = codes "Disagrees " ++ decimal distance
-judged_words judged.Memory = codes "Memory"
+judged_words (judged.Memory _) = codes "Memory"
 
 -- the test that a reply did not pass, with its numbers and names
 abbrev pub refused_words : CheckError → List ℕ
@@ -54,7 +54,7 @@ refused_words (BadChain link why) = codes "BadChain " ++ decimal link ++ codes "
 refused_words (BadSignature why) = codes "BadSignature " ++ seal_name why
 refused_words (BadCover tree why) = codes "BadCover " ++ decimal tree ++ codes " " ++ cover_name why
 refused_words (Judged why) = judged_words why
-refused_words Memory = codes "Memory"
+refused_words (Memory _) = codes "Memory"
 
 -- a refused reply
 abbrev pub refused_line : CheckError → List ℕ

@@ -27,7 +27,7 @@ refused_near_words (BadSignature why) = codes "BadSignature " ++ seal_name why
 refused_near_words (BadCover why) = codes "BadCover " ++ cover_name why
 refused_near_words (RepeatedNode id) = codes "RepeatedNode " ++ decimal id
 refused_near_words (MissingTuple id) = codes "MissingTuple " ++ decimal id
-refused_near_words Memory = codes "Memory"
+refused_near_words (Memory _) = codes "Memory"
 
 -- a refused reply
 abbrev pub refused_near_line : NearError → List ℕ

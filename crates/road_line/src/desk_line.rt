@@ -3,8 +3,8 @@
 ghost use Rattle.std.specs.Prelude.{◌≡◌, IfOk, string_bytes};
 ghost use Rattle.road_line.specs.DeskLine.{desk_line};
 
-use octet_text::NoMemory;
-use std::alloc::{AllocError, Global};
+use octet_text::{NoMemory, hex_of, print};
+use std::alloc::Global;
 
 /// The line of a public key, and of how many one-time keys are left of how many.
 pub fn line_of_desk(
@@ -15,17 +15,15 @@ pub fn line_of_desk(
 ) -> Result<Vec<u8>, NoMemory>
     ensures { IfOk result (λ line. line.items ≡ desk_line public.now left size) }
 {
-    match printed(alloc, public, left, size) {
-        Ok(text) => Ok(text.into_bytes()),
-        Err(_) => Err(NoMemory),
-    }
+    let text = printed(alloc, public, left, size)?;
+    Ok(text.into_bytes())
 }
 
-fn printed(alloc: Global, public: &[u8; 56], left: u32, size: u32) -> Result<String, AllocError>
+fn printed(alloc: Global, public: &[u8; 56], left: u32, size: u32) -> Result<String, NoMemory>
     ensures { IfOk result (λ text. string_bytes text ≡ desk_line public.now left size) }
 {
-    let digits = hex::encode(alloc, public)?;
+    let digits = hex_of(alloc, public)?;
     let mut text = String::new(alloc);
-    writeln!(text, "{digits} {left} {size}")?;
+    print(&mut text, format_args!("{digits} {left} {size}\n"))?;
     Ok(text)
 }

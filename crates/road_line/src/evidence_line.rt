@@ -4,48 +4,42 @@ ghost use Rattle.std.specs.Prelude.{◌≡◌, ◌++◌, codes, IfOk, string_byt
 ghost use Rattle.hex.specs.Hex.{encode_lower};
 ghost use Rattle.road_line.specs.EvidenceLine.{right_line, collision_line, forged_line};
 
-use octet_text::NoMemory;
-use std::alloc::{AllocError, Global};
+use octet_text::{NoMemory, hex_of, print, text_of};
+use std::alloc::Global;
 
 /// The line of a reply that is right.
 pub fn line_of_right(alloc: Global) -> Result<Vec<u8>, NoMemory>
     ensures { IfOk result (λ line. line.items ≡ right_line) }
 {
-    match String::from_str(alloc, "right\n") {
-        Ok(text) => Ok(text.into_bytes()),
-        Err(_) => Err(NoMemory),
-    }
+    let text = text_of(alloc, "right\n")?;
+    Ok(text.into_bytes())
 }
 
 /// The line of two different texts with one digest.
 pub fn line_of_collision(alloc: Global, left: &[u8], right: &[u8]) -> Result<Vec<u8>, NoMemory>
     ensures { IfOk result (λ line. line.items ≡ collision_line left.now right.now) }
 {
-    match in_hex(alloc, "collision", left, right) {
-        Ok(text) => Ok(text.into_bytes()),
-        Err(_) => Err(NoMemory),
-    }
+    let text = in_hex(alloc, "collision", left, right)?;
+    Ok(text.into_bytes())
 }
 
 /// The line of a header that was not signed by its owner, and of its signature.
 pub fn line_of_forged(alloc: Global, header: &[u8], signature: &[u8]) -> Result<Vec<u8>, NoMemory>
     ensures { IfOk result (λ line. line.items ≡ forged_line header.now signature.now) }
 {
-    match in_hex(alloc, "forged", header, signature) {
-        Ok(text) => Ok(text.into_bytes()),
-        Err(_) => Err(NoMemory),
-    }
+    let text = in_hex(alloc, "forged", header, signature)?;
+    Ok(text.into_bytes())
 }
 
 /// A name and two texts in hex, as a line.
-fn in_hex(alloc: Global, name: &str, first: &[u8], second: &[u8]) -> Result<String, AllocError>
+fn in_hex(alloc: Global, name: &str, first: &[u8], second: &[u8]) -> Result<String, NoMemory>
     ensures { IfOk result (λ text.
         string_bytes text ≡ name.now ++ codes " " ++ encode_lower first.now ++ codes " " ++
         encode_lower second.now ++ codes "\n") }
 {
-    let left = hex::encode(alloc, first)?;
-    let right = hex::encode(alloc, second)?;
+    let left = hex_of(alloc, first)?;
+    let right = hex_of(alloc, second)?;
     let mut text = String::new(alloc);
-    writeln!(text, "{name} {left} {right}")?;
+    print(&mut text, format_args!("{name} {left} {right}\n"))?;
     Ok(text)
 }

@@ -6,36 +6,34 @@ ghost use Rattle.road_line.specs.VerdictLine.{accepted_line, accepted_words, ref
 
 use crate::route_line::print_route;
 use lms_tree::SealError;
-use octet_text::NoMemory;
+use octet_text::{NoMemory, print, push_str, text_of};
 use proof_judge::Refusal;
 use route_client::{CheckError, Checked, CoverFault};
-use std::alloc::{AllocError, Global};
+use std::alloc::Global;
 
 /// The line of what is accepted: a route and its length, or that there is none.
 pub fn line_of_accepted(alloc: Global, checked: &Checked) -> Result<Vec<u8>, NoMemory>
     ensures { IfOk result (λ text. text.items ≡ accepted_line checked.now) }
 {
-    match accepted(alloc, checked) {
-        Ok(text) => Ok(text.into_bytes()),
-        Err(_) => Err(NoMemory),
-    }
+    let text = accepted(alloc, checked)?;
+    Ok(text.into_bytes())
 }
 
-fn accepted(alloc: Global, checked: &Checked) -> Result<String, AllocError>
+fn accepted(alloc: Global, checked: &Checked) -> Result<String, NoMemory>
     ensures { IfOk result (λ text. string_bytes text ≡ accepted_line checked.now) }
 {
-    let mut text = String::from_str(alloc, "accepted ")?;
+    let mut text = text_of(alloc, "accepted ")?;
     print_accepted(&mut text, checked)?;
     Ok(text)
 }
 
-fn print_accepted(text: &mut String, checked: &Checked) -> Result<(), AllocError>
+fn print_accepted(text: &mut String, checked: &Checked) -> Result<(), NoMemory>
     ensures { OnOk result (string_bytes text.new ≡ string_bytes text.old ++ accepted_words
         checked.now) }
 {
     match checked {
         Checked::Route(accepted) => print_route(text, accepted.length, accepted.route.as_slice()),
-        Checked::Apart { .. } => text.push_str("none\n"),
+        Checked::Apart { .. } => push_str(text, "none\n"),
     }
 }
 
@@ -43,31 +41,29 @@ fn print_accepted(text: &mut String, checked: &Checked) -> Result<(), AllocError
 pub fn line_of_refused(alloc: Global, why: CheckError) -> Result<Vec<u8>, NoMemory>
     ensures { IfOk result (λ text. text.items ≡ refused_line why) }
 {
-    match refused(alloc, why) {
-        Ok(text) => Ok(text.into_bytes()),
-        Err(_) => Err(NoMemory),
-    }
+    let text = refused(alloc, why)?;
+    Ok(text.into_bytes())
 }
 
-fn refused(alloc: Global, why: CheckError) -> Result<String, AllocError>
+fn refused(alloc: Global, why: CheckError) -> Result<String, NoMemory>
     ensures { IfOk result (λ text. string_bytes text ≡ refused_line why) }
 {
-    let mut text = String::from_str(alloc, "refused ")?;
+    let mut text = text_of(alloc, "refused ")?;
     print_refusal(&mut text, why)?;
-    writeln!(text)?;
+    push_str(&mut text, "\n")?;
     Ok(text)
 }
 
-fn print_refusal(text: &mut String, why: CheckError) -> Result<(), AllocError>
+fn print_refusal(text: &mut String, why: CheckError) -> Result<(), NoMemory>
     ensures { OnOk result (string_bytes text.new ≡ string_bytes text.old ++ refused_words why) }
 {
     match why {
-        CheckError::NotAnswer(kind) => write!(text, "NotAnswer {kind}"),
-        CheckError::Malformed(at) => write!(text, "Malformed {at}"),
-        CheckError::Stale(version) => write!(text, "Stale {version}"),
+        CheckError::NotAnswer(kind) => print(text, format_args!("NotAnswer {kind}")),
+        CheckError::Malformed(at) => print(text, format_args!("Malformed {at}")),
+        CheckError::Stale(version) => print(text, format_args!("Stale {version}")),
         CheckError::BadChain(link, why) => {
             let name = name_of_seal(why);
-            write!(text, "BadChain {link} {name}")
+            print(text, format_args!("BadChain {link} {name}"))
         }
         CheckError::BadSignature(why) => {
             let name = name_of_seal(why);
@@ -75,39 +71,39 @@ fn print_refusal(text: &mut String, why: CheckError) -> Result<(), AllocError>
         }
         CheckError::BadCover(tree, why) => {
             let name = name_of_cover(why);
-            write!(text, "BadCover {tree} {name}")
+            print(text, format_args!("BadCover {tree} {name}"))
         }
         CheckError::Judged(why) => print_judged(text, why),
-        CheckError::Memory => text.push_str("Memory"),
+        CheckError::Memory(_) => push_str(text, "Memory"),
     }
 }
 
-fn print_judged(text: &mut String, why: Refusal) -> Result<(), AllocError>
+fn print_judged(text: &mut String, why: Refusal) -> Result<(), NoMemory>
     ensures { OnOk result (string_bytes text.new ≡ string_bytes text.old ++ judged_words why) }
 {
     match why {
-        Refusal::RepeatedNode(id) => write!(text, "RepeatedNode {id}"),
-        Refusal::BadRoute(hop) => write!(text, "BadRoute {hop}"),
-        Refusal::MissingTuple(id) => write!(text, "MissingTuple {id}"),
+        Refusal::RepeatedNode(id) => print(text, format_args!("RepeatedNode {id}")),
+        Refusal::BadRoute(hop) => print(text, format_args!("BadRoute {hop}")),
+        Refusal::MissingTuple(id) => print(text, format_args!("MissingTuple {id}")),
         Refusal::MissingPair(a, b) => print_missing_pair(text, a, b),
-        Refusal::Shorter(length) => write!(text, "Shorter {length}"),
-        Refusal::Disagrees(distance) => write!(text, "Disagrees {distance}"),
-        Refusal::Memory => text.push_str("Memory"),
+        Refusal::Shorter(length) => print(text, format_args!("Shorter {length}")),
+        Refusal::Disagrees(distance) => print(text, format_args!("Disagrees {distance}")),
+        Refusal::Memory(_) => push_str(text, "Memory"),
     }
 }
 
-fn print_missing_pair(text: &mut String, a: u32, b: u32) -> Result<(), AllocError>
+fn print_missing_pair(text: &mut String, a: u32, b: u32) -> Result<(), NoMemory>
     ensures { OnOk result (string_bytes text.new ≡ string_bytes text.old ++
         (codes "MissingPair " ++ decimal a ++ codes " " ++ decimal b)) }
 {
-    write!(text, "MissingPair {a} {b}")
+    print(text, format_args!("MissingPair {a} {b}"))
 }
 
-fn print_bad_signature(text: &mut String, name: &str) -> Result<(), AllocError>
+fn print_bad_signature(text: &mut String, name: &str) -> Result<(), NoMemory>
     ensures { OnOk result (string_bytes text.new ≡ string_bytes text.old ++
         (codes "BadSignature " ++ name.now)) }
 {
-    write!(text, "BadSignature {name}")
+    print(text, format_args!("BadSignature {name}"))
 }
 
 /// The name of why a signature is not verified.

@@ -4,38 +4,36 @@ ghost use Rattle.std.specs.Prelude.{◌≡◌, ◌++◌, IfOk, OnOk, string_byte
 ghost use Rattle.std.specs.List.{flat_map};
 ghost use Rattle.road_line.specs.WithinLine.{within_line, spaced_id};
 
-use octet_text::NoMemory;
+use octet_text::{NoMemory, print, push_str, text_of};
 use proof_octets::Mark;
-use std::alloc::{AllocError, Global};
+use std::alloc::Global;
 
 /// The line of the nodes within a radius: how many there are, a colon, and each id after a space.
 pub fn line_of_within(alloc: Global, nodes: &[Mark]) -> Result<Vec<u8>, NoMemory>
     ensures { IfOk result (λ text. text.items ≡ within_line nodes.now) }
 {
-    match within(alloc, nodes) {
-        Ok(text) => Ok(text.into_bytes()),
-        Err(_) => Err(NoMemory),
-    }
+    let text = within(alloc, nodes)?;
+    Ok(text.into_bytes())
 }
 
-fn within(alloc: Global, nodes: &[Mark]) -> Result<String, AllocError>
+fn within(alloc: Global, nodes: &[Mark]) -> Result<String, NoMemory>
     ensures { IfOk result (λ text. string_bytes text ≡ within_line nodes.now) }
 {
-    let mut text = String::from_str(alloc, "within ")?;
+    let mut text = text_of(alloc, "within ")?;
     let count = nodes.len();
-    write!(text, "{count}:")?;
+    print(&mut text, format_args!("{count}:"))?;
     print_nodes(&mut text, nodes)?;
-    writeln!(text)?;
+    push_str(&mut text, "\n")?;
     Ok(text)
 }
 
-fn print_nodes(text: &mut String, nodes: &[Mark]) -> Result<(), AllocError>
+fn print_nodes(text: &mut String, nodes: &[Mark]) -> Result<(), NoMemory>
     ensures { OnOk result (string_bytes text.new ≡ string_bytes text.old ++ flat_map spaced_id
         nodes.now) }
 {
     for node in nodes {
         let id = node.id;
-        write!(text, " {id}")?;
+        print(text, format_args!(" {id}"))?;
     }
     Ok(())
 }

@@ -1,5 +1,5 @@
 -- Lists that lie one behind the other.
-use Rattle.std.proofs.Common.{◌≡◌, ℕ, zero, suc, ◌+◌, ◌-◌, ◌<◌, ◌≤◌, Option, None, Some, List, [], ◌∷◌, ◌++◌, length, slice_get, take, drop, refl, arith, ap, sym, ◌∙◌, subst, length-drop}
+use Rattle.std.proofs.Common.{◌≡◌, ℕ, zero, suc, ◌+◌, ◌-◌, ◌≤◌, None, Some, List, [], ◌∷◌, ◌++◌, length, map, slice_get, take, drop, refl, arith, ap, ◌∙◌, length-drop}
 use Rattle.std.proofs.lemmas.List.{take-append-le, drop-append-le}
 use Rattle.std.proofs.Math.Seq.{drop-append_seam, take-length}
 use Rattle.road_map.specs.Parted.{parted, AreEnds, start_at}
@@ -46,3 +46,24 @@ parted_more start (e ∷ es) xs ys end h is =
     let long : length (drop start xs) ≡ length xs - start = length-drop start xs in
     let here : take (e - start) (drop start (xs ++ ys)) ≡ take (e - start) (drop start xs) = ap (take (e - start)) rest ∙ take-append-le (e - start) (drop start xs) ys (omega (arith, long, h.0, within)) in
     rw (here, parted_more e es xs ys end h.1 is) refl
+
+-- the parts of a list with each item changed
+pub parted-map : {X Y : Type 0} (f : X → Y) (start : ℕ) (ends : List ℕ) (xs : List X) → parted start ends (map f xs) ≡ map (map f) (parted start ends xs)
+parted-map f start [] xs = refl
+parted-map f start (e ∷ es) xs =
+    let here : take (e - start) (drop start (map f xs)) ≡ map f (take (e - start) (drop start xs)) = ap (take (e - start)) (drop-map f start xs) ∙ take-map f (e - start) (drop start xs) in
+    rw (here, parted-map f e es xs) refl
+  where
+    drop-map : {X Y : Type 0} (f : X → Y) (n : ℕ) (xs : List X) → drop n (map f xs) ≡ map f (drop n xs)
+    drop-map f zero xs = refl
+    drop-map f (suc n) [] = refl
+    drop-map f (suc n) (x ∷ xs) = drop-map f n xs
+
+    take-map : {X Y : Type 0} (f : X → Y) (n : ℕ) (xs : List X) → take n (map f xs) ≡ map f (take n xs)
+    take-map f zero xs = refl
+    take-map f (suc n) [] = refl
+    take-map f (suc n) (x ∷ xs) = ap (λ t. f x ∷ t) (take-map f n xs)
+
+pub parted-length : {X : Type 0} (start : ℕ) (ends : List ℕ) (xs : List X) → length (parted start ends xs) ≡ length ends
+parted-length start [] xs = refl
+parted-length start (e ∷ es) xs = ap suc (parted-length e es xs)

@@ -1,5 +1,5 @@
 -- Ids that rise, and their indices.
-use Rattle.std.proofs.Common.{◌≡◌, ℕ, ◌<◌, nat_eq, nat_lt, cond, true, false, None, Some, List, [], Result, Ok, Err, length, map, get_or, slice_get, arith, ap, sym, ◌∙◌, subst}
+use Rattle.std.proofs.Common.{◌≡◌, ℕ, ◌<◌, nat_eq, nat_lt, cond, true, false, None, Some, List, [], Result, Ok, Err, length, map, get_or, arith, ap, sym, ◌∙◌, subst}
 use Rattle.std.specs.Result.{result_ok}
 use Rattle.std.specs.List.{position_or_len, IsDistinct}
 use Rattle.std.specs.Ordering.{nat_cmp}

@@ -1,5 +1,5 @@
 -- A map's arcs by position.
-use Rattle.std.specs.Prelude.{◌≡◌, ℕ, Some, List, [], ◌∷◌, ◌++◌, length, slice_get}
+use Rattle.std.specs.Prelude.{◌≡◌, ℕ, Some, List, [], ◌∷◌, length, slice_get}
 use Rattle.road_map.specs.declared.arc.Arc.{Arc}
 use Rattle.road_map.specs.declared.parts.Node.{Node}
 use Rattle.road_map.specs.declared.parts.Parts.{Parts}
@@ -15,12 +15,6 @@ Placed order [] [] = Unit {0}
 Placed order (a ∷ arcs) (b ∷ bs) = (b.length ≡ a.length) × IsPlace order a.to b.to ×
     Placed order arcs bs
 Placed order _ _ = ⊥
-
--- those arcs come behind others
-pub record AddsPlaced (order : List Node) (arcs old new : List Arc) : Type 0 where
-  pub added : List Arc
-  pub behind : new ≡ old ++ added
-  pub placed : Placed order arcs added
 
 -- the arcs of each node, at its position
 pub record IsNet (parts : Parts) (order : List Node) (rows : List (List Arc)) : Type 0 where

@@ -1,17 +1,18 @@
-//! A map's arcs by position.
+//! Arcs by position.
 
-ghost use Rattle.std.specs.Prelude.{◌≡◌, ◌-◌, ◌<◌, ◌≤◌, ℕ, Some, IfOk, OnOk, Contains, length, slice_get, take, drop, map};
+ghost use Rattle.std.specs.Prelude.{◌≡◌, ◌-◌, ◌<◌, ◌≤◌, ℕ, IfOk, OnOk, IfErr, length, slice_get, take, drop, map};
 ghost use Rattle.std.specs.Option.{option_copied};
 ghost use Rattle.road_map.specs.declared.arc.Arc.{Arc};
-ghost use Rattle.road_map.specs.Nets.{AddsPlaced};
+ghost use Rattle.road_map.specs.Chains.{AreChained};
 ghost use Rattle.road_map.specs.Parted.{parted, AreEnds, start_at};
-ghost use Rattle.road_map.specs.Rows.{HasRow, RowsRise, LeadToRows, IsNetOf};
+ghost use Rattle.road_map.specs.Rows.{AreRows, ThinBelow, FirstCrowded, id_at, named_arc};
 
 use crate::arc::Arc;
-use crate::rising_ids::RisingIds;
-use crate::rows::{NodeArcs, place_by};
-use octet_text::NoMemory;
-use std::alloc::{AllocError, Global};
+use crate::chains::{Chains, MOST, gather};
+use crate::error::MapError;
+use crate::parts::{Node, Road};
+use octet_text::{NoMemory, copied, extend, push, room_for, with_room};
+use std::alloc::Global;
 use std::marker::Model;
 
 /// The arcs out of each node of a map, at its position, each to the position of a node. They lie one
@@ -20,7 +21,7 @@ use std::marker::Model;
 pub struct Net {
     arcs: Vec<Arc>,
     // Where the arcs of each node end.
-    ends: Vec<usize>,
+    ends: Vec<u32>,
 }
 
 impl Model for Net {
@@ -42,10 +43,46 @@ impl Net {
     {
         part_at(&self.arcs, &self.ends, position as usize)
     }
+
+    /// The same arcs, each to the id of the node at its position.
+    pub(crate) fn named(&self, alloc: Global, order: &[Node]) -> Result<Net, NoMemory>
+        ensures { IfOk result (λ named. named ≡ map (map (named_arc order.now)) self.now) }
+    {
+        let arcs = all_named(alloc, order, self.arcs.as_slice())?;
+        let ends = copied(alloc, self.ends.as_slice())?;
+        Ok(Net { arcs, ends })
+    }
+}
+
+/// Arcs to positions, each to the id of the node there.
+fn all_named(alloc: Global, order: &[Node], arcs: &[Arc]) -> Result<Vec<Arc>, NoMemory>
+    ensures { IfOk result (λ named. named.items ≡ map (named_arc order.now) arcs.now) }
+{
+    let mut named = room_for(alloc, arcs)?;
+    for arc in arcs {
+        push(
+            &mut named,
+            Arc {
+                to: id_at(order, arc.to),
+                length: arc.length,
+            },
+        )?;
+    }
+    Ok(named)
+}
+
+/// The id of the node at a position, where there is one.
+fn id_at(order: &[Node], position: u32) -> u32
+    ensures { result ≡ id_at order.now position }
+{
+    match order.get(position as usize) {
+        Some(node) => node.id,
+        None => position,
+    }
 }
 
 /// What lies between the end at an index and the one before, where there is one.
-fn part_at<'a>(arcs: &'a [Arc], ends: &[usize], index: usize) -> Option<&'a [Arc]>
+fn part_at<'a>(arcs: &'a [Arc], ends: &[u32], index: usize) -> Option<&'a [Arc]>
     requires { AreEnds 0 ends.now (length arcs.now) }
     ensures { option_copied result ≡ slice_get (parted 0 ends.now arcs.now) index }
 {
@@ -53,7 +90,7 @@ fn part_at<'a>(arcs: &'a [Arc], ends: &[usize], index: usize) -> Option<&'a [Arc
         return None;
     }
     let start = start_at(ends, index);
-    Some(between(arcs, start, ends[index]))
+    Some(between(arcs, start, ends[index] as usize))
 }
 
 /// What stands at indices from START on and before END.
@@ -66,51 +103,41 @@ fn between(arcs: &[Arc], start: usize, end: usize) -> &[Arc]
 }
 
 /// Where the part begins that ends at an index of these ends.
-fn start_at(ends: &[usize], index: usize) -> usize
+fn start_at(ends: &[u32], index: usize) -> usize
     requires { index < length ends.now }
     ensures { result ≡ start_at 0 ends.now index }
 {
     if index == 0 {
         return 0;
     }
-    ends[index - 1]
+    ends[index - 1] as usize
 }
 
-/// The net of rows, which have these ids.
-pub(crate) fn net_of(alloc: Global, rows: &[NodeArcs], ids: &RisingIds) -> Result<Net, NoMemory>
-    requires few { length rows.now ≤ 65536 }
-    requires rise { RowsRise rows.now }
-    requires lead { LeadToRows rows.now }
-    ensures { IfOk result (IsNetOf rows.now) }
+/// The arcs that roads make between the nodes of an order, up to the first node with too many.
+pub(crate) fn net_of(
+    alloc: Global,
+    roads: &[Road],
+    chains: &Chains,
+    order: &[Node],
+) -> Result<Net, MapError>
+    requires nodes { length order.now ≤ 65536 }
+    requires few { length roads.now ≤ 262144 }
+    requires count { length chains.now.first.items ≡ length order.now }
+    requires chained { AreChained roads.now 0 chains.now.first.items chains.now.next.items }
+    ensures rows { IfOk result (AreRows roads.now (length order.now)) }
+    ensures thin { OnOk result (ThinBelow roads.now (length order.now)) }
+    ensures fault { IfErr result (FirstCrowded roads.now order.now) }
 {
-    let mut arcs = Vec::new(alloc);
-    let mut ends = Vec::with_capacity(alloc, rows.len())?;
-    for row in rows {
-        add_placed(&mut arcs, rows, ids, row.arcs.as_slice())?;
-        ends.push(arcs.len())?;
+    let mut arcs = with_room(alloc, 2 * roads.len(), roads)?;
+    let mut ends = room_for(alloc, order)?;
+    let mut row = Vec::new(alloc);
+    for (position, node) in order.iter().enumerate() {
+        gather(&mut row, roads, chains, position as u32)?;
+        if row.len() > MOST {
+            return Err(MapError::Crowded(node.id));
+        }
+        extend(&mut arcs, row.as_slice())?;
+        push(&mut ends, arcs.len() as u32)?;
     }
     Ok(Net { arcs, ends })
-}
-
-/// Adds arcs to positions.
-fn add_placed(
-    out: &mut Vec<Arc>,
-    rows: &[NodeArcs],
-    ids: &RisingIds,
-    arcs: &[Arc],
-) -> Result<(), AllocError>
-    requires few { length rows.now ≤ 65536 }
-    requires rise { RowsRise rows.now }
-    requires known { (a : Arc) → Contains arcs.now a → HasRow rows.now a.to }
-    ensures { OnOk result (AddsPlaced (map (λ row. row.node) rows.now) arcs.now out.old.items
-        out.new.items) }
-{
-    for arc in arcs {
-        let to = place_by(rows, ids, arc.to).unwrap() as u32;
-        out.push(Arc {
-            to,
-            length: arc.length,
-        })?;
-    }
-    Ok(())
 }

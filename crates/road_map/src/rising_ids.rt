@@ -4,7 +4,8 @@ ghost use Rattle.std.specs.Prelude.{◌≡◌, [], IfOk, IfSome};
 ghost use Rattle.road_map.specs.Places.{StandsAt, AreRising, place_in};
 
 use crate::spans::Spans;
-use std::alloc::{AllocError, Global};
+use octet_text::NoMemory;
+use std::alloc::Global;
 use std::marker::Model;
 
 /// Ids that rise, parted by spans, so that a look-up goes through few of them, however they are
@@ -38,7 +39,7 @@ impl RisingIds {
     }
 
     /// These ids.
-    pub fn new(alloc: Global, ids: Vec<u32>) -> Result<RisingIds, AllocError>
+    pub fn new(alloc: Global, ids: Vec<u32>) -> Result<RisingIds, NoMemory>
         requires { AreRising ids.items }
         ensures { IfOk result (λ rising. rising ≡ ids.items) }
     {

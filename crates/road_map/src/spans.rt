@@ -3,7 +3,8 @@
 ghost use Rattle.std.specs.Prelude.{◌≡◌, ◌<◌, ◌≤◌, IfSome, length};
 ghost use Rattle.road_map.specs.Places.{StandsAt};
 
-use std::alloc::{AllocError, Global};
+use octet_text::{NoMemory, fill_up, push, room_for};
+use std::alloc::Global;
 
 /// How many ids of a span are searched by halves; where there are more, they are parted again.
 const FEW: usize = 4;
@@ -40,7 +41,7 @@ impl Spans {
     }
 
     /// The spans of ids, which should rise; ids without gaps need none.
-    pub fn of(alloc: Global, ids: &[u32]) -> Result<Spans, AllocError> {
+    pub fn of(alloc: Global, ids: &[u32]) -> Result<Spans, NoMemory> {
         if !have_gaps(ids) {
             return Ok(Spans::none(alloc));
         }
@@ -102,12 +103,7 @@ fn width_of(ids: &[u32]) -> u32
 
 /// Adds where the ids of each span begin, and where those of the last end, for ids of which the
 /// first stands at an index.
-fn add_starts(
-    starts: &mut Vec<u32>,
-    ids: &[u32],
-    first: usize,
-    shift: u32,
-) -> Result<(), AllocError>
+fn add_starts(starts: &mut Vec<u32>, ids: &[u32], first: usize, shift: u32) -> Result<(), NoMemory>
     requires { shift < 32 }
 {
     let before = starts.len();
@@ -115,10 +111,14 @@ fn add_starts(
         let span = (ids[place].wrapping_sub(ids[0]) >> shift) as usize;
         let span = before.wrapping_add(span);
         if span >= starts.len() {
-            starts.resize(span.wrapping_add(1), low_half(first.wrapping_add(place)))?;
+            fill_up(
+                starts,
+                span.wrapping_add(1),
+                low_half(first.wrapping_add(place)),
+            )?;
         }
     }
-    starts.push(low_half(first.wrapping_add(ids.len())))?;
+    push(starts, low_half(first.wrapping_add(ids.len())))?;
     Ok(())
 }
 
@@ -134,25 +134,20 @@ fn parts_of(
     starts: &[u32],
     shift: u32,
     inner: &mut Vec<u32>,
-) -> Result<Vec<Part>, AllocError> {
+) -> Result<Vec<Part>, NoMemory> {
     if shift == 0 {
         return Ok(Vec::new(alloc));
     }
-    let mut parts = Vec::with_capacity(alloc, starts.len())?;
+    let mut parts = room_for(alloc, starts)?;
     for span in 1..starts.len() {
         let part = part_of(ids, starts[span - 1] as usize, starts[span] as usize, inner)?;
-        parts.push(part)?;
+        push(&mut parts, part)?;
     }
     Ok(parts)
 }
 
 /// How the span of the ids at indices from START on and before END is parted.
-fn part_of(
-    ids: &[u32],
-    start: usize,
-    end: usize,
-    inner: &mut Vec<u32>,
-) -> Result<Part, AllocError> {
+fn part_of(ids: &[u32], start: usize, end: usize, inner: &mut Vec<u32>) -> Result<Part, NoMemory> {
     let at = low_half(inner.len());
     if start >= end || end > ids.len() || end - start <= FEW {
         return Ok(Part { at, shift: 0 });

@@ -8,9 +8,9 @@ ghost use Rattle.road_order.specs.declared.label.Label.{Label};
 use crate::keyed::ids_by_key;
 use crate::label::Label;
 use crate::neighbour::{degree, neighbour_at};
-use octet_text::NoMemory;
+use octet_text::{NoMemory, filled, push, room_for};
 use road_map::{Ids, Map};
-use std::alloc::{AllocError, Global};
+use std::alloc::Global;
 
 /// The ids by the least id of their component, then by the hops from there, then by id.
 pub fn breadth_ids(alloc: Global, map: &Map) -> Result<Ids, NoMemory>
@@ -28,17 +28,17 @@ fn with_labels(
     alloc: Global,
     map: &Map,
     labels: &[Option<Label>],
-) -> Result<Vec<((u32, u32), u32)>, AllocError>
+) -> Result<Vec<((u32, u32), u32)>, NoMemory>
     requires { IsLabelled map.now labels.now }
     ensures { IfOk result (λ keyed. keyed.items ≡ keyed_of map.now.parts (ids map.now.order)) }
 {
     let _parts = map.parts();
-    let mut keyed = Vec::with_capacity(alloc, labels.len())?;
+    let mut keyed = room_for(alloc, labels)?;
     for position in 0..map.count() {
         match labels[position as usize] {
             Some(label) => {
                 let root = map.node(label.root).id;
-                keyed.push(((root, label.hops), map.node(position).id))?;
+                push(&mut keyed, ((root, label.hops), map.node(position).id))?;
             }
             None => unreachable!(),
         }
@@ -47,7 +47,7 @@ fn with_labels(
 }
 
 /// The labels of all nodes, by position.
-fn label_all(alloc: Global, map: &Map) -> Result<Vec<Option<Label>>, AllocError>
+fn label_all(alloc: Global, map: &Map) -> Result<Vec<Option<Label>>, NoMemory>
     ensures { IfOk result (λ labels. IsLabelled map.now labels.items) }
 {
     let mut labels = no_labels(alloc, map.count())?;
@@ -56,18 +56,14 @@ fn label_all(alloc: Global, map: &Map) -> Result<Vec<Option<Label>>, AllocError>
 }
 
 /// No label for so many nodes.
-fn no_labels(alloc: Global, count: u32) -> Result<Vec<Option<Label>>, AllocError>
+fn no_labels(alloc: Global, count: u32) -> Result<Vec<Option<Label>>, NoMemory>
     ensures { IfOk result (λ labels. labels.items ≡ replicate count None) }
 {
-    let mut labels = Vec::with_capacity(alloc, count as usize)?;
-    for _position in 0..count {
-        labels.push(None)?;
-    }
-    Ok(labels)
+    filled(alloc, None, count as usize)
 }
 
 /// Gives a label to each node, where none has one.
-fn spread_all(alloc: Global, map: &Map, labels: &mut [Option<Label>]) -> Result<(), AllocError>
+fn spread_all(alloc: Global, map: &Map, labels: &mut [Option<Label>]) -> Result<(), NoMemory>
     requires { labels.old ≡ replicate (length map.now.order) None }
     ensures { OnOk result (IsLabelled map.now labels.new) }
 {
@@ -79,12 +75,7 @@ fn spread_all(alloc: Global, map: &Map, labels: &mut [Option<Label>]) -> Result<
 
 /// Labels a node as the first of its component, and all that is reached from it layer by layer,
 /// unless it has a label.
-fn spread(
-    alloc: Global,
-    map: &Map,
-    labels: &mut [Option<Label>],
-    root: u32,
-) -> Result<(), AllocError>
+fn spread(alloc: Global, map: &Map, labels: &mut [Option<Label>], root: u32) -> Result<(), NoMemory>
     requires root { root < length map.now.order }
     requires spread { IsSpread map.now labels.old }
     requires closed { AllClosed map.now labels.old }
@@ -103,7 +94,7 @@ fn spread(
     }
     labels[root as usize] = Some(Label { root, hops: 0 });
     let mut layer = Vec::new(alloc);
-    layer.push(root)?;
+    push(&mut layer, root)?;
     let mut hops = 0;
     'layers: while !layer.is_empty() {
         hops += 1;
@@ -119,7 +110,7 @@ fn next_layer(
     labels: &mut [Option<Label>],
     layer: &[u32],
     label: Label,
-) -> Result<Vec<u32>, AllocError>
+) -> Result<Vec<u32>, NoMemory>
     requires spread { IsSpread map.now labels.old }
     requires below { LabelledBelow labels.old label.root }
     requires most { AllAtMost labels.old label }
@@ -143,7 +134,7 @@ fn label_neighbours(
     next: &mut Vec<u32>,
     position: u32,
     label: Label,
-) -> Result<(), AllocError>
+) -> Result<(), NoMemory>
     requires position { position < length map.now.order }
     requires spread { IsSpread map.now labels.old }
     requires below { LabelledBelow labels.old label.root }
@@ -167,13 +158,13 @@ fn give(
     next: &mut Vec<u32>,
     position: u32,
     label: Label,
-) -> Result<(), AllocError>
+) -> Result<(), NoMemory>
     requires { position < length labels.old }
     ensures { OnOk result (Gives label position labels.old labels.new next.old.items
         next.new.items) }
 {
     if labels[position as usize].is_none() {
-        next.push(position)?;
+        push(next, position)?;
         labels[position as usize] = Some(label);
     }
     Ok(())

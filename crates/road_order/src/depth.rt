@@ -6,9 +6,9 @@ ghost use Rattle.road_order.specs.Positions.{id_at, out_of};
 ghost use Rattle.road_order.specs.Tours.{IsTour, left_of};
 
 use crate::neighbour::{degree, neighbour_at};
-use octet_text::NoMemory;
+use octet_text::{NoMemory, filled, push, room_for};
 use road_map::{Ids, Map};
-use std::alloc::{AllocError, Global};
+use std::alloc::Global;
 
 /// Which nodes were visited, by position, and their ids in the order of the visits.
 #[derive(Drop)]
@@ -39,20 +39,19 @@ pub fn depth_ids(alloc: Global, map: &Map) -> Result<Ids, NoMemory>
 }
 
 /// No node was visited.
-fn new_tour(alloc: Global, map: &Map) -> Result<Tour, AllocError>
+fn new_tour(alloc: Global, map: &Map) -> Result<Tour, NoMemory>
     ensures found { IfOk result (λ tour. tour.found.items ≡ []) }
     ensures tour { IfOk result (λ tour. IsTour map.now tour.seen.items tour.found.items) }
 {
     let count = map.count() as usize;
-    Ok(Tour {
-        seen: Vec::from_elem(alloc, false, count)?,
-        found: Vec::with_capacity(alloc, count)?,
-    })
+    let seen = filled(alloc, false, count)?;
+    let found = room_for(alloc, seen.as_slice())?;
+    Ok(Tour { seen, found })
 }
 
 /// Visits a node and all that is reached from it by nodes that were not visited, unless it was
 /// visited already.
-fn visit_all(alloc: Global, map: &Map, tour: &mut Tour, start: u32) -> Result<(), AllocError>
+fn visit_all(alloc: Global, map: &Map, tour: &mut Tour, start: u32) -> Result<(), NoMemory>
     requires start { start < length map.now.order }
     requires tour { IsTour map.now tour.old.seen.items tour.old.found.items }
     ensures found { OnOk result (tour.new.found.items ≡ dive (neighbours map.now.parts.roads)
@@ -65,28 +64,37 @@ fn visit_all(alloc: Global, map: &Map, tour: &mut Tour, start: u32) -> Result<()
     }
     enter(map, tour, start)?;
     let mut branches = Vec::new(alloc);
-    branches.push(Branch {
-        position: start,
-        next: 0,
-    })?;
+    push(
+        &mut branches,
+        Branch {
+            position: start,
+            next: 0,
+        },
+    )?;
     while let Some(branch) = branches.pop() {
         if let Some(next) = next_unseen(map, tour, branch) {
-            branches.push(Branch {
-                position: branch.position,
-                next: next.0 + 1,
-            })?;
+            push(
+                &mut branches,
+                Branch {
+                    position: branch.position,
+                    next: next.0 + 1,
+                },
+            )?;
             enter(map, tour, next.1)?;
-            branches.push(Branch {
-                position: next.1,
-                next: 0,
-            })?;
+            push(
+                &mut branches,
+                Branch {
+                    position: next.1,
+                    next: 0,
+                },
+            )?;
         }
     }
     Ok(())
 }
 
 /// Visits a node.
-fn enter(map: &Map, tour: &mut Tour, position: u32) -> Result<(), AllocError>
+fn enter(map: &Map, tour: &mut Tour, position: u32) -> Result<(), NoMemory>
     requires position { position < length map.now.order }
     requires tour { IsTour map.now tour.old.seen.items tour.old.found.items }
     requires unseen { slice_get tour.old.seen.items position ≡ Some false }
@@ -95,7 +103,7 @@ fn enter(map: &Map, tour: &mut Tour, position: u32) -> Result<(), AllocError>
     ensures tour { OnOk result (IsTour map.now tour.new.seen.items tour.new.found.items) }
 {
     let _parts = map.parts();
-    tour.found.push(map.node(position).id)?;
+    push(&mut tour.found, map.node(position).id)?;
     tour.seen[position as usize] = true;
     Ok(())
 }

@@ -4,9 +4,9 @@ ghost use Rattle.std.specs.declared.cmp.Ordering.TheVariants.{Equal};
 ghost use Rattle.book_model.specs.Sorting.{sorted_by};
 ghost use Rattle.road_order.specs.Keys.{keyed_cmp};
 
-use octet_text::NoMemory;
+use octet_text::{NoMemory, collected};
 use road_map::Ids;
-use std::alloc::{AllocError, Global};
+use std::alloc::Global;
 
 /// The ids by ascending key, and by ascending id where keys are equal.
 pub fn ids_by_key<K: Ord + Copy>(alloc: Global, mut keyed: Vec<(K, u32)>) -> Result<Ids, NoMemory>
@@ -19,8 +19,8 @@ pub fn ids_by_key<K: Ord + Copy>(alloc: Global, mut keyed: Vec<(K, u32)>) -> Res
 }
 
 /// The ids alone.
-fn ids_of<K: Copy>(alloc: Global, keyed: &[(K, u32)]) -> Result<Vec<u32>, AllocError>
+fn ids_of<K: Copy>(alloc: Global, keyed: &[(K, u32)]) -> Result<Vec<u32>, NoMemory>
     ensures { IfOk result (λ ids. ids.items ≡ map (λ p. p.1) keyed.now) }
 {
-    keyed.iter().map(|entry| entry.1).collect(alloc)
+    collected(alloc, keyed.iter().map(|entry| entry.1))
 }

@@ -2,7 +2,7 @@
 
 use desk_guard::{OwnerMirror, mirrors_for};
 use mirror_out::{FileMirror, Mirror};
-use octet_text::NoMemory;
+use octet_text::{NoMemory, push};
 use road_command::Words;
 use std::alloc::Global;
 
@@ -20,7 +20,7 @@ pub fn told_mirrors(
             let label = mirror.label();
             let _ = eprintln!(rt; "road_proof: mirror-{label}: {why}");
         }
-        mirrors.push(mirror)?;
+        push(&mut mirrors, mirror)?;
     }
     Ok(mirrors)
 }
@@ -29,7 +29,7 @@ pub fn told_mirrors(
 pub fn labels_of(alloc: Global, mirrors: &Vec<FileMirror>) -> Result<Vec<u32>, NoMemory> {
     let mut labels = Vec::new(alloc);
     for mirror in mirrors {
-        labels.push(mirror.label())?;
+        push(&mut labels, mirror.label())?;
     }
     Ok(labels)
 }

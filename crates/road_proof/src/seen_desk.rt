@@ -5,7 +5,6 @@ use desk_guard::{
     DeskFiles, Sight, Strange, Unseen, has_name, image_of, is_first_key, key_in, sight_of,
 };
 use key_desk::{Desk, StartError};
-use octet_text::NoMemory;
 use road_command::{Command, Words, command_of};
 use road_io::{FileDisk, FileLibrary, Library};
 use std::alloc::Global;
@@ -52,7 +51,7 @@ pub fn seen_desk(
     let image = match image_of(alloc, disk) {
         Ok(image) => image,
         Err(Unseen::Failed) => return Err(Unfit::Fault(Fault::Disk)),
-        Err(Unseen::Memory) => return Err(Unfit::Fault(Fault::Memory)),
+        Err(Unseen::Memory(none)) => return Err(Unfit::Fault(Fault::Memory(none))),
     };
     let public = named_key(rt, alloc);
     if !is_known(alloc, words, &image, public)? {
@@ -96,7 +95,7 @@ fn is_known(
     }
     match is_first_key(alloc, image, &public) {
         Ok(is_known) => Ok(is_known),
-        Err(NoMemory) => Err(Unfit::Fault(Fault::Memory)),
+        Err(none) => Err(Unfit::Fault(Fault::Memory(none))),
     }
 }
 
@@ -115,7 +114,7 @@ fn spend_waiting(
     match Desk::spend_texted(alloc, disk) {
         Ok(Some(_)) => {}
         Ok(None) | Err(StartError::DiskFault) => return Err(Unfit::Fault(Fault::Disk)),
-        Err(StartError::Memory) => return Err(Unfit::Fault(Fault::Memory)),
+        Err(StartError::Memory(none)) => return Err(Unfit::Fault(Fault::Memory(none))),
         Err(StartError::NoKey | StartError::BadBlock | StartError::Held) => {
             return Err(Unfit::Fault(Fault::BadBlock));
         }

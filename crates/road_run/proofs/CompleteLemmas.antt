@@ -40,18 +40,19 @@ use Rattle.road_run.specs.Sources.{IfServe, RunTakes, IsExactServing}
 use Rattle.road_run.proofs.HonestLemmas.{AcceptedLaws, writes_accepted}
 use Rattle.road_run.proofs.RunLemmas.{files_served, serve_then}
 use Rattle.road_run.proofs.TakenLemmas.{taken}
+use Rattle.octet_text.specs.Want.{no_memory}
 
 -- ---- an outcome by its status
 
 -- an outcome that is called for, and that no object outside made, is an answer where nothing hinders
-answers : (E : Ending) → IsUnhindered E → (o : Result Conclusion Fault) → (o ≢ Err Memory → (text : List ℕ) × E o text)
+answers : (E : Ending) → IsUnhindered E → (o : Result Conclusion Fault) → (o ≢ Err (Memory no_memory) → (text : List ℕ) × E o text)
     → o ≢ Err Words → o ≢ Err Library → o ≢ Err Source → o ≢ Err Sink → o ≢ Err Disk → o ≢ Err MirrorLost → Answers (status_of o)
 answers E free o called words library source sink disk mirror = by o called words library source sink disk mirror
   where
-    hindered : (f : Fault) → Hinders (status_of (failed f)) → (failed f ≢ failed Memory → (text : List ℕ) × E (failed f) text) → failed f ≢ failed Memory → ⊥
+    hindered : (f : Fault) → Hinders (status_of (failed f)) → (failed f ≢ failed (Memory no_memory) → (text : List ℕ) × E (failed f) text) → failed f ≢ failed (Memory no_memory) → ⊥
     hindered f is called full = let e = called full in free (failed f) e.0 e.1 is
 
-    by : (o : Result Conclusion Fault) → (o ≢ Err Memory → (text : List ℕ) × E o text)
+    by : (o : Result Conclusion Fault) → (o ≢ Err (Memory no_memory) → (text : List ℕ) × E o text)
         → o ≢ Err Words → o ≢ Err Library → o ≢ Err Source → o ≢ Err Sink → o ≢ Err Disk → o ≢ Err MirrorLost → Answers (status_of o)
     by (Ok Done) c w l s k d m = inl refl
     by (Ok Refused) c w l s k d m = inr (inl refl)
@@ -74,7 +75,7 @@ answers E free o called words library source sink disk mirror = by o called word
     by (Err Sink) c w l s k d m = absurd (k refl)
     by (Err Disk) c w l s k d m = absurd (d refl)
     by (Err KeysUsedUp) c w l s k d m = absurd (hindered KeysUsedUp (inr (inl refl)) c (λ e. cc))
-    by (Err Memory) c w l s k d m = inr (inr (inr (inr (inr refl))))
+    by (Err (Memory _)) c w l s k d m = inr (inr (inr (inr (inr refl))))
     by (Err (UnknownNode id)) c w l s k d m = inr (inr (inr (inl refl)))
     by (Err NoRoute) c w l s k d m = inr (inr (inr (inl refl)))
     by (Err Held) c w l s k d m = absurd (hindered Held (inr (inr (inl refl))) c (λ e. cc))

@@ -48,7 +48,7 @@ behind p Next o t late h = by h.made h.follows
 
     by : (made : Result Header BuildError) → AfterBuild (IfInstalled p Next) made o t → Next o t
     by (Ok header) k = installed header k
-    by (Err build.Memory) k = absurd k
+    by (Err (build.Memory _)) k = absurd k
     by (Err (build.Map e)) k = absurd (subst IsBehind k.0 late)
     by (Err (build.Plan e)) k = absurd (subst IsBehind k.0 late)
 

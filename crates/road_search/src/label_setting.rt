@@ -11,6 +11,7 @@ ghost use Rattle.road_search.specs.Nearness.{below};
 ghost use Rattle.road_search.specs.Queue.{IsFront};
 ghost use Rattle.road_search.specs.Labelling.{IsBegun, IsOffered, passable, length_at, length_in, route_at, route_in, IsWay};
 
+use crate::few::{Few, Unmarked};
 use crate::front::{Queue, offer, settle_least};
 use crate::ground::Ground;
 use crate::label::Label;
@@ -19,7 +20,7 @@ use crate::listed::Listed;
 use crate::marks::Marks;
 use octet_text::NoMemory;
 use road_map::Arc;
-use std::alloc::{AllocError, Global};
+use std::alloc::Global;
 use std::collections::BinaryHeap;
 
 /// Offers one arc out of a labelled id.
@@ -30,7 +31,7 @@ fn offer_arc<T: Marks>(
     label: Label,
     arc: Arc,
     limit: u64,
-) -> Result<(), AllocError>
+) -> Result<(), T::Refused>
     requires front { IsFront (T.mark marks.old) (heap_items queue.old) }
     requires below { label.length < limit }
     requires room { label.hops + 1 < 2 ^ 64 }
@@ -63,7 +64,7 @@ fn offer_arcs<T: Marks>(
     label: Label,
     arcs: &[Arc],
     limit: u64,
-) -> Result<(), AllocError>
+) -> Result<(), T::Refused>
     requires front { IsFront (T.mark marks.old) (heap_items queue.old) }
     requires below { label.length < limit }
     requires room { label.hops + 1 < 2 ^ 64 }
@@ -85,7 +86,7 @@ fn leave<G: Ground, T: Marks>(
     id: u32,
     label: Label,
     limit: u64,
-) -> Result<bool, AllocError>
+) -> Result<bool, T::Refused>
     requires front { IsFront (T.mark marks.old) (heap_items queue.old) }
     requires below { label.length < limit }
     requires room { label.hops + 1 < 2 ^ 64 }
@@ -126,7 +127,7 @@ fn begin<T: Marks>(
     queue: &mut Queue,
     from: u32,
     limit: u64,
-) -> Result<(), AllocError>
+) -> Result<(), T::Refused>
     requires front { IsFront (T.mark marks.old) (heap_items queue.old) }
     requires none { (v : ℕ) → T.mark marks.old v ≡ None }
     ensures front { OnOk result (IsFront (T.mark marks.new) (heap_items queue.new)) }
@@ -158,7 +159,7 @@ pub fn search_in<G: Ground, T: Marks>(
     marks: &mut T,
     from: u32,
     limit: u64,
-) -> Result<Option<u32>, NoMemory>
+) -> Result<Option<u32>, T::Refused>
     requires { (v : ℕ) → T.mark marks.old v ≡ None }
     ensures lengths { OnOk result ((v : ℕ) →
         IsLeastPassing (G.ways ground.now) from limit v (length_in (T.mark marks.new) v)) }
@@ -197,7 +198,7 @@ pub(crate) fn search_to<G: Ground, T: Marks>(
     from: u32,
     to: u32,
     limit: u64,
-) -> Result<u64, NoMemory>
+) -> Result<u64, T::Refused>
     requires { (v : ℕ) → T.mark marks.old v ≡ None }
     ensures lengths { IfOk result (λ bound. (v : ℕ) →
         IsLeastPassing (G.ways ground.now) from bound v
@@ -245,6 +246,26 @@ fn search_listed<G: Ground>(
     Ok(Labels::new(marks, lacking))
 }
 
+/// The same search, while it labels no more than a few.
+fn search_few<G: Ground>(
+    alloc: Global,
+    ground: &G,
+    from: u32,
+    limit: u64,
+) -> Result<Labels, Unmarked>
+    ensures lengths { IfOk result (λ found. (v : ℕ) →
+        IsLeastPassing (G.ways ground.now) from limit v (length_at found v)) }
+    ensures routes { IfOk result (λ found. (v : ℕ) →
+        IfSome (route_at found v) (IsWay (G.ways ground.now) from limit v (length_at found v))) }
+    ensures missing { IfOk result (λ found.
+        IsLeast (λ v. IsSome (length_at found v) × ((G.ways ground.now).arcs v ≡ None))
+        found.missing) }
+{
+    let mut marks = Few::new(alloc);
+    let lacking = search_in(alloc, ground, &mut marks, from, limit)?;
+    Ok(Labels::new(marks.into_listed(), lacking))
+}
+
 /// The least length below the limit of a passing walk from an id to each id, and such a walk.
 ///
 /// It costs what it labels, while that is little, and else a look at each of the ground's ids too.
@@ -262,7 +283,7 @@ pub fn search<G: Ground>(
         IsLeast (λ v. IsSome (length_at found v) × ((G.ways ground.now).arcs v ≡ None))
         found.missing) }
 {
-    if let Ok(found) = search_listed(alloc, ground, Listed::few(alloc), from, limit) {
+    if let Ok(found) = search_few(alloc, ground, from, limit) {
         return Ok(found);
     }
     let ids = ground.ids(alloc)?;

@@ -22,6 +22,7 @@ pub use path::{Path, knows, shortest};
 pub use places::rising_ids;
 pub use survey::Survey;
 
+mod few;
 mod front;
 mod ground;
 mod label;

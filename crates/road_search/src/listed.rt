@@ -11,23 +11,18 @@ ghost use Rattle.road_search.specs.Labelling.{length_in};
 
 use crate::marks::{Mark, Marks};
 use crate::numbered::Numbered;
+use octet_text::{NoMemory, copied, insert, push};
 use road_map::RisingIds;
-use std::alloc::{AllocError, Global};
+use std::alloc::Global;
 use std::collections::BTreeMap;
 use std::marker::Model;
 
-/// How many labels a search keeps by id alone before it makes room by place: so many cost no more
-/// than that room does.
-const FEW: usize = 1024;
-
-/// Marks of any ids: those that stand in a list of ascending ids by their places, all others by id, and
-/// no more of these than there is room for.
+/// Marks of any ids: those that stand in a list of ascending ids by their places, all others by id.
 #[derive(Drop)]
 pub struct Listed {
     ids: RisingIds,
     marks: Numbered,
     others: BTreeMap<u32, Mark>,
-    room: usize,
 }
 
 impl Model for Listed {
@@ -45,20 +40,24 @@ impl Model for Listed {
 }
 
 impl Listed {
-    /// No mark, and room for a few by id.
-    pub fn few(alloc: Global) -> Listed
+    /// No mark, and no room by place.
+    pub fn none(alloc: Global) -> Listed
         ensures { (id : ℕ) → listed result id ≡ None }
     {
         Listed {
             ids: RisingIds::none(alloc),
             marks: Numbered::new(alloc),
             others: BTreeMap::new(alloc),
-            room: FEW,
         }
     }
 
+    /// How many ids have a mark and stand in no list.
+    pub(crate) fn others(&self) -> usize {
+        self.others.len()
+    }
+
     /// No mark, and room by place for ids that ascend.
-    pub fn new(alloc: Global, ids: Vec<u32>) -> Result<Listed, AllocError>
+    pub fn new(alloc: Global, ids: Vec<u32>) -> Result<Listed, NoMemory>
         requires { AreRising ids.items }
         ensures { IfOk result (λ found. (id : ℕ) → listed found id ≡ None) }
     {
@@ -67,7 +66,7 @@ impl Listed {
     }
 
     /// The marks of ids that ascend, by place.
-    pub fn of(alloc: Global, ids: Vec<u32>, marks: Numbered) -> Result<Listed, AllocError>
+    pub fn of(alloc: Global, ids: Vec<u32>, marks: Numbered) -> Result<Listed, NoMemory>
         requires { AreRising ids.items }
         ensures ids { IfOk result (λ found. found.ids ≡ ids.items) }
         ensures marks { IfOk result (λ found. found.marks ≡ marks.marks.items) }
@@ -78,25 +77,24 @@ impl Listed {
             ids,
             marks,
             others: BTreeMap::new(alloc),
-            room: usize::MAX,
         })
     }
 
     /// All ids that may have a mark, each once.
-    fn all(&self, alloc: Global) -> Result<Vec<u32>, AllocError>
+    fn all(&self, alloc: Global) -> Result<Vec<u32>, NoMemory>
         ensures distinct { IfOk result (λ ids. IsDistinct nat_eq ids.items) }
         ensures all { IfOk result (λ ids. (id : ℕ) → IsSome (listed self.now id) →
             Contains ids.items id) }
     {
-        let mut all = self.ids.as_slice().to_vec(alloc)?;
+        let mut all = copied(alloc, self.ids.as_slice())?;
         for (id, _mark) in self.others.iter() {
-            all.push(*id)?;
+            push(&mut all, *id)?;
         }
         Ok(all)
     }
 
     /// The ids whose labels are at most this long, each once, in no order.
-    pub(crate) fn near(&self, alloc: Global, most: u64) -> Result<Vec<u32>, AllocError>
+    pub(crate) fn near(&self, alloc: Global, most: u64) -> Result<Vec<u32>, NoMemory>
         ensures distinct { IfOk result (λ ids. IsDistinct nat_eq ids.items) }
         ensures same { IfOk result
             (λ ids. (id : ℕ) → Contains ids.items id ↔
@@ -106,7 +104,7 @@ impl Listed {
         let mut near = Vec::new(alloc);
         for id in &all {
             if is_near(self.get(*id), most) {
-                near.push(*id)?;
+                push(&mut near, *id)?;
             }
         }
         Ok(near)
@@ -121,13 +119,13 @@ fn other_mark(others: &BTreeMap<u32, Mark>, id: u32) -> Option<Mark>
 }
 
 /// Gives an id this mark among marks by id.
-fn set_other(others: &mut BTreeMap<u32, Mark>, id: u32, new: Mark) -> Result<(), AllocError>
+fn set_other(others: &mut BTreeMap<u32, Mark>, id: u32, new: Mark) -> Result<(), NoMemory>
     ensures marks { OnOk result ((v : ℕ) →
         mark_at others.new.entries v ≡ (if nat_eq id v then Some new else
         mark_at others.old.entries v)) }
     ensures same { OnErr result (others.new.entries ≡ others.old.entries) }
 {
-    others.insert(id, new)?;
+    insert(others, id, new)?;
     Ok(())
 }
 
@@ -146,6 +144,8 @@ impl Marks for Listed {
 
     ghost mark = { λ s id. listed s id };
 
+    type Refused = NoMemory;
+
     fn get(&self, id: u32) -> Option<Mark> {
         match self.ids.place(id) {
             None => other_mark(&self.others, id),
@@ -153,12 +153,9 @@ impl Marks for Listed {
         }
     }
 
-    fn set(&mut self, id: u32, new: Mark) -> Result<(), AllocError> {
+    fn set(&mut self, id: u32, new: Mark) -> Result<(), NoMemory> {
         match self.ids.place(id) {
             None => {
-                if self.others.len() >= self.room {
-                    return Err(AllocError);
-                }
                 set_other(&mut self.others, id, new)?;
                 Ok(())
             }

@@ -4,7 +4,7 @@ ghost use Rattle.std.specs.Prelude.{◌≡◌, ℕ, Option, None, Some, OnOk, na
 ghost use Rattle.road_search.specs.declared.marks.Mark.{Mark};
 
 use crate::label::Label;
-use std::alloc::AllocError;
+use octet_text::NoMemory;
 
 /// The label of an id, and whether it can't fall any more.
 #[derive(Clone, Copy, Debug)]
@@ -18,12 +18,15 @@ pub trait Marks {
     // What contracts see of them.
     ghost mark: { Self → ℕ → Option Mark };
 
+    /// Why an id gets no mark.
+    type Refused: From<NoMemory>;
+
     /// The mark of an id, if it has one.
     fn get(&self, id: u32) -> Option<Mark>
         ensures { result ≡ mark self.now id };
 
     /// Gives an id this mark.
-    fn set(&mut self, id: u32, new: Mark) -> Result<(), AllocError>
+    fn set(&mut self, id: u32, new: Mark) -> Result<(), Self::Refused>
         ensures { OnOk result ((v : ℕ) →
             mark self.new v ≡ (if nat_eq id v then Some new else mark self.old v)) };
 }

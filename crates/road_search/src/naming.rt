@@ -11,9 +11,9 @@ use crate::listed::Listed;
 use crate::marks::Mark;
 use crate::numbered::Numbered;
 use crate::places::rising_ids;
-use octet_text::NoMemory;
+use octet_text::{NoMemory, push, room_for};
 use road_map::Map;
-use std::alloc::{AllocError, Global};
+use std::alloc::Global;
 
 /// The id of the node at a position, and the position itself where there is none.
 pub fn id_at(map: &Map, position: u32) -> u32
@@ -52,13 +52,13 @@ fn mark_named(map: &Map, mark: Option<Mark>) -> Option<Mark>
 }
 
 /// Marks of positions, each as that of an id.
-fn all_named(alloc: Global, map: &Map, marks: &[Option<Mark>]) -> Result<Numbered, AllocError>
+fn all_named(alloc: Global, map: &Map, marks: &[Option<Mark>]) -> Result<Numbered, NoMemory>
     ensures { IfOk result (λ all. all.marks.items ≡
         every (option_map (named map.now.order)) marks.now) }
 {
-    let mut all = Vec::with_capacity(alloc, marks.len())?;
+    let mut all = room_for(alloc, marks)?;
     for mark in marks {
-        all.push(mark_named(map, *mark))?;
+        push(&mut all, mark_named(map, *mark))?;
     }
     Ok(Numbered { marks: all })
 }

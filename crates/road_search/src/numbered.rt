@@ -4,7 +4,8 @@ ghost use Rattle.std.specs.Prelude.{◌≡◌, ◌+◌, ◌<◌, ◌^◌, ℕ, N
 ghost use Rattle.road_search.specs.Marking.{marked};
 
 use crate::marks::{Mark, Marks};
-use std::alloc::{AllocError, Global};
+use octet_text::{NoMemory, fill_up};
+use std::alloc::Global;
 
 /// Marks of ids that are small numbers: a mark for each number up to the greatest that was marked.
 #[derive(Drop)]
@@ -40,14 +41,14 @@ impl Numbered {
     }
 
     /// Gives a number this mark.
-    pub(crate) fn put(&mut self, number: usize, new: Mark) -> Result<(), AllocError>
+    pub(crate) fn put(&mut self, number: usize, new: Mark) -> Result<(), NoMemory>
         requires { number + 1 < 2 ^ 64 }
         ensures { OnOk result ((v : ℕ) →
             marked self.new.marks.items v ≡ (if nat_eq number v then Some new else
             marked self.old.marks.items v)) }
     {
         if number >= self.marks.len() {
-            self.marks.resize(number + 1, None)?;
+            fill_up(&mut self.marks, number + 1, None)?;
         }
         self.marks[number] = Some(new);
         Ok(())
@@ -60,11 +61,13 @@ impl Marks for Numbered {
 
     ghost mark = { λ s id. unwrap_or (slice_get s.marks.items id) None };
 
+    type Refused = NoMemory;
+
     fn get(&self, id: u32) -> Option<Mark> {
         self.at(id as usize)
     }
 
-    fn set(&mut self, id: u32, new: Mark) -> Result<(), AllocError> {
+    fn set(&mut self, id: u32, new: Mark) -> Result<(), NoMemory> {
         self.put(id as usize, new)
     }
 }

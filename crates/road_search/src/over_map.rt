@@ -7,6 +7,7 @@ ghost use Rattle.road_search.specs.Labelling.{length_at, route_at};
 ghost use Rattle.road_search.specs.Listing.{listed};
 ghost use Rattle.road_search.specs.OverMap.{map_ways, IsShortestWay, MeasuresTo};
 
+use crate::few::{Few, Unmarked};
 use crate::ground::Ground;
 use crate::label_setting::search_to;
 use crate::labels::Labels;
@@ -60,7 +61,7 @@ fn no_labels(alloc: Global) -> Labels
     ensures labels { (id : ℕ) → listed result.labels id ≡ None }
     ensures missing { result.missing ≡ None }
 {
-    Labels::new(Listed::few(alloc), None)
+    Labels::new(Listed::none(alloc), None)
 }
 
 /// The distances from a node to one end and to all that is as near, while the labels are few.
@@ -69,16 +70,16 @@ pub(crate) fn few_distances(
     map: &Map,
     from: u32,
     to: u32,
-) -> Result<Labels, NoMemory>
+) -> Result<Labels, Unmarked>
     requires { Knows map.now.parts from }
     ensures { IfOk result (MeasuresTo map.now.parts from to) }
 {
     map_laws();
     let _parts = map.parts();
     let whole = WholeMap { map };
-    let mut marks = Listed::few(alloc);
+    let mut marks = Few::new(alloc);
     let _bound = search_to(alloc, &whole, &mut marks, from, to, u64::MAX)?;
-    Ok(Labels::new(marks, None))
+    Ok(Labels::new(marks.into_listed(), None))
 }
 
 /// The same by position, and then named by ids.

@@ -11,17 +11,17 @@ use crate::labels::way_back;
 use crate::naming::id_at;
 use crate::numbered::Numbered;
 use crate::path::Path;
-use octet_text::NoMemory;
+use octet_text::{NoMemory, push, room_for};
 use road_map::{Ids, Map, map_laws};
-use std::alloc::{AllocError, Global};
+use std::alloc::Global;
 
 /// The ids of the nodes at positions.
-fn ids_at(alloc: Global, map: &Map, positions: &[u32]) -> Result<Vec<u32>, AllocError>
+fn ids_at(alloc: Global, map: &Map, positions: &[u32]) -> Result<Vec<u32>, NoMemory>
     ensures { IfOk result (λ ids. ids.items ≡ every (id_at map.now.order) positions.now) }
 {
-    let mut ids = Vec::with_capacity(alloc, positions.len())?;
+    let mut ids = room_for(alloc, positions)?;
     for position in positions {
-        ids.push(id_at(map, *position))?;
+        push(&mut ids, id_at(map, *position))?;
     }
     Ok(ids)
 }

@@ -75,7 +75,7 @@ impl Display for Message<'_> {
         match self.ended.fault {
             None => self.verdict(f),
             Some(Fault::Words) => self.wrong_words(f),
-            Some(Fault::Memory) => f.write_str("road_proof: memory: Out of memory."),
+            Some(Fault::Memory(_)) => f.write_str("road_proof: memory: Out of memory."),
             Some(Fault::Sink) => self.output(f),
             Some(fault) => {
                 let what = without_secret(self.what(fault));

@@ -66,7 +66,7 @@ impl Unusable {
             CheckError::BadSignature(why) => Unusable::seal(f, why),
             CheckError::BadCover(_, _) => f.write_str(COVER),
             CheckError::Judged(why) => Unusable::judged(f, why),
-            CheckError::Memory => f.write_str(MEMORY),
+            CheckError::Memory(_) => f.write_str(MEMORY),
         }
     }
 
@@ -89,7 +89,7 @@ impl Unusable {
                 f,
                 "the reply leaves out the node {id}, which its roads show to be within the radius."
             ),
-            NearError::Memory => f.write_str(MEMORY),
+            NearError::Memory(_) => f.write_str(MEMORY),
         }
     }
 
@@ -137,7 +137,7 @@ impl Unusable {
                 f,
                 "the reply brings a signed distance, {distance}, that says otherwise."
             ),
-            Refusal::Memory => f.write_str(MEMORY),
+            Refusal::Memory(_) => f.write_str(MEMORY),
         }
     }
 }

@@ -45,7 +45,7 @@ pub fn place_of(text: &[u8], fault: MapError) -> Option<MapPlace> {
             let line = line_of_node(text, id, 0)?;
             Some(MapPlace::Crowded { line, id })
         }
-        MapError::Empty | MapError::TooMany | MapError::Memory => None,
+        MapError::Empty | MapError::TooMany | MapError::Memory(_) => None,
     }
 }
 

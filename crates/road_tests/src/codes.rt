@@ -2,9 +2,10 @@
 
 use crate::same::{assert_row, assert_same};
 use landmarks::{CodeError, CodeTable, PickError, codes, compress, landmark_codes, pick};
+use octet_text::{NoMemory, push};
 use road_leaf::Extra;
 use road_map::{Map, MapError};
-use std::alloc::{AllocError, Global};
+use std::alloc::Global;
 use std::process::Abort;
 use std::test::Fail;
 use test_maps::{NODES, ROADS, apart, are_known, map_of};
@@ -40,19 +41,20 @@ fn landmarks_are_1_to_64_of_the_nodes(rt: HostRuntime) -> Result<(), Fail> {
     Ok(())
 }
 
-// The codes for these landmarks, if they are nodes of the map.
-fn codes_over(alloc: Global, map: &Map, chosen: &[u32], bits: u8) -> Result<CodeTable, CodeError> {
+// Codes, or why there are none.
+type Coded = Result<CodeTable, CodeError>;
+
+// The codes for these landmarks, which are nodes of the map.
+fn codes_over(alloc: Global, map: &Map, chosen: &[u32], bits: u8) -> Result<Coded, Fail> {
     if !are_known(map, chosen) {
-        return Err(CodeError::Memory);
+        return Err(Fail::from("a landmark that is no node"));
     }
-    codes(alloc, map, chosen, bits)
+    Ok(codes(alloc, map, chosen, bits))
 }
 
-fn coded(alloc: Global, chosen: &[u32], bits: u8) -> Result<CodeTable, CodeError> {
-    match two_ways(alloc) {
-        Ok(map) => codes_over(alloc, &map, chosen, bits),
-        Err(_) => Err(CodeError::Memory),
-    }
+fn coded(alloc: Global, chosen: &[u32], bits: u8) -> Result<Coded, Fail> {
+    let map = two_ways(alloc)?;
+    codes_over(alloc, &map, chosen, bits)
 }
 
 static OF_TWO: [(u32, Option<&[u16]>); 6] = [
@@ -74,7 +76,7 @@ fn assert_codes(rt: &impl Abort, table: &CodeTable) {
 
 #[test]
 fn codes_count_steps(rt: HostRuntime) -> Result<(), Fail> {
-    let table = coded(rt.alloc(), &[1, 5], 2)?;
+    let table = coded(rt.alloc(), &[1, 5], 2)??;
     assert_codes(&rt, &table);
     Ok(())
 }
@@ -88,17 +90,20 @@ fn codes_are_those_for_the_picked_landmarks(rt: HostRuntime) -> Result<(), Fail>
 }
 
 // The step of the codes of so many bits for the landmark 1.
-fn step_of(alloc: Global, bits: u8) -> Result<u64, CodeError> {
-    let table = coded(alloc, &[1], bits)?;
-    Ok(table.step())
+fn step_of(alloc: Global, bits: u8) -> Result<Result<u64, CodeError>, Fail> {
+    match coded(alloc, &[1], bits)? {
+        Ok(table) => Ok(Ok(table.step())),
+        Err(error) => Ok(Err(error)),
+    }
 }
 
 #[test]
-fn codes_have_1_to_16_bits(rt: HostRuntime) {
-    assert_same(&rt, step_of(rt.alloc(), 16), Ok(1));
+fn codes_have_1_to_16_bits(rt: HostRuntime) -> Result<(), Fail> {
+    assert_same(&rt, step_of(rt.alloc(), 16)?, Ok(1));
     for bits in [0, 17] {
-        assert_row(&rt, bits, step_of(rt.alloc(), bits), Err(CodeError::Bits));
+        assert_row(&rt, bits, step_of(rt.alloc(), bits)?, Err(CodeError::Bits));
     }
+    Ok(())
 }
 
 // What a leaf says of codes: those of a node itself, or the node that it refers to and its error.
@@ -129,8 +134,8 @@ static NEAR: [Saying<'static>; 5] = [
 ];
 
 // What the nodes 1 to 5 say at a threshold, by codes of two bits for the landmark 1.
-fn extras_at(alloc: Global, threshold: u16) -> Result<Vec<Extra>, CodeError> {
-    let codes = coded(alloc, &[1], 2)?;
+fn extras_at(alloc: Global, threshold: u16) -> Result<Vec<Extra>, Fail> {
+    let codes = coded(alloc, &[1], 2)??;
     Ok(compress(alloc, &codes, &[1, 2, 3, 4, 5], threshold)?)
 }
 
@@ -139,7 +144,7 @@ fn assert_said(
     alloc: Global,
     threshold: u16,
     wanted: &[Saying<'static>],
-) -> Result<(), CodeError> {
+) -> Result<(), Fail> {
     let extras = extras_at(alloc, threshold)?;
     assert_same(rt, extras.len(), 5);
     for (extra, says) in extras.iter().zip(wanted) {
@@ -149,18 +154,18 @@ fn assert_said(
 }
 
 #[test]
-fn nodes_refer_to_the_latest_that_is_near(rt: HostRuntime) -> Result<(), CodeError> {
+fn nodes_refer_to_the_latest_that_is_near(rt: HostRuntime) -> Result<(), Fail> {
     assert_said(&rt, rt.alloc(), 0, &EXACT)?;
     assert_said(&rt, rt.alloc(), 1, &NEAR)
 }
 
 // The roads of so many nodes on a line, 1 apart, and one to the node 1000, which is where node 1
 // is.
-fn roads_of(alloc: Global, count: u32) -> Result<Vec<(u32, u32, u32)>, AllocError> {
+fn roads_of(alloc: Global, count: u32) -> Result<Vec<(u32, u32, u32)>, NoMemory> {
     let mut roads = Vec::new(alloc);
-    roads.push((1, 1000, 0))?;
+    push(&mut roads, (1, 1000, 0))?;
     for id in 1..count {
-        roads.push((id, id + 1, 1))?;
+        push(&mut roads, (id, id + 1, 1))?;
     }
     Ok(roads)
 }
@@ -168,28 +173,24 @@ fn roads_of(alloc: Global, count: u32) -> Result<Vec<(u32, u32, u32)>, AllocErro
 fn line_of(alloc: Global, count: u32) -> Result<Map, MapError> {
     let roads = roads_of(alloc, count)?;
     let mut nodes = apart(alloc, count)?;
-    match nodes.push((1000, 0, 0)) {
-        Ok(()) => map_of(alloc, &nodes, &roads),
-        Err(_) => Err(MapError::Memory),
-    }
+    push(&mut nodes, (1000, 0, 0))?;
+    map_of(alloc, &nodes, &roads)
 }
 
-fn order_of(alloc: Global, count: u32) -> Result<Vec<u32>, AllocError> {
+fn order_of(alloc: Global, count: u32) -> Result<Vec<u32>, NoMemory> {
     let mut order = Vec::new(alloc);
     for id in 1..=count {
-        order.push(id)?;
+        push(&mut order, id)?;
     }
-    order.push(1000)?;
+    push(&mut order, 1000)?;
     Ok(order)
 }
 
 // The codes over that line for the landmark 1: all differ but that of the last node, which is node
 // 1's.
-fn line_codes(alloc: Global, count: u32) -> Result<CodeTable, CodeError> {
-    match line_of(alloc, count) {
-        Ok(map) => codes_over(alloc, &map, &[1], 16),
-        Err(_) => Err(CodeError::Memory),
-    }
+fn line_codes(alloc: Global, count: u32) -> Result<CodeTable, Fail> {
+    let map = line_of(alloc, count)?;
+    Ok(codes_over(alloc, &map, &[1], 16)??)
 }
 
 // What the nodes say along that line.

@@ -2,10 +2,11 @@
 
 use crate::same::{assert_row, assert_same};
 use book_model::PairLeaves;
+use octet_text::{NoMemory, push};
 use pair_dist::{PairError, pair_leaves};
 use road_leaf::PairLeaf;
 use road_map::{Map, MapError};
-use std::alloc::{AllocError, Global};
+use std::alloc::Global;
 use std::test::Fail;
 use test_maps::{NODES, ROADS, apart, are_known, map_of};
 
@@ -161,10 +162,10 @@ static CASES: [(&[u32], &[u64]); 7] = [
 ];
 
 /// The distances of a table, pair by pair.
-fn distances_of(alloc: Global, table: &PairLeaves) -> Result<Vec<u64>, AllocError> {
+fn distances_of(alloc: Global, table: &PairLeaves) -> Result<Vec<u64>, NoMemory> {
     let mut distances = Vec::new(alloc);
     for leaf in table.as_slice() {
-        distances.push(leaf.distance)?;
+        push(&mut distances, leaf.distance)?;
     }
     Ok(distances)
 }
@@ -180,10 +181,10 @@ fn distances_are_found_whatever_nodes_are_chosen(rt: HostRuntime) -> Result<(), 
     Ok(())
 }
 
-fn ids_to(alloc: Global, last: u32) -> Result<Vec<u32>, AllocError> {
+fn ids_to(alloc: Global, last: u32) -> Result<Vec<u32>, NoMemory> {
     let mut ids = Vec::new(alloc);
     for id in 1..=last {
-        ids.push(id)?;
+        push(&mut ids, id)?;
     }
     Ok(ids)
 }

@@ -1,7 +1,7 @@
 //! Books of rows of nodes and roads, held with signatures of zeros, and what they answer.
 
 use book_model::{Query, Settings};
-use octet_text::{Hasher, NoMemory, Octets, Sha};
+use octet_text::{Hasher, NoMemory, Octets, Sha, filled};
 use proof_octets::{Answer, Header, Publication, Reply};
 use route_server::{BuildError, Held, InstallError};
 use std::alloc::Global;
@@ -33,9 +33,7 @@ fn built<H: Hasher>(
     roads: &[(u32, u32, u32)],
     settings: &Settings,
 ) -> Result<Held<H>, BuildError> {
-    let Ok(parts) = parts_of(alloc, nodes, roads) else {
-        return Err(BuildError::Memory);
-    };
+    let parts = parts_of(alloc, nodes, roads)?;
     Held::build(alloc, parts, settings)
 }
 
@@ -51,19 +49,15 @@ pub(crate) fn header_of<H: Hasher>(
 }
 
 /// The publication of rows with a header and a signature of zeros as long as one of a key of height 5.
-pub(crate) fn publication_with(
+fn publication_with(
     alloc: Global,
     nodes: &[(u32, i32, i32)],
     roads: &[(u32, u32, u32)],
     settings: &Settings,
     header: Header,
-) -> Result<Publication, InstallError> {
-    let Ok(parts) = parts_of(alloc, nodes, roads) else {
-        return Err(InstallError::Memory);
-    };
-    let Ok(zeros) = Vec::from_elem(alloc, 0, 1292) else {
-        return Err(InstallError::Memory);
-    };
+) -> Result<Publication, NoMemory> {
+    let parts = parts_of(alloc, nodes, roads)?;
+    let zeros = filled(alloc, 0, 1292)?;
     Ok(Publication {
         header,
         signature: Octets::from_vec(zeros),
@@ -80,8 +74,10 @@ fn installed_with(
     settings: &Settings,
     header: Header,
 ) -> Result<Held<Sha>, InstallError> {
-    let publication = publication_with(alloc, nodes, roads, settings, header)?;
-    Held::install(alloc, publication)
+    match publication_with(alloc, nodes, roads, settings, header) {
+        Ok(publication) => Held::install(alloc, publication),
+        Err(none) => Err(InstallError::Memory(none)),
+    }
 }
 
 /// The book over rows, installed with its own header.
@@ -100,14 +96,11 @@ pub(crate) fn installed(alloc: Global, settings: &Settings) -> Result<Held<Sha>,
     installed_over(alloc, &NODES, &ROADS, settings)
 }
 
-fn reply(alloc: Global, held: &Held<Sha>, from: u32, to: u32) -> Result<Vec<u8>, InstallError> {
+fn reply(alloc: Global, held: &Held<Sha>, from: u32, to: u32) -> Result<Vec<u8>, Fail> {
     if held.signature().len() > 1452 {
-        return Err(InstallError::Memory);
+        return Err(Fail::from("a long signature"));
     }
-    match held.answer(alloc, Query { from, to }) {
-        Ok(octets) => Ok(octets),
-        Err(NoMemory) => Err(InstallError::Memory),
-    }
+    Ok(held.answer(alloc, Query { from, to })?)
 }
 
 /// What the book over rows answers on a route.
@@ -117,7 +110,7 @@ pub(crate) fn reply_over(
     roads: &[(u32, u32, u32)],
     settings: &Settings,
     ends: (u32, u32),
-) -> Result<Vec<u8>, InstallError> {
+) -> Result<Vec<u8>, Fail> {
     let held = installed_over(alloc, nodes, roads, settings)?;
     reply(alloc, &held, ends.0, ends.1)
 }
@@ -128,7 +121,7 @@ pub(crate) fn first_reply(
     settings: &Settings,
     from: u32,
     to: u32,
-) -> Result<Vec<u8>, InstallError> {
+) -> Result<Vec<u8>, Fail> {
     reply_over(alloc, &NODES, &ROADS, settings, (from, to))
 }
 

@@ -13,11 +13,14 @@ use std::process::Abort;
 use std::test::Fail;
 use test_maps::DIJ;
 
-fn reply(alloc: Global, held: &Held<Sha>, from: u32, radius: u64) -> Result<Vec<u8>, NearRefusal> {
+// What is answered to a range query.
+type Replied = Result<Vec<u8>, NearRefusal>;
+
+fn reply(alloc: Global, held: &Held<Sha>, from: u32, radius: u64) -> Result<Replied, Fail> {
     if held.signature().len() > 1452 {
-        return Err(NearRefusal::Memory);
+        return Err(Fail::from("a long signature"));
     }
-    answer_near(alloc, held, NearQuery { from, radius })
+    Ok(answer_near(alloc, held, NearQuery { from, radius }))
 }
 
 // What the book of the five nodes answers to a range query.
@@ -26,10 +29,8 @@ fn first_reply(
     settings: &Settings,
     from: u32,
     radius: u64,
-) -> Result<Vec<u8>, NearRefusal> {
-    let Ok(held) = installed(alloc, settings) else {
-        return Err(NearRefusal::Memory);
-    };
+) -> Result<Replied, Fail> {
+    let held = installed(alloc, settings)?;
     reply(alloc, &held, from, radius)
 }
 
@@ -97,7 +98,7 @@ fn assert_orders(
             seed: *seed,
             ..*settings
         };
-        let octets = first_reply(alloc, &ordered, 1, 4)?;
+        let octets = first_reply(alloc, &ordered, 1, 4)??;
         assert_digest(rt, alloc, &octets, *wanted)?;
     }
     Ok(())
@@ -113,7 +114,7 @@ fn replies_under_each_method_and_order(rt: HostRuntime) -> Result<(), Fail> {
 
 // How many items the reply from 1 brings.
 fn count(alloc: Global, radius: u64) -> Result<usize, Fail> {
-    let octets = first_reply(alloc, &DIJ, 1, radius)?;
+    let octets = first_reply(alloc, &DIJ, 1, radius)??;
     if octets.len() > 10_000 {
         return Ok(0);
     }
@@ -132,7 +133,8 @@ fn as_many_items_as_lie_within(rt: HostRuntime) -> Result<(), Fail> {
 }
 
 #[test]
-fn an_unknown_node_has_no_reply(rt: HostRuntime) {
-    let unknown = first_reply(rt.alloc(), &DIJ, 9, 4);
+fn an_unknown_node_has_no_reply(rt: HostRuntime) -> Result<(), Fail> {
+    let unknown = first_reply(rt.alloc(), &DIJ, 9, 4)?;
     assert_same(&rt, unknown.err(), Some(NearRefusal::UnknownNode(9)));
+    Ok(())
 }

@@ -2,14 +2,14 @@
 //! calls that succeed with ample memory.
 
 use crate::holding::{
-    CELLS, CODES, FULL, first_reply, header_of, installed, publication_with, read_answer,
-    read_apart, refusal_of, refusal_with, reply_over,
+    CELLS, CODES, FULL, first_reply, header_of, installed, read_answer, read_apart, refusal_of,
+    refusal_with, reply_over,
 };
 use crate::octets::{assert_digest, assert_hex};
 use crate::same::{assert_row, assert_same};
 use book_model::{Numbers, PlanError, Query, Settings};
 use octet_text::{Hasher, Sha, Toy};
-use proof_octets::{Answer, Header, NearQuery, Publication};
+use proof_octets::{Answer, Header, NearQuery};
 use road_map::MapError;
 use route_server::{BuildError, Held, InstallError, answer_near};
 use std::alloc::Global;
@@ -117,30 +117,37 @@ fn assert_reply(rt: &impl Abort, alloc: Global, row: &Replied) -> Result<(), Fai
     Ok(())
 }
 
-// What a publication's book answers: the example of the crate `route_server`.
-fn replies(
-    rt: &impl Abort,
-    alloc: Global,
-    publication: Publication,
-) -> Result<(Vec<u8>, Vec<u8>), Fail> {
-    let held = Held::<Sha>::install(alloc, publication)?;
+// The reply to a query for the nodes within 4 of node 1.
+fn near_reply(alloc: Global, held: &Held<Sha>) -> Result<Vec<u8>, Fail> {
+    if held.signature().len() > 1452 {
+        return Err(Fail::from("a long signature"));
+    }
+    Ok(answer_near(alloc, held, NearQuery { from: 1, radius: 4 })?)
+}
+
+// The reply to a query for a route: the example of the crate `route_server`.
+fn route_reply(rt: &impl Abort, alloc: Global, held: &Held<Sha>) -> Result<Vec<u8>, Fail> {
+    // What `Held::<Sha>::install` makes of a publication answers queries for routes; `answer_near` answers
+    // those for the nodes within a radius.
     assert!(rt; held.signature().len() <= 1452);
-    // The octets of two replies: to a query for a route, and to one for the nodes within a radius.
-    let route = held.answer(alloc, Query { from: 1, to: 3 })?;
-    let near = answer_near(alloc, &held, NearQuery { from: 1, radius: 4 })?;
-    Ok((route, near))
+    let query = Query { from: 1, to: 3 };
+    let route = held.answer(alloc, query)?;
+    Ok(route)
+}
+
+fn assert_replies(rt: &impl Abort, alloc: Global, held: &Held<Sha>) -> Result<(), Fail> {
+    let route = route_reply(rt, alloc, held)?;
+    let of_route = "a8f93da4ffdd7c54544431ff179f9b43804887108fa864037890d1535cda8d32";
+    assert_digest(rt, alloc, &route, of_route)?;
+    let near = near_reply(alloc, held)?;
+    let of_near = "5fe608c961e9982f280d6bbd806d54ba9dd435ea70c511f5bcdf2fd03e2e4fad";
+    assert_digest(rt, alloc, &near, of_near)
 }
 
 #[test]
 fn a_publication_answers_for_routes_and_radii(rt: HostRuntime) -> Result<(), Fail> {
-    let alloc = rt.alloc();
-    let header = header_of::<Sha>(alloc, &NODES, &ROADS, &DIJ)?;
-    let publication = publication_with(alloc, &NODES, &ROADS, &DIJ, header)?;
-    let (route, near) = replies(&rt, alloc, publication)?;
-    let of_route = "a8f93da4ffdd7c54544431ff179f9b43804887108fa864037890d1535cda8d32";
-    assert_digest(&rt, alloc, &route, of_route)?;
-    let of_near = "5fe608c961e9982f280d6bbd806d54ba9dd435ea70c511f5bcdf2fd03e2e4fad";
-    assert_digest(&rt, alloc, &near, of_near)
+    let held = installed(rt.alloc(), &DIJ)?;
+    assert_replies(&rt, rt.alloc(), &held)
 }
 
 #[test]

@@ -29,6 +29,7 @@ use Rattle.route_audit.specs.declared.errors.AuditError.{AuditError}
 use Rattle.route_audit.specs.declared.errors.AuditError.TheVariants.{OtherKey, Refused, Install, Desk, OtherPublication, Memory}
 use Rattle.route_audit.specs.declared.finding.Finding.{Finding}
 use Rattle.route_audit.specs.declared.finding.Finding.TheVariants.{Right, Collision, Forged}
+use Rattle.octet_text.specs.Want.{no_memory}
 
 -- octets audited under a key and a chain
 abbrev pub at : {Q : Type 0} → List ℕ → List Link → List ℕ → Q → Publication → Audited Q
@@ -39,7 +40,7 @@ module _ {Q A X E : Type 0} (kind : ReplyKind Q A X E) (hash : List ℕ → List
 
   pub refused_finds : (sha : List ℕ → List ℕ) (p : Publication) (e : AuditError E) → IsRefused kind hash public chain reply q e → Finds kind hash sha look (at public chain reply q p) (Err e)
   refused_finds sha p (Refused e) is = (own, is)
-  refused_finds sha p Memory is = own
+  refused_finds sha p (Memory _) is = own
   refused_finds sha p OtherKey is = absurd is
   refused_finds sha p (Install e) is = absurd is
   refused_finds sha p (Desk e) is = absurd is
@@ -50,7 +51,7 @@ module _ {Q A X E : Type 0} (kind : ReplyKind Q A X E) (hash : List ℕ → List
 
   pub not_installed_finds : (sha : List ℕ → List ℕ) (p : Publication) (a : A) (e : AuditError E) → IsAnswerTo kind hash public chain reply q a → IsNotInstalled hash sha p e → Finds kind hash sha look (at public chain reply q p) (Err e)
   not_installed_finds sha p a (Install e) answer is = (accepted_at p a answer, is.0, is.1)
-  not_installed_finds sha p a Memory answer is = own
+  not_installed_finds sha p a (Memory _) answer is = own
   not_installed_finds sha p a OtherKey answer is = absurd is
   not_installed_finds sha p a (Refused e) answer is = absurd is
   not_installed_finds sha p a (Desk e) answer is = absurd is
@@ -66,7 +67,7 @@ module _ {Q A X E : Type 0} (kind : ReplyKind Q A X E) (hash : List ℕ → List
     found_at : (r : Result Finding (AuditError E)) → FindsIn kind hash sha256 look public chain k q a r → Finds kind hash sha256 look (at public chain reply q (publication_in hash k)) r
     found_at (Err (Desk e)) found = (installed_at, found)
     found_at (Err OtherPublication) found = record { installed = installed_at; signed = found.0; other = found.1 }
-    found_at (Err Memory) found = own
+    found_at (Err (Memory _)) found = own
     found_at (Err OtherKey) found = absurd found
     found_at (Err (Refused e)) found = absurd found
     found_at (Err (Install e)) found = absurd found
@@ -82,10 +83,10 @@ module _ {Q A X E : Type 0} (kind : ReplyKind Q A X E) (hash : List ℕ → List
 -- ---- one always comes
 
 abbrev pub OneMade : (List ℕ → List ℕ) → (List ℕ → List ℕ) → Type 0
-OneMade hash sha = (parts : Parts) (s : Settings) (one other : Result Header BuildError) → Makes hash sha parts s one → Makes hash sha parts s other → one ≢ Err build.Memory → other ≢ Err build.Memory → one ≡ other
+OneMade hash sha = (parts : Parts) (s : Settings) (one other : Result Header BuildError) → Makes hash sha parts s one → Makes hash sha parts s other → one ≢ Err (build.Memory no_memory) → other ≢ Err (build.Memory no_memory) → one ≡ other
 
-pub installable : (hash sha : List ℕ → List ℕ) (p : Publication) (e : InstallError) → OneMade hash sha → HasHeader hash sha p.parts p.settings p.header → Installs hash sha p (Err e) → e ≢ install.Memory → ⊥
-installable hash sha p install.Memory one has is other = other refl
+pub installable : (hash sha : List ℕ → List ℕ) (p : Publication) (e : InstallError) → OneMade hash sha → HasHeader hash sha p.parts p.settings p.header → Installs hash sha p (Err e) → e ≢ install.Memory no_memory → ⊥
+installable hash sha p (install.Memory _) one has is other = other refl
 installable hash sha p install.HeaderWrong one has is other =
     let same : ◌≡◌ {A = Result Header BuildError} (Ok is.0) (Ok p.header) = one p.parts p.settings (Ok is.0) (Ok p.header) is.1 has (λ e. absurd cc) (λ e. absurd cc) in
     is.2 cc
@@ -96,7 +97,7 @@ installable hash sha p (install.Build e) one has is other =
 module _ {Q A X E : Type 0} (kind : ReplyKind Q A X E) (laws : AreReplies kind) (hash sha : List ℕ → List ℕ) (look : Look) (u : Audited Q) (made : OneMade hash sha) (works : (e : DeskError) → ¬ look.Fails e) where
   pub comes : (r : Result Finding (AuditError E)) (c : IsAuditable kind hash sha look u) → Finds kind hash sha look u r → Comes (kind.header c.answer) u.publication.header r
   comes (Ok finding) c finds = tt
-  comes (Err Memory) c finds = tt
+  comes (Err (Memory _)) c finds = tt
   comes (Err OtherKey) c finds = absurd (finds c.own)
   comes (Err (Refused e)) c finds = absurd (laws.not_refused hash u.public u.chain u.reply u.query c.taken c.answer e (laws.any_least hash u.public u.chain u.reply u.query c.least c.taken c.answer c.accepts) finds.1)
   comes (Err (Install e)) c finds = absurd (installable hash sha u.publication e made c.header finds.1 finds.2)
@@ -118,7 +119,7 @@ found_late kind hash sha look key links k q a (Err (Refused e)) P found = absurd
 found_late kind hash sha look key links k q a (Err (Install e)) P found = absurd found
 found_late kind hash sha look key links k q a (Err (Desk e)) P found = tt
 found_late kind hash sha look key links k q a (Err OtherPublication) P found = tt
-found_late kind hash sha look key links k q a (Err Memory) P found = tt
+found_late kind hash sha look key links k q a (Err (Memory _)) P found = tt
 
 abbrev unfound : {E : Type 0} → AuditError E → Result Finding (AuditError E)
 unfound e = Err e
@@ -126,7 +127,7 @@ unfound e = Err e
 -- where a publication is not installed, no disk failed
 pub not_installed_desk : {E : Type 0} (hash sha : List ℕ → List ℕ) (p : Publication) (e : AuditError E) → IsNotInstalled hash sha p e → unfound e ≢ Err (Desk desk_errors.DiskFault)
 not_installed_desk hash sha p (Install e) is = λ same. cc
-not_installed_desk hash sha p Memory is = λ same. cc
+not_installed_desk hash sha p (Memory _) is = λ same. cc
 not_installed_desk hash sha p OtherKey is = absurd is
 not_installed_desk hash sha p (Refused e) is = absurd is
 not_installed_desk hash sha p (Desk e) is = absurd is
@@ -140,7 +141,7 @@ before_any (Err (Refused e)) P h = h
 before_any (Err (Install e)) P h = h
 before_any (Err (Desk e)) P h = tt
 before_any (Err OtherPublication) P h = tt
-before_any (Err Memory) P h = tt
+before_any (Err (Memory _)) P h = tt
 
 module _ {Q A X E : Type 0} (kind : ReplyKind Q A X E) (laws : AreReplies kind) (hash : List ℕ → List ℕ) (made : OneMade hash sha256) {D : Type 0} (g : Ghosts D) (desk : TheDesk) (disk : D) (fits : Fits g desk disk) (u : Audited Q) where
   -- an audit that ends before the look

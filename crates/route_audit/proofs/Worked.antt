@@ -15,6 +15,7 @@ use Rattle.route_audit.specs.Kinds.{ReplyKind}
 use Rattle.route_audit.specs.Findings.{Audited, IsAccepted, IsInstalled, Finds, Comes, BeforeLook, Audits}
 use Rattle.route_audit.specs.declared.errors.AuditError.TheVariants.{OtherKey, Refused, Install, Desk, OtherPublication, Memory}
 use Rattle.route_audit.specs.declared.finding.Finding.TheVariants.{Right, Collision, Forged}
+use Rattle.octet_text.specs.Want.{no_memory}
 
 -- ---- what comes of what can be audited
 
@@ -49,7 +50,7 @@ module _ {Q A X E : Type 0} (kind : ReplyKind Q A X E) (hash sha : List ℕ → 
   another_key : Finds kind hash sha look u (Err OtherKey) → look.Owns u.public → ⊥
   another_key h = h
 
-  short_under_an_own_key : Finds kind hash sha look u (Err Memory) → look.Owns u.public
+  short_under_an_own_key : Finds kind hash sha look u (Err (Memory no_memory)) → look.Owns u.public
   short_under_an_own_key h = h
 
   refused_by_the_client : (e : E) → Finds kind hash sha look u (Err (Refused e)) → kind.Refuses hash u.public u.chain u.reply u.query e
@@ -61,7 +62,7 @@ module _ {Q A X E : Type 0} (kind : ReplyKind Q A X E) (hash sha : List ℕ → 
   no_book_behind_acceptance : (e : InstallError) → Finds kind hash sha look u (Err (Install e)) → IsAccepted kind hash look u
   no_book_behind_acceptance e h = h.0
 
-  never_no_book_of_memory : Finds kind hash sha look u (Err (Install installs.Memory)) → ⊥
+  never_no_book_of_memory : Finds kind hash sha look u (Err (Install (installs.Memory no_memory))) → ⊥
   never_no_book_of_memory h = h.2 refl
 
   failed_desk_failed : (e : DeskError) → Finds kind hash sha look u (Err (Desk e)) → look.Fails e
@@ -107,5 +108,5 @@ module _ (hash : List ℕ → List ℕ) (nodes pairs : Part) where
 
 -- a fault of the disk is always answered
 fault_is_answered : {Q A X E : Type 0} (kind : ReplyKind Q A X E) (hash sha : List ℕ → List ℕ) {D : Type 0} (g : Ghosts D) (old_desk new_desk : TheDesk) (old new : D) (u : Audited Q)
-    → Audits kind hash sha g old_desk old new_desk new u (Err Memory) → g.faults new ≡ g.faults old
+    → Audits kind hash sha g old_desk old new_desk new u (Err (Memory no_memory)) → g.faults new ≡ g.faults old
 fault_is_answered kind hash sha g old_desk new_desk old new u h = h.kept (λ is. cc)

@@ -21,6 +21,7 @@ use Rattle.route_audit.specs.declared.errors.AuditError.{AuditError}
 use Rattle.route_audit.specs.declared.errors.AuditError.TheVariants.{OtherKey, Refused, Install, Desk, OtherPublication, Memory}
 use Rattle.route_audit.specs.declared.finding.Finding.{Finding}
 use Rattle.route_audit.specs.declared.finding.Finding.TheVariants.{Right, Collision, Forged}
+use Rattle.octet_text.specs.Want.{no_memory}
 
 -- what is audited: octets as a reply to a query, under a public key and a chain of links from it,
 -- and against a publication
@@ -79,7 +80,7 @@ Finds kind hash sha look u (Err OtherKey) = ¬ look.Owns u.public
 Finds kind hash sha look u (Err (Refused e)) = look.Owns u.public ×
     kind.Refuses hash u.public u.chain u.reply u.query e
 Finds kind hash sha look u (Err (Install e)) = IsAccepted kind hash look u ×
-    Installs hash sha u.publication (Err e) × (e ≢ installs.Memory)
+    Installs hash sha u.publication (Err e) × (e ≢ installs.Memory no_memory)
 Finds kind hash sha look u (Err (Desk e)) = IsInstalled kind hash sha look u × look.Fails e
 Finds kind hash sha look u (Ok (Forged key text signature)) =
     IsForged kind hash sha look u (forgery key text signature)
@@ -88,7 +89,7 @@ Finds kind hash sha look u (Ok (Collision left right)) = (p : IsPublished kind h
     kind.Collides hash sha u.publication p.installed.reply.answer (two_texts left right)
 Finds kind hash sha look u (Ok Right) = (p : IsPublished kind hash sha look u) ×
     kind.IsRight hash sha u.publication u.query p.installed.reply.taken p.installed.reply.answer
-Finds kind hash sha look u (Err Memory) = look.Owns u.public
+Finds kind hash sha look u (Err (Memory _)) = look.Owns u.public
 
 -- ---- one always comes
 
@@ -107,7 +108,7 @@ pub record IsAuditable {Q A X E : Type 0} (kind : ReplyKind Q A X E) (hash sha :
 abbrev pub Comes : {E : Type 0} → Header → Header → Result Finding (AuditError E) → Type 0
 Comes accepted published (Ok finding) = Unit {0}
 Comes accepted published (Err OtherPublication) = accepted ≢ published
-Comes accepted published (Err Memory) = Unit {0}
+Comes accepted published (Err (Memory _)) = Unit {0}
 Comes accepted published (Err e) = ⊥
 
 -- ---- before the look

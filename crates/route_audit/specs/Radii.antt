@@ -12,6 +12,7 @@ use Rattle.route_client.specs.declared.near_errors.NearError.TheVariants as chec
 use Rattle.route_client.specs.declared.within.Within.{Within}
 use Rattle.route_client.specs.NearVerdicts.{NearAccepts, IsNearVerdict}
 use Rattle.route_audit.specs.NearEvidence.{Collides, IsRight}
+use Rattle.octet_text.specs.Want.{no_memory}
 
 -- the octets are accepted as this reply, and this is taken of it
 pub record NearAcceptsAs (hash : List ℕ → List ℕ) (key : List ℕ) (links : List Link)
@@ -28,7 +29,7 @@ radii = record {
   signature = λ a. a.signature;
   Accepts = NearAcceptsAs;
   Refuses = λ hash key links octets q e. IsNearVerdict hash key links octets q 0 (Err e) ×
-      (e ≢ checks.Memory);
+      (e ≢ checks.Memory no_memory);
   IsGood = IsGoodNear;
   IsRight = IsRight;
   Collides = Collides;

@@ -14,6 +14,7 @@ use Rattle.route_client.specs.Truth.{HoldsIn}
 use Rattle.route_client.specs.Verdicts.{Accepts, IsVerdict, header_in}
 use Rattle.route_audit.specs.Evidence.{Collides, IsRight}
 use Rattle.route_audit.specs.Kinds.{ReplyKind}
+use Rattle.octet_text.specs.Want.{no_memory}
 
 -- the octets encode the answer, with its route or without one
 abbrev pub SpellsAnswer : List ℕ → answers.Answer → Type 0
@@ -36,7 +37,7 @@ routes = record {
   signature = λ a. a.signature;
   Accepts = AcceptsAs;
   Refuses = λ hash key links octets q e. IsVerdict hash key links octets q 0 (Err e) ×
-      (e ≢ checks.Memory);
+      (e ≢ checks.Memory no_memory);
   IsGood = IsGood;
   IsRight = IsRight;
   Collides = Collides;

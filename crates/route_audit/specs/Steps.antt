@@ -14,6 +14,7 @@ use Rattle.route_audit.specs.declared.errors.AuditError.{AuditError}
 use Rattle.route_audit.specs.declared.errors.AuditError.TheVariants.{Refused, Install, Desk, OtherPublication, Memory}
 use Rattle.route_audit.specs.declared.finding.Finding.{Finding}
 use Rattle.route_audit.specs.declared.finding.Finding.TheVariants.{Right, Collision, Forged}
+use Rattle.octet_text.specs.Want.{no_memory}
 
 -- the answer that octets encode is accepted, whatever its version
 abbrev pub IsAnswerTo : {Q A X E : Type 0} → ReplyKind Q A X E → (List ℕ → List ℕ) → List ℕ →
@@ -25,14 +26,14 @@ IsAnswerTo {Q} {A} {X} {E} kind hash key links octets q a =
 abbrev pub IsRefused : {Q A X E : Type 0} → ReplyKind Q A X E → (List ℕ → List ℕ) → List ℕ →
     List Link → List ℕ → Q → AuditError E → Type 0
 IsRefused kind hash key links octets q (Refused e) = kind.Refuses hash key links octets q e
-IsRefused kind hash key links octets q Memory = Unit {0}
+IsRefused kind hash key links octets q (Memory _) = Unit {0}
 IsRefused kind hash key links octets q _ = ⊥
 
 -- why a publication is not installed
 abbrev pub IsNotInstalled : {E : Type 0} → (List ℕ → List ℕ) → (List ℕ → List ℕ) → Publication →
     AuditError E → Type 0
-IsNotInstalled hash sha p (Install e) = Installs hash sha p (Err e) × (e ≢ installs.Memory)
-IsNotInstalled hash sha p Memory = Unit {0}
+IsNotInstalled hash sha p (Install e) = Installs hash sha p (Err e) × (e ≢ installs.Memory no_memory)
+IsNotInstalled hash sha p (Memory _) = Unit {0}
 IsNotInstalled hash sha p _ = ⊥
 
 -- what a comparison of an answer with its publication finds
@@ -59,5 +60,5 @@ FindsIn kind hash sha look key links k q a (Err OtherPublication) =
 FindsIn kind hash sha look key links k q a (Ok finding) =
     AreSigned look links (header_text (kind.header a)) × (kind.header a ≡ header_in hash k) ×
     Compared kind hash sha (publication_in hash k) q a finding
-FindsIn kind hash sha look key links k q a (Err Memory) = Unit {0}
+FindsIn kind hash sha look key links k q a (Err (Memory _)) = Unit {0}
 FindsIn kind hash sha look key links k q a (Err e) = ⊥

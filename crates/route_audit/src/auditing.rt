@@ -17,7 +17,7 @@ use book_model::Query;
 use desk_look::{LookError, look, own_key};
 use key_desk::Desk;
 use lms_tree::Link;
-use octet_text::{Hasher, NoMemory};
+use octet_text::Hasher;
 use proof_octets::Publication;
 use road_io::Disk;
 use route_client::CheckError;
@@ -67,14 +67,14 @@ fn find_in<R: Replies, H: Hasher, D: Disk>(
         Ok(None) => {}
         Ok(Some(forgery)) => return Ok(Finding::forged(forgery)),
         Err(LookError::Desk(failure)) => return Err(AuditError::Desk(failure)),
-        Err(LookError::Memory) => return Err(AuditError::Memory),
+        Err(LookError::Memory(none)) => return Err(AuditError::Memory(none)),
     }
     if !is_same_header(header, &held.header()) {
         return Err(AuditError::OtherPublication);
     }
     match R::compare::<H>(alloc, held, public, chain, octets, query, answer) {
         Ok(finding) => Ok(finding),
-        Err(NoMemory) => Err(AuditError::Memory),
+        Err(none) => Err(AuditError::Memory(none)),
     }
 }
 

@@ -1,6 +1,7 @@
 //! Why there is no finding.
 
 use key_desk::DeskError;
+use octet_text::NoMemory;
 use route_server::InstallError;
 use std::fmt::Display;
 use thiserror::Error;
@@ -27,5 +28,5 @@ pub enum AuditError<E> {
     OtherPublication,
     /// Out of memory.
     #[error("Out of memory.")]
-    Memory,
+    Memory(NoMemory),
 }

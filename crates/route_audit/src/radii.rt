@@ -36,7 +36,7 @@ fn test_reply<H: Hasher>(
 {
     match check_near::<H>(alloc, public, chain, octets, query, 0) {
         Ok(_) => Ok(()),
-        Err(NearError::Memory) => Err(AuditError::Memory),
+        Err(NearError::Memory(none)) => Err(AuditError::Memory(none)),
         Err(refusal) => Err(AuditError::Refused(refusal)),
     }
 }
@@ -65,7 +65,7 @@ impl Replies for Radii {
         test_reply::<H>(alloc, public, chain, octets, query)?;
         match NearReply::read(alloc, octets) {
             Ok(reply) => Ok(reply),
-            Err(ReadError::Memory) => Err(AuditError::Memory),
+            Err(ReadError::Memory(none)) => Err(AuditError::Memory(none)),
             Err(_) => unreachable!(),
         }
     }

@@ -38,7 +38,7 @@ impl Replies for Routes {
         verdict_laws();
         match check_answer::<H>(alloc, public, chain, octets, query, 0) {
             Ok(checked) => Ok(checked.answer),
-            Err(CheckError::Memory) => Err(AuditError::Memory),
+            Err(CheckError::Memory(none)) => Err(AuditError::Memory(none)),
             Err(refusal) => Err(AuditError::Refused(refusal)),
         }
     }

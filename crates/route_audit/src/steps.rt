@@ -22,7 +22,7 @@ pub(crate) fn install<H: Hasher, E: Copy>(
 {
     match Held::install(alloc, publication) {
         Ok(held) => Ok(held),
-        Err(InstallError::Memory) => Err(AuditError::Memory),
+        Err(InstallError::Memory(none)) => Err(AuditError::Memory(none)),
         Err(refusal) => Err(AuditError::Install(refusal)),
     }
 }

@@ -11,7 +11,7 @@ use Rattle.book_model.specs.declared.settings.Numbers.{Numbers}
 use Rattle.book_model.specs.Books.{Kind}
 use Rattle.proof_judge.specs.declared.refusal.Refusal.{Refusal}
 use Rattle.proof_judge.specs.declared.refusal.Refusal.TheVariants.{RepeatedNode}
-use Rattle.proof_judge.specs.ItemWalks.{item_at}
+use Rattle.proof_judge.specs.ItemWalks.{item_at, StandsTwice}
 use Rattle.proof_judge.specs.Judgement.{Verdict, arc_to, by_arc, by_item, walked_from, walked, Then, OnRoute, OwnTests, Judged}
 use Rattle.proof_octets.specs.declared.reply.Answer as answers
 use Rattle.proof_octets.specs.declared.reply.Reply.{Reply}
@@ -31,7 +31,8 @@ use Rattle.route_client.specs.declared.within.CheckedReply.{CheckedReply}
 use Rattle.route_client.specs.NearVerdicts as near
 use Rattle.route_client.specs.NearVerdicts.{IsReached, LacksItem}
 use Rattle.route_client.proofs.NearVerdictLaws as near_laws
-use Rattle.route_check_c.specs.Placing.{HaveLeaves, HaveLeavesOf}
+use Rattle.route_check_c.specs.Placing.{AreApart, HaveLeaves, HaveLeavesOf}
+use Rattle.road_map.specs.Least.{IsLeast}
 
 -- ---- a route that was walked
 
@@ -78,6 +79,13 @@ judged_leaves k n g q d is =
     let walk = walk_ok (walked g.nodes q g.route) (OwnTests k n g q) d (after_none (OnRoute (walked g.nodes q g.route) (OwnTests k n g q)) is.0 d is.2) in
     all_walked g.nodes q g.route walk.0 walk.1
 
+none_least : (P : ℕ → Type 0) (next : Verdict → Type 0) (o : Option ℕ) (d : ℕ) → IsLeast P o → Then {A = ℕ} RepeatedNode next o (Ok d) → IsLeast P None
+none_least P next None d least h = least
+none_least P next (Some n) d least h = absurd cc
+
+judged_apart : (k : Kind) (n : Numbers) (g : Items) (q : Query) (d : ℕ) → Judged k n g q (Ok d) → AreApart g.nodes
+judged_apart k n g q d is = none_least (StandsTwice g.nodes) (OnRoute (walked g.nodes q g.route) (OwnTests k n g q)) is.0 d is.1 is.2
+
 answer_is : (route : List ℕ) (a b : answers.Answer) → replies.Answer b ≡ reply_with route a → b ≡ a
 answer_is [] a b e = absurd cc
 answer_is (id ∷ ids) a b e = cc
@@ -101,6 +109,26 @@ by_way hash key links octets query least a (Some d) read is = route_leaves hash 
 pub checked_leaves : (hash : List ℕ → List ℕ) (key : List ℕ) (links : List Link) (octets : List ℕ) (query : Query) (least : ℕ) (c : CheckedAnswer) → whole reply octets ≡ Ok (reply_of c.answer)
     → UnlessMemory (IsVerdict hash key links octets query least) (taken (Ok c)) → IfSome c.length (λ _. HaveLeaves c.answer.items.nodes c.answer.items.route)
 checked_leaves hash key links octets query least c = by_way hash key links octets query least c.answer c.length
+
+route_apart : (hash : List ℕ → List ℕ) (key : List ℕ) (links : List Link) (octets : List ℕ) (query : Query) (least : ℕ) (a : answers.Answer) (d : ℕ) → whole reply octets ≡ Ok (reply_of a)
+    → UnlessMemory (IsVerdict hash key links octets query least) (as_checked a (Ok (Some d))) → AreApart a.items.nodes
+route_apart hash key links octets query least a d read is =
+    let x : Accepted = record { length = d; route = a.items.route; version = a.header.version; header = a.header } in
+    let accepts = accepts_of hash key links octets query least (Checked.Route x) is in
+    let both : ◌≡◌ {A = Result Reply ℕ} (Ok (replies.Answer accepts.answer)) (Ok (reply_of a)) = sym accepts.spelled ∙ read in
+    let same : accepts.answer ≡ a = answer_is a.items.route a accepts.answer cc in
+    subst (λ (b : answers.Answer). AreApart b.items.nodes) same
+    (judged_apart accepts.kind accepts.answer.header.numbers accepts.answer.items query d accepts.says.judged)
+
+apart_by_way : (hash : List ℕ → List ℕ) (key : List ℕ) (links : List Link) (octets : List ℕ) (query : Query) (least : ℕ) (a : answers.Answer) (o : Option ℕ) → whole reply octets ≡ Ok (reply_of a)
+    → UnlessMemory (IsVerdict hash key links octets query least) (as_checked a (Ok o)) → IfSome o (λ _. AreApart a.items.nodes)
+apart_by_way hash key links octets query least a None read is = tt
+apart_by_way hash key links octets query least a (Some d) read is = route_apart hash key links octets query least a d read is
+
+-- no two leaves of an answer with an accepted route are of one node
+pub checked_apart : (hash : List ℕ → List ℕ) (key : List ℕ) (links : List Link) (octets : List ℕ) (query : Query) (least : ℕ) (c : CheckedAnswer) → whole reply octets ≡ Ok (reply_of c.answer)
+    → UnlessMemory (IsVerdict hash key links octets query least) (taken (Ok c)) → IfSome c.length (λ _. AreApart c.answer.items.nodes)
+checked_apart hash key links octets query least c = apart_by_way hash key links octets query least c.answer c.length
 
 -- a verdict that accepts is not out of memory
 not_short : (P : Result Checked CheckError → Type 0) (a : answers.Answer) (o : Option ℕ) → UnlessMemory P (as_checked a (Ok o)) → P (as_checked a (Ok o))
@@ -129,3 +157,12 @@ reached_leaves hash key links octets q least c read is =
     All-weaker (Contains c.nodes) (λ (m : Mark). IsSome (item_at c.reply.nodes m.id))
     (λ m there. subst (λ (r : NearReply). IsSome (item_at r.nodes m.id)) same (reached_has accepts.reply.nodes q m accepts.complete ((accepts.nodes.same m).0 there)))
     c.nodes (All-contains_itself c.nodes)
+
+-- nor of an accepted reply within a radius
+pub reached_apart : (hash : List ℕ → List ℕ) (key : List ℕ) (links : List Link) (octets : List ℕ) (q : NearQuery) (least : ℕ) (c : CheckedReply) → whole near_reply octets ≡ Ok c.reply
+    → near.UnlessMemory (near.IsNearVerdict hash key links octets q least) (near.taken (Ok c)) → AreApart c.reply.nodes
+reached_apart hash key links octets q least c read is =
+    let accepts = near_laws.accepts_of hash key links octets q least _ is in
+    let both : ◌≡◌ {A = Result NearReply ℕ} (Ok accepts.reply) (Ok c.reply) = sym accepts.spelled ∙ read in
+    let same : accepts.reply ≡ c.reply = cc in
+    subst (λ (r : NearReply). AreApart r.nodes) same accepts.distinct

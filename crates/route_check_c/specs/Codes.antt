@@ -40,7 +40,7 @@ judged_reason (refusals.MissingTuple id) = told 11 id 0
 judged_reason (refusals.MissingPair a b) = told 12 a b
 judged_reason (refusals.Shorter length) = told 13 length 0
 judged_reason (refusals.Disagrees distance) = told 14 distance 0
-judged_reason refusals.Memory = told 16 0 0
+judged_reason (refusals.Memory _) = told 16 0 0
 
 -- the first test that the reply to a query for a route fails
 abbrev pub route_reason : CheckError → Reason
@@ -51,7 +51,7 @@ route_reason (errors.BadChain link why) = told 6 link (seal_number why)
 route_reason (errors.BadSignature why) = told 7 (seal_number why) 0
 route_reason (errors.BadCover tree why) = told 8 tree (cover_number why)
 route_reason (errors.Judged why) = judged_reason why
-route_reason errors.Memory = told 16 0 0
+route_reason (errors.Memory _) = told 16 0 0
 
 -- the first test that the reply to a range query fails
 abbrev pub reach_reason : NearError → Reason
@@ -62,7 +62,7 @@ reach_reason (near_errors.BadSignature why) = told 7 (seal_number why) 0
 reach_reason (near_errors.BadCover why) = told 8 1 (cover_number why)
 reach_reason (near_errors.RepeatedNode id) = told 9 id 0
 reach_reason (near_errors.MissingTuple id) = told 11 id 0
-reach_reason near_errors.Memory = told 16 0 0
+reach_reason (near_errors.Memory _) = told 16 0 0
 
 -- ---- the verdict
 

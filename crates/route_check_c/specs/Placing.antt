@@ -1,7 +1,8 @@
 -- Nodes as the leaves of a reply place them.
 use Rattle.std.specs.Prelude.{ℕ, pos, List, map, Option, None, Some, IsSome, All}
 use Rattle.road_leaf.specs.declared.leaf.NodeLeaf.{NodeLeaf}
-use Rattle.proof_judge.specs.ItemWalks.{item_at}
+use Rattle.road_map.specs.Least.{IsLeast}
+use Rattle.proof_judge.specs.ItemWalks.{item_at, StandsTwice}
 use Rattle.proof_octets.specs.declared.marks.Mark.{Mark}
 use Rattle.route_check_c.specs.declared.nodes.RouteNode.{RouteNode}
 use Rattle.route_check_c.specs.declared.nodes.ReachedNode.{ReachedNode}
@@ -35,3 +36,7 @@ route_nodes leaves ids = map (λ id. route_node (item_at leaves id)) ids
 -- the nodes within a radius, each by the leaf of its id
 abbrev pub reached_nodes : List NodeLeaf → List Mark → List ReachedNode
 reached_nodes leaves marks = map (λ mark. reached_node (item_at leaves mark.id) mark) marks
+
+-- no two leaves are of one node
+abbrev pub AreApart : List NodeLeaf → Type 0
+AreApart leaves = IsLeast (StandsTwice leaves) None

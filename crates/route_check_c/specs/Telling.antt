@@ -25,6 +25,7 @@ use Rattle.route_check_c.specs.declared.reasons.Reason.{Reason}
 use Rattle.route_check_c.specs.declared.verdict.Verdict.{Verdict}
 use Rattle.route_check_c.specs.Codes.{told, route_reason, reach_reason, accepted_numbers, apart_numbers, refused_numbers}
 use Rattle.route_check_c.specs.Placing.{HaveLeaves, HaveLeavesOf, route_nodes, reached_nodes}
+use Rattle.octet_text.specs.Want.{no_memory}
 
 -- a room that took as many of the items as it has places for, and is as it was after them
 abbrev pub filled : {X : Type 0} → List X → List X → List X
@@ -55,14 +56,19 @@ pub record Unread {X : Type 0} (chain reply : List ℕ) (old_room new_room : Lis
 
 -- ---- what is refused
 
--- What is told of a refusal for this reason and with this line: the reason, and the line is in its room;
--- or that memory was short, for the check or for the line, and then the room stays.
-pub data TellsRefusal (IsShort : Type 0) (why : Reason) (text old_line new_line : List ℕ) (v : Verdict) :
-    Type 0 where
-  Reasoned : ¬ IsShort → v ≡ refused_numbers why (length text) → new_line ≡ filled text old_line →
-      TellsRefusal IsShort why text old_line new_line v
-  Unreasoned : v ≡ refused_numbers (told 16 0 0) 0 → new_line ≡ old_line →
-      TellsRefusal IsShort why text old_line new_line v
+-- The client refuses the reply under the chain, for another reason than out of memory, which is told
+-- as what is not checked; the line is in its room, and no node is written.
+pub record Refuses {A E X : Type 0} (IsVerdict : List Link → Result A E → Type 0) (short : E)
+    (reason : E → Reason) (refused : E → List ℕ) (chain : List ℕ) (old_room new_room : List X)
+    (old_line new_line : List ℕ) (v : Verdict) : Type 0 where
+  pub links : List Link
+  pub spelled : whole chain_file chain ≡ Ok links
+  pub error : E
+  pub not_memory : error ≢ short
+  pub verdict : IsVerdict links (Err error)
+  pub numbers : v ≡ refused_numbers (reason error) (length (refused error))
+  pub room : new_room ≡ old_room
+  pub line : new_line ≡ filled (refused error) old_line
 
 -- ---- a route
 
@@ -114,25 +120,12 @@ pub record AcceptsRoute (IsVerdict : List Link → Result Checked CheckError →
   pub told : TellsChecked simple checked old_room new_room v
   pub line : new_line ≡ old_line
 
--- The client refuses the reply under the chain, for another reason than out of memory, which is told
--- as what is not checked; the line is in its room, and no node is written.
-pub record RefusesRoute (IsVerdict : List Link → Result Checked CheckError → Type 0)
-    (chain : List ℕ) (old_room new_room : List RouteNode) (old_line new_line : List ℕ)
-    (v : Verdict) : Type 0 where
-  pub links : List Link
-  pub spelled : whole chain_file chain ≡ Ok links
-  pub error : CheckError
-  pub not_memory : error ≢ errors.Memory
-  pub verdict : IsVerdict links (Err error)
-  pub numbers : v ≡ refused_numbers (route_reason error) (length (refused_line error))
-  pub room : new_room ≡ old_room
-  pub line : new_line ≡ filled (refused_line error) old_line
-
 abbrev pub TellsRoute : (List Link → Result Checked CheckError → Type 0) → List ℕ → List ℕ → ℕ →
     List RouteNode → List RouteNode → List ℕ → List ℕ → Verdict → Type 0
 TellsRoute IsVerdict chain reply simple old_room new_room old_line new_line v =
     AcceptsRoute IsVerdict chain reply simple old_room new_room old_line new_line v ⊎
-    (RefusesRoute IsVerdict chain old_room new_room old_line new_line v ⊎
+    (Refuses IsVerdict (errors.Memory no_memory) route_reason refused_line chain old_room new_room old_line
+    new_line v ⊎
     Unread chain reply old_room new_room old_line new_line v)
 
 -- ---- a radius
@@ -161,23 +154,10 @@ pub record AcceptsReach (IsVerdict : List Link → Result Within NearError → T
   pub told : TellsReached checked old_room new_room v
   pub line : new_line ≡ old_line
 
--- The client refuses the reply under the chain, for another reason than out of memory; the line is in
--- its room, and no node is written.
-pub record RefusesReach (IsVerdict : List Link → Result Within NearError → Type 0)
-    (chain : List ℕ) (old_room new_room : List ReachedNode) (old_line new_line : List ℕ)
-    (v : Verdict) : Type 0 where
-  pub links : List Link
-  pub spelled : whole chain_file chain ≡ Ok links
-  pub error : NearError
-  pub not_memory : error ≢ near_errors.Memory
-  pub verdict : IsVerdict links (Err error)
-  pub numbers : v ≡ refused_numbers (reach_reason error) (length (refused_near_line error))
-  pub room : new_room ≡ old_room
-  pub line : new_line ≡ filled (refused_near_line error) old_line
-
 abbrev pub TellsReach : (List Link → Result Within NearError → Type 0) → List ℕ → List ℕ →
     List ReachedNode → List ReachedNode → List ℕ → List ℕ → Verdict → Type 0
 TellsReach IsVerdict chain reply old_room new_room old_line new_line v =
     AcceptsReach IsVerdict chain reply old_room new_room old_line new_line v ⊎
-    (RefusesReach IsVerdict chain old_room new_room old_line new_line v ⊎
+    (Refuses IsVerdict (near_errors.Memory no_memory) reach_reason refused_near_line chain old_room new_room
+    old_line new_line v ⊎
     Unread chain reply old_room new_room old_line new_line v)

@@ -6,7 +6,7 @@ ghost use Rattle.std.specs.Result.{IfErr};
 ghost use Rattle.route_check_c.specs.Codes.{told as told_of};
 ghost use Rattle.route_check_c.specs.Telling.{AreTooLong, IsUnread};
 
-use crate::reasons::{Reason, told};
+use crate::reasons::{Reason, short_of_memory, told};
 use lms_tree::{Link, read_links};
 use octet_text::{List, Malformed, ReadError};
 use std::alloc::Global;
@@ -26,6 +26,6 @@ pub(crate) fn links_of(alloc: Global, chain: &[u8], reply: &[u8]) -> Result<List
     match read_links(alloc, chain) {
         Ok(links) => Ok(links),
         Err(ReadError::Malformed(Malformed { at })) => Err(told(18, u64::from(at), 0)),
-        Err(ReadError::Memory) => Err(told(16, 0, 0)),
+        Err(ReadError::Memory(none)) => Err(short_of_memory(none)),
     }
 }

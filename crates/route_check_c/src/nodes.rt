@@ -1,10 +1,14 @@
 //! The nodes of what is accepted, each as its leaf in the reply places it.
-ghost use Rattle.std.specs.Prelude.{◌≡◌, IsSome};
+ghost use Rattle.std.specs.Prelude.{◌≡◌, IfOk, IsSome};
+ghost use Rattle.octet_text.specs.Want.{no_memory};
 ghost use Rattle.proof_judge.specs.ItemWalks.{item_at};
-ghost use Rattle.route_check_c.specs.Placing.{route_node as placed, reached_node as reached};
+ghost use Rattle.route_check_c.specs.Placing.{AreApart, route_node as placed, reached_node as reached};
 
-use proof_judge::NodesById;
+use octet_text::NoMemory;
+use proof_judge::{NodesById, Refusal};
 use proof_octets::Mark;
+use road_leaf::NodeLeaf;
+use std::alloc::Global;
 
 /// A node of a route.
 #[repr(C)]
@@ -26,6 +30,27 @@ pub struct ReachedNode {
     pub y: i32,
     /// How far it is from the start, in the unit of the roads' lengths.
     pub distance: u64,
+}
+
+/// Leaves by their ids, of which no two are of one node.
+pub(crate) fn by_ids<'a>(alloc: Global, leaves: &'a [NodeLeaf]) -> Result<NodesById<'a>, NoMemory>
+    requires { AreApart leaves.now }
+    ensures { IfOk result (λ by_id. by_id ≡ leaves.now) }
+{
+    match NodesById::new(alloc, leaves) {
+        Ok(by_id) => Ok(by_id),
+        Err(why) => Err(want_of(why)),
+    }
+}
+
+/// What is wanting where leaves by their ids are refused, which no two are.
+fn want_of(why: Refusal) -> NoMemory
+    requires { why ≡ Refusal.Memory no_memory }
+{
+    match why {
+        Refusal::Memory(none) => none,
+        _ => unreachable!(),
+    }
 }
 
 /// The node of an id that has a leaf.

@@ -1,20 +1,21 @@
 //! The check of a reply to a range query.
-ghost use Rattle.std.specs.Prelude.{◌≡◌};
+ghost use Rattle.std.specs.Prelude.{◌≡◌, ◌≢◌, IfOk};
+ghost use Rattle.octet_text.specs.Want.{no_memory};
 ghost use Rattle.sha2.specs.Sha256.{sha256};
 ghost use Rattle.route_client.specs.NearVerdicts.{IsNearVerdict};
-ghost use Rattle.route_check_c.specs.Placing.{HaveLeavesOf};
+ghost use Rattle.route_check_c.specs.Placing.{AreApart, HaveLeavesOf};
 ghost use Rattle.route_client.specs.declared.near_errors.NearError.{NearError};
 ghost use Rattle.road_line.specs.WithinLine.{refused_near_line};
-ghost use Rattle.route_check_c.specs.Codes.{told as told_of, reach_reason, refused_numbers};
-ghost use Rattle.route_check_c.specs.Telling.{AreTooLong, TellsReach, TellsReached, TellsRefusal};
+ghost use Rattle.route_check_c.specs.Codes.{told as told_of, refused_numbers};
+ghost use Rattle.route_check_c.specs.Telling.{AreTooLong, TellsReach, TellsReached};
 
 use crate::chains::links_of;
-use crate::filling::{fill, fill_reached};
-use crate::reasons::{reason_of_reach, told};
-use crate::verdict::{accepted, refused};
+use crate::filling::fill_reached;
+use crate::nodes::by_ids;
+use crate::reasons::reason_of_reach;
+use crate::verdict::{accepted, refused, short, tell_refused};
 use crate::{ReachedNode, Verdict};
-use octet_text::Sha;
-use proof_judge::NodesById;
+use octet_text::{NoMemory, Sha};
 use proof_octets::NearQuery;
 use road_line::line_of_refused_near;
 use route_client::{CheckedReply, NearError, check_near_reply};
@@ -22,34 +23,27 @@ use std::alloc::Global;
 
 /// The numbers of what is accepted; the nodes go into their room.
 fn tell(alloc: Global, checked: &CheckedReply, nodes: &mut [ReachedNode]) -> Verdict
-    requires { HaveLeavesOf checked.now.reply.nodes checked.now.nodes }
+    requires leaves { HaveLeavesOf checked.now.reply.nodes checked.now.nodes }
+    requires apart { AreApart checked.now.reply.nodes }
     ensures { TellsReached checked.now nodes.old nodes.new result }
 {
-    match NodesById::new(alloc, checked.reply.nodes.as_slice()) {
+    match by_ids(alloc, checked.reply.nodes.as_slice()) {
         Ok(by_id) => {
             let marks = checked.nodes.as_slice();
             fill_reached(nodes, &by_id, marks);
             accepted(marks.len() as u64, 0, checked.reply.header.version)
         }
-        Err(_) => refused(told(16, 0, 0), 0),
+        Err(none) => short(none),
     }
 }
 
-/// The numbers of what is refused; its line goes into its room. Out of memory is told as what is not
-/// checked, without a line.
-fn tell_refused(alloc: Global, error: NearError, line: &mut [u8]) -> Verdict
-    ensures { TellsRefusal (error ≡ NearError.Memory) (reach_reason error) (refused_near_line error)
-        line.old line.new result }
+/// The line of a refusal; out of memory has none.
+fn line_of(alloc: Global, error: NearError) -> Result<Vec<u8>, NoMemory>
+    ensures { IfOk result (λ text. (error ≢ NearError.Memory no_memory) × (text.items ≡ refused_near_line error)) }
 {
     match error {
-        NearError::Memory => refused(told(16, 0, 0), 0),
-        _ => match line_of_refused_near(alloc, error) {
-            Ok(text) => {
-                fill(line, &text);
-                refused(reason_of_reach(error), text.len() as u64)
-            }
-            Err(_) => refused(told(16, 0, 0), 0),
-        },
+        NearError::Memory(none) => Err(none),
+        _ => line_of_refused_near(alloc, error),
     }
 }
 
@@ -89,7 +83,9 @@ pub extern "C" fn gog_proved_reach(
     let query = NearQuery { from, radius };
     match check_near_reply::<Sha>(alloc, public, links.as_slice(), reply, query, least) {
         Ok(checked) => *verdict = tell(alloc, &checked, nodes),
-        Err(error) => *verdict = tell_refused(alloc, error, line),
+        Err(error) => {
+            *verdict = tell_refused(reason_of_reach(error), line_of(alloc, error), line);
+        }
     }
     verdict.code
 }

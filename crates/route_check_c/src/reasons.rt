@@ -1,8 +1,9 @@
 //! Refusals in numbers.
-ghost use Rattle.std.specs.Prelude.{◌≡◌};
+ghost use Rattle.std.specs.Prelude.{◌≡◌, ◌≢◌};
 ghost use Rattle.route_check_c.specs.Codes.{cover_number, judged_reason, reach_reason, told as told_of, route_reason, seal_number};
 
 use lms_tree::SealError;
+use octet_text::NoMemory;
 use proof_judge::Refusal;
 use route_client::{CheckError, CoverFault, NearError};
 
@@ -14,14 +15,26 @@ pub struct Reason {
     pub second: u64,
 }
 
-/// A test by its number, with what it found.
+/// A test by its number, with what it found. Want of memory is told by `short_of_memory` alone.
 pub(crate) fn told(code: u32, first: u64, second: u64) -> Reason
+    requires { code ≢ 16 }
     ensures { result ≡ told_of code first second }
 {
     Reason {
         code,
         first,
         second,
+    }
+}
+
+/// Want of memory.
+pub(crate) fn short_of_memory(_none: NoMemory) -> Reason
+    ensures { result ≡ told_of 16 0 0 }
+{
+    Reason {
+        code: 16,
+        first: 0,
+        second: 0,
     }
 }
 
@@ -56,7 +69,7 @@ fn reason_of_judged(why: Refusal) -> Reason
         Refusal::MissingPair(a, b) => told(12, u64::from(a), u64::from(b)),
         Refusal::Shorter(length) => told(13, length, 0),
         Refusal::Disagrees(distance) => told(14, distance, 0),
-        Refusal::Memory => told(16, 0, 0),
+        Refusal::Memory(none) => short_of_memory(none),
     }
 }
 
@@ -72,7 +85,7 @@ pub(crate) fn reason_of_route(why: CheckError) -> Reason
         CheckError::BadSignature(why) => told(7, number_of_seal(why), 0),
         CheckError::BadCover(tree, why) => told(8, u64::from(tree), number_of_cover(why)),
         CheckError::Judged(why) => reason_of_judged(why),
-        CheckError::Memory => told(16, 0, 0),
+        CheckError::Memory(none) => short_of_memory(none),
     }
 }
 
@@ -88,6 +101,6 @@ pub(crate) fn reason_of_reach(why: NearError) -> Reason
         NearError::BadCover(why) => told(8, 1, number_of_cover(why)),
         NearError::RepeatedNode(id) => told(9, u64::from(id), 0),
         NearError::MissingTuple(id) => told(11, u64::from(id), 0),
-        NearError::Memory => told(16, 0, 0),
+        NearError::Memory(none) => short_of_memory(none),
     }
 }

@@ -2,13 +2,14 @@
 ghost use Rattle.std.specs.Prelude.{◌↔◌, IfOk, IsTrue};
 ghost use Rattle.route_check_c.specs.Telling.{IsSimple};
 
-use std::alloc::{AllocError, Global};
+use octet_text::{NoMemory, collected};
+use std::alloc::Global;
 use std::collections::BTreeSet;
 
 /// Whether a route passes no node twice.
-pub(crate) fn is_simple(alloc: Global, ids: &[u32]) -> Result<bool, AllocError>
+pub(crate) fn is_simple(alloc: Global, ids: &[u32]) -> Result<bool, NoMemory>
     ensures { IfOk result (λ simple. IsTrue simple ↔ IsSimple ids.now) }
 {
-    let nodes: BTreeSet<u32> = ids.iter().copied().collect(alloc)?;
+    let nodes: BTreeSet<u32> = collected(alloc, ids.iter().copied())?;
     Ok(nodes.len() == ids.len())
 }

@@ -1,22 +1,23 @@
 //! The check of a route's reply.
-ghost use Rattle.std.specs.Prelude.{◌≡◌, IfSome};
+ghost use Rattle.std.specs.Prelude.{◌≡◌, ◌≢◌, IfOk, IfSome};
+ghost use Rattle.octet_text.specs.Want.{no_memory};
 ghost use Rattle.sha2.specs.Sha256.{sha256};
 ghost use Rattle.route_client.specs.Verdicts.{IsVerdict};
-ghost use Rattle.route_check_c.specs.Placing.{HaveLeaves};
+ghost use Rattle.route_check_c.specs.Placing.{AreApart, HaveLeaves};
 ghost use Rattle.route_client.specs.declared.errors.CheckError.{CheckError};
 ghost use Rattle.road_line.specs.VerdictLine.{refused_line};
-ghost use Rattle.route_check_c.specs.Codes.{told as told_of, route_reason, refused_numbers};
-ghost use Rattle.route_check_c.specs.Telling.{AreTooLong, TellsChecked, TellsFound, TellsRefusal, TellsRoute, Unwanted};
+ghost use Rattle.route_check_c.specs.Codes.{told as told_of, refused_numbers};
+ghost use Rattle.route_check_c.specs.Telling.{AreTooLong, TellsChecked, TellsFound, TellsRoute, Unwanted};
 
 use crate::chains::links_of;
-use crate::filling::{fill, fill_route};
-use crate::reasons::{Reason, reason_of_route, told};
+use crate::filling::fill_route;
+use crate::nodes::by_ids;
+use crate::reasons::{Reason, reason_of_route, short_of_memory, told};
 use crate::repeats::is_simple;
-use crate::verdict::{accepted, accepted_apart, refused};
+use crate::verdict::{accepted, accepted_apart, refused, short, tell_refused};
 use crate::{RouteNode, Verdict};
 use book_model::Query;
-use octet_text::Sha;
-use proof_judge::NodesById;
+use octet_text::{NoMemory, Sha};
 use proof_octets::Answer;
 use road_line::line_of_refused;
 use route_client::{CheckError, CheckedAnswer, check_answer};
@@ -32,7 +33,7 @@ fn unwanted(alloc: Global, ids: &[u32], simple: u32) -> Result<(), Reason>
     match is_simple(alloc, ids) {
         Ok(true) => Ok(()),
         Ok(false) => Err(told(15, 0, 0)),
-        Err(_) => Err(told(16, 0, 0)),
+        Err(none) => Err(short_of_memory(none)),
     }
 }
 
@@ -44,26 +45,28 @@ fn tell_route(
     simple: u32,
     nodes: &mut [RouteNode],
 ) -> Verdict
-    requires { HaveLeaves answer.now.items.nodes answer.now.items.route }
+    requires leaves { HaveLeaves answer.now.items.nodes answer.now.items.route }
+    requires apart { AreApart answer.now.items.nodes }
     ensures { TellsFound simple answer.now length nodes.old nodes.new result }
 {
     let ids = answer.items.route.as_slice();
     if let Err(why) = unwanted(alloc, ids, simple) {
         return refused(why, 0);
     }
-    match NodesById::new(alloc, answer.items.nodes.as_slice()) {
+    match by_ids(alloc, answer.items.nodes.as_slice()) {
         Ok(by_id) => {
             fill_route(nodes, &by_id, ids);
             accepted(ids.len() as u64, length, answer.header.version)
         }
-        Err(_) => refused(told(16, 0, 0), 0),
+        Err(none) => short(none),
     }
 }
 
 /// The numbers of what is accepted; the nodes of a route go into their room.
 fn tell(alloc: Global, checked: &CheckedAnswer, simple: u32, nodes: &mut [RouteNode]) -> Verdict
-    requires { IfSome checked.now.length
+    requires leaves { IfSome checked.now.length
         (λ _. HaveLeaves checked.now.answer.items.nodes checked.now.answer.items.route) }
+    requires apart { IfSome checked.now.length (λ _. AreApart checked.now.answer.items.nodes) }
     ensures { TellsChecked simple checked.now nodes.old nodes.new result }
 {
     match checked.length {
@@ -72,21 +75,13 @@ fn tell(alloc: Global, checked: &CheckedAnswer, simple: u32, nodes: &mut [RouteN
     }
 }
 
-/// The numbers of what is refused; its line goes into its room. Out of memory is told as what is not
-/// checked, without a line.
-fn tell_refused(alloc: Global, error: CheckError, line: &mut [u8]) -> Verdict
-    ensures { TellsRefusal (error ≡ CheckError.Memory) (route_reason error) (refused_line error)
-        line.old line.new result }
+/// The line of a refusal; out of memory has none.
+fn line_of(alloc: Global, error: CheckError) -> Result<Vec<u8>, NoMemory>
+    ensures { IfOk result (λ text. (error ≢ CheckError.Memory no_memory) × (text.items ≡ refused_line error)) }
 {
     match error {
-        CheckError::Memory => refused(told(16, 0, 0), 0),
-        _ => match line_of_refused(alloc, error) {
-            Ok(text) => {
-                fill(line, &text);
-                refused(reason_of_route(error), text.len() as u64)
-            }
-            Err(_) => refused(told(16, 0, 0), 0),
-        },
+        CheckError::Memory(none) => Err(none),
+        _ => line_of_refused(alloc, error),
     }
 }
 
@@ -129,7 +124,9 @@ pub extern "C" fn gog_proved_route(
     let query = Query { from, to };
     match check_answer::<Sha>(alloc, public, links.as_slice(), reply, query, least) {
         Ok(checked) => *verdict = tell(alloc, &checked, simple, nodes),
-        Err(error) => *verdict = tell_refused(alloc, error, line),
+        Err(error) => {
+            *verdict = tell_refused(reason_of_route(error), line_of(alloc, error), line);
+        }
     }
     verdict.code
 }

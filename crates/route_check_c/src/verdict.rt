@@ -1,8 +1,11 @@
 //! What a check says, in numbers.
-ghost use Rattle.std.specs.Prelude.{◌≡◌};
-ghost use Rattle.route_check_c.specs.Codes.{accepted_numbers, apart_numbers, refused_numbers};
+ghost use Rattle.std.specs.Prelude.{◌≡◌, length, IfOk, IfErr};
+ghost use Rattle.route_check_c.specs.Codes.{told as told_of, accepted_numbers, apart_numbers, refused_numbers};
+ghost use Rattle.route_check_c.specs.Telling.{filled};
 
-use crate::reasons::Reason;
+use crate::filling::fill;
+use crate::reasons::{Reason, short_of_memory};
+use octet_text::NoMemory;
 
 /// What a check says. A number that a verdict has not is 0.
 #[repr(C)]
@@ -68,5 +71,29 @@ pub(crate) fn refused(why: Reason, line: u64) -> Verdict
         first: why.first,
         second: why.second,
         line,
+    }
+}
+
+/// The numbers of what is not checked, since memory was short.
+pub(crate) fn short(none: NoMemory) -> Verdict
+    ensures { result ≡ refused_numbers (told_of 16 0 0) 0 }
+{
+    refused(short_of_memory(none), 0)
+}
+
+/// The numbers of what is refused for this reason; its line goes into its room. Where memory was short for
+/// the line, that is told, and the room stays.
+pub(crate) fn tell_refused(why: Reason, text: Result<Vec<u8>, NoMemory>, line: &mut [u8]) -> Verdict
+    ensures reasoned { IfOk text (λ text. (result ≡ refused_numbers why (length text.items)) ×
+        (line.new ≡ filled text.items line.old)) }
+    ensures short { IfErr text (λ _. (result ≡ refused_numbers (told_of 16 0 0) 0) ×
+        (line.new ≡ line.old)) }
+{
+    match text {
+        Ok(text) => {
+            fill(line, &text);
+            refused(why, text.len() as u64)
+        }
+        Err(none) => short(none),
     }
 }

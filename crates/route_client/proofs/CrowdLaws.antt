@@ -23,7 +23,7 @@ use Rattle.route_client.proofs.FewItems.{few_rising}
 
 -- what refuses at a step refuses after it
 meets_then : {A B : Type 0} (e : CheckError) (r : Result A CheckError) (k : A → Result B CheckError) → Meets {A = A} (Err e) r → Meets {A = B} (Err e) (r >>= k)
-meets_then errors.Memory r k is = tt
+meets_then (errors.Memory _) r k is = tt
 meets_then {A} (errors.NotAnswer kind) r k is = ap (λ (q : Result A CheckError). q >>= k) is
 meets_then {A} (errors.Malformed at) r k is = ap (λ (q : Result A CheckError). q >>= k) is
 meets_then {A} (errors.Stale version) r k is = ap (λ (q : Result A CheckError). q >>= k) is

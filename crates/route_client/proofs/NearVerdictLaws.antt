@@ -24,6 +24,7 @@ use Rattle.route_client.specs.declared.near_errors.NearError.TheVariants as erro
 use Rattle.route_client.specs.declared.within.CheckedReply.{CheckedReply}
 use Rattle.route_client.specs.declared.within.Within.{Within}
 use Rattle.route_client.specs.NearVerdicts.{spelled, items_covered, header_and_cover, near_error, after_tests, tested, near_passed, IsReached, LacksItem, Listed, Walked, as_within, WalkedAfter, IsNearVerdict, NearAccepts, UnlessMemory, Meets}
+use Rattle.octet_text.specs.Want.{no_memory}
 
 -- ---- at most one verdict
 
@@ -53,7 +54,7 @@ in_turn nodes q (Err (errors.Stale version)) h = absurd h.1
 in_turn nodes q (Err (errors.BadChain link why)) h = absurd h.1
 in_turn nodes q (Err (errors.BadSignature why)) h = absurd h.1
 in_turn nodes q (Err (errors.BadCover why)) h = absurd h.1
-in_turn nodes q (Err errors.Memory) h = absurd h.1
+in_turn nodes q (Err (errors.Memory _)) h = absurd h.1
 
 one_then : (nodes : List NodeLeaf) (q : NearQuery) (o : Option ℕ) (r s : Result (List Mark) NearError) → Then nodes q o r → Then nodes q o s → r ≡ s
 unfolding Then
@@ -199,7 +200,7 @@ weaker P Q (Err (errors.BadSignature why)) f h = f (Err (errors.BadSignature why
 weaker P Q (Err (errors.BadCover why)) f h = f (Err (errors.BadCover why)) h
 weaker P Q (Err (errors.RepeatedNode id)) f h = f (Err (errors.RepeatedNode id)) h
 weaker P Q (Err (errors.MissingTuple id)) f h = f (Err (errors.MissingTuple id)) h
-weaker P Q (Err errors.Memory) f h = tt
+weaker P Q (Err (errors.Memory _)) f h = tt
 
 pub only_accepted : (hash : List ℕ → List ℕ) (key : List ℕ) (links : List Link) (octets : List ℕ) (q : NearQuery) (least : ℕ) (r : Result Within NearError) → UnlessMemory (IsNearVerdict hash key links octets q least) r
     → (x : Within) → NearAccepts hash key links octets q least x → UnlessMemory (λ v. v ≡ Ok x) r
@@ -209,7 +210,7 @@ only_accepted hash key links octets q least r is x accepts =
 pub refused : (hash : List ℕ → List ℕ) (key : List ℕ) (links : List Link) (octets : List ℕ) (q : NearQuery) (least : ℕ) (e : NearError)
     → Meets {A = NearReply} (Err e) (near_passed hash key links octets least) → UnlessMemory (IsNearVerdict hash key links octets q least) (Err e)
 unfolding IsNearVerdict
-refused hash key links octets q least errors.Memory is = tt
+refused hash key links octets q least (errors.Memory _) is = tt
 refused hash key links octets q least (errors.Malformed at) is = rw is refl
 refused hash key links octets q least (errors.Stale version) is = rw is refl
 refused hash key links octets q least (errors.BadChain link why) is = rw is refl
@@ -234,12 +235,12 @@ failed a t (tests.BadCover tree why) is = rw is refl
 failed a t (tests.NotAnswer kind) is = tt
 failed a t (tests.Malformed at) is = tt
 failed a t (tests.Judged why) is = tt
-failed a t tests.Memory is = tt
+failed a t (tests.Memory _) is = tt
 
 -- octets that encode no reply are refused
 pub unread : (hash : List ℕ → List ℕ) (key : List ℕ) (links : List Link) (octets : List ℕ) (least : ℕ) (e : NearError) → Meets {A = NearReply} (Err e) (spelled (whole near_reply octets)) → Meets {A = NearReply} (Err e) (near_passed hash key links octets least)
 unfolding near_passed
-unread hash key links octets least errors.Memory is = tt
+unread hash key links octets least (errors.Memory _) is = tt
 unread hash key links octets least (errors.Malformed at) is = rw is refl
 unread hash key links octets least (errors.Stale version) is = rw is refl
 unread hash key links octets least (errors.BadChain link why) is = rw is refl
@@ -264,10 +265,10 @@ walked_of nodes q (Err (errors.Stale version)) distinct h = absurd h
 walked_of nodes q (Err (errors.BadChain link why)) distinct h = absurd h
 walked_of nodes q (Err (errors.BadSignature why)) distinct h = absurd h
 walked_of nodes q (Err (errors.BadCover why)) distinct h = absurd h
-walked_of nodes q (Err errors.Memory) distinct h = tt
+walked_of nodes q (Err (errors.Memory _)) distinct h = tt
 
 pub refused_walk : (a : NearReply) (q : NearQuery) (e : NearError) → UnlessMemory (Walked a.nodes q) (Err e) → UnlessMemory (WalkedAfter (Ok a) q) (Err e)
-refused_walk a q errors.Memory h = tt
+refused_walk a q (errors.Memory _) h = tt
 refused_walk a q (errors.Malformed at) h = (Err (errors.Malformed at), h, refl)
 refused_walk a q (errors.Stale version) h = (Err (errors.Stale version), h, refl)
 refused_walk a q (errors.BadChain link why) h = (Err (errors.BadChain link why), h, refl)
@@ -277,8 +278,8 @@ refused_walk a q (errors.RepeatedNode id) h = (Err (errors.RepeatedNode id), h, 
 refused_walk a q (errors.MissingTuple id) h = (Err (errors.MissingTuple id), h, refl)
 
 -- the least id that stands twice, as it was found
-pub repeated_is : (nodes : List NodeLeaf) (q : NearQuery) (e : Refusal) (id : ℕ) → e ≡ refusals.RepeatedNode id → (e ≡ refusals.Memory) ⊎ ((n : ℕ) × (e ≡ refusals.RepeatedNode n) × IsLeast (StandsTwice nodes) (Some n)) → IsLeast (StandsTwice nodes) (Some id)
-repeated_is nodes q e id is (inl memory) = absurd (let bad : refusals.RepeatedNode id ≡ refusals.Memory = sym is ∙ memory in cc)
+pub repeated_is : (nodes : List NodeLeaf) (q : NearQuery) (e : Refusal) (id : ℕ) → e ≡ refusals.RepeatedNode id → (e ≡ refusals.Memory no_memory) ⊎ ((n : ℕ) × (e ≡ refusals.RepeatedNode n) × IsLeast (StandsTwice nodes) (Some n)) → IsLeast (StandsTwice nodes) (Some id)
+repeated_is nodes q e id is (inl memory) = absurd (let bad : refusals.RepeatedNode id ≡ (refusals.Memory no_memory) = sym is ∙ memory in cc)
 repeated_is nodes q e id is (inr found) =
     let both : refusals.RepeatedNode found.0 ≡ refusals.RepeatedNode id = sym found.1 ∙ is in
     let same : found.0 ≡ id = cc in

@@ -9,6 +9,7 @@ use Rattle.proof_octets.specs.Replies.{BringsNone}
 use Rattle.route_client.specs.declared.errors.CheckError.{CheckError}
 use Rattle.route_client.specs.declared.errors.CheckError.TheVariants as errors
 use Rattle.route_client.specs.Verdicts.{IsNotAnswer, Meets, answered}
+use Rattle.octet_text.specs.Want.{no_memory}
 
 begun : (w : Result Reply ℕ) (kind : ℕ) → ((r : Reply) → BringsNone r → w ≡ Ok r → ⊥) → answered w ≡ Err (errors.NotAnswer kind) → ⊥
 begun (Ok (replies.Answer a)) kind none e = cc
@@ -22,8 +23,8 @@ pub answer_begun : (octets : List ℕ) (kind : ℕ) → ((r : Reply) → BringsN
 answer_begun octets kind none e = begun (whole formats.reply octets) kind none e
 
 -- the first test that such octets fail, where memory is not it
-pub refused_at_once : (octets : List ℕ) (kind : ℕ) (e : CheckError) → Meets {A = Reply} (Err e) (answered (whole formats.reply octets)) → (e ≡ errors.Memory → ¬ IsNotAnswer octets kind) → IsNotAnswer octets kind → e ≡ errors.NotAnswer kind
-refused_at_once octets kind errors.Memory is memory not = absurd (memory refl not)
+pub refused_at_once : (octets : List ℕ) (kind : ℕ) (e : CheckError) → Meets {A = Reply} (Err e) (answered (whole formats.reply octets)) → (e ≡ errors.Memory no_memory → ¬ IsNotAnswer octets kind) → IsNotAnswer octets kind → e ≡ errors.NotAnswer kind
+refused_at_once octets kind (errors.Memory _) is memory not = absurd (memory refl not)
 refused_at_once octets kind (errors.NotAnswer other) is memory not = cc
 refused_at_once octets kind (errors.Malformed at) is memory not = cc
 refused_at_once octets kind (errors.Stale version) is memory not = cc

@@ -26,6 +26,7 @@ use Rattle.route_client.specs.declared.near_errors.NearError.{NearError}
 use Rattle.route_client.specs.declared.near_errors.NearError.TheVariants as errors
 use Rattle.route_client.specs.declared.within.CheckedReply.{CheckedReply}
 use Rattle.route_client.specs.declared.within.Within.{Within}
+use Rattle.octet_text.specs.Want.{no_memory}
 
 -- ---- the tests before the items are walked
 
@@ -52,7 +53,16 @@ near_error (tests.Stale version) = errors.Stale version
 near_error (tests.BadChain link why) = errors.BadChain link why
 near_error (tests.BadSignature why) = errors.BadSignature why
 near_error (tests.BadCover tree why) = errors.BadCover why
-near_error _ = errors.Memory
+near_error _ = errors.Memory no_memory
+
+-- the tests before the walk fail by these errors alone
+abbrev pub IsEarly : CheckError → Type 0
+IsEarly (tests.Stale _) = Unit {0}
+IsEarly (tests.BadChain _ _) = Unit {0}
+IsEarly (tests.BadSignature _) = Unit {0}
+IsEarly (tests.BadCover _ _) = Unit {0}
+IsEarly (tests.Memory _) = Unit {0}
+IsEarly _ = ⊥
 
 abbrev pub after_tests : NearReply → Result (Unit {0}) CheckError → Result NearReply NearError
 after_tests a (Ok _) = Ok a
@@ -140,7 +150,7 @@ pub record NearAccepts (hash : List ℕ → List ℕ) (key : List ℕ) (links : 
 
 -- Out of memory may come at any time.
 abbrev pub UnlessMemory : {A : Type 0} → (Result A NearError → Type 0) → Result A NearError → Type 0
-UnlessMemory P (Err errors.Memory) = Unit {0}
+UnlessMemory P (Err (errors.Memory _)) = Unit {0}
 UnlessMemory P r = P r
 
 abbrev pub Meets : {A : Type 0} → Result A NearError → Result A NearError → Type 0

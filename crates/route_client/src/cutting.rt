@@ -9,7 +9,7 @@ ghost use Rattle.route_client.specs.Cutting.{cuts_at, end_at, nodes_at};
 
 use crate::leaf_lengths::text_length;
 use merkle_cover::Cut;
-use octet_text::NoMemory;
+use octet_text::{NoMemory, push};
 use proof_octets::Answer;
 use road_leaf::{NodeLeaf, PairLeaf};
 use std::alloc::Global;
@@ -29,7 +29,7 @@ fn push_cut(cuts: &mut Vec<Cut>, start: u32, length: u32) -> Result<u32, NoMemor
         record { start = start; end = start + length } ∷ []) }
 {
     let end = start + length;
-    cuts.push(Cut { start, end })?;
+    push(cuts, Cut { start, end })?;
     Ok(end)
 }
 

@@ -1,5 +1,6 @@
 //! The check of a reply.
 ghost use Rattle.std.specs.Prelude.{◌≡◌, ◌<◌, ◌≤◌, ◌^◌, length, IfOk, Ok, Err};
+ghost use Rattle.octet_text.specs.Want.{no_memory};
 ghost use Rattle.octet_text.specs.Format.{whole};
 ghost use Rattle.proof_octets.specs.NearReplies.{near_reply, IsGoodNear, IsNamed};
 ghost use Rattle.route_client.specs.declared.near_errors.NearError.{NearError};
@@ -49,7 +50,7 @@ pub fn check_near_reply<H: Hasher>(
     ensures verdict { UnlessMemory
         (IsNearVerdict H.hash public.now chain.now reply.now query least) (taken result) }
     ensures spelled { IfOk result (λ checked. whole near_reply reply.now ≡ Ok checked.reply) }
-    ensures named { result ≡ Err NearError.Memory → IsNamed reply.now }
+    ensures named { result ≡ Err (NearError.Memory no_memory) → IsNamed reply.now }
 {
     match pass::<H>(alloc, public, chain, reply, least) {
         Ok(reply) => accept(alloc, reply, query),
@@ -72,7 +73,7 @@ pub fn check_near<H: Hasher>(
         (IsNearVerdict H.hash public.now chain.now reply.now query least) result }
     ensures accepts { (x : Within) → NearAccepts H.hash public.now chain.now reply.now query least x
         → UnlessMemory (λ r. r ≡ Ok x) result }
-    ensures named { result ≡ Err NearError.Memory → IsNamed reply.now }
+    ensures named { result ≡ Err (NearError.Memory no_memory) → IsNamed reply.now }
 {
     match check_near_reply::<H>(alloc, public, chain, reply, query, least) {
         Ok(checked) => Ok(checked.into_within()),

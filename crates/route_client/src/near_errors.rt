@@ -6,7 +6,6 @@ ghost use Rattle.route_client.specs.declared.near_errors.NearError.TheVariants a
 use crate::CoverFault;
 use lms_tree::SealError;
 use octet_text::NoMemory;
-use std::alloc::AllocError;
 use thiserror::Error;
 
 /// The first test that a reply does not pass.
@@ -37,21 +36,13 @@ pub enum NearError {
     MissingTuple(u32),
     /// Out of memory.
     #[error("Out of memory.")]
-    Memory,
+    Memory(NoMemory),
 }
 
 impl From<NoMemory> for NearError {
-    ghost from_gives = { λ _ e. e ≡ errors.Memory };
+    ghost from_gives = { λ none e. e ≡ errors.Memory none };
 
-    fn from(_none: NoMemory) -> NearError {
-        NearError::Memory
-    }
-}
-
-impl From<AllocError> for NearError {
-    ghost from_gives = { λ _ e. e ≡ errors.Memory };
-
-    fn from(_none: AllocError) -> NearError {
-        NearError::Memory
+    fn from(none: NoMemory) -> NearError {
+        NearError::Memory(none)
     }
 }

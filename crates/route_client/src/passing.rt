@@ -1,10 +1,11 @@
 // The tests before the items are walked. Those of the header and of the cover stand for routes too.
 ghost use Rattle.std.specs.Prelude.{◌≡◌, ◌<◌, ◌≤◌, ◌^◌, length, Err, IfOk};
+ghost use Rattle.octet_text.specs.Want.{no_memory};
 ghost use Rattle.octet_text.specs.Format.{whole};
 ghost use Rattle.route_client.specs.Verdicts.{Meets as MeetsTest};
 ghost use Rattle.proof_octets.specs.NearReplies.{near_reply, IsGoodNear, IsNamed};
 ghost use Rattle.route_client.specs.declared.near_errors.NearError.{NearError};
-ghost use Rattle.route_client.specs.NearVerdicts.{Meets, near_error, items_covered, header_and_cover, after_tests, spelled, near_passed};
+ghost use Rattle.route_client.specs.NearVerdicts.{Meets, IsEarly, near_error, items_covered, header_and_cover, after_tests, spelled, near_passed};
 
 use crate::covers::test_cover;
 use crate::earlier_tests::test_header;
@@ -22,12 +23,12 @@ fn read_reply(alloc: Global, octets: &[u8]) -> Result<NearReply, NearError>
     ensures is { Meets result (spelled (whole near_reply octets.now)) }
     ensures good { IfOk result IsGoodNear }
     ensures spelled { IfOk result (λ a. octets.now ≡ near_reply.spell a) }
-    ensures named { result ≡ Err NearError.Memory → IsNamed octets.now }
+    ensures named { result ≡ Err (NearError.Memory no_memory) → IsNamed octets.now }
 {
     match NearReply::read(alloc, octets) {
         Ok(reply) => Ok(reply),
         Err(ReadError::Malformed(malformed)) => Err(NearError::Malformed(malformed.at)),
-        Err(ReadError::Memory) => Err(NearError::Memory),
+        Err(ReadError::Memory(none)) => Err(NearError::Memory(none)),
     }
 }
 
@@ -75,6 +76,7 @@ fn test_reply<H: Hasher>(
 
 // A failed test as a refusal of a reply. No other errors come from these tests.
 fn near_error(error: CheckError) -> NearError
+    requires { IsEarly error }
     ensures { result ≡ near_error error }
 {
     match error {
@@ -82,7 +84,8 @@ fn near_error(error: CheckError) -> NearError
         CheckError::BadChain(link, why) => NearError::BadChain(link, why),
         CheckError::BadSignature(why) => NearError::BadSignature(why),
         CheckError::BadCover(_, why) => NearError::BadCover(why),
-        _ => NearError::Memory,
+        CheckError::Memory(none) => NearError::Memory(none),
+        _ => unreachable!(),
     }
 }
 
@@ -121,7 +124,7 @@ pub(crate) fn pass<H: Hasher>(
     requires few { length chain.now ≤ 7 }
     ensures is { Meets result (near_passed H.hash public.now chain.now octets.now least) }
     ensures good { IfOk result IsGoodNear }
-    ensures named { result ≡ Err NearError.Memory → IsNamed octets.now }
+    ensures named { result ≡ Err (NearError.Memory no_memory) → IsNamed octets.now }
 {
     match read_reply(alloc, octets) {
         Ok(reply) => test::<H>(alloc, public, chain, octets, reply, least),

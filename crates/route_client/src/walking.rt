@@ -11,7 +11,7 @@ ghost use Rattle.route_client.specs.Reached.{IsLimitAbove, AreLeast, RiseWithin,
 
 use crate::NearError;
 use method_judges::Anywhere;
-use octet_text::NoMemory;
+use octet_text::{NoMemory, push};
 use proof_judge::{NodesById, Refusal, are_narrow};
 use proof_octets::{Mark, Marks, NearQuery};
 use road_leaf::NodeLeaf;
@@ -42,7 +42,7 @@ fn marks_of(alloc: Global, labels: &Labels, ids: &[u32]) -> Result<Marks, NoMemo
     let mut marks = Vec::new(alloc);
     for id in ids {
         match labels.get(*id) {
-            Some(distance) => marks.push(Mark { id: *id, distance })?,
+            Some(distance) => push(&mut marks, Mark { id: *id, distance })?,
             None => unreachable!(),
         }
     }
@@ -93,6 +93,7 @@ pub(crate) fn walk(alloc: Global, nodes: &[NodeLeaf], query: NearQuery) -> Resul
     match NodesById::new(alloc, nodes) {
         Ok(by_id) => list(alloc, &by_id, query),
         Err(Refusal::RepeatedNode(id)) => Err(NearError::RepeatedNode(id)),
-        Err(_) => Err(NearError::Memory),
+        Err(Refusal::Memory(none)) => Err(NearError::Memory(none)),
+        Err(_) => unreachable!(),
     }
 }

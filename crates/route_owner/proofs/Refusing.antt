@@ -16,11 +16,12 @@ use Rattle.route_server.specs.declared.errors.BuildError.TheVariants as build_er
 use Rattle.route_owner.specs.declared.errors.PublishError.{PublishError}
 use Rattle.route_owner.specs.declared.errors.PublishError.TheVariants.{Build, Desk, Memory}
 use Rattle.route_owner.specs.Published.{IsNoBook, IsUsedUp, IsClosed, Refuses, AnswersRefusal}
+use Rattle.octet_text.specs.Want.{no_memory}
 
 -- parts and settings make one thing
 abbrev pub Makings : Type 0
 Makings = (hash sha : List ℕ → List ℕ) (parts : Parts) (s : Settings) (one other : Result Header BuildError)
-    → Makes hash sha parts s one → Makes hash sha parts s other → one ≢ Err build_errors.Memory → other ≢ Err build_errors.Memory → one ≡ other
+    → Makes hash sha parts s one → Makes hash sha parts s other → one ≢ Err (build_errors.Memory no_memory) → other ≢ Err (build_errors.Memory no_memory) → one ≡ other
 
 -- one of the two kinds of answers
 abbrev pub made : Header → Result Header BuildError
@@ -51,7 +52,7 @@ signed_isnt q e is = cc
 module _ (makings : Makings) (hash : List ℕ → List ℕ) (parts : Parts) (s : Settings) (desk : View) where
   -- where there is a header, there is a book
   pub no_reason : (h : Header) (e : BuildError) → HasHeader hash sha256 parts s h → IsNoBook hash parts s e → ⊥
-  no_reason h e has none = made_isnt h e (makings hash sha256 parts s (made h) (unmade e) has none.0 (λ is. made_isnt h build_errors.Memory is) (λ is. none.1 (same_reason e build_errors.Memory is)))
+  no_reason h e has none = made_isnt h e (makings hash sha256 parts s (made h) (unmade e) has none.0 (λ is. made_isnt h (build_errors.Memory no_memory) is) (λ is. none.1 (same_reason e (build_errors.Memory no_memory) is)))
 
   -- nothing refused what was published
   pub none_refused : {X : Type 0} (p : X) (h : Header) (q : ℕ) → HasHeader hash sha256 parts s h → (HasNoFree desk → desk.is_open ≡ true → signed q ≡ Err KeysUsedUp) → (desk.is_open ≡ false → signed q ≡ Err Closed)
@@ -60,7 +61,7 @@ module _ (makings : Makings) (hash : List ℕ → List ℕ) (parts : Parts) (s :
   none_refused p h q has used closed (Desk KeysUsedUp) is = absurd (signed_isnt q KeysUsedUp (used is.none_free is.opened))
   none_refused p h q has used closed (Desk Closed) is = absurd (signed_isnt q Closed (closed is.closed))
   none_refused p h q has used closed (Desk DiskFault) is = absurd is
-  none_refused p h q has used closed Memory is = absurd is
+  none_refused p h q has used closed (Memory _) is = absurd is
 
   -- the desk's refusal is what refused it
   pub desk_refused : {X : Type 0} (f : DeskError) (h : Header) → HasHeader hash sha256 parts s h → (HasNoFree desk → desk.is_open ≡ true → unsigned f ≡ Err KeysUsedUp) → (desk.is_open ≡ false → unsigned f ≡ Err Closed)
@@ -69,17 +70,17 @@ module _ (makings : Makings) (hash : List ℕ → List ℕ) (parts : Parts) (s :
   desk_refused f h has used closed (Desk KeysUsedUp) is = inl (ap (λ (x : DeskError). Err (Desk x)) (same_fault f KeysUsedUp (used is.none_free is.opened)))
   desk_refused f h has used closed (Desk Closed) is = inl (ap (λ (x : DeskError). Err (Desk x)) (same_fault f Closed (closed is.closed)))
   desk_refused f h has used closed (Desk DiskFault) is = absurd is
-  desk_refused f h has used closed Memory is = absurd is
+  desk_refused f h has used closed (Memory _) is = absurd is
 
   -- and so is the reason why there is no book
   pub book_refused : {X : Type 0} (b : BuildError) → IsNoBook hash parts s b → AnswersRefusal {X = X} hash parts s desk (Err (Build b))
   book_refused b none (Build e) other =
-      inl (ap (λ (x : BuildError). Err (Build x)) (same_reason b e (makings hash sha256 parts s (unmade b) (unmade e) none.0 other.0 (λ is. none.1 (same_reason b build_errors.Memory is)) (λ is. other.1 (same_reason e build_errors.Memory is)))))
+      inl (ap (λ (x : BuildError). Err (Build x)) (same_reason b e (makings hash sha256 parts s (unmade b) (unmade e) none.0 other.0 (λ is. none.1 (same_reason b (build_errors.Memory no_memory) is)) (λ is. other.1 (same_reason e (build_errors.Memory no_memory) is)))))
   book_refused b none (Desk KeysUsedUp) is = absurd (no_reason is.header b is.has none)
   book_refused b none (Desk Closed) is = absurd (no_reason is.header b is.has none)
   book_refused b none (Desk DiskFault) is = absurd is
-  book_refused b none Memory is = absurd is
+  book_refused b none (Memory _) is = absurd is
 
 -- out of memory answers any
-pub memory_answers : {X : Type 0} (hash : List ℕ → List ℕ) (parts : Parts) (s : Settings) (desk : View) → AnswersRefusal {X = X} hash parts s desk (Err Memory)
+pub memory_answers : {X : Type 0} (hash : List ℕ → List ℕ) (parts : Parts) (s : Settings) (desk : View) → AnswersRefusal {X = X} hash parts s desk (Err (Memory no_memory))
 memory_answers hash parts s desk e is = inr refl

@@ -16,6 +16,7 @@ use Rattle.route_server.specs.declared.errors.BuildError.{BuildError}
 use Rattle.route_owner.specs.declared.errors.PublishError.{PublishError}
 use Rattle.route_owner.specs.declared.errors.PublishError.TheVariants.{Build, Desk, Memory}
 use Rattle.route_owner.specs.Published.{slot_of, IsPublication, IsSealed, OnSigning, OnNoSigning, SignsInSlot, SignsHeader, IsUsedUp, IsClosed, Refuses, AnswersRefusal, CanPublish}
+use Rattle.octet_text.specs.Want.{no_memory}
 
 -- ---- which answers come after a signing
 
@@ -29,7 +30,7 @@ module _ (P : Type 0) where
   without_a_book : (e : BuildError) → OnNoSigning {X = Publication} (Err (Build e)) P → P
   without_a_book e h = h
 
-  at_short_memory : OnNoSigning {X = Publication} (Err Memory) P → P
+  at_short_memory : OnNoSigning {X = Publication} (Err (Memory no_memory)) P → P
   at_short_memory h = h
 
 -- ---- what is published
@@ -74,11 +75,11 @@ one_header g old new hash parts s h = h.each
 
 module _ (hash : List ℕ → List ℕ) (parts : Parts) (s : Settings) (desk : View) where
   used_up_is_answered : (answer : Result Publication PublishError) → AnswersRefusal hash parts s desk answer → IsUsedUp hash parts s desk
-      → (answer ≡ Err (Desk desk_errors.KeysUsedUp)) ⊎ (answer ≡ Err Memory)
+      → (answer ≡ Err (Desk desk_errors.KeysUsedUp)) ⊎ (answer ≡ Err (Memory no_memory))
   used_up_is_answered answer h is = h (Desk desk_errors.KeysUsedUp) is
 
   closed_is_answered : (answer : Result Publication PublishError) → AnswersRefusal hash parts s desk answer → IsClosed hash parts s desk
-      → (answer ≡ Err (Desk desk_errors.Closed)) ⊎ (answer ≡ Err Memory)
+      → (answer ≡ Err (Desk desk_errors.Closed)) ⊎ (answer ≡ Err (Memory no_memory))
   closed_is_answered answer h is = h (Desk desk_errors.Closed) is
 
   fault_refuses_nothing : Refuses hash parts s desk (Desk desk_errors.DiskFault) → ⊥

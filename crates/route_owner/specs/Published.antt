@@ -25,6 +25,7 @@ use Rattle.route_server.specs.declared.errors.BuildError.{BuildError}
 use Rattle.route_server.specs.declared.errors.BuildError.TheVariants as build_errors
 use Rattle.route_owner.specs.declared.errors.PublishError.{PublishError}
 use Rattle.route_owner.specs.declared.errors.PublishError.TheVariants.{Build, Desk, Memory}
+use Rattle.octet_text.specs.Want.{no_memory}
 
 -- the number of the slot whose one-time key has signed
 abbrev pub slot_of : Publication → ℕ
@@ -61,14 +62,14 @@ abbrev pub OnSigning : {X : Type 0} → Result X PublishError → Type 0 → Typ
 OnSigning (Ok p) P = P
 OnSigning (Err (Build e)) P = Unit {0}
 OnSigning (Err (Desk e)) P = P
-OnSigning (Err Memory) P = Unit {0}
+OnSigning (Err (Memory _)) P = Unit {0}
 
 -- this holds where none was
 abbrev pub OnNoSigning : {X : Type 0} → Result X PublishError → Type 0 → Type 0
 OnNoSigning (Ok p) P = Unit {0}
 OnNoSigning (Err (Build e)) P = P
 OnNoSigning (Err (Desk e)) P = Unit {0}
-OnNoSigning (Err Memory) P = P
+OnNoSigning (Err (Memory _)) P = P
 
 -- nothing changes outside this slot, which is one of the last open area and not its last, and the
 -- same pairs are signed, or that of the slot and this text besides
@@ -90,7 +91,7 @@ pub record SignsHeader {D : Type 0} (g : Ghosts D) (old new : D) (hash : List �
 
 -- why there was no book
 abbrev pub IsNoBook : (List ℕ → List ℕ) → Parts → Settings → BuildError → Type 0
-IsNoBook hash parts s e = Makes hash sha256 parts s (Err e) × (e ≢ build_errors.Memory)
+IsNoBook hash parts s e = Makes hash sha256 parts s (Err e) × (e ≢ build_errors.Memory no_memory)
 
 -- the numbers of settings that no header holds have their widths
 pub record HasSettingWidths (s : Settings) : Type 0 where
@@ -138,7 +139,7 @@ Refuses hash parts s desk e = ⊥
 abbrev pub AnswersRefusal : {X : Type 0} → (List ℕ → List ℕ) → Parts → Settings → View →
     Result X PublishError → Type 0
 AnswersRefusal hash parts s desk answer = (e : PublishError) → Refuses hash parts s desk e →
-    (answer ≡ Err e) ⊎ (answer ≡ Err Memory)
+    (answer ≡ Err e) ⊎ (answer ≡ Err (Memory no_memory))
 
 -- there is a header to sign, and the desk is open and counts a slot of its current area as free that
 -- is not the last

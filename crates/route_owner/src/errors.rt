@@ -1,6 +1,7 @@
 //! Why nothing was published.
 
 use key_desk::DeskError;
+use octet_text::NoMemory;
 use route_server::BuildError;
 use thiserror::Error;
 
@@ -16,5 +17,5 @@ pub enum PublishError {
     Desk(DeskError),
     /// Out of memory. Nothing was signed.
     #[error("Out of memory.")]
-    Memory,
+    Memory(NoMemory),
 }

@@ -1,6 +1,7 @@
 //! Publishing a map.
 
 ghost use Rattle.std.specs.Prelude.{◌≡◌, ◌≢◌, ◌⊎◌, ℕ, Some, slice_set, List, Ok, Err, IfOk, IfErr, OnOk, IsOk, ◌<◌, ◌≤◌, true, false, length};
+ghost use Rattle.octet_text.specs.Want.{no_memory};
 ghost use Rattle.sha2.specs.Sha256.{sha256};
 ghost use Rattle.road_io.specs.Causes.{Rose, RoseBy};
 ghost use Rattle.desk_areas.specs.Calls.{CalledUpTo};
@@ -20,7 +21,7 @@ use crate::errors::PublishError;
 use crate::widths::{parts_have_widths, settings_have_widths};
 use book_model::Settings;
 use key_desk::Desk;
-use octet_text::{Hasher, NoMemory, Octets};
+use octet_text::{Hasher, NoMemory, Octets, filled};
 use proof_octets::{Publication, length_laws, range_laws};
 use road_io::Disk;
 use road_map::Parts;
@@ -47,8 +48,7 @@ pub fn make_signable<H: Hasher>(
 fn zeros(alloc: Global, count: usize) -> Result<Vec<u8>, NoMemory>
     ensures { IfOk result (λ octets. length octets.items ≡ count) }
 {
-    let octets = Vec::from_elem(alloc, 0u8, count)?;
-    Ok(octets)
+    filled(alloc, 0u8, count)
 }
 
 /// Signs the header of the book of parts and settings by the next one-time key, and answers the
@@ -92,7 +92,7 @@ pub fn publish<H: Hasher, D: Disk>(
     ensures refused_else { AnswersRefusal H.hash parts settings.now desk.old result }
     ensures succeeds { CanPublish H.hash parts settings.now desk.old →
         (Rose (D.faults disk.old) (D.faults disk.new) → ⊥) →
-        IsOk result ⊎ (result ≡ Err PublishError.Memory) }
+        IsOk result ⊎ (result ≡ Err (PublishError.Memory no_memory)) }
     ensures moments { OnSigning result
         (SignsHeader D.Disk disk.old disk.new H.hash parts settings.now) }
     ensures fits { Fits D.Disk desk.new disk.new }
@@ -104,11 +104,12 @@ pub fn publish<H: Hasher, D: Disk>(
     server_laws();
     let Headed { header, parts } = match make_signable::<H>(alloc, parts, settings) {
         Ok(signable) => signable,
-        Err(BuildError::Memory) => return Err(PublishError::Memory),
+        Err(BuildError::Memory(none)) => return Err(PublishError::Memory(none)),
         Err(fault) => return Err(PublishError::Build(fault)),
     };
-    let Ok(mut signature) = zeros(alloc, desk.sig_len() as usize) else {
-        return Err(PublishError::Memory);
+    let mut signature = match zeros(alloc, desk.sig_len() as usize) {
+        Ok(signature) => signature,
+        Err(none) => return Err(PublishError::Memory(none)),
     };
     length_laws();
     range_laws();

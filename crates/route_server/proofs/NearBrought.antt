@@ -1,5 +1,5 @@
 -- What a reply brings out of a book that is held.
-use Rattle.std.proofs.Common.{◌≡◌, ℕ, ◌^◌, ◌<◌, ◌≤◌, List, length, nat_eq, refl, arith, ap, sym, ◌∙◌, subst}
+use Rattle.std.proofs.Common.{◌≡◌, ℕ, ◌-◌, ◌*◌, ◌^◌, ◌<◌, ◌≤◌, List, length, nat_eq, refl, arith, ap, sym, ◌∙◌, subst}
 use Rattle.std.specs.Prelude.{All}
 use Rattle.std.specs.List.{Contains, IsDistinct}
 use Rattle.std.proofs.lemmas.Bool.Decides.{nat_tests}
@@ -19,13 +19,15 @@ use Rattle.merkle_cover.specs.Covers.{IsRising, cover_of}
 use Rattle.proof_octets.specs.declared.header.Header.{Header}
 use Rattle.proof_octets.specs.Good.{IsGoodHeader, IsCover}
 use Rattle.proof_octets.specs.Headers.{leaf_kind}
+use Rattle.proof_octets.proofs.NearFormat.{near_good}
+use Rattle.proof_octets.proofs.ReplyLength.{near_few}
 use Rattle.route_server.specs.declared.bringing.PlacesBrought.{PlacesBrought}
 use Rattle.route_server.specs.Bringing.{AreBrought}
 use Rattle.route_server.specs.Fitting.{kind_of_leaves}
 use Rattle.route_server.specs.Headers.{node_texts, header_of}
 use Rattle.route_server.specs.Honesty.{ids_at}
 use Rattle.route_server.specs.Keeping.{Kept, IsKept, header_in, publication_in}
-use Rattle.route_server.proofs.Answering.{InRange, in_range, code_is, leaf_kind_is, cover_good, placing}
+use Rattle.route_server.proofs.Answering.{InRange, in_range, code_is, leaf_kind_is, cover_few, cover_good, few_rising, placing}
 use Rattle.route_server.proofs.Distinct.{few_known}
 use Rattle.route_server.proofs.Known.{length-leaves_of}
 use Rattle.route_server.proofs.LeavesAt.{all_at, has_near_leaves}
@@ -85,6 +87,9 @@ kind_is hash k kept = leaf_kind_is (header_in hash k) kept.kind (code_is k.setti
 lists_book : (k : Kept) (kept : IsKept k) → IsOrderOf kept.book.parts k.order
 lists_book k kept = subst (λ (p : Parts). IsOrderOf p k.order) (sym kept.is_book.book.of_parts) kept.lists
 
+few_order : (k : Kept) → IsKept k → length k.order ≤ 65536
+few_order k kept = few_known k.map.parts k.order kept.is_map kept.lists.distinct (λ id h. (kept.lists.same id).0 h)
+
 good : (hash : List ℕ → List ℕ) (k : Kept) (ids : List ℕ) (b : PlacesBrought) (header : Header) (signature : List ℕ) → ((text : List ℕ) → length (hash text) ≡ 32) → (br : AreBrought hash k ids b) → ((id : ℕ) → Contains ids id → Knows k.map.parts id)
     → header ≡ header_in hash k → IsGoodHeader (header_in hash k) → length signature ≤ 1452 → IsGoodNear (near_with (placed_with header signature b) (leaves_there hash k ids b br))
 good hash k ids b header signature size br known header_is good_header short =
@@ -95,7 +100,7 @@ good hash k ids b header signature size br known header_is good_header short =
     subst (λ (p : Parts). Knows p id) (sym parts) (known id (Contains-permutation (ids_at k.order b.places) ids id (IsPermutation-sym ids (ids_at k.order b.places) br.same) h)) in
     let lists = lists_book k kept in
     let leaves = leaves_there hash k ids b br in
-    let few : length k.order ≤ 65536 = few_known k.map.parts k.order kept.is_map kept.lists.distinct (λ id h. (kept.lists.same id).0 h) in
+    let few = few_order k kept in
     let range : InRange k.settings = in_range k.map.parts k.settings kept.allowed in
     let texts : length (node_texts k.nodes) ≡ length k.order = length-map k.nodes node_leaf_text ∙ ap (λ (ls : List NodeLeaf). length ls) kept.nodes ∙ length-leaves_of book k.order (λ id h. (lists.same id).0 h) in
     let one_each : length leaves ≡ length b.places = length-leaves_of book (ids_at k.order b.places) among ∙ length-map b.places _ in
@@ -107,6 +112,18 @@ good hash k ids b header signature size br known header_is good_header short =
           (all_at (node_leaf (kind_of_leaves kept.kind book.numbers)).Fits book k.order b.places lists br.rising br.spelled);
       cover = subst IsCover (sym br.cover) (cover_good hash k.settings.fan (node_texts k.nodes) b.places size range.fan range.fan_max (omega (arith, texts, few)) (subst (λ n. IsRising n b.places) (sym texts) br.rising));
     }
+
+-- ---- it is not long
+
+pub over_short : (hash : List ℕ → List ℕ) (k : Kept) (q : NearQuery) (a : NearReply) → IsOver hash k q a → near_reply.Fits a → length (near_reply.spell a) < 2 ^ 32 - 16
+over_short hash k q a is fits =
+    let good = near_good a fits in
+    let header : IsGoodHeader (header_in hash k) = subst IsGoodHeader is.says.header good.header in
+    let texts = node_texts (leaves_of is.kept.book k.order) in
+    let few = few_order k is.kept in
+    let count : length texts ≡ length k.order = length-map (leaves_of is.kept.book k.order) node_leaf_text ∙ length-leaves_of is.kept.book k.order (λ id h. ((lists_book k is.kept).same id).0 h) in
+    let cover : length (cover_of hash texts (header_in hash k).fan a.places) ≤ 65536 * 32 = cover_few hash (header_in hash k).fan texts a.places 65536 header.fan_low header.fan_high (omega (arith, count, few)) (subst (λ n. IsRising n a.places) (sym count) is.says.rising) in
+    near_few a good (omega (arith, few_rising (length k.order) a.places is.says.rising, few)) (omega (arith, cover, ap (λ (xs : List (List ℕ)). length xs) is.says.cover))
 
 -- ---- the book holds the texts of its leaves
 

@@ -48,7 +48,7 @@ pub record IsNearHonest (hash sha : List ℕ → List ℕ) (p : Publication) (q 
 -- why there is none. Out of memory may come at any time.
 abbrev pub WhyNot : Parts → NearQuery → NearRefusal → Type 0
 WhyNot parts q (UnknownNode id) = (id ≡ q.from) × ¬ Knows parts q.from
-WhyNot parts q Memory = Unit {0}
+WhyNot parts q (Memory _) = Unit {0}
 
 -- the reply over the book that is held
 pub record IsOver (hash : List ℕ → List ℕ) (k : Kept) (q : NearQuery) (a : NearReply) : Type 0 where

@@ -9,7 +9,7 @@ ghost use Rattle.route_server.specs.Keeping.{count_in, cover_in};
 use crate::leaf_texts::pair_fits;
 use crate::leaf_tree::LeafTree;
 use book_model::PairLeaves;
-use octet_text::{Digests, Hasher, NoMemory};
+use octet_text::{Digests, Hasher, NoMemory, push};
 use road_leaf::PairLeaf;
 use std::alloc::Global;
 
@@ -25,7 +25,7 @@ pub fn pairs_at(alloc: Global, pairs: &[PairLeaf], places: &[u32]) -> Result<Pai
     for place in places {
         let pair = pairs[*place as usize];
         pair_fits(&pair);
-        leaves.push(pair)?;
+        push(&mut leaves, pair)?;
     }
     Ok(PairLeaves::from_vec(leaves))
 }

@@ -14,7 +14,7 @@ use crate::leaf_tree::LeafTree;
 use crate::order::places_of;
 use book_model::{PairLeaves, Places};
 use merkle_cover::Texts;
-use octet_text::{Digests, Hasher, NoMemory};
+use octet_text::{Digests, Hasher, NoMemory, copied};
 use proof_method::MethodBook;
 use road_leaf::PairLeaf;
 use std::alloc::Global;
@@ -49,7 +49,7 @@ pub(crate) fn numbers_fit(numbers: &[u32])
 fn places_from(alloc: Global, places: &[u32]) -> Result<Places, NoMemory>
     ensures { IfOk result (λ copy. copy ≡ places.now) }
 {
-    let places = places.to_vec(alloc)?;
+    let places = copied(alloc, places)?;
     Ok(Places::from_vec(places))
 }
 

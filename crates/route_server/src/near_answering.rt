@@ -1,5 +1,5 @@
 //! The reply to a query for what lies within a radius.
-ghost use Rattle.std.specs.Prelude.{◌≡◌, ◌<◌, ◌≤◌, ◌^◌, IfOk, IfErr, length};
+ghost use Rattle.std.specs.Prelude.{◌≡◌, ◌<◌, ◌≤◌, ◌-◌, ◌^◌, IfOk, IfErr, length};
 ghost use Rattle.sha2.specs.Sha256.{sha256};
 ghost use Rattle.route_server.specs.NearHonesty.{IsNearHonest, WhyNot, IsToldOver};
 ghost use Rattle.road_map.specs.Walks.{Knows};
@@ -7,7 +7,7 @@ ghost use Rattle.route_server.specs.Keeping.{publication_in};
 
 use crate::reaching::ids_within;
 use crate::{Held, NearRefusal, header_laws};
-use octet_text::{Hasher, NoMemory, Octets};
+use octet_text::{Hasher, NoMemory, Octets, copied};
 use proof_octets::{Header, NearQuery, PlacedNear, near_range_laws};
 use road_search::knows;
 use std::alloc::Global;
@@ -15,7 +15,7 @@ use std::alloc::Global;
 fn signature_of(alloc: Global, octets: &[u8]) -> Result<Octets, NoMemory>
     ensures { IfOk result (λ signature. signature ≡ octets.now) }
 {
-    let octets = octets.to_vec(alloc)?;
+    let octets = copied(alloc, octets)?;
     Ok(Octets::from_vec(octets))
 }
 
@@ -56,6 +56,8 @@ fn reply_from<H: Hasher>(
 /// nodes whose distance is at most the radius, under the publication's header and signature, with the
 /// cover of all other leaves.
 ///
+/// There are fewer than 2^32 - 16 of them, so that a frame, whose length has 32 bits, holds them.
+///
 /// `UnknownNode` comes exactly where no node has the id that was asked about, whatever memory there is.
 pub fn answer_near<H: Hasher>(
     alloc: Global,
@@ -65,6 +67,7 @@ pub fn answer_near<H: Hasher>(
     requires { length held.now.signature ≤ 1452 }
     ensures honest { IfOk result (λ octets.
         IsNearHonest H.hash sha256 (publication_in H.hash held.now) query octets.items) }
+    ensures short { IfOk result (λ octets. length octets.items < 2 ^ 32 - 16) }
     ensures refused { IfErr result (WhyNot held.now.map.parts query) }
     ensures unknown { ¬ Knows held.now.map.parts query.from
         → result ≡ Err (NearRefusal.UnknownNode query.from) }

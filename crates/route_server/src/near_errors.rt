@@ -14,13 +14,13 @@ pub enum NearRefusal {
     UnknownNode(u32),
     /// Out of memory.
     #[error("Out of memory.")]
-    Memory,
+    Memory(NoMemory),
 }
 
 impl From<NoMemory> for NearRefusal {
-    ghost from_gives = { λ _ e. e ≡ refusals.Memory };
+    ghost from_gives = { λ none e. e ≡ refusals.Memory none };
 
-    fn from(_none: NoMemory) -> NearRefusal {
-        NearRefusal::Memory
+    fn from(none: NoMemory) -> NearRefusal {
+        NearRefusal::Memory(none)
     }
 }

@@ -35,6 +35,7 @@ use Rattle.route_service.specs.Pinning.{Pins, not_pinned}
 use Rattle.route_service.specs.Refusals.{leaves_with, numbers_of, header_by, is_same_header, is_header_by, book_refusal, refusal_of}
 use Rattle.road_map.specs.MapTests.{is_map}
 use Rattle.road_map.proofs.MapTests.{map_true, map_from}
+use Rattle.octet_text.specs.Want.{no_memory}
 
 node_id : (nodes : List Node) (id : ℕ) (n : Node) → node_at nodes id ≡ Some n → n.id ≡ id
 node_id nodes id n e = let found = find_some (λ (m : Node). m.id == id) nodes n e in grind (arith, found.1)
@@ -150,7 +151,7 @@ header_differs hash sha p h has apart =
     ap (is_header_by hash sha p) has.is_book.method ∙ ap (λ x. is_same_header x p.header) is ∙ other
 
 -- a fault of maps, that of books, and another header
-map_refuses : (hash sha : List ℕ → List ℕ) (p : Publication) (e : MapError) → FaultLaws p.parts → Fault p.parts e → e ≢ map_errors.Memory → refusal_of hash sha p ≡ Some 2
+map_refuses : (hash sha : List ℕ → List ℕ) (p : Publication) (e : MapError) → FaultLaws p.parts → Fault p.parts e → e ≢ map_errors.Memory no_memory → refusal_of hash sha p ≡ Some 2
 unfolding refusal_of
 map_refuses hash sha p e laws fault known =
     let none : is_map p.parts ≡ false = elim (cases_Bool (is_map p.parts)) [ inl is ↦ absurd (known (laws.none (map_from p.parts is) e fault)) | inr not ↦ not ] in
@@ -173,6 +174,6 @@ header_refuses hash sha p h has apart =
 pub refused_as : (hash sha : List ℕ → List ℕ) (p : Publication) (e : InstallError) → FaultLaws p.parts → Installs hash sha p (Err e) → Pins hash sha p (Err (not_pinned e))
 refused_as hash sha p (installs.Build (build.Map e)) laws h = map_refuses hash sha p e laws h.0.0 h.0.1
 refused_as hash sha p (installs.Build (build.Plan e)) laws h = book_refuses hash sha p e h.0.0 h.0.1
-refused_as hash sha p (installs.Build build.Memory) laws h = tt
+refused_as hash sha p (installs.Build (build.Memory _)) laws h = tt
 refused_as hash sha p installs.HeaderWrong laws h = header_refuses hash sha p h.0 h.1 h.2
-refused_as hash sha p installs.Memory laws h = tt
+refused_as hash sha p (installs.Memory _) laws h = tt

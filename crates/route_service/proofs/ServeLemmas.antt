@@ -17,6 +17,7 @@ use Rattle.road_io.specs.Contents.{AppendsFront}
 use Rattle.route_service.specs.Serving.{IsUnanswered, Served, Then, Serves}
 use Rattle.route_service.specs.declared.serving.ServeError.{ServeError}
 use Rattle.route_service.specs.declared.serving.ServeError.TheVariants as Unserved
+use Rattle.octet_text.specs.Want.{no_memory}
 
 pub framed-more : (frames : List (List ℕ)) (frame : List ℕ) → framed frames ++ frame_of frame ≡ framed (frames ++ frame ∷ [])
 framed-more frames frame = sym (flat_map-append frame_of frames (frame ∷ []) ∙ ap (λ t. framed frames ++ t) (append-nil (frame_of frame)))
@@ -38,7 +39,7 @@ abbrev refused : FrameError → ServeError
 refused TooLong = Unserved.FrameTooLong
 refused Truncated = Unserved.TruncatedFrame
 refused Source = Unserved.Source
-refused Memory = Unserved.Memory
+refused (Memory none) = Unserved.Memory none
 
 module _ (hash sha : List ℕ → List ℕ) where
   pub run-more : (first mid last : State) (frames replies : List (List ℕ)) (frame reply : List ℕ) → Run hash sha first frames replies mid → Step hash sha mid frame reply last →
@@ -121,7 +122,7 @@ module _ (hash sha : List ℕ → List ℕ) where
       (count, below, then_more first last most count octets more t.0 old new (λ text. (0 < length text) × IsPart most text) served t.3 (t.1, t.2), t.4)
   serves_refused first last most limit count octets more body old new Source below served t =
       (count, omega (arith, below), then_more first last most count octets more t.0 old new (IsPart most) served t.2 t.1)
-  serves_refused first last most limit count octets more body old new Memory below served t =
+  serves_refused first last most limit count octets more body old new (Memory _) below served t =
       (count, below, then_more first last most count octets more t.0 old new (IsUnanswered most) served t.2 (inl t.1))
 
   pub given_refused : (first last : State) (most limit count : ℕ) (a b c : List ℕ) (old new : Option (List ℕ)) (body : List ℕ) (e : FrameError) → count < limit →
@@ -135,9 +136,9 @@ module _ (hash sha : List ℕ → List ℕ) where
   pub given_unanswered : (first mid last : State) (most limit count : ℕ) (a b c : List ℕ) (old new : Option (List ℕ)) (frame : List ℕ) → last ≡ mid → count < limit →
       Gave a b (λ octets. Served hash sha first mid most count (Some octets) (Some []) old new) →
       Gave b c (λ octets. (length frame ≤ most) × Consumes (Some octets) (Some []) (frame_of frame)) →
-      Gave a c (λ octets. Serves hash sha first last most limit (Some octets) (Some []) old new (Err Unserved.Memory))
+      Gave a c (λ octets. Serves hash sha first last most limit (Some octets) (Some []) old new (Err (Unserved.Memory no_memory)))
   given_unanswered first mid last most limit count a b c old new frame same below s t =
-      Gave-++ a b c _ _ (λ octets. Serves hash sha first last most limit (Some octets) (Some []) old new (Err Unserved.Memory))
+      Gave-++ a b c _ _ (λ octets. Serves hash sha first last most limit (Some octets) (Some []) old new (Err (Unserved.Memory no_memory)))
       (λ xs ys served taken. (
         count,
         below,

@@ -203,7 +203,7 @@ module _ (hash sha : List ℕ → List ℕ) where
   told_input first last most limit text rest old new (Err Source) small serves = let s = serves.2 in
       some_written first last most limit serves.0 text s.between old new small serves.1 s.served
   told_input first last most limit text rest old new (Err Sink) small serves = front_written first last most limit serves.0 text rest old new small serves.1 serves.2
-  told_input first last most limit text rest old new (Err Memory) small serves = let s = serves.2 in
+  told_input first last most limit text rest old new (Err (Memory _)) small serves = let s = serves.2 in
       some_written first last most limit serves.0 text s.between old new small (omega (arith, serves.1)) s.served
 
   -- where the source tells nothing, some frames were served
@@ -246,4 +246,4 @@ module _ (hash sha : List ℕ → List ℕ) where
   serves_input first last most limit None rest old new (Err TooManyFrames) small serves = all_untold first last most limit serves.between old new TooMany serves.served
   serves_input first last most limit None rest old new (Err Source) small serves = some_untold first last most serves.0 serves.2.between old new serves.2.served
   serves_input first last most limit None rest old new (Err Sink) small serves = front_untold first last most serves.0 rest old new serves.2
-  serves_input first last most limit None rest old new (Err Memory) small serves = some_untold first last most serves.0 serves.2.between old new serves.2.served
+  serves_input first last most limit None rest old new (Err (Memory _)) small serves = some_untold first last most serves.0 serves.2.between old new serves.2.served

@@ -98,5 +98,5 @@ module _ (hash sha : List ℕ → List ℕ) where
       WritesRun first (take n input.frames) old new
   ServesInput first input old new (Err Sink) = (n : ℕ) ×
       WritesFront first (take n input.frames) old new
-  ServesInput first input old new (Err Memory) = (n : ℕ) ×
+  ServesInput first input old new (Err (Memory _)) = (n : ℕ) ×
       WritesRun first (take n input.frames) old new

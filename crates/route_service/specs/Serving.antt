@@ -71,6 +71,6 @@ module _ (hash sha : List ℕ → List ℕ) where
       Then first last most count left rest old new (IsPart most)
   Serves first last most limit left rest old new (Err Sink) = (count : ℕ) × (count < limit) ×
       Cut first last most count left rest old new
-  Serves first last most limit left rest old new (Err Memory) =
+  Serves first last most limit left rest old new (Err (Memory _)) =
       (count : ℕ) × (count < limit) ×
       Then first last most count left rest old new (IsUnanswered most)

@@ -15,5 +15,5 @@ TakesFrame most left rest body (Err Truncated) = (octets : List ℕ) × (0 < len
     IsPart most octets × Consumes left rest octets × IsAtEnd rest
 TakesFrame most left rest body (Err Source) = (octets : List ℕ) × IsPart most octets ×
     Consumes left rest octets
-TakesFrame most left rest body (Err Memory) = (octets : List ℕ) × IsHead most octets ×
+TakesFrame most left rest body (Err (Memory _)) = (octets : List ℕ) × IsHead most octets ×
     Consumes left rest octets

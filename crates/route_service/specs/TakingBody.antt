@@ -11,4 +11,4 @@ TakesBody size left rest body (Err Truncated) = (octets : List ℕ) × (length o
     Consumes left rest octets × IsAtEnd rest
 TakesBody size left rest body (Err Source) = (octets : List ℕ) × (length octets < size) ×
     Consumes left rest octets
-TakesBody size left rest body (Err Memory) = Consumes left rest []
+TakesBody size left rest body (Err (Memory _)) = Consumes left rest []

@@ -7,6 +7,7 @@ ghost use Rattle.route_service.specs.Taking.{TakesFrame};
 ghost use Rattle.route_service.specs.TakingBody.{TakesBody};
 ghost use Rattle.route_service.specs.TakingHead.{TakesHead};
 
+use octet_text::{NoMemory, fill_up};
 use road_io::{Failed, Source, read_whole};
 use thiserror::Error;
 
@@ -24,7 +25,7 @@ pub enum FrameError {
     Source,
     /// There was no memory for the body of a frame.
     #[error("there is no memory for a frame")]
-    Memory,
+    Memory(NoMemory),
 }
 
 /// Reads the body of the next frame into a buffer, in place of what it held, and answers whether there
@@ -58,7 +59,7 @@ pub fn next_frame<S: Source>(
         Ok(()) => Ok(true),
         Err(BodyError::Truncated) => Err(FrameError::Truncated),
         Err(BodyError::Source) => Err(FrameError::Source),
-        Err(BodyError::Memory) => Err(FrameError::Memory),
+        Err(BodyError::Memory(none)) => Err(FrameError::Memory(none)),
     }
 }
 
@@ -67,7 +68,7 @@ pub fn next_frame<S: Source>(
 enum BodyError {
     Truncated,
     Source,
-    Memory,
+    Memory(NoMemory),
 }
 
 // Reads so many octets into a buffer, in place of what it held.
@@ -81,8 +82,9 @@ fn read_body<S: Source>(source: &mut S, size: usize, body: &mut Vec<u8>) -> Resu
         Rose (S.faults source.old) (S.faults source.new) }
     ensures kept { result ≢ Err BodyError.Source → S.faults source.new ≡ S.faults source.old }
 {
-    if body.resize(size, 0).is_err() {
-        return Err(BodyError::Memory);
+    body.truncate(size);
+    if let Err(none) = fill_up(body, size, 0) {
+        return Err(BodyError::Memory(none));
     }
     match read_whole(source, body.as_mut_slice()) {
         Ok(n) if n < size => Err(BodyError::Truncated),

@@ -8,7 +8,7 @@ ghost use Rattle.route_service.specs.Inputs.{Input, IsInput, ServesInput, split}
 ghost use Rattle.route_service.specs.Serving.{Serves};
 
 use crate::{FrameError, Service, next_frame, write_frame};
-use octet_text::Hasher;
+use octet_text::{Hasher, NoMemory};
 use road_io::{Failed, Sink, Source};
 use std::alloc::Global;
 use thiserror::Error;
@@ -33,7 +33,7 @@ pub enum ServeError {
     Sink,
     /// Out of memory.
     #[error("no memory was found")]
-    Memory,
+    Memory(NoMemory),
 }
 
 /// Answers the frames of a source, at most `limit` of them and each of at most `most` octets. Each reply
@@ -106,10 +106,11 @@ fn turns<H: Hasher, S: Source, K: Sink>(
             Err(FrameError::TooLong) => return Err(ServeError::FrameTooLong),
             Err(FrameError::Truncated) => return Err(ServeError::TruncatedFrame),
             Err(FrameError::Source) => return Err(ServeError::Source),
-            Err(FrameError::Memory) => return Err(ServeError::Memory),
+            Err(FrameError::Memory(none)) => return Err(ServeError::Memory(none)),
         }
-        let Ok(reply) = service.step(body.as_slice()) else {
-            return Err(ServeError::Memory);
+        let reply = match service.step(body.as_slice()) {
+            Ok(reply) => reply,
+            Err(none) => return Err(ServeError::Memory(none)),
         };
         match write_frame(sink, reply.as_slice()) {
             Ok(()) => {}

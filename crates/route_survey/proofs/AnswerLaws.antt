@@ -26,10 +26,11 @@ use Rattle.near_proof.specs.Honest.{IsSigned, AreKnown, AreJoined, AreAccepted}
 use Rattle.book_model.specs.declared.items.Query.{Query}
 use Rattle.route_survey.specs.Surveys.{survey_key, IsSurveyed}
 use Rattle.route_survey.specs.Tallies.{IsAskable}
+use Rattle.octet_text.specs.Want.{no_memory}
 
 -- where a reply is accepted, no other verdict comes than out of memory
-pub refused_as : (e : CheckError) (x : Checked) → UnlessMemory {A = Checked} (λ r. r ≡ Ok x) (Err e) → e ≡ errors.Memory
-refused_as errors.Memory x h = refl
+pub refused_as : (e : CheckError) (x : Checked) → UnlessMemory {A = Checked} (λ r. r ≡ Ok x) (Err e) → e ≡ errors.Memory no_memory
+refused_as (errors.Memory _) x h = refl
 refused_as e x h = cc
 
 -- the length of a shortest route is the distance

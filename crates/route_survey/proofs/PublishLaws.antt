@@ -15,6 +15,7 @@ use Rattle.route_server.specs.declared.errors.BuildError.TheVariants as build
 use Rattle.route_owner.specs.Published.{IsSignable}
 use Rattle.route_owner.proofs.Sealing.{fits_with}
 use Rattle.route_survey.specs.Surveys.{survey_key, IsSurveyed}
+use Rattle.octet_text.specs.Want.{no_memory}
 
 -- the header of parts and settings with its signature
 pub surveyed_so : ((b : Publication) → publication.Fits b ↔ IsGoodPublication b) → (parts left : Parts) (s : Settings) (header : Header) (made out text : List ℕ) (key : KeyOf)
@@ -32,7 +33,7 @@ surveyed_so ranges parts left s header made out text key is keys same sealed_is 
 -- parts and settings make one thing at most
 abbrev pub MakesOne : Type 0
 MakesOne = (hash sha : List ℕ → List ℕ) (parts : Parts) (s : Settings) (one other : Result Header BuildError)
-    → Makes hash sha parts s one → Makes hash sha parts s other → one ≢ Err build.Memory → other ≢ Err build.Memory → one ≡ other
+    → Makes hash sha parts s one → Makes hash sha parts s other → one ≢ Err (build.Memory no_memory) → other ≢ Err (build.Memory no_memory) → one ≡ other
 
 err_is : (e f : BuildError) (r : Result Header BuildError) → r ≡ Err e → r ≡ Err f → e ≡ f
 err_is e f r is same = cc
@@ -44,10 +45,10 @@ not_both : (x : Header) (e : BuildError) (r : Result Header BuildError) → r �
 not_both x e r is same = cc
 
 -- where they have a header, nothing else comes
-pub no_fault : MakesOne → (p : Publication) → HasHeader sha256 sha256 p.parts p.settings p.header → (e : BuildError) → Makes sha256 sha256 p.parts p.settings (Err e) → e ≢ build.Memory → ⊥
+pub no_fault : MakesOne → (p : Publication) → HasHeader sha256 sha256 p.parts p.settings p.header → (e : BuildError) → Makes sha256 sha256 p.parts p.settings (Err e) → e ≢ build.Memory no_memory → ⊥
 no_fault law p has e makes other =
-    not_both p.header e (Ok p.header) refl (law sha256 sha256 p.parts p.settings (Ok p.header) (Err e) has makes (λ bad. not_both p.header build.Memory (Ok p.header) refl bad) (λ bad. other (err_is e build.Memory (Err e) refl bad)))
+    not_both p.header e (Ok p.header) refl (law sha256 sha256 p.parts p.settings (Ok p.header) (Err e) has makes (λ bad. not_both p.header (build.Memory no_memory) (Ok p.header) refl bad) (λ bad. other (err_is e (build.Memory no_memory) (Err e) refl bad)))
 
 pub no_other : MakesOne → (p : Publication) → HasHeader sha256 sha256 p.parts p.settings p.header → (h : Header) → HasHeader sha256 sha256 p.parts p.settings h → h ≢ p.header → ⊥
 no_other law p has h made other =
-    other (ok_is h p.header (Ok h) refl (law sha256 sha256 p.parts p.settings (Ok h) (Ok p.header) made has (λ bad. not_both h build.Memory (Ok h) refl bad) (λ bad. not_both p.header build.Memory (Ok p.header) refl bad)))
+    other (ok_is h p.header (Ok h) refl (law sha256 sha256 p.parts p.settings (Ok h) (Ok p.header) made has (λ bad. not_both h (build.Memory no_memory) (Ok h) refl bad) (λ bad. not_both p.header (build.Memory no_memory) (Ok p.header) refl bad)))

@@ -12,8 +12,9 @@ use Rattle.command_files.specs.declared.fault.Fault.{Fault}
 use Rattle.command_files.specs.declared.fault.Fault.TheVariants.{Memory, Plan}
 use Rattle.command_files.specs.declared.ended.Conclusion.{Conclusion}
 use Rattle.command_files.specs.declared.ended.Conclusion.TheVariants.{Done}
-use Rattle.command_files.proofs.Written.{CallsFor, over_any, no_memory, refused, written_done}
+use Rattle.command_files.proofs.Written.{CallsFor, over_any, out_of_memory, refused, written_done}
 use Rattle.route_survey.specs.Surveying.{EndsSurvey}
+use Rattle.octet_text.specs.Want.{no_memory}
 
 allowed_once : (o : Option PlanError) (e : PlanError) → o ≡ None → o ≡ Some e → ⊥
 allowed_once o e none some = cc
@@ -50,5 +51,5 @@ module _ (width seed method queries k k' : ℕ) (old : Option (List ℕ)) where
       refused (λ folder. EndsSurvey width seed method queries) TellsNone NoDisk files faults faults k k' old (EndsSurvey width seed method queries) (any files) (Plan e) h
 
   -- out of memory
-  pub memory_short : PromisesWithoutFiles (EndsSurvey width seed method queries) NoDisk old old k k' (Err Memory)
-  memory_short files faults = no_memory (λ folder. EndsSurvey width seed method queries) TellsNone NoDisk files faults faults k k' old
+  pub memory_short : PromisesWithoutFiles (EndsSurvey width seed method queries) NoDisk old old k k' (Err (Memory no_memory))
+  memory_short files faults = out_of_memory (λ folder. EndsSurvey width seed method queries) TellsNone NoDisk files faults faults k k' old

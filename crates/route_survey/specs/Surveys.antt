@@ -73,4 +73,4 @@ pub record IsSurveyLine (parts : Parts) (s : Settings) (queries : List Query)
 -- why there is none: the settings make no book of the parts, for this first reason
 abbrev pub WhyNoSurvey : Parts → Settings → SurveyError → Type 0
 WhyNoSurvey parts s (Plan e) = plan_fault (kind_of s.method) parts s ≡ Some e
-WhyNoSurvey parts s Memory = Unit {0}
+WhyNoSurvey parts s (Memory _) = Unit {0}

@@ -4,7 +4,7 @@ ghost use Rattle.road_reader.specs.Grid.{after_draws};
 ghost use Rattle.route_survey.specs.Asked.{id_drawn, query_drawn, survey_queries, survey_settings, parameters_of};
 
 use book_model::{Query, Settings};
-use octet_text::NoMemory;
+use octet_text::{NoMemory, push};
 use road_reader::Draw;
 use std::alloc::Global;
 
@@ -52,7 +52,7 @@ pub fn survey_queries(
     let mut draw = Draw::new(seed.wrapping_add(1));
     let mut left = wanted;
     while left > 0 {
-        queries.push(next_query(&mut draw, width * width))?;
+        push(&mut queries, next_query(&mut draw, width * width))?;
         left -= 1;
     }
     Ok(queries)

@@ -1,5 +1,6 @@
 //! The queries of a survey: each is answered by the server and checked by a client.
 ghost use Rattle.std.specs.Prelude.{◌≡◌, ℕ, ◌+◌, ◌*◌, ◌^◌, ◌<◌, ◌≤◌, Some, All, IfOk, OnOk, length};
+ghost use Rattle.octet_text.specs.Want.{no_memory};
 ghost use Rattle.sha2.specs.Sha256.{sha256};
 ghost use Rattle.lms_tree.specs.Signatures.{public_key};
 ghost use Rattle.road_map.specs.Walks.{distance};
@@ -26,10 +27,12 @@ struct Answered {
 
 /// Out of memory, which is why an honest reply may not be accepted, and the only reason.
 fn memory_of(error: CheckError) -> NoMemory
-    requires { error ≡ CheckError.Memory }
+    requires { error ≡ CheckError.Memory no_memory }
 {
-    let _ = error;
-    NoMemory
+    match error {
+        CheckError::Memory(none) => none,
+        _ => unreachable!(),
+    }
 }
 
 /// The reply to a query whose ends a walk joins, and the length that a client accepts.
@@ -51,10 +54,6 @@ fn ask(
     map_laws();
     honest_laws();
     let reply = held.answer(alloc, query)?;
-    if reply.len() >= 1 << 32 {
-        // No honest reply is as long, and none that long is checked.
-        return Err(NoMemory);
-    }
     match check::<Sha>(alloc, public, &[], &reply, query, 1) {
         Ok(Checked::Route(accepted)) => Ok(Answered {
             reply,

@@ -20,6 +20,6 @@ pub fn survey<K: Sink>(alloc: Global, sink: &mut K, asked: Survey) -> Result<Con
     match survey_method(alloc, asked.width, asked.seed, asked.method, asked.queries) {
         Ok(line) => write_text(sink, &line),
         Err(SurveyError::Plan(fault)) => Err(Fault::Plan(fault)),
-        Err(SurveyError::Memory) => Err(Fault::Memory),
+        Err(SurveyError::Memory(none)) => Err(Fault::Memory(none)),
     }
 }

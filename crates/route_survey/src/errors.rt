@@ -12,16 +12,16 @@ pub enum SurveyError {
     Plan(PlanError),
     /// Out of memory.
     #[error("Out of memory.")]
-    Memory,
+    Memory(NoMemory),
 }
 
 impl From<NoMemory> for SurveyError {
     ghost use Rattle.std.specs.Prelude.{◌≡◌};
     ghost use Rattle.route_survey.specs.declared.errors.SurveyError.TheVariants.{Memory};
 
-    ghost from_gives = { λ _ e. e ≡ Memory };
+    ghost from_gives = { λ none e. e ≡ Memory none };
 
-    fn from(_none: NoMemory) -> SurveyError {
-        SurveyError::Memory
+    fn from(none: NoMemory) -> SurveyError {
+        SurveyError::Memory(none)
     }
 }

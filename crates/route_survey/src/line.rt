@@ -2,8 +2,8 @@
 ghost use Rattle.std.specs.Prelude.{◌≡◌, IfOk, string_bytes};
 ghost use Rattle.route_survey.specs.Surveys.{survey_line};
 
-use octet_text::{Digest32, NoMemory};
-use std::alloc::{AllocError, Global};
+use octet_text::{Digest32, NoMemory, hex_of, print};
+use std::alloc::Global;
 
 /// The line of a survey: the counts of its queries and of those that were accepted, the total of
 /// their lengths, and a digest in lower case hex.
@@ -16,10 +16,8 @@ pub fn line_of_survey(
 ) -> Result<Vec<u8>, NoMemory>
     ensures { IfOk result (λ line. line.items ≡ survey_line queries accepted total digest.now) }
 {
-    match printed(alloc, queries, accepted, total, digest) {
-        Ok(text) => Ok(text.into_bytes()),
-        Err(_) => Err(NoMemory),
-    }
+    let text = printed(alloc, queries, accepted, total, digest)?;
+    Ok(text.into_bytes())
 }
 
 fn printed(
@@ -28,15 +26,15 @@ fn printed(
     accepted: u32,
     total: u64,
     digest: &Digest32,
-) -> Result<String, AllocError>
+) -> Result<String, NoMemory>
     ensures { IfOk result (λ text.
         string_bytes text ≡ survey_line queries accepted total digest.now) }
 {
-    let digits = hex::encode(alloc, digest)?;
+    let digits = hex_of(alloc, digest)?;
     let mut text = String::new(alloc);
-    writeln!(
-        text,
-        "queries {queries} accepted {accepted} total {total} digest {digits}"
+    print(
+        &mut text,
+        format_args!("queries {queries} accepted {accepted} total {total} digest {digits}\n"),
     )?;
     Ok(text)
 }

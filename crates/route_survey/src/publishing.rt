@@ -11,7 +11,7 @@ ghost use Rattle.route_survey.specs.Surveys.{survey_key, IsSurveyed, WhyNoSurvey
 use crate::errors::SurveyError;
 use book_model::Settings;
 use lms_tree::{Key, KeyError};
-use octet_text::{Hasher, NoMemory, Octets, Sha};
+use octet_text::{Hasher, NoMemory, Octets, Sha, copied};
 use proof_octets::{Publication, range_laws};
 use road_map::{Parts, map_laws};
 use road_reader::{GridError, grid_laws, grid_roads};
@@ -26,7 +26,7 @@ pub fn survey_key(alloc: Global) -> Result<Key, NoMemory>
 {
     match Key::build(alloc, 5, &[0; 16], &[0; 32]) {
         Ok(key) => Ok(key),
-        Err(KeyError::Memory) => Err(NoMemory),
+        Err(KeyError::Memory(none)) => Err(none),
         Err(KeyError::Kind) => unreachable!(),
     }
 }
@@ -46,9 +46,7 @@ fn sign(
     let Headed { header, parts } = make_signable::<Sha>(alloc, parts, settings)?;
     let mut signature = [0; 1292];
     key.sign_into(0, &header.write(), &mut signature);
-    let Ok(signature) = Vec::from_slice(alloc, &signature) else {
-        return Err(BuildError::Memory);
-    };
+    let signature = copied(alloc, &signature)?;
     Ok(Publication {
         header,
         signature: Octets::from_vec(signature),
@@ -76,13 +74,13 @@ pub fn sign_grid(
     grid_laws();
     let parts = match grid_roads(alloc, width, seed) {
         Ok(parts) => parts,
-        Err(GridError::Memory) => return Err(SurveyError::Memory),
+        Err(GridError::Memory(none)) => return Err(SurveyError::Memory(none)),
         Err(GridError::Width) => unreachable!(),
     };
     match sign(alloc, key, parts, settings) {
         Ok(publication) => Ok(publication),
         Err(BuildError::Plan(fault)) => Err(SurveyError::Plan(fault)),
-        Err(BuildError::Memory) => Err(SurveyError::Memory),
+        Err(BuildError::Memory(none)) => Err(SurveyError::Memory(none)),
         Err(BuildError::Map(_)) => unreachable!(),
     }
 }
@@ -106,7 +104,7 @@ pub fn install(alloc: Global, publication: Publication) -> Result<Held<Sha>, NoM
     server_laws();
     match Held::<Sha>::install(alloc, publication) {
         Ok(held) => Ok(held),
-        Err(InstallError::Memory) => Err(NoMemory),
+        Err(InstallError::Memory(none)) => Err(none),
         Err(InstallError::Build(_)) => unreachable!(),
         Err(InstallError::HeaderWrong) => unreachable!(),
     }

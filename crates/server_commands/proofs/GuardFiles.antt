@@ -65,7 +65,7 @@ no_key key links (Dimacs fault) of is = ap (λ k. signed_of k links) is
 no_key key links (Malformed at) of is = ap (λ k. signed_of k links) is
 no_key key links BadHex of is = ap (λ k. signed_of k links) is
 no_key key links Library of is = tt
-no_key key links Memory of is = tt
+no_key key links (Memory _) of is = tt
 no_key key links e of is = absurd of
 
 no_links : (read : Result (List ℕ) Fault) (links : Result (List Link) Fault) (key : List ℕ) (e : Fault) → IsOfFiles e → read ≡ Ok key → Fails e links → Fails e (signed_of read links)
@@ -76,7 +76,7 @@ no_links read links key (Dimacs fault) of first is = ap (λ k. signed_of k links
 no_links read links key (Malformed at) of first is = ap (λ k. signed_of k links) first ∙ ap (signed_of (Ok key)) is
 no_links read links key BadHex of first is = ap (λ k. signed_of k links) first ∙ ap (signed_of (Ok key)) is
 no_links read links key Library of first is = tt
-no_links read links key Memory of first is = tt
+no_links read links key (Memory _) of first is = tt
 no_links read links key e of first is = absurd of
 
 module _ (key_name : List ℕ) (chain_name : Option (List ℕ)) where

@@ -18,6 +18,7 @@ use Rattle.command_files.specs.declared.ended.Conclusion.{Conclusion}
 use Rattle.command_files.proofs.OneEnd.{HasOneEnd, one_reading}
 use Rattle.command_books.proofs.OneBuilding.{OneMaking, one_installing}
 use Rattle.server_commands.specs.Serving.{EndsFrames, EndsServe, ends_serving, AnswersFrames, ServesFrames, most_octets, most_frames}
+use Rattle.octet_text.specs.Want.{no_memory}
 
 -- tests have one end, where what follows them has
 one_testing : (r : Result (Unit {0}) CheckError) (Next : Ending) → HasOneEnd Next → HasOneEnd (EndsTesting r Next)
@@ -32,14 +33,14 @@ only_serving makings name input folder =
     (λ guard. one_testing (tested guard b) (EndsServe guard input b) (λ o p s t. one_installing makings b (EndsFrames guard input b) o p s t (λ x y. x.end ∙ sym y.end))))
 
 called : (name : ServeFiles) (input : Input) (folder : Folder) (old new : Option (List ℕ)) (o : Result Conclusion Fault) → AnswersFrames name input folder old new o
-    → (o ≡ Err Library → ⊥) → (o ≡ Err Source → ⊥) → (o ≡ Err Sink → ⊥) → o ≢ Err Memory → (text : List ℕ) × ends_serving name input folder o text
+    → (o ≡ Err Library → ⊥) → (o ≡ Err Source → ⊥) → (o ≡ Err Sink → ⊥) → o ≢ Err (Memory no_memory) → (text : List ℕ) × ends_serving name input folder o text
 called name input folder old new (Ok verdict) a l s k m = (a.0, a.1)
 called name input folder old new (Err FrameTooLong) a l s k m = (a.0, a.1)
 called name input folder old new (Err TruncatedFrame) a l s k m = (a.0, a.1)
 called name input folder old new (Err TooManyFrames) a l s k m = (a.0, a.1)
 called name input folder old new (Err Source) a l s k m = absurd (s refl)
 called name input folder old new (Err Sink) a l s k m = absurd (k refl)
-called name input folder old new (Err Memory) a l s k m = absurd (m refl)
+called name input folder old new (Err (Memory _)) a l s k m = absurd (m refl)
 called name input folder old new (Err Library) a l s k m = absurd (l refl)
 called name input folder old new (Err fault) a l s k m = ([], a.0)
 

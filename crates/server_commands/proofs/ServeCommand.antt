@@ -33,12 +33,13 @@ use Rattle.command_files.specs.declared.fault.Fault.{Fault}
 use Rattle.command_files.specs.declared.fault.Fault.TheVariants.{Words, Missing, TooLong as too_long, Road, Dimacs, Map, Plan, Malformed, HeaderWrong, BadHex, TruncatedFrame, FrameTooLong, Library, Source, Sink, Disk, Memory, TooManyFrames, MirrorLost}
 use Rattle.command_files.specs.declared.ended.Conclusion.{Conclusion}
 use Rattle.command_files.specs.declared.ended.Conclusion.TheVariants.{Done, Refused}
-use Rattle.command_files.proofs.Written.{CallsFor, failed, over, over_both, over_any, moved, reads, keeps_same, appends_none, no_untold, no_memory, refused, written, why_map}
+use Rattle.command_files.proofs.Written.{CallsFor, failed, over, over_both, over_any, moved, reads, keeps_same, appends_none, no_untold, out_of_memory, refused, written, why_map}
 use Rattle.command_books.specs.Installing.{AfterBuild, IfInstalled, EndsInstalling, IsInstallable}
 use Rattle.command_books.proofs.Installings.{installed, not_installed}
 use Rattle.server_commands.specs.Guarding.{ServeFiles, unguarded, IsAsNamed, guard_at, Holds, tested, refusal_line, EndsTesting}
 use Rattle.server_commands.specs.Serving.{EndsFrames, EndsServe, EndsServeSome, EndsServing, ends_serving, ends_serve, AnswersFrames, AnswersInput, TookFrames, LeavesInput, ServedOver, RefusedFirst, AnswersTaken, ServesFrames, TellsFrames, first_frames, ended_at, most_octets, most_frames}
 use Rattle.server_commands.specs.ServingEnds.{ended_serving}
+use Rattle.octet_text.specs.Want.{no_memory}
 
 abbrev not_loaded : Fault → Result Publication Fault
 not_loaded f = Err f
@@ -93,7 +94,7 @@ unread read named input folder old (Dimacs fault) of ends is = (ends (Dimacs fau
 unread read named input folder old (Malformed at) of ends is = (ends (Malformed at) is, keeps_same old)
 unread read named input folder old BadHex of ends is = (ends BadHex is, keeps_same old)
 unread read named input folder old Library of ends is = keeps_same old
-unread read named input folder old Memory of ends is = inl (keeps_same old)
+unread read named input folder old (Memory _) of ends is = inl (keeps_same old)
 unread read named input folder old e of ends is = absurd of
 
 -- ---- what is left
@@ -111,7 +112,7 @@ unread_leaves left (Dimacs fault) of = refl
 unread_leaves left (Malformed at) of = refl
 unread_leaves left BadHex of = refl
 unread_leaves left Library of = refl
-unread_leaves left Memory of = none_taken left
+unread_leaves left (Memory _) of = none_taken left
 unread_leaves left e of = absurd of
 
 part_few : (octets : List ℕ) → IsPart most_octets octets → length octets ≤ 4 + most_octets
@@ -133,7 +134,7 @@ unread_takes files named left old (Dimacs fault) of = (refl, keeps_same old)
 unread_takes files named left old (Malformed at) of = (refl, keeps_same old)
 unread_takes files named left old BadHex of = (refl, keeps_same old)
 unread_takes files named left old Library of = (refl, keeps_same old)
-unread_takes files named left old Memory of = inl (refl, keeps_same old)
+unread_takes files named left old (Memory _) of = inl (refl, keeps_same old)
 unread_takes files named left old e of = absurd of
 
 -- frames that were served, and what was taken after them
@@ -165,7 +166,7 @@ leaves first last left rest old new (Err errors.TruncatedFrame) s =
 leaves first last left rest old new (Err errors.TooManyFrames) s = took_then first last most_frames left rest old new (λ octets. length octets ≡ 1) (λ octets h. omega (arith, h)) s
 leaves first last left rest old new (Err errors.Source) s = took_then first last s.0 left rest old new (IsPart most_octets) part_few s.2
 leaves first last left rest old new (Err errors.Sink) s = took_cut first last s.0 left rest old new s.2
-leaves first last left rest old new (Err errors.Memory) s = took_then first last s.0 left rest old new (IsUnanswered most_octets) unanswered_few s.2
+leaves first last left rest old new (Err (errors.Memory _)) s = took_then first last s.0 left rest old new (IsUnanswered most_octets) unanswered_few s.2
 
 -- the faults of a book that isn't built or is another's
 abbrev IsOfBooks : Fault → Type 0
@@ -211,7 +212,7 @@ module _ (files : Option Folder) (named : ServeFiles) (guard : Guard) (p : Publi
       after (Ok x) (inr a) = subst IsOfBooks (sym (same_fault f HeaderWrong a.1)) tt
       after (Err (build.Map e)) a = subst IsOfBooks (sym (same_fault f (Map e) a.0)) tt
       after (Err (build.Plan e)) a = subst IsOfBooks (sym (same_fault f (Plan e) a.0)) tt
-      after (Err build.Memory) a = absurd a
+      after (Err (build.Memory _)) a = absurd a
 
   -- no source is blamed for it
   no_source : (text : List ℕ) → EndsInstalling p NoEnd (failed Source) text → ⊥
@@ -227,7 +228,7 @@ module _ (files : Option Folder) (named : ServeFiles) (guard : Guard) (p : Publi
       (why_map NoDisk NoDisk (EndsInstalling p NoEnd) (EndsServeSome guard p) (λ x. x) ends_some f h)
 
   refused_here : (folder : Folder) → Holds named guard p folder → (input : Input) (old : Option (List ℕ)) (f : Fault) → WhyNot NoDisk (EndsInstalling p NoEnd) f → AnswersFrames named input folder old old (Err f)
-  refused_here folder is input old Memory h = inl (keeps_same old)
+  refused_here folder is input old (Memory _) h = inl (keeps_same old)
   refused_here folder is input old Disk h = absurd h
   refused_here folder is input old Words h = absurd h
   refused_here folder is input old Missing h = absurd h
@@ -245,7 +246,7 @@ module _ (files : Option Folder) (named : ServeFiles) (guard : Guard) (p : Publi
   refused_here folder is input old f h = (serving input (Err f) [] folder is (not_installed p (EndsFrames guard input p) (Err f) [] h), keeps_same old)
 
   refused_leaves : (left : Option (List ℕ)) (f : Fault) → WhyNot NoDisk (EndsInstalling p NoEnd) f → LeavesInput left left (Err f)
-  refused_leaves left Memory h = none_taken left
+  refused_leaves left (Memory _) h = none_taken left
   refused_leaves left TruncatedFrame h = none_taken left
   refused_leaves left FrameTooLong h = none_taken left
   refused_leaves left TooManyFrames h = none_taken left
@@ -254,7 +255,7 @@ module _ (files : Option Folder) (named : ServeFiles) (guard : Guard) (p : Publi
   refused_leaves left f h = refl
 
   refused_takes : (left old : Option (List ℕ)) (f : Fault) → WhyNot NoDisk (EndsInstalling p NoEnd) f → AnswersTaken named files left left old old (Err f)
-  refused_takes left old Memory h = inl (refl, keeps_same old)
+  refused_takes left old (Memory _) h = inl (refl, keeps_same old)
   refused_takes left old TruncatedFrame h = absurd (of_books TruncatedFrame [] h)
   refused_takes left old FrameTooLong h = absurd (of_books FrameTooLong [] h)
   refused_takes left old TooManyFrames h = absurd (of_books TooManyFrames [] h)
@@ -297,8 +298,8 @@ module _ (files : Option Folder) (named : ServeFiles) (guard : Guard) (p : Publi
         → Promises (ends_serve named) TellsFrames NoDisk files l l' old new k k' o
     told old new o text may h app = written (ends_serve named) TellsFrames NoDisk files l l' k k' old (EndsServeSome guard p) calls new o o text may h (inl (refl, app))
 
-    is_memory : (g : Fault) → failed Memory ≡ failed g → TellsFrames g
-    is_memory g e = subst (λ x. TellsFrames x) (same_fault Memory g e) tt
+    is_memory : (g : Fault) → failed (Memory no_memory) ≡ failed g → TellsFrames g
+    is_memory g e = subst (λ x. TellsFrames x) (same_fault (Memory no_memory) g e) tt
 
     served_ends : (input : Input) (old new : Option (List ℕ)) (r : Result (Unit {0}) ServeError) → ServesInput sha256 sha256 (first_state guard p) input old new r → (r ≡ Err errors.Sink → Rose k k')
         → Promises (ends_serve named) TellsFrames NoDisk files l l' old new k k' (ended_serving r)
@@ -311,9 +312,9 @@ module _ (files : Option Folder) (named : ServeFiles) (guard : Guard) (p : Publi
     served_ends input old new (Err errors.Sink) s rose =
         written (ends_serve named) TellsFrames NoDisk files l l' k k' old (EndsServeSome guard p) calls new (Ok Done) (Err Sink) (framed s.1.replies) tt
         (first_frames s.0 input, replied_front (take s.0 input.frames) old new s.1) (inr (refl, s.1.wrote, rose refl))
-    served_ends input old new (Err errors.Memory) s rose = record {
+    served_ends input old new (Err (errors.Memory _)) s rose = record {
       answered = over_any files (λ folder. Unit {0}) (λ folder. tt);
-      untold = no_untold files l l' (Err Memory) (λ e. cc) (λ e. cc);
+      untold = no_untold files l l' (Err (Memory no_memory)) (λ e. cc) (λ e. cc);
       silent = λ g e n t. absurd (t (is_memory g e));
       library = λ e. absurd (cc);
       sink = λ e. absurd (cc);
@@ -333,7 +334,7 @@ module _ (files : Option Folder) (named : ServeFiles) (guard : Guard) (p : Publi
         (s.0, framed s.1.replies, serving (first_frames s.0 input) (Ok Done) _ folder is (replied (take s.0 input.frames) Regular old new s.1), s.1.wrote)
     served_here folder is input old new (Err errors.Sink) s =
         (s.0, Done, framed s.1.replies, serving (first_frames s.0 input) (Ok Done) _ folder is (replied_front (take s.0 input.frames) old new s.1), s.1.wrote)
-    served_here folder is input old new (Err errors.Memory) s =
+    served_here folder is input old new (Err (errors.Memory _)) s =
         inr (s.0, framed s.1.replies, serving (first_frames s.0 input) (Ok Done) _ folder is (replied (take s.0 input.frames) Regular old new s.1), s.1.wrote)
 
     served_answers : (left old new : Option (List ℕ)) (r : Result (Unit {0}) ServeError) → ((input : Input) × IsInput most_octets most_frames left input × ServesInput sha256 sha256 (first_state guard p) input old new r) →
@@ -361,7 +362,7 @@ module _ (files : Option Folder) (named : ServeFiles) (guard : Guard) (p : Publi
     blamed (Err errors.TooManyFrames) e = absurd (cc)
     blamed (Err errors.Source) e = refl
     blamed (Err errors.Sink) e = absurd (cc)
-    blamed (Err errors.Memory) e = absurd (cc)
+    blamed (Err (errors.Memory _)) e = absurd (cc)
 
     at_end : (first last : State) (left rest old new : Option (List ℕ)) (r : Result (Unit {0}) ServeError) → Serves sha256 sha256 first last most_octets most_frames left rest old new r → ended_serving r ≡ Ok Done → IsAtEnd rest
     at_end first last left rest old new (Ok ended) s e = s.3
@@ -370,7 +371,7 @@ module _ (files : Option Folder) (named : ServeFiles) (guard : Guard) (p : Publi
     at_end first last left rest old new (Err errors.TooManyFrames) s e = absurd (cc)
     at_end first last left rest old new (Err errors.Source) s e = absurd (cc)
     at_end first last left rest old new (Err errors.Sink) s e = absurd (cc)
-    at_end first last left rest old new (Err errors.Memory) s e = absurd (cc)
+    at_end first last left rest old new (Err (errors.Memory _)) s e = absurd (cc)
 
     -- each frame that was taken
     taken_over : IsAsNamed named.guard guard → (last : State) (left rest old new : Option (List ℕ)) (r : Result (Unit {0}) ServeError) → Serves sha256 sha256 (first_state guard p) last most_octets most_frames left rest old new r → ServedOver named files left rest old new r
@@ -383,7 +384,7 @@ module _ (files : Option Folder) (named : ServeFiles) (guard : Guard) (p : Publi
     takes fits last left rest old new (Err errors.TooManyFrames) s = taken_over fits last left rest old new (Err errors.TooManyFrames) s
     takes fits last left rest old new (Err errors.Source) s = taken_over fits last left rest old new (Err errors.Source) s
     takes fits last left rest old new (Err errors.Sink) s = inl (taken_over fits last left rest old new (Err errors.Sink) s)
-    takes fits last left rest old new (Err errors.Memory) s = inr (taken_over fits last left rest old new (Err errors.Memory) s)
+    takes fits last left rest old new (Err (errors.Memory none)) s = inr (taken_over fits last left rest old new (Err (errors.Memory none)) s)
 
     pub serves_frames : IsAsNamed named.guard guard → (left rest old new : Option (List ℕ)) (s s' : ℕ) (r : Result (Unit {0}) ServeError) (state last : State) → state ≡ first_state guard p →
         ((input : Input) × IsInput most_octets most_frames left input × ServesInput sha256 sha256 state input old new r)
@@ -440,7 +441,7 @@ unread_ends named p folder old is (Dimacs fault) of none = no_guard EndsServeSom
 unread_ends named p folder old is (Malformed at) of none = no_guard EndsServeSome named p folder is (Malformed at) none
 unread_ends named p folder old is BadHex of none = no_guard EndsServeSome named p folder is BadHex none
 unread_ends named p folder old is Library of none = tt
-unread_ends named p folder old is Memory of none = tt
+unread_ends named p folder old is (Memory _) of none = tt
 unread_ends named p folder old is e of none = absurd of
 
 pub unread_guard_promised : (files : Option Folder) (named : ServeFiles) (p : Publication) (l mid l' k : ℕ) (old : Option (List ℕ)) (e : Fault) → mid ≡ l
@@ -470,18 +471,18 @@ unread_guard_promised files named p l mid l' k old e same read loads = record {
     of_files f is not = not (subst IsOfFiles (same_fault e f is) loads.others)
 
 -- out of memory
-pub memory_serves : (files : Option Folder) (named : ServeFiles) (left old : Option (List ℕ)) (s s' : ℕ) (e : Fault) → e ≡ Memory → ServesFrames named files left left s s' old old (Err e)
+pub memory_serves : (files : Option Folder) (named : ServeFiles) (left old : Option (List ℕ)) (s s' : ℕ) (e : Fault) → e ≡ Memory no_memory → ServesFrames named files left left s s' old old (Err e)
 memory_serves files named left old s s' e is = subst (λ f. ServesFrames named files left left s s' old old (Err f)) (sym is) (record {
-  served = over_any files (λ folder. AnswersInput named left folder old old (Err Memory)) (λ folder. let i = some_input left in (i.0, i.1, inl (keeps_same old)));
+  served = over_any files (λ folder. AnswersInput named left folder old old (Err (Memory no_memory))) (λ folder. let i = some_input left in (i.0, i.1, inl (keeps_same old)));
   taken = inl (refl, keeps_same old);
   source = λ e. absurd (cc);
   left = none_taken left;
   drained = λ e. absurd (cc);
 })
 
-pub memory_promised : (files : Option Folder) (named : ServeFiles) (l l' k k' : ℕ) (old : Option (List ℕ)) (e : Fault) → e ≡ Memory → Promises (ends_serve named) TellsFrames NoDisk files l l' old old k k' (Err e)
+pub memory_promised : (files : Option Folder) (named : ServeFiles) (l l' k k' : ℕ) (old : Option (List ℕ)) (e : Fault) → e ≡ Memory no_memory → Promises (ends_serve named) TellsFrames NoDisk files l l' old old k k' (Err e)
 memory_promised files named l l' k k' old e is =
-    subst (λ f. Promises (ends_serve named) TellsFrames NoDisk files l l' old old k k' (Err f)) (sym is) (no_memory (ends_serve named) TellsFrames NoDisk files l l' k k' old)
+    subst (λ f. Promises (ends_serve named) TellsFrames NoDisk files l l' old old k k' (Err f)) (sym is) (out_of_memory (ends_serve named) TellsFrames NoDisk files l l' k k' old)
 
 -- tests that write no line are passed
 pub passes : (r : Result (Unit {0}) CheckError) → refusal_line r ≡ None → r ≡ Ok tt
@@ -579,7 +580,7 @@ done_serving (Err errors.TruncatedFrame) = tt
 done_serving (Err errors.TooManyFrames) = tt
 done_serving (Err errors.Source) = tt
 done_serving (Err errors.Sink) = tt
-done_serving (Err errors.Memory) = tt
+done_serving (Err (errors.Memory _)) = tt
 
 -- tests that are passed write no line
 pub no_line : (r : Result (Unit {0}) CheckError) (text : List ℕ) → r ≡ Ok tt → refusal_line r ≡ Some text → ⊥

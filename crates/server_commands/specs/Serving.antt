@@ -27,6 +27,7 @@ use Rattle.command_files.specs.declared.ended.Conclusion.{Conclusion}
 use Rattle.command_files.specs.declared.ended.Conclusion.TheVariants.{Done}
 use Rattle.command_books.specs.Installing.{EndsInstalling}
 use Rattle.server_commands.specs.Guarding.{ServeFiles, IsAsNamed, guard_at, Holds, tested, EndsTesting}
+use Rattle.octet_text.specs.Want.{no_memory}
 
 -- the most octets of a frame's body, and the most frames
 abbrev pub most_octets : ℕ
@@ -83,7 +84,7 @@ TellsFrames TruncatedFrame = Unit {0}
 TellsFrames FrameTooLong = Unit {0}
 TellsFrames TooManyFrames = Unit {0}
 TellsFrames Source = Unit {0}
-TellsFrames Memory = Unit {0}
+TellsFrames (Memory _) = Unit {0}
 TellsFrames fault = ⊥
 
 -- ---- what the sink has taken
@@ -114,7 +115,7 @@ AnswersFrames files input folder old new (Err Source) = (n : ℕ) × (text : Lis
 AnswersFrames files input folder old new (Err Sink) = (n : ℕ) × (verdict : Conclusion) ×
     (text : List ℕ) × ends_serving files (first_frames n input) folder (Ok verdict) text ×
     AppendsFront old new text
-AnswersFrames files input folder old new (Err Memory) =
+AnswersFrames files input folder old new (Err (Memory _)) =
     Keeps old new ⊎ ((n : ℕ) × (text : List ℕ) × EndsFirst files input folder n text ×
     Appends old new text)
 AnswersFrames files input folder old new (Err Library) = Keeps old new
@@ -144,7 +145,7 @@ LeavesInput left rest (Err TruncatedFrame) = TookFrames left rest
 LeavesInput left rest (Err TooManyFrames) = TookFrames left rest
 LeavesInput left rest (Err Source) = TookFrames left rest
 LeavesInput left rest (Err Sink) = TookFrames left rest
-LeavesInput left rest (Err Memory) = TookFrames left rest
+LeavesInput left rest (Err (Memory _)) = TookFrames left rest
 LeavesInput left rest (Err fault) = rest ≡ left
 
 -- ---- each frame that was taken, with its reply
@@ -201,8 +202,8 @@ AnswersTaken named files left rest old new (Err Source) =
 AnswersTaken named files left rest old new (Err Sink) =
     ServedOver named files left rest old new (Err serve.Sink) ⊎
     RefusedFirst named files left rest (AppendsFront old new)
-AnswersTaken named files left rest old new (Err Memory) = ServedNone left rest old new ⊎
-    ServedOver named files left rest old new (Err serve.Memory)
+AnswersTaken named files left rest old new (Err (Memory _)) = ServedNone left rest old new ⊎
+    ServedOver named files left rest old new (Err (serve.Memory no_memory))
 AnswersTaken named files left rest old new (Err fault) = ServedNone left rest old new
 
 -- What `serve` does with its source, beside what each command promises: the sink has taken the

@@ -15,4 +15,4 @@ ended_serving (Err serve.TruncatedFrame) = Err TruncatedFrame
 ended_serving (Err serve.TooManyFrames) = Err TooManyFrames
 ended_serving (Err serve.Source) = Err Source
 ended_serving (Err serve.Sink) = Err Sink
-ended_serving (Err serve.Memory) = Err Memory
+ended_serving (Err (serve.Memory none)) = Err (Memory none)

@@ -51,7 +51,7 @@ fn told_of(alloc: Global, publication: Publication, query: Query) -> Result<Told
     let held = install(alloc, publication)?;
     match reply(alloc, &held, query) {
         Ok(told) => Ok(told),
-        Err(NoMemory) => Err(Fault::Memory),
+        Err(none) => Err(Fault::Memory(none)),
     }
 }
 

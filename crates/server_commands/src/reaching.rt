@@ -60,6 +60,6 @@ fn reply_of(alloc: Global, held: &Held<Sha>, query: NearQuery) -> Result<Vec<u8>
     match answer_near::<Sha>(alloc, held, query) {
         Ok(text) => Ok(text),
         Err(NearRefusal::UnknownNode(id)) => Err(Fault::UnknownNode(id)),
-        Err(NearRefusal::Memory) => Err(Fault::Memory),
+        Err(NearRefusal::Memory(none)) => Err(Fault::Memory(none)),
     }
 }

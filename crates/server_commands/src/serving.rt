@@ -1,6 +1,7 @@
 //! The command `serve`.
 
 ghost use Rattle.std.specs.Prelude.{◌≡◌, ◌≤◌, ℕ, [], length, Some, Ok, Err, IfOk, IfErr, IfSome, OnOk, ◌∷◌, ◌++◌};
+ghost use Rattle.octet_text.specs.Want.{no_memory};
 ghost use Rattle.std.specs.Option.{option_map};
 ghost use Rattle.road_io.specs.Given.{Gave};
 ghost use Rattle.road_io.specs.Disk.{Narrows};
@@ -20,7 +21,7 @@ ghost use Rattle.server_commands.specs.ServingEnds.{ended_serving};
 use command_books::install;
 use command_files::{Conclusion, Fault, Told, load_chain, load_hex, load_publication, write_told};
 use lms_tree::Link;
-use octet_text::{NoMemory, Sha};
+use octet_text::Sha;
 use proof_octets::{Publication, range_laws};
 use road_io::{Library, Sink, Source};
 use road_line::line_of_refused;
@@ -196,7 +197,7 @@ fn refusal(alloc: Global, guard: &Guard, publication: &Publication) -> Result<Op
     ensures line { IfOk result (λ told. option_map (λ t. t.text.items) told
         ≡ refusal_line (tested guard.now publication.now)) }
     ensures end { IfOk result (λ told. IfSome told (λ t. t.end ≡ Ok Conclusion.Refused)) }
-    ensures memory { IfErr result (λ fault. fault ≡ Memory) }
+    ensures memory { IfErr result (λ fault. fault ≡ Memory no_memory) }
 {
     match guard {
         Guard::Open => Ok(None),
@@ -215,7 +216,7 @@ fn refusal_along(
     ensures line { IfOk result (λ told. option_map (λ t. t.text.items) told ≡ refusal_line
         (header_tested key.now chain.now 0 publication.now.header publication.now.signature)) }
     ensures end { IfOk result (λ told. IfSome told (λ t. t.end ≡ Ok Conclusion.Refused)) }
-    ensures memory { IfErr result (λ fault. fault ≡ Memory) }
+    ensures memory { IfErr result (λ fault. fault ≡ Memory no_memory) }
 {
     match test_header(
         key,
@@ -225,13 +226,13 @@ fn refusal_along(
         0,
     ) {
         Ok(()) => Ok(None),
-        Err(CheckError::Memory) => Err(Fault::Memory),
+        Err(CheckError::Memory(none)) => Err(Fault::Memory(none)),
         Err(why) => match line_of_refused(alloc, why) {
             Ok(text) => Ok(Some(Told {
                 text,
                 end: Ok(Conclusion::Refused),
             })),
-            Err(NoMemory) => Err(Fault::Memory),
+            Err(none) => Err(Fault::Memory(none)),
         },
     }
 }
@@ -250,7 +251,7 @@ fn service_over(
     let held = install(alloc, publication)?;
     match Service::new(alloc, guard, held) {
         Ok(service) => Ok(service),
-        Err(NoMemory) => Err(Fault::Memory),
+        Err(none) => Err(Fault::Memory(none)),
     }
 }
 
@@ -265,6 +266,6 @@ fn ended_serving(served: Result<(), ServeError>) -> Result<Conclusion, Fault>
         Err(ServeError::TooManyFrames) => Err(Fault::TooManyFrames),
         Err(ServeError::Source) => Err(Fault::Source),
         Err(ServeError::Sink) => Err(Fault::Sink),
-        Err(ServeError::Memory) => Err(Fault::Memory),
+        Err(ServeError::Memory(none)) => Err(Fault::Memory(none)),
     }
 }

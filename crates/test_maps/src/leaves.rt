@@ -3,10 +3,11 @@
 ghost use Rattle.std.specs.Prelude.{ℕ, Contains, IsTrue};
 ghost use Rattle.road_map.specs.Walks.{Knows};
 
+use octet_text::{NoMemory, copied, push};
 use road_leaf::{Extra, NodeLeaf};
 use road_map::{Arc, Arcs, Map};
 use road_search::knows;
-use std::alloc::{AllocError, Global};
+use std::alloc::Global;
 
 // The arcs out of one of the nodes 1 to 4.
 fn arcs_of(id: u32) -> [Arc; 2] {
@@ -19,22 +20,22 @@ fn arcs_of(id: u32) -> [Arc; 2] {
 }
 
 /// The leaf of one of the nodes 1 to 4, which says this of its own.
-pub fn leaf_with(alloc: Global, id: u32, extra: Extra) -> Result<NodeLeaf, AllocError> {
+pub fn leaf_with(alloc: Global, id: u32, extra: Extra) -> Result<NodeLeaf, NoMemory> {
     let arcs = arcs_of(id);
     Ok(NodeLeaf {
         id,
         x: 0,
         y: 0,
-        arcs: Arcs::from_vec(arcs.to_vec(alloc)?),
+        arcs: Arcs::from_vec(copied(alloc, &arcs)?),
         extra,
     })
 }
 
 /// The plain leaves of some of the nodes 1 to 4.
-pub fn leaves_of(alloc: Global, ids: &[u32]) -> Result<Vec<NodeLeaf>, AllocError> {
+pub fn leaves_of(alloc: Global, ids: &[u32]) -> Result<Vec<NodeLeaf>, NoMemory> {
     let mut leaves = Vec::new(alloc);
     for id in ids {
-        leaves.push(leaf_with(alloc, *id, Extra::Plain)?)?;
+        push(&mut leaves, leaf_with(alloc, *id, Extra::Plain)?)?;
     }
     Ok(leaves)
 }

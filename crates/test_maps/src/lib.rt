@@ -3,7 +3,7 @@
 #![tactic(auto)]
 
 pub use leaves::{are_known, leaf_with, leaves_of};
-pub use maps::{FIVE_NODES, NODES, ROADS, apart, map_of, parts_of};
+pub use maps::{FIVE_NODES, NODES, ROADS, apart, map_of, parts_of, refusal};
 
 mod leaves;
 mod maps;

@@ -1,7 +1,8 @@
 //! Maps of rows.
 
+use octet_text::{NoMemory, filled, push, with_room};
 use road_map::{Map, MapError, Node, Nodes, Parts, Road, Roads};
-use std::alloc::{AllocError, Global};
+use std::alloc::Global;
 
 /// The five nodes: id, x and y.
 pub const NODES: [(u32, i32, i32); 5] = [
@@ -33,33 +34,27 @@ pub fn parts_of(
     alloc: Global,
     nodes: &[(u32, i32, i32)],
     roads: &[(u32, u32, u32)],
-) -> Result<Parts, AllocError> {
+) -> Result<Parts, NoMemory> {
     Ok(Parts {
         nodes: nodes_of(alloc, nodes)?,
         roads: roads_of(alloc, roads)?,
     })
 }
 
-fn nodes_of(alloc: Global, rows: &[(u32, i32, i32)]) -> Result<Nodes, AllocError> {
+fn nodes_of(alloc: Global, rows: &[(u32, i32, i32)]) -> Result<Nodes, NoMemory> {
     let mut nodes = Vec::new(alloc);
     for (id, x, y) in rows {
-        nodes.push(Node {
-            id: *id,
-            x: *x,
-            y: *y,
-        })?;
+        let (id, x, y) = (*id, *x, *y);
+        push(&mut nodes, Node { id, x, y })?;
     }
     Ok(Nodes::from_vec(nodes))
 }
 
-fn roads_of(alloc: Global, rows: &[(u32, u32, u32)]) -> Result<Roads, AllocError> {
+fn roads_of(alloc: Global, rows: &[(u32, u32, u32)]) -> Result<Roads, NoMemory> {
     let mut roads = Vec::new(alloc);
     for (a, b, length) in rows {
-        roads.push(Road {
-            a: *a,
-            b: *b,
-            length: *length,
-        })?;
+        let (a, b, length) = (*a, *b, *length);
+        push(&mut roads, Road { a, b, length })?;
     }
     Ok(Roads::from_vec(roads))
 }
@@ -74,10 +69,17 @@ pub fn map_of(
 }
 
 /// The rows of so many nodes at one place, with the ids from 1 on.
-pub fn apart(alloc: Global, count: u32) -> Result<Vec<(u32, i32, i32)>, AllocError> {
+pub fn apart(alloc: Global, count: u32) -> Result<Vec<(u32, i32, i32)>, NoMemory> {
     let mut rows = Vec::new(alloc);
     for index in 0..count {
-        rows.push((index.saturating_add(1), 0, 0))?;
+        push(&mut rows, (index.saturating_add(1), 0, 0))?;
     }
     Ok(rows)
+}
+
+/// What is told where memory is refused: no system gives 2^48 octets at once, which 2^28 items of
+/// 2^20 octets need.
+pub fn refusal(alloc: Global) -> Option<NoMemory> {
+    let at_hand = filled(alloc, 0u8, 1 << 18).ok()?;
+    with_room::<[u8; 1 << 20], u8>(alloc, 1 << 28, &at_hand).err()
 }

@@ -2,6 +2,7 @@ use Rattle.std.proofs.Common.{◌≡◌, List, ℕ, Some, length, arith, sym, �
 use Rattle.desk_areas.specs.declared.area.Count.{Count}
 use Rattle.desk_areas.specs.Layout.{slots_of, kind_at, secret_at}
 use Rattle.desk_areas.specs.Reading.{HasStray, HasGates}
+use Rattle.desk_areas.proofs.Moments.{stays_twice, stays_thrice}
 use Rattle.desk_areas.proofs.ReadLemmas.{stray_bad, area_read}
 use Rattle.desk_areas.proofs.reading.read_area.Given.{Over}
 use Rattle.desk_areas.proofs.reading.read_area.Goals as goal
@@ -41,3 +42,18 @@ returns-clause-area g c x told =
     area_read x c.args.base c.in_ok-kind.field-0.kind c.in_ok-kind.field-0.secret c.from_parts.result c.in_ok-counts.counts.items c.in_ok-key.key c.from_parts.ensures c.in_ok-key.ensures.key (kind_is g at x told) (secret_is g at x told)
     (omega (arith, c.slots_of-slots.ensures.slots, c.if-slots-eq0.false)) (omega (arith, c.place_in.ensures.place, c.if-len-place_in.false, c.slots_of-slots.ensures.slots, c.requires.len x (told_first g at x told))) (gates g at x told)
     (λ stray. c.in_ok-has_stray.ensures.no c.if-branch.false x told (subst (λ (l : List Count). HasStray l c.args.base x) (sym c.deref.ensures.value) stray))
+
+pub returns-in_err-counts-clause-moments : goal.returns-in_err-counts-clause-moments
+returns-in_err-counts-clause-moments g c = stays_twice g.D.Disk _ _ _ c.read_block.ensures.moments c.read_gates.ensures.moments
+
+pub returns-in_err-has_stray-clause-moments : goal.returns-in_err-has_stray-clause-moments
+returns-in_err-has_stray-clause-moments g c = stays_thrice g.D.Disk _ _ _ _ c.read_block.ensures.moments c.read_gates.ensures.moments c.has_stray.ensures.moments
+
+pub returns-then-branch-clause-moments : goal.returns-then-branch-clause-moments
+returns-then-branch-clause-moments g c = stays_thrice g.D.Disk _ _ _ _ c.read_block.ensures.moments c.read_gates.ensures.moments c.has_stray.ensures.moments
+
+pub returns-in_err-key-clause-moments : goal.returns-in_err-key-clause-moments
+returns-in_err-key-clause-moments g c = stays_thrice g.D.Disk _ _ _ _ c.read_block.ensures.moments c.read_gates.ensures.moments c.has_stray.ensures.moments
+
+pub returns-clause-moments : goal.returns-clause-moments
+returns-clause-moments g c = stays_thrice g.D.Disk _ _ _ _ c.read_block.ensures.moments c.read_gates.ensures.moments c.has_stray.ensures.moments

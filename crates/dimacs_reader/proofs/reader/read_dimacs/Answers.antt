@@ -7,6 +7,7 @@ use Rattle.dimacs_reader.specs.declared.error.DimacsError.TheVariants.{Memory, U
 use Rattle.dimacs_reader.specs.Dimacs.{first_unpaired, roads_of}
 use Rattle.dimacs_reader.proofs.ReadLaws.{bad_graph, bad_places, places_range, in_range, few_arcs, bad_nodes, bad_pairs, all_read}
 use Rattle.dimacs_reader.proofs.reader.read_dimacs.Goals as goal
+use Rattle.octet_text.specs.Want.{no_memory}
 
 pub returns-in_err-graph-clause-fault : goal.returns-in_err-graph-clause-fault
 returns-in_err-graph-clause-fault c =
@@ -33,7 +34,7 @@ pub returns-in_err-check_pairs-clause-fault : goal.returns-in_err-check_pairs-cl
 returns-in_err-check_pairs-clause-fault c =
     let p = err_from_is_err_and c.from_residual-in_err-check_pairs.result c.from_residual-in_err-check_pairs.ensures.1 in
     rw (p.1, p.2) (bad_pairs c.args.graph.now c.args.places.now c.in_ok-graph.graph c.in_ok-graph.ensures.graph c.in_ok-places.places.items c.in_ok-places.ensures.places c.in_ok-nodes.nodes _ c.in_ok-nodes.ensures
-    (subst (λ (arcs : List Arc). (c.in_err-check_pairs.field-0.0 ≡ Memory) ⊎ ((index : ℕ) × (c.in_err-check_pairs.field-0.0 ≡ Unpaired index) × (first_unpaired arcs ≡ Some index))) c.as_slice.ensures c.in_err-check_pairs.ensures.fault))
+    (subst (λ (arcs : List Arc). (c.in_err-check_pairs.field-0.0 ≡ Memory no_memory) ⊎ ((index : ℕ) × (c.in_err-check_pairs.field-0.0 ≡ Unpaired index) × (first_unpaired arcs ≡ Some index))) c.as_slice.ensures c.in_err-check_pairs.ensures.fault))
 
 pub returns-clause-parts : goal.returns-clause-parts
 returns-clause-parts c =

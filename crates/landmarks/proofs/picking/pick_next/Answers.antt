@@ -19,7 +19,7 @@ row c = c.as_slice-3.ensures ∙ (c.in_ok-row.ensures.row ∙ ap (λ (l : List �
 
 pub returns-clause-near : goal.returns-clause-near
 returns-clause-near c =
-    row_more (distance c.args.map.now.parts) c.args.picked.now.chosen.items c.push.new.self.items c.args.ids.now c.in-Some.id c.as_slice-2.result.now c.as_slice-3.result.now c.in_ok-picked.field-0
+    row_more (distance c.args.map.now.parts) c.args.picked.now.chosen.items c.push.new.list.items c.args.ids.now c.in-Some.id c.as_slice-2.result.now c.as_slice-3.result.now c.in_ok-picked.field-0
     c.in_ok-push.ensures.items (c.as_slice-2.ensures ∙ c.requires.near) (row (goal.at.returns-clause-near c).After-as_slice-3) c.in_ok-picked.ensures
 
 pub next-requires : goal.next-requires
@@ -37,5 +37,5 @@ returns-clause-chosen c =
 
 pub returns-clause-rows : goal.returns-clause-rows
 returns-clause-rows c =
-    rows_more (distance c.args.map.now.parts) c.args.picked.now.chosen.items c.push.new.self.items c.args.ids.now c.in-Some.id c.in_ok-row.row c.args.picked.now.rows.items c.push-2.new.self.items c.in_ok-push.ensures.items c.requires.rows
+    rows_more (distance c.args.map.now.parts) c.args.picked.now.chosen.items c.push.new.list.items c.args.ids.now c.in-Some.id c.in_ok-row.row c.args.picked.now.rows.items c.push-2.new.list.items c.in_ok-push.ensures.items c.requires.rows
     (c.in_ok-row.ensures.row ∙ ap (λ (l : List ℕ). row_of (distance c.args.map.now.parts) l c.in-Some.id) (sym c.requires.ids)) c.in_ok-push-2.ensures.items

@@ -17,10 +17,10 @@ pub digest_of-digest-requires-clause-place : goal.digest_of-digest-requires-clau
 digest_of-digest-requires-clause-place t c =
     omega (arith, CanWalk-place c.requires.walk, c.requires.levels.sizes c.args.level (omega arith))
 
-pub returns-in-Ok-clause-out : goal.returns-in-Ok-clause-out
-returns-in-Ok-clause-out t c =
+pub returns-then-not-is_next_below-clause-out : goal.returns-then-not-is_next_below-clause-out
+returns-then-not-is_next_below-clause-out t c =
     let at = digest_in c.args.walk.now.levels.now in
-    let one : c.push.new.self.items ≡ c.args.out.now.items ++ c.digest_of-digest.result ∷ [] = grind (arith, common_steps) in
+    let one : c.push.new.list.items ≡ c.args.out.now.items ++ c.digest_of-digest.result ∷ [] = grind (arith, common_steps) in
     one ∙ ap (λ (x : List ℕ). c.args.out.now.items ++ x ∷ []) c.digest_of-digest.ensures
     ∙ ap (λ (l : List (List ℕ)). c.args.out.now.items ++ l) (sym (cover_below-none at c.args.walk.now.leaves c.args.walk.now.fan c.args.walk.now.places.now c.args.level c.args.place (walk-none c.requires.walk c.if-not-is_next_below.ensures.past)))
 

@@ -15,10 +15,10 @@ use Rattle.merkle_cover.proofs.spots.+spots_at.Goals as goal
 pub overflow_add-place : goal.overflow_add-place
 overflow_add-place t c = omega (arith, (CanWalk-room c.requires).1)
 
-pub returns-in-Ok-clause-out : goal.returns-in-Ok-clause-out
-returns-in-Ok-clause-out t c =
+pub returns-then-not-is_next_below-clause-out : goal.returns-then-not-is_next_below-clause-out
+returns-then-not-is_next_below-clause-out t c =
     let spot : Spot = record { level = c.args.level; place = c.args.place } in
-    let one : c.push.new.self.items ≡ c.args.out.now.items ++ spot ∷ [] = grind (arith, common_steps) in
+    let one : c.push.new.list.items ≡ c.args.out.now.items ++ spot ∷ [] = grind (arith, common_steps) in
     one
     ∙ ap (λ (l : List Spot). c.args.out.now.items ++ l) (sym (spots_below-none c.args.chosen.now.leaves c.args.chosen.now.fan c.args.chosen.now.places.now c.args.level c.args.place (walk-none c.requires c.if-not-is_next_below.ensures.past)))
 

@@ -14,8 +14,8 @@ pub loop-place-preserved : goal.loop-place-preserved
 unfolding group_digest
 loop-place-preserved g c =
     let f = group_digest g.H.Hasher.hash c.args.fan c.args.below.now in
-    let more : c.push.new.self.items ≡ c.loop-place.digests.items ++ c.digest_of_pieces.result ∷ [] = grind (arith, common_steps) in
-    let here : c.digest_of_pieces.result ≡ f c.loop-place.place = c.digest_of_pieces.ensures ∙ ap (λ (l : List (List ℕ)). g.H.Hasher.hash (1 ∷ flat_map (λ (d : List ℕ). d) l)) c.group.ensures in
+    let more : c.push.new.list.items ≡ c.loop-place.digests.items ++ c.digest_of_pieces-digest.result ∷ [] = grind (arith, common_steps) in
+    let here : c.digest_of_pieces-digest.result ≡ f c.loop-place.place = c.digest_of_pieces-digest.ensures ∙ ap (λ (l : List (List ℕ)). g.H.Hasher.hash (1 ∷ flat_map (λ (d : List ℕ). d) l)) c.group.ensures in
     more ∙ ap (λ (x : List ℕ). c.loop-place.digests.items ++ x ∷ []) here ∙ ap (λ (l : List (List ℕ)). l ++ f c.loop-place.place ∷ []) c.loop-place.invariant ∙ sym (map-range_with_len_more f 0 c.loop-place.place c.loop-place.place (omega arith))
 
 pub returns : goal.returns

@@ -19,7 +19,7 @@ loop-count-init g c =
     let f = c.args.fan in
     let first : c.in_ok-first.first ≡ level h texts f 0 = c.in_ok-first.ensures ∙ level-leaves h texts f in
     let size : length c.in_ok-first.first ≡ length texts = ap (λ (l : List (List ℕ)). length l) first ∙ length-level h texts f 0 in
-    let one : c.push.new.self.items ≡ c.in_ok-first.first ∷ [] = grind (arith, common_steps) in
+    let one : c.push.new.list.items ≡ c.in_ok-first.first ∷ [] = grind (arith, common_steps) in
     record {
       told = one ∙ ap (λ (l : List (List ℕ)). l ∷ []) first ∙ sym (levels_to-zero h texts f);
       count_is = c.count_of-count.ensures ∙ size;
@@ -58,7 +58,7 @@ loop-count-preserved g c =
     c.index-below.ensures ∙ ap (λ (l : List (List (List ℕ))). get_or l last c.index-below.result.now) at.told ∙ get_or-levels_to h texts f last last c.index-below.result.now (omega arith) in
     let next : c.in_ok-next.next ≡ level h texts f (last + 1) =
     (let e : suc last ≡ last + 1 = omega arith in c.in_ok-next.ensures ∙ ap (level_over h f) (c.as_slice.ensures ∙ below) ∙ level_over-level h texts f last ∙ ap (level h texts f) e) in
-    let more : c.push-in-loop-count.new.self.items ≡ c.loop-count.levels.items ++ c.in_ok-next.next ∷ [] = grind (arith, common_steps) in
+    let more : c.push-in-loop-count.new.list.items ≡ c.loop-count.levels.items ++ c.in_ok-next.next ∷ [] = grind (arith, common_steps) in
     let size : length c.in_ok-next.next ≡ places_at (length texts) f (last + 1) = ap (λ (l : List (List ℕ)). length l) next ∙ length-level h texts f (last + 1) in
     record {
       told = more ∙ ap (λ (x : List (List ℕ)). c.loop-count.levels.items ++ x ∷ []) next ∙ ap (λ (l : List (List (List ℕ))). l ++ level h texts f (last + 1) ∷ []) at.told ∙ sym (levels_to-push h texts f last);

@@ -16,12 +16,12 @@ loop-extra-init c = record {
 
 pub loop-extra-preserved : goal.loop-extra-preserved
 loop-extra-preserved c =
-    let at : c.len-in-Some.result ≡ length c.pop.new.self.items = search rules in
-    let none : lookup (nat_eq (get_or c.args.order.now c.len-in-Some.result 0)) c.loop-extra.entries.items ≡ None = not_yet c.args.order.now c.loop-extra.extras.items c.pop.new.self.items c.in-Some.extra c.loop-extra.entries.items c.len-in-Some.result c.requires.distinct c.in-Some.ensures.items at c.loop-extra.invariant.covers in
-    let adds : Adds c.loop-extra.entries.items c.push.new.self.items (get_or c.args.order.now c.len-in-Some.result 0) c.in-Some.extra = adds_one c.loop-extra.entries.items c.push.new.self.items (get_or c.args.order.now c.len-in-Some.result 0) c.in-Some.extra c.in_ok-push.ensures.items none in
+    let at : c.len.result ≡ length c.pop.new.self.items = search rules in
+    let none : lookup (nat_eq (get_or c.args.order.now c.len.result 0)) c.loop-extra.entries.items ≡ None = not_yet c.args.order.now c.loop-extra.extras.items c.pop.new.self.items c.in-Some.extra c.loop-extra.entries.items c.len.result c.requires.distinct c.in-Some.ensures.items at c.loop-extra.invariant.covers in
+    let adds : Adds c.loop-extra.entries.items c.push.new.list.items (get_or c.args.order.now c.len.result 0) c.in-Some.extra = adds_one c.loop-extra.entries.items c.push.new.list.items (get_or c.args.order.now c.len.result 0) c.in-Some.extra c.in_ok-push.ensures.items none in
     record {
       few = few_more c.loop-extra.extras.items c.pop.new.self.items c.in-Some.extra (length c.args.order.now) c.in-Some.ensures.items c.loop-extra.invariant.few;
-      distinct = keys_more c.loop-extra.entries.items c.push.new.self.items (get_or c.args.order.now c.len-in-Some.result 0) c.in-Some.extra c.in_ok-push.ensures.items none c.loop-extra.invariant.distinct;
-      adds = adds_more c.args.order.now c.args.extras.items c.loop-extra.extras.items c.pop.new.self.items c.in-Some.extra c.loop-extra.entries.items c.push.new.self.items c.len-in-Some.result c.requires.distinct c.in-Some.ensures.items c.loop-extra.invariant.few at adds c.loop-extra.invariant.adds;
-      covers = covers_more c.args.order.now c.loop-extra.extras.items c.pop.new.self.items c.in-Some.extra c.loop-extra.entries.items c.push.new.self.items c.len-in-Some.result c.in-Some.ensures.items c.loop-extra.invariant.few at adds c.loop-extra.invariant.covers;
+      distinct = keys_more c.loop-extra.entries.items c.push.new.list.items (get_or c.args.order.now c.len.result 0) c.in-Some.extra c.in_ok-push.ensures.items none c.loop-extra.invariant.distinct;
+      adds = adds_more c.args.order.now c.args.extras.items c.loop-extra.extras.items c.pop.new.self.items c.in-Some.extra c.loop-extra.entries.items c.push.new.list.items c.len.result c.requires.distinct c.in-Some.ensures.items c.loop-extra.invariant.few at adds c.loop-extra.invariant.adds;
+      covers = covers_more c.args.order.now c.loop-extra.extras.items c.pop.new.self.items c.in-Some.extra c.loop-extra.entries.items c.push.new.list.items c.len.result c.in-Some.ensures.items c.loop-extra.invariant.few at adds c.loop-extra.invariant.covers;
     }

@@ -11,8 +11,8 @@ pub loop-id-preserved : goal.loop-id-preserved
 loop-id-preserved c =
     let x : ℕ = get_or c.args.ids.now c.loop-id.id-index 0 in
     rw (take_more c.args.ids.now c.loop-id.id-index 0 c.loop-id-test.true)
-    (adds_more Is (take c.loop-id.id-index c.args.ids.now) x c.args.set.now c.loop-id.set c.insert.new.self c.loop-id.invariant
-    (adds_one (Is x) c.loop-id.set c.insert.new.self x refl (λ n h. sym h) c.in_ok-insert.ensures.updates.1 (λ n ne. c.in_ok-insert.ensures.updates.2 n (apart_at x n ne))))
+    (adds_more Is (take c.loop-id.id-index c.args.ids.now) x c.args.set.now c.loop-id.set c.insert_key.new.set c.loop-id.invariant
+    (adds_one (Is x) c.loop-id.set c.insert_key.new.set x refl (λ n h. sym h) c.in_ok-insert_key.ensures.updates.1 (λ n ne. c.in_ok-insert_key.ensures.updates.2 n (apart_at x n ne))))
 
 pub returns : goal.returns
 returns c =

@@ -13,7 +13,7 @@ loop-id-preserved c =
     let id : ℕ = get_or c.args.borders.now c.loop-id.id-index 0 in
     elim c.match-get.branch [
       | in-Some+in_ok-push w ↦
-          rw (w.list-is) (one_kept h c.args.borders.now c.loop-id.id-index c.loop-id.list.items w.push.new.self.items (filter_map h c.args.borders.now) (id, w.in-Some.length)
+          rw (w.list-is) (one_kept h c.args.borders.now c.loop-id.id-index c.loop-id.list.items w.push.new.list.items (filter_map h c.args.borders.now) (id, w.in-Some.length)
           c.loop-id-test.true (ap (option_map (λ (p : ℕ). (id, p))) (sym c.get.ensures ∙ w.in-Some.is)) w.in_ok-push.ensures.items c.loop-id.invariant)
       | in_default w ↦
           rw (w.list-is) (none_kept h c.args.borders.now c.loop-id.id-index c.loop-id.list.items (filter_map h c.args.borders.now)

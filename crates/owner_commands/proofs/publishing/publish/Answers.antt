@@ -34,9 +34,9 @@ returns-in_err-publication-clause-untouched g c =
     let p = err_from_is_err_and c.from_residual-in_err-publication.result c.from_residual-in_err-publication.ensures.1 in
     rw (p.1, p.2) c.in_err-publication.ensures.untouched
 
-pub returns-in-Err-clause-promised : goal.returns-in-Err-clause-promised
-returns-in-Err-clause-promised g c =
-    published _ _ _ _ _ _ _ _ _ _ c.in_ok-parts.ensures.loads.read _ g.D.Disk c.args.disk.now c.signed.new.disk refl _ c.in_ok-publication.ensures.sealed _ _ (inr (refl, c.in-Err.ensures.front, c.in-Err.ensures.cause.failed))
+pub returns-in-Err-send-clause-promised : goal.returns-in-Err-send-clause-promised
+returns-in-Err-send-clause-promised g c =
+    published _ _ _ _ _ _ _ _ _ _ c.in_ok-parts.ensures.loads.read _ g.D.Disk c.args.disk.now c.signed.new.disk refl _ c.in_ok-publication.ensures.sealed _ _ (inr (refl, c.in-Err-send.ensures.front, c.in-Err-send.ensures.cause.failed))
 
 pub returns-in-Ok-send-clause-promised : goal.returns-in-Ok-send-clause-promised
 returns-in-Ok-send-clause-promised g c =
@@ -46,8 +46,8 @@ pub returns-clause-promised : goal.returns-clause-promised
 returns-clause-promised g c =
     published_lost _ _ _ _ _ _ _ _ _ _ c.in_ok-parts.ensures.loads.read _ g.D.Disk c.args.disk.now c.signed.new.disk refl _ c.in_ok-publication.ensures.sealed _ c.in-Ok-2.ensures.whole
 
-pub returns-in-Err-clause-signs : goal.returns-in-Err-clause-signs
-returns-in-Err-clause-signs g c = signs_file g.D.Disk c.args.disk.now c.signed.new.disk _ _ _ _ c.in_ok-parts.ensures.loads.read c.in_ok-publication.ensures.signs
+pub returns-in-Err-send-clause-signs : goal.returns-in-Err-send-clause-signs
+returns-in-Err-send-clause-signs g c = signs_file g.D.Disk c.args.disk.now c.signed.new.disk _ _ _ _ c.in_ok-parts.ensures.loads.read c.in_ok-publication.ensures.signs
 
 pub returns-in-Ok-send-clause-signs : goal.returns-in-Ok-send-clause-signs
 returns-in-Ok-send-clause-signs g c = signs_file g.D.Disk c.args.disk.now c.signed.new.disk _ _ _ _ c.in_ok-parts.ensures.loads.read c.in_ok-publication.ensures.signs

@@ -10,4 +10,4 @@ pub returns-in_default : goal.returns-in_default
 returns-in_default g c = λ fits. missing_link (g.R.Rows.rows c.args.walled.now.rows.now) c.args.walled.now.walls.now c.args.places.now c.args.own c.args.walled.now.start c.args.number (get_or c.args.places.now c.args.number 0) c.args.row.now.items _ (slice_get-get_or c.args.places.now c.args.number 0 c.requires.within) (sym c.length_of.ensures ∙ c.in_default.is) (c.requires.least (get_or c.args.places.now c.args.number 0)) c.requires.below
 
 pub returns : goal.returns
-returns g c = λ fits. new_link (g.R.Rows.rows c.args.walled.now.rows.now) c.args.walled.now.walls.now c.args.places.now c.args.own c.args.walled.now.start c.args.number (get_or c.args.places.now c.args.number 0) c.in-Some.length c.args.row.now.items c.push.new.self.items _ _ (slice_get-get_or c.args.places.now c.args.number 0 c.requires.within) (sym c.length_of.ensures ∙ c.in-Some.is) refl refl c.in_ok-push.ensures.items (c.requires.least (get_or c.args.places.now c.args.number 0)) c.requires.below
+returns g c = λ fits. new_link (g.R.Rows.rows c.args.walled.now.rows.now) c.args.walled.now.walls.now c.args.places.now c.args.own c.args.walled.now.start c.args.number (get_or c.args.places.now c.args.number 0) c.in-Some.length c.args.row.now.items c.push.new.list.items _ _ (slice_get-get_or c.args.places.now c.args.number 0 c.requires.within) (sym c.length_of.ensures ∙ c.in-Some.is) refl refl c.in_ok-push.ensures.items (c.requires.least (get_or c.args.places.now c.args.number 0)) c.requires.below

@@ -3,7 +3,7 @@ use Rattle.pair_dist.proofs.finer.places_along.Goals as goal
 
 pub loop-position-init : goal.loop-position-init
 loop-position-init c =
-    let same : c.in_ok-finer.finer.items ≡ c.args.places.now = c.in_ok-finer.ensures.items_if_clones_equal (λ x y e. e) in
+    let same : c.in_ok-finer.finer.items ≡ c.args.places.now = c.in_ok-finer.ensures.items in
     record {
       front = λ i p at. subst (λ (xs : List ℕ). slice_get xs i ≡ Some p) (sym same) at;
       within = λ i p at. c.requires.within i p (subst (λ (xs : List ℕ). slice_get xs i ≡ Some p) same at);

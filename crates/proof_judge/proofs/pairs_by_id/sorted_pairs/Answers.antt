@@ -9,4 +9,4 @@ returns-clause-sorted c = all_sorted _ (c.in_ok-sort_by_key.ensures.sorted ids_o
 
 pub returns-clause-same : goal.returns-clause-same
 returns-clause-same c = λ a b.
-    same_first c.in_ok-sorted.sorted.items _ (c.in_ok-sort_by_key.ensures.stable ids_of (answers_always _ _ _ (λ f a r g h. search rules))) a b ∙ ap (λ ps. named_in ps a b) (c.in_ok-sorted.ensures.items_if_clones_equal (λ x y h. h))
+    same_first c.in_ok-sorted.sorted.items _ (c.in_ok-sort_by_key.ensures.stable ids_of (answers_always _ _ _ (λ f a r g h. search rules))) a b ∙ ap (λ ps. named_in ps a b) c.in_ok-sorted.ensures.items

@@ -16,7 +16,7 @@ loop-index-preserved c =
     let xs : List NodeLeaf = take c.loop-index.index c.args.nodes.now in
     let more : take (c.loop-index.index + 1) c.args.nodes.now ≡ xs ++ n ∷ [] = take_more c.args.nodes.now c.loop-index.index n within ∙ ap (λ x. xs ++ x ∷ []) (sym c.index-nodes-index.is) in
     let at : slice_get c.args.nodes.now c.loop-index.index ≡ Some n = slice_get-get_or c.args.nodes.now c.loop-index.index n within ∙ ap Some (sym c.index-nodes-index.is) in
-    let pushed : c.push.new.self.items ≡ c.loop-index.places.items ++ p ∷ [] = c.in_ok-push.ensures.items in
+    let pushed : c.push.new.list.items ≡ c.loop-index.places.items ++ p ∷ [] = c.in_ok-push.ensures.items in
     record {
       as_many = rw (more, pushed) (as_many_turn xs c.loop-index.places.items n p refl c.loop-index.invariant.as_many);
       placed = rw pushed (placed_turn c.args.nodes.now c.loop-index.places.items n p refl at c.loop-index.invariant.placed);

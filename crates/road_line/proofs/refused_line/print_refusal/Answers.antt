@@ -4,4 +4,4 @@ pub returns-in-BadSignature : goal.returns-in-BadSignature
 returns-in-BadSignature c = rw c.in-BadSignature.is (rw c.name_of_seal-name-in-BadSignature.ensures at c.print_named.ensures)
 
 pub returns-in-MissingTuple : goal.returns-in-MissingTuple
-returns-in-MissingTuple c = rw c.in-MissingTuple.is c.write-in-MissingTuple.ensures.bytes
+returns-in-MissingTuple c = rw c.in-MissingTuple.is c.print-in-MissingTuple.ensures.bytes

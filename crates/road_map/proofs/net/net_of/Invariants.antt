@@ -1,14 +1,13 @@
-use Rattle.std.proofs.Common.{◌≡◌, ℕ, List, Some, length, map, slice_get}
-use Rattle.road_map.specs.declared.arc.Arc.{Arc}
-use Rattle.road_map.specs.declared.rows.NodeArcs.{NodeArcs}
-use Rattle.road_map.specs.Nets.{Placed}
+use Rattle.std.proofs.Common.{◌≤◌, ◌*◌, length}
 use Rattle.road_map.specs.Parted.{parted, AreEnds}
+use Rattle.road_map.specs.Rows.{AreRows, ThinBelow}
 use Rattle.road_map.proofs.net.net_of.Given as goal
 
--- the arcs of the rows so far
-abbrev pub invariant-loop-row : goal.invariant-loop-row
-invariant-loop-row l = record {
+-- the arcs of the positions so far
+abbrev pub invariant-loop-position : goal.invariant-loop-position
+invariant-loop-position l = record {
   ends : AreEnds 0 l.ends.items (length l.arcs.items);
-  long : length (parted 0 l.ends.items l.arcs.items) ≡ l.row-index;
-  each : (p : ℕ) (row : NodeArcs) (out : List Arc) → slice_get l.rows p ≡ Some row → slice_get (parted 0 l.ends.items l.arcs.items) p ≡ Some out → Placed (map (λ (row : NodeArcs). row.node) l.rows) row.arcs out;
+  few : length l.arcs.items ≤ 255 * l.position;
+  rows : AreRows l.roads l.position (parted 0 l.ends.items l.arcs.items);
+  thin : ThinBelow l.roads l.position;
 }

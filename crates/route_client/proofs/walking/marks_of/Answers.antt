@@ -10,7 +10,7 @@ loop-id-init c = subst (AreMarked c.args.labels.now (take 0 c.args.ids.now)) (sy
 
 pub loop-id-preserved : goal.loop-id-preserved
 loop-id-preserved c =
-    one_marked c.args.labels.now c.args.ids.now c.loop-id.id-index c.loop-id.marks.items c.push.new.self.items (record { id = get_or c.args.ids.now c.loop-id.id-index 0; distance = c.in-Some.distance }) c.in_ok-push-in-Some.ensures.items
+    one_marked c.args.labels.now c.args.ids.now c.loop-id.id-index c.loop-id.marks.items c.push.new.list.items (record { id = get_or c.args.ids.now c.loop-id.id-index 0; distance = c.in-Some.distance }) c.in_ok-push-in-Some.ensures.items
     (take_more c.args.ids.now c.loop-id.id-index 0 (omega (arith, c.loop-id-test.true))) (sym c.get.ensures ∙ c.in-Some.is) c.loop-id.invariant
 
 not_both : (o : Option ℕ) → o ≡ None → IsSome o → ⊥

@@ -5,6 +5,7 @@ use Rattle.route_owner.proofs.Sealing.{all_written, fits_with, no_link, signed_s
 use Rattle.route_server.specs.declared.errors.BuildError.TheVariants as build_errors
 use Rattle.route_owner.proofs.Refusing.{no_reason, none_refused, desk_refused, book_refused}
 use Rattle.route_owner.proofs.publishing.publish.Goals as goal
+use Rattle.octet_text.specs.Want.{no_memory}
 
 signature_is : (g : _) (c : goal.After-result-in-Ok-sign-1 g) → c.from_vec.result ≡ c.sign.new.out
 signature_is g c = c.from_vec.ensures ∙ all_written _ _ _ c.in-Ok-zeros.signature.ok.0 (c.sign.auto.out ∙ ap length c.deref_mut.ensures.value)
@@ -42,12 +43,12 @@ returns-in-Err-sign-clause-refused_else g c =
 
 pub returns-in-Err-clause-refused_else : goal.returns-in-Err-clause-refused_else
 returns-in-Err-clause-refused_else g c =
-    let other : c.in-Err.fault ≢ build_errors.Memory = search rules in
+    let other : c.in-Err.fault ≢ (build_errors.Memory no_memory) = search rules in
     book_refused c.server_laws.ensures g.H.Hasher.hash c.args.parts c.args.settings.now c.args.desk.now c.in-Err.fault (c.in-Err.ensures.refused, other)
 
 pub returns-in-Err-clause-succeeds : goal.returns-in-Err-clause-succeeds
 returns-in-Err-clause-succeeds g c can still =
-    let other : c.in-Err.fault ≢ build_errors.Memory = search rules in
+    let other : c.in-Err.fault ≢ (build_errors.Memory no_memory) = search rules in
     absurd (no_reason c.server_laws.ensures g.H.Hasher.hash c.args.parts c.args.settings.now c.args.desk.now can.header c.in-Err.fault can.has (c.in-Err.ensures.refused, other))
 
 pub returns-in-Ok-sign-clause-lowest : goal.returns-in-Ok-sign-clause-lowest

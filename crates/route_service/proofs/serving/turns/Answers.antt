@@ -5,6 +5,7 @@ use Rattle.road_io.proofs.ReadLemmas.{Consumes-none}
 use Rattle.route_service.specs.declared.reading.FrameError.TheVariants.{TooLong, Truncated, Source, Memory}
 use Rattle.route_service.proofs.ServeLemmas.{served-more, given_more, given_many, given_refused, given_unanswered, given_cut, Appends-none}
 use Rattle.route_service.proofs.serving.turns.Goals as goal
+use Rattle.octet_text.specs.Want.{no_memory}
 
 pub loop-served-init : goal.loop-served-init
 loop-served-init g c = record {
@@ -33,11 +34,11 @@ loop-served-preserved g c =
       sink_kept = c.in-Ok-write_frame.ensures.kept ∙ c.loop-served.invariant.sink_kept;
     }
 
-pub returns-in-Err-clause-serves : goal.returns-in-Err-clause-serves
-returns-in-Err-clause-serves g c =
+pub returns-in-Err-write_frame-clause-serves : goal.returns-in-Err-write_frame-clause-serves
+returns-in-Err-write_frame-clause-serves g c =
     let takes = rw c.in-Ok-true.field-0-test at c.in-Ok-true.ensures.takes in
     let step = rw c.as_slice.ensures.value at c.in-Ok.ensures.step in
-    let wrote = rw c.as_slice-in-loop-served.ensures.value at c.in-Err.ensures.err in (
+    let wrote = rw c.as_slice-in-loop-served.ensures.value at c.in-Err-write_frame.ensures.err in (
       c.loop-served.served,
       c.loop-served-test.true,
       record {
@@ -68,17 +69,17 @@ returns-in-Err-Source-clause-gave g c =
 
 pub returns-in-Err-Memory-clause-gave : goal.returns-in-Err-Memory-clause-gave
 returns-in-Err-Memory-clause-gave g c =
-    given_refused _ _ _ _ _ _ _ _ _ _ _ _ c.next_frame.new.body.items Memory c.loop-served-test.true c.loop-served.invariant.gave (rw c.in-Err-Memory.field-0-is at c.in-Err-Memory.ensures.gave)
-
-pub returns-in_default-clause-gave : goal.returns-in_default-clause-gave
-returns-in_default-clause-gave g c =
-    given_unanswered _ _ _ _ _ _ _ _ _ _ _ _ _ c.next_frame.new.body.items (ap state_of c.in_default.ensures.err) c.loop-served-test.true c.loop-served.invariant.gave (rw c.in-Ok-true.field-0-test at c.in-Ok-true.ensures.gave)
+    given_refused _ _ _ _ _ _ _ _ _ _ _ _ c.next_frame.new.body.items (Memory no_memory) c.loop-served-test.true c.loop-served.invariant.gave (rw c.in-Err-Memory.field-0-is at c.in-Err-Memory.ensures.gave)
 
 pub returns-in-Err-clause-gave : goal.returns-in-Err-clause-gave
 returns-in-Err-clause-gave g c =
+    given_unanswered _ _ _ _ _ _ _ _ _ _ _ _ _ c.next_frame.new.body.items (ap state_of c.in-Err.ensures.err) c.loop-served-test.true c.loop-served.invariant.gave (rw c.in-Ok-true.field-0-test at c.in-Ok-true.ensures.gave)
+
+pub returns-in-Err-write_frame-clause-gave : goal.returns-in-Err-write_frame-clause-gave
+returns-in-Err-write_frame-clause-gave g c =
     let gave = rw c.in-Ok-true.field-0-test at c.in-Ok-true.ensures.gave in
     let step = rw c.as_slice.ensures.value at c.in-Ok.ensures.step in
-    let front = rw c.as_slice-in-loop-served.ensures.value at c.in-Err.ensures.err in
+    let front = rw c.as_slice-in-loop-served.ensures.value at c.in-Err-write_frame.ensures.err in
     given_cut _ _ _ _ _ _ _ _ _ _ _ _ _ _ c.next_frame.new.body.items c.in-Ok.reply.items c.loop-served-test.true c.loop-served.invariant.gave gave step front
 
 pub returns-in-Ok-read-clause-gave : goal.returns-in-Ok-read-clause-gave

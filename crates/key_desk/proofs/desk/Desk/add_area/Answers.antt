@@ -51,8 +51,8 @@ returns-clause-fits g c =
     let next : c.in_ok-next.next ≡ next_desk c.args.self (key_from c.args.kind c.args.secret.now) = c.in_ok-next.ensures.next ∙ ap (λ (k : KeyOf). next_desk c.args.self k) c.in-Ok.ensures.key in
     subst (λ (v : Desk). Fits g.D.Disk v c.raise.new.disk) (sym next) (c.in_ok-raise.ensures.fits c.args.self c.requires.fits c.requires.can (sym c.base-base.ensures.base) (sym c.counts.ensures.sized))
 
-pub returns-in-Err-clause-keys : goal.returns-in-Err-clause-keys
-returns-in-Err-clause-keys g c = nothing g.D.Disk c.args.disk.now _ (λ d now. let areas = c.requires.fits.areas d now in areas.keys)
+pub returns-in-Err-Memory-clause-keys : goal.returns-in-Err-Memory-clause-keys
+returns-in-Err-Memory-clause-keys g c = nothing g.D.Disk c.args.disk.now _ (λ d now. let areas = c.requires.fits.areas d now in areas.keys)
 
 pub returns-in_err-zeros-clause-keys : goal.returns-in_err-zeros-clause-keys
 returns-in_err-zeros-clause-keys g c = nothing g.D.Disk c.args.disk.now _ (λ d now. let areas = c.requires.fits.areas d now in areas.keys)

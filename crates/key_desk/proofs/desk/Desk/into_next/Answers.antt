@@ -11,5 +11,5 @@ overflow_add-base-2 c = omega (arith, c.len-slots.ensures, c.self.invariant.0, c
 
 pub from_parts-requires-2-clause-low : goal.from_parts-requires-2-clause-low
 from_parts-requires-2-clause-low c =
-    let more : length c.push.new.self.items ≡ length c.self.inside.earlier.items + 1 = ap (λ (l : List AreaView). length l) c.in_ok-push.ensures.items ∙ length-append c.self.inside.earlier.items _ in
+    let more : length c.push.new.list.items ≡ length c.self.inside.earlier.items + 1 = ap (λ (l : List AreaView). length l) c.in_ok-push.ensures.items ∙ length-append c.self.inside.earlier.items _ in
     omega (arith, c.len-slots.ensures, c.self.invariant.0, c.self.invariant.1, slots_few c.self.inside.key.kind, more)

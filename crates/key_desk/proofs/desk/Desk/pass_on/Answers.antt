@@ -7,9 +7,10 @@ use Rattle.key_desk.specs.Succession.{IsDeskCalledFor, CanFollow, DeskRefuses}
 use Rattle.desk_areas.proofs.OnOks.{on_ok}
 use Rattle.key_desk.proofs.Refusals.{none_refused, one_refusal, called, called_else, can_succeed, same_error}
 use Rattle.key_desk.proofs.desk.Desk.pass_on.Goals as goal
+use Rattle.octet_text.specs.Want.{no_memory}
 
 -- the only refusals of a call are always allowed
-only_called : {X : Type 0} (desk : Desk) (name : List ℕ) (r : Result X SucceedError) → IfErr r (λ e. (e ≡ DiskFault) ⊎ (e ≡ Memory)) → IfErr r (IsDeskCalledFor desk name)
+only_called : {X : Type 0} (desk : Desk) (name : List ℕ) (r : Result X SucceedError) → IfErr r (λ e. (e ≡ DiskFault) ⊎ (e ≡ Memory no_memory)) → IfErr r (IsDeskCalledFor desk name)
 only_called desk name (Ok x) h = tt
 only_called desk name (Err e) h = called_else desk name e h
 

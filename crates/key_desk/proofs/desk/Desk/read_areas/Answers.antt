@@ -1,4 +1,4 @@
-use Rattle.std.proofs.Common.{◌≡◌, ◌≢◌, ◌+◌, ◌*◌, ◌<◌, ◌≤◌, List, ℕ, suc, [], ◌∷◌, ◌++◌, length, length-append, Option, Some, None, IfSome, arith, refl, sym, ◌∙◌, ap, subst, rules}
+use Rattle.std.proofs.Common.{◌≡◌, ◌≢◌, ◌+◌, ◌*◌, ◌<◌, ◌≤◌, List, ℕ, suc, [], ◌∷◌, ◌++◌, length, length-append, Option, Some, None, Ok, Err, IfSome, arith, refl, sym, ◌∙◌, ap, subst, rules}
 use Rattle.road_io.specs.Disk.{Stays}
 use Rattle.road_io.specs.Moments.{Image, EachImage, AtEachMoment}
 use Rattle.road_io.proofs.MomentLaws.{nothing, continued, at_end}
@@ -18,6 +18,9 @@ use Rattle.key_desk.proofs.ReadMore.{none_read, more_read, wholes_more, names_mo
 use Rattle.key_desk.proofs.desk.Desk.read_areas.Given.{Over}
 use Rattle.key_desk.proofs.desk.Desk.read_areas.Goals as goal
 use Rattle.key_desk.proofs.desk.Desk.read_areas.Goals.{After-read_next}
+
+ok_apart : {A E : Type 0} (a : A) (e : E) → Ok a ≡ Err e → ⊥
+ok_apart a e same = cc
 
 pub loop-round-init : goal.loop-round-init
 loop-round-init g c =
@@ -117,14 +120,14 @@ loop-round-preserved g c =
     let items = c.in_ok-push-in-Some.ensures.items in
     let seven : length c.deref.result.now < 7 = subst (λ (o : Option (List ℕ)). IfSome o (λ key. length c.deref.result.now < 7)) c.in-Some.is c.in_ok-area.ensures.eighth in
     let same : length c.deref.result.now ≡ length c.loop-round.earlier.items = ap (λ (l : List AreaView). length l) c.deref.ensures.value in
-    let longer : length c.push.new.self.items ≡ length c.loop-round.earlier.items + 1 = ap (λ (l : List AreaView). length l) items ∙ length-append c.loop-round.earlier.items _ in
+    let longer : length c.push.new.list.items ≡ length c.loop-round.earlier.items + 1 = ap (λ (l : List AreaView). length l) items ∙ length-append c.loop-round.earlier.items _ in
     let place : c.place_in-base.result ≡ place_in c.loop-round.base (length c.in_ok-area.field-0.area.counts) = c.place_in-base.ensures.place ∙ ap (λ (l : List Count). place_in c.loop-round.base (length l)) c.counts.ensures.counts in
     let whole = whole_of c.in_ok-area.field-0.area c.in_ok-area.ensures.known c.in_ok-area.ensures.i c.in_ok-area.ensures.either in
     record {
       content = λ x told. c.loop-round.invariant.content x (c.read_next.ensures.content x told);
       moments = all g at;
-      faults = c.in_ok-area.ensures.kept (λ e. cc) ∙ c.loop-round.invariant.faults;
-      called = areas_called c.loop-round.earlier.items c.push.new.self.items c.in_ok-area.field-0.area _ _ _ items c.loop-round.invariant.called c.in_ok-area.ensures.counted;
+      faults = c.in_ok-area.ensures.kept (ok_apart _ _) ∙ c.loop-round.invariant.faults;
+      called = areas_called c.loop-round.earlier.items c.push.new.list.items c.in_ok-area.field-0.area _ _ _ items c.loop-round.invariant.called c.in_ok-area.ensures.counted;
       calls = omega (arith, c.loop-round.invariant.calls, c.read_next.ensures.few);
       count = longer ∙ ap (λ (n : ℕ). n + 1) c.loop-round.invariant.count;
       few = omega (arith, seven, same, c.loop-round.invariant.count);
@@ -140,3 +143,18 @@ loop-round-preserved g c =
           (names_more c.loop-round.earlier.items c.in_ok-area.field-0.area c.loop-round.invariant.names
           (last_names c.deref.result.now c.loop-round.earlier.items c.in_ok-area.field-0.area c.deref.ensures.value c.in_ok-area.ensures.distinct));
     }
+
+pub returns-in_err-area-clause-content : goal.returns-in_err-area-clause-content
+returns-in_err-area-clause-content g c x told = c.loop-round.invariant.content x (c.read_next.ensures.content x told)
+
+pub returns-in_err-push-in-Some-clause-content : goal.returns-in_err-push-in-Some-clause-content
+returns-in_err-push-in-Some-clause-content g c x told = c.loop-round.invariant.content x (c.read_next.ensures.content x told)
+
+pub returns-in_err-area-clause-few : goal.returns-in_err-area-clause-few
+returns-in_err-area-clause-few g c = omega (arith, c.loop-round.invariant.few, c.read_next.ensures.few, c.loop-round-test.true)
+
+pub returns-in_err-push-in-Some-clause-few : goal.returns-in_err-push-in-Some-clause-few
+returns-in_err-push-in-Some-clause-few g c = omega (arith, c.loop-round.invariant.few, c.read_next.ensures.few, c.loop-round-test.true)
+
+pub returns-in-None-clause-few : goal.returns-in-None-clause-few
+returns-in-None-clause-few g c = omega (arith, c.loop-round.invariant.few, c.read_next.ensures.few, c.loop-round-test.true)

@@ -27,6 +27,7 @@ use Rattle.key_desk.proofs.Counts.{key_here}
 use Rattle.key_desk.proofs.Refusals.{called_on, to_image, from_image, start_called, start_called_else, start_fault, same_error}
 use Rattle.key_desk.proofs.Successors.{last_on, one_more, key_before}
 use Rattle.key_desk.proofs.desk.Desk.succeed.Goals as goal
+use Rattle.octet_text.specs.Want.{no_memory}
 
 -- an opened desk, and a refusal
 abbrev started_as : {X : Type 0} → X → Result X StartError
@@ -73,7 +74,7 @@ if_err (Ok x) P Q each h = tt
 if_err (Err e) P Q each h = each e h
 
 -- a disk on which a desk opened has keys that can be used
-usable_on : {X : Type 0} (c : List ℕ) (desk : X) → IsOpen c → (IsOpen c → IsBadBlock c → (started_as desk ≡ Err start.BadBlock) ⊎ ((started_as desk ≡ Err start.DiskFault) ⊎ (started_as desk ≡ Err start.Memory))) → IsUsable c
+usable_on : {X : Type 0} (c : List ℕ) (desk : X) → IsOpen c → (IsOpen c → IsBadBlock c → (started_as desk ≡ Err start.BadBlock) ⊎ ((started_as desk ≡ Err start.DiskFault) ⊎ (started_as desk ≡ Err (start.Memory no_memory)))) → IsUsable c
 usable_on c desk is_open bad_else = record {
   open_gate = is_open;
   good_block = λ bad. elim (bad_else is_open bad) [ inl e ↦ cc | inr other ↦ elim other [ inl e ↦ cc | inr e ↦ cc ] ];
@@ -83,7 +84,7 @@ usable_on c desk is_open bad_else = record {
 called_after : {D : Type 0} (g : Ghosts D) (mid new : D) (name : List ℕ) (r : Result Desk SucceedError) → (IsErr r → r ≢ Err DiskFault → new ≡ mid) → IfErr r (IsCalledFor (g.content mid) name) → IfErr r (IsCalledFor (g.content new) name)
 called_after g mid new name (Ok v) stays h = tt
 called_after g mid new name (Err succeed.DiskFault) stays h = tt
-called_after g mid new name (Err succeed.Memory) stays h = tt
+called_after g mid new name (Err (succeed.Memory _)) stays h = tt
 called_after {D} g mid new name (Err succeed.NoKey) stays h = subst (λ (d : D). IsCalledFor (g.content d) name succeed.NoKey) (sym (stays refl (λ e. cc))) h
 called_after {D} g mid new name (Err succeed.BadBlock) stays h = subst (λ (d : D). IsCalledFor (g.content d) name succeed.BadBlock) (sym (stays refl (λ e. cc))) h
 called_after {D} g mid new name (Err succeed.TooManyKeys) stays h = subst (λ (d : D). IsCalledFor (g.content d) name succeed.TooManyKeys) (sym (stays refl (λ e. cc))) h
@@ -120,7 +121,7 @@ returns-in-Err-clause-fault g c is = c.in-Err.ensures.fault (ap (λ x. Err x) (s
 pub returns-in-Err-clause-refused_else : goal.returns-in-Err-clause-refused_else
 returns-in-Err-clause-refused_else g c x still =
     let told : (started_err c.in-Err.e ≢ started_err start.DiskFault) → g.D.Disk.content c.reopen.new.disk ≡ Some x = λ other. narrowed _ _ (c.in-Err.ensures.refused refl other) x still in
-    subst (λ (r : SucceedError). (f : SucceedError) → Refuses x (take 16 c.args.secret.now) f → (refused_by r ≡ Err f) ⊎ ((refused_by r ≡ Err DiskFault) ⊎ (refused_by r ≡ Err Memory))) (sym c.started.ensures)
+    subst (λ (r : SucceedError). (f : SucceedError) → Refuses x (take 16 c.args.secret.now) f → (refused_by r ≡ Err f) ⊎ ((refused_by r ≡ Err DiskFault) ⊎ (refused_by r ≡ Err (Memory no_memory)))) (sym c.started.ensures)
     (start_called_else x (take 16 c.args.secret.now) c.in-Err.e (λ is. c.in-Err.ensures.no_key (ap (λ x. Err x) is) x (told (λ bad. cc (is, bad)))) (λ is. c.in-Err.ensures.bad_block (ap (λ x. Err x) is) x (told (λ bad. cc (is, bad)))))
 
 pub returns-in-Ok-clause-narrows : goal.returns-in-Ok-clause-narrows

@@ -3,7 +3,7 @@ use Rattle.road_map.proofs.IdLaws.{one_more, all_ids}
 use Rattle.road_map.proofs.map.Map.ids.Goals as goal
 
 pub loop-position-preserved : goal.loop-position-preserved
-loop-position-preserved c = one_more c.args.self.now.order c.loop-position.position c.node.result c.loop-position.rising.items c.push.new.self.items c.node.ensures c.loop-position.invariant c.in_ok-push.ensures.items
+loop-position-preserved c = one_more c.args.self.now.order c.loop-position.position c.node.result c.loop-position.rising.items c.push.new.list.items c.node.ensures c.loop-position.invariant c.in_ok-push.ensures.items
 
 pub returns : goal.returns
 returns c =

@@ -1,5 +1,5 @@
 use Rattle.std.proofs.Common.{sym, subst, ap, ◌∙◌}
-use Rattle.road_map.specs.Places.{StandsAt, AreRising, place_in}
+use Rattle.road_map.specs.Places.{StandsAt, place_in}
 use Rattle.road_map.proofs.RisingLaws.{found}
 use Rattle.road_map.proofs.rising_ids.RisingIds.place.Goals as goal
 

@@ -13,7 +13,7 @@ use Rattle.road_search.proofs.listed.Listed.all.Goals as goal
 
 pub loop-id-init : goal.loop-id-init
 loop-id-init c =
-    c.in_ok-all.ensures.items_if_clones_equal (λ x y h. h) ∙ (c.as_slice.ensures ∙ (ap (λ (l : Listing). l.ids) c.self.view_is ∙ sym (append-nil c.args.self.now.ids)))
+    c.in_ok-all.ensures.items ∙ (c.as_slice.ensures ∙ (ap (λ (l : Listing). l.ids) c.self.view_is ∙ sym (append-nil c.args.self.now.ids)))
 
 pub loop-id-preserved : goal.loop-id-preserved
 loop-id-preserved c =

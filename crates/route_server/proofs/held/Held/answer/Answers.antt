@@ -1,4 +1,4 @@
-use Rattle.std.proofs.Common.{◌≡◌, ◌<◌, ◌^◌, ℕ, List, All, length, Option, refl, ap, sym, subst, ◌∙◌}
+use Rattle.std.proofs.Common.{◌≡◌, ◌<◌, ◌-◌, ◌^◌, ℕ, List, All, length, Option, refl, ap, sym, subst, arith, ◌∙◌}
 use Rattle.std.specs.Prelude.{slice_get, IsPermutation, IfSome, IfNone}
 use Rattle.std.specs.List.{filter_map}
 use Rattle.std.proofs.lemmas.List.{length-map}
@@ -16,6 +16,7 @@ use Rattle.proof_method.specs.Gathering.{IsOrderOf, IsFirstUnknown}
 use Rattle.proof_octets.specs.declared.reply.Reply.TheVariants as replies
 use Rattle.proof_octets.specs.Replies.{reply, reply_of}
 use Rattle.method_books.specs.AnyBooks.{kind_in, shown_in, charted_in}
+use Rattle.proof_octets.proofs.ReplyLength.{unknown_long}
 use Rattle.route_server.specs.Bringing.{placed_of}
 use Rattle.route_server.specs.Fitting.{kind_of_leaves}
 use Rattle.route_server.specs.Headers.{node_texts, pair_texts}
@@ -23,7 +24,7 @@ use Rattle.route_server.specs.Honesty.{IsHonest, Gathers, Replies, ids_at}
 use Rattle.route_server.specs.Keeping.{Kept, HasPlaces, publication_in, kept_as, header_in, leaves_in, count_in, cover_in}
 use Rattle.route_server.specs.LeafTrees.{Leaves}
 use Rattle.route_server.proofs.Answering.{FoundFacts, gathered_facts, in_range, cover_either}
-use Rattle.route_server.proofs.Brought.{IsBrought, IsServed, answer_good, is_reply}
+use Rattle.route_server.proofs.Brought.{IsBrought, IsServed, answer_good, answer_short, is_reply}
 use Rattle.route_server.proofs.HeaderLemmas.{count_either}
 use Rattle.route_server.proofs.HeldLaws.{shown, texts_whole}
 use Rattle.route_server.proofs.LeavesAt.{all_at, has_leaves}
@@ -35,8 +36,8 @@ use Rattle.route_server.proofs.held.Held.answer.Given.{Over}
 use Rattle.route_server.proofs.held.Held.answer.Goals as goal
 use Rattle.route_server.proofs.held.Held.answer.Goals.{After-deref, In_ok-places, After-numbers_fit}
 
-pub returns-in-None : goal.returns-in-None
-returns-in-None g c =
+pub returns-in-None-clause-honest : goal.returns-in-None-clause-honest
+returns-in-None-clause-honest g c =
     let hash = g.H.Hasher.hash in
     let b = shown_in c.self.inside.book in
     IfOk-weaker c.unknown.result (λ v. v.items ≡ reply.spell replies.UnknownNode) (λ v. IsHonest hash sha256 (publication_in hash c.args.self.now) c.args.query v.items) (λ v spelled.
@@ -50,6 +51,10 @@ returns-in-None g c =
       fits = c.unknown.ensures.fits;
       spelled = spelled;
     })) c.unknown.ensures.spelled
+
+pub returns-in-None-clause-short : goal.returns-in-None-clause-short
+returns-in-None-clause-short g c =
+    IfOk-weaker c.unknown.result (λ v. v.items ≡ reply.spell replies.UnknownNode) (λ v. length v.items < 2 ^ 32 - 16) (λ v spelled. omega (arith, unknown_long, ap (λ (xs : List ℕ). length xs) spelled)) c.unknown.ensures.spelled
 
 -- what was gathered, with its route or where no walk joins the ends
 brought_found : (g : Over) (c : After-deref g) → Gathers (kind_in c.self.inside.book) (shown_in c.self.inside.book) c.args.query c.in-Some.found
@@ -186,11 +191,11 @@ answer_with-requires g c =
       subst (λ (s : List ℕ). HasLeaves (placed g e s) c.texts-texts.result.now (leaves g e)) (sym (signed g e)) (told g e c.texts-texts.result.now has c.texts-texts.ensures.texts (fits g e f (brought g e has f.pairs))),
     )
 
-pub returns : goal.returns
-returns g c =
-    let e = (goal.at.returns g c).After-numbers_fit in
-    let f = (goal.at.returns g c).After-deref in
-    let has = has_places g (goal.at.returns g c).In_ok-places in
+pub returns-clause-honest : goal.returns-clause-honest
+returns-clause-honest g c =
+    let e = (goal.at.returns-clause-honest g c).After-numbers_fit in
+    let f = (goal.at.returns-clause-honest g c).After-deref in
+    let has = has_places g (goal.at.returns-clause-honest g c).In_ok-places in
     let hash = g.H.Hasher.hash in
     let kind = (kind_in c.self.inside.book) in
     let b = shown_in c.self.inside.book in
@@ -212,3 +217,15 @@ returns g c =
       fits = ok;
       spelled = is ∙ ap (λ (s : List ℕ). reply.spell (reply_of (with_leaves (placed g e s) (leaves g e)))) (signed g e);
     })) (c.answer_with.ensures (leaves g e) leaves_told)
+
+pub returns-clause-short : goal.returns-clause-short
+returns-clause-short g c =
+    let e = (goal.at.returns-clause-short g c).After-numbers_fit in
+    let f = facts g (goal.at.returns-clause-short g c).After-deref in
+    let has = has_places g (goal.at.returns-clause-short g c).In_ok-places in
+    let br = brought g e has f.pairs in
+    let leaves_told = subst (λ (s : List ℕ). HasLeaves (placed g e s) c.texts-texts.result.now (leaves g e)) (sym (signed g e)) (told g e c.texts-texts.result.now has c.texts-texts.ensures.texts (fits g e f br)) in
+    let few = answer_short g.H.Hasher.hash (kind_in c.self.inside.book) (charted_in c.self.inside.book).parts c.self.inside.settings c.self.inside.order (shown_in c.self.inside.book) c.in-Some.found (whole g e) (served g e) f br in
+    IfOk-weaker c.answer_with.result (λ v. v.items ≡ reply.spell (reply_of (with_leaves (placed g e c.in_ok-signature.signature) (leaves g e)))) (λ v. length v.items < 2 ^ 32 - 16) (λ v is.
+    omega (arith, few, ap (λ (xs : List ℕ). length xs) (is ∙ ap (λ (s : List ℕ). reply.spell (reply_of (with_leaves (placed g e s) (leaves g e)))) (signed g e))))
+    (c.answer_with.ensures (leaves g e) leaves_told)

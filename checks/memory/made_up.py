@@ -1,0 +1,131 @@
+#!/usr/bin/env python3
+"""Sees that want of memory can't be made up: checks/memory/made_up.py [--quick]
+
+`octet_text::NoMemory` says that the system refused room. Its field is private, it has no conversion, and octet_text makes it in
+src/growing.rt and src/hex_text.rt alone, where a growth was refused. This looks at all crates of the program: none but octet_text
+makes one, and each `Memory` variant of an enum carries one. Then, without --quick, it begins twelve calls, on a copy, with bodies
+that do nothing but say that memory is short, and sees that the compiler refuses each of three ways to make that up. Ends with
+status 1 where something is let through.
+"""
+import glob
+import os
+import re
+import shutil
+import subprocess
+import sys
+import tempfile
+
+TOP = os.path.dirname(os.path.dirname(os.path.dirname(os.path.abspath(__file__))))
+MAKERS = ("crates/octet_text/src/growing.rt", "crates/octet_text/src/hex_text.rt", "crates/octet_text/src/errors.rt")
+# What only says so on a made disk, library or sink, for tests, and hands on what the system's allocator says.
+MADE = ("mem_io", "mirror_out")
+
+# The calls: a file, the head of the function, and what its body would answer.
+CALLS = (
+    ("route_client/src/checking.rt", "pub fn check<", "CheckError::Memory"),
+    ("route_client/src/near_checking.rt", "pub fn check_near<", "NearError::Memory"),
+    ("route_server/src/answer.rt", "pub fn answer(", ""),
+    ("route_server/src/near_answering.rt", "pub fn answer_near<", "NearRefusal::Memory"),
+    ("route_audit/src/auditing.rt", "pub fn audit_reply", "AuditError::Memory"),
+    ("route_owner/src/publishing.rt", "pub fn publish<", "PublishError::Memory"),
+    ("key_desk/src/start.rt", "pub fn reopen<", "StartError::Memory"),
+    ("key_desk/src/succeed.rt", "pub fn succeed<", "SucceedError::Memory"),
+    ("lms_tree/src/keys.rt", "pub fn build(", "KeyError::Memory"),
+    ("merkle_cover/src/trees.rt", "pub fn build(", "TreeError::Memory"),
+    ("road_map/src/map.rt", "pub fn build(", "MapError::Memory"),
+    ("road_search/src/path.rt", "pub fn shortest(", ""),
+)
+
+WAYS = (
+    "octet_text::NoMemory { refused: () }",
+    "octet_text::NoMemory::refused()",
+    "std::convert::From::from(std::alloc::AllocError)",
+)
+
+
+def code_of(path):
+    """A source without its comments and its texts."""
+    with open(path, encoding="utf-8") as file:
+        text = file.read()
+    text = re.sub(r"//[^\n]*", "", text)
+    return re.sub(r'"(?:\\.|[^"\\])*"', '""', text)
+
+
+def is_of_the_program(crate):
+    return not crate.endswith("_tests") and crate != "test_maps"
+
+
+def faults_of(path):
+    """What a source says that would make want of memory up."""
+    crate = path.split(os.sep)[1]
+    code = code_of(os.path.join(TOP, path))
+    if path not in MAKERS:
+        if re.search(r"\bNoMemory\s*(\{|::)", re.sub(r"ghost use[^;]*;|use[^;]*;", "", code)):
+            yield "makes a NoMemory"
+    if crate != "octet_text" and crate not in MADE and re.search(r"\bAlloc(Error|Failed)\b", code):
+        yield "names what an allocation of std's own answers, where octet_text's stand"
+    for enum in re.finditer(r"\benum \w+(?:<[^>]*>)? \{(.*?)\n\}", code, re.S):
+        if re.search(r"^\s*(Memory|NoMemory|OutOfMemory),", enum[1], re.M):
+            yield "has a variant for want of memory that carries none"
+    if crate != "octet_text" and re.search(r"\bprint\((?!\s*&?(mut )?[\w.]+,\s*format_args!)", code) and "octet_text" in code:
+        yield "prints something else than what format_args! makes"
+
+
+def lines_of(text, made):
+    """The lines of a text that hold one of these bodies, each with its number."""
+    return [(number, line) for number, line in enumerate(text.split("\n"), 1) if any(it in line for it in made)]
+
+
+def with_bodies(text, calls):
+    """A source whose calls begin with bodies that make want of memory up, one line for each way."""
+    for _, head, answer in calls:
+        at = text.index(head)
+        opening = re.compile(r"^( *)\{$", re.M).search(text, at)
+        bodies = [f"{opening[1]}    if true {{ return Err({answer}({way})); }}" for way in WAYS]
+        text = text[: opening.end()] + "\n" + "\n".join(bodies) + text[opening.end() :]
+    return text
+
+
+def let_through(copy, crate, calls):
+    """The bodies of a crate's calls that the compiler doesn't refuse, and what it says."""
+    wanted = []
+    for file in dict.fromkeys(file for file, _, _ in calls):
+        path = os.path.join(copy, "crates", file)
+        with open(path, encoding="utf-8") as it:
+            before = it.read()
+        text = with_bodies(before, [call for call in calls if call[0] == file])
+        # (the copy shares its files with the checkout)
+        os.unlink(path)
+        with open(path, "w", encoding="utf-8") as it:
+            it.write(text)
+        wanted += [(file.split("/", 1)[1], number, line) for number, line in lines_of(text, WAYS)]
+    ran = subprocess.run(["rt", "check", "--allow-holes", "--only", crate], cwd=os.path.join(copy, "crates", crate), capture_output=True, text=True)
+    said = ran.stdout + ran.stderr
+    assert len(wanted) == len(calls) * len(WAYS)
+    return [it for it in wanted if re.search(rf"{re.escape(it[0])}:{it[1]}:\d+: error", said) is None], said
+
+
+def main():
+    failed = False
+    for path in sorted(glob.glob("crates/*/src/**/*.rt", root_dir=TOP, recursive=True)):
+        if is_of_the_program(path.split(os.sep)[1]):
+            for fault in faults_of(path):
+                print(f"{path}: {fault}")
+                failed = True
+    if "--quick" in sys.argv[1:]:
+        sys.exit(failed)
+    with tempfile.TemporaryDirectory() as folder:
+        copy = os.path.join(folder, "repository")
+        shutil.copytree(TOP, copy, copy_function=os.link, ignore=shutil.ignore_patterns(".git", "incremental"))
+        for crate in dict.fromkeys(file.split("/")[0] for file, _, _ in CALLS):
+            calls = [call for call in CALLS if call[0].split("/")[0] == crate]
+            through, said = let_through(copy, crate, calls)
+            for file, number, line in through:
+                print(f"{crate}/{file}:{number}: passes: {line.strip()}\n{said[-2000:]}")
+                failed = True
+    print(f"{len(CALLS)} calls: {'something is let through' if failed else 'none can make want of memory up'}")
+    sys.exit(failed)
+
+
+if __name__ == "__main__":
+    main()

@@ -1,0 +1,30 @@
+-- How a check of either kind of replies ends.
+use Rattle.std.specs.Prelude.{◌≡◌, ◌≢◌, ℕ, List}
+use Rattle.std.specs.declared.option.Option.{Option}
+use Rattle.std.specs.declared.result.Result.{Result}
+use Rattle.std.specs.declared.result.Result.TheVariants.{Ok, Err}
+use Rattle.lms_tree.specs.declared.links.Link.{Link}
+use Rattle.road_io.specs.Contents.{Folder}
+use Rattle.command_files.specs.Reading.{octets_at, chain_at}
+use Rattle.command_files.specs.HexFiles.{public_key_at}
+use Rattle.command_files.specs.Endings.{Ending, EndsReading}
+use Rattle.command_files.specs.declared.ended.Conclusion.TheVariants.{Done, Refused}
+
+-- by its verdict, which is not that memory was short: with the line of what is accepted, or of why
+-- nothing is
+abbrev pub EndsVerdict : {A E : Type 0} → (Result A E → Type 0) → E → (A → List ℕ) → (E → List ℕ) →
+    Ending
+EndsVerdict {A} {E} IsVerdict short accepted refused (Ok Done) text = (x : A) × IsVerdict (Ok x) ×
+    (text ≡ accepted x)
+EndsVerdict {A} {E} IsVerdict short accepted refused (Ok Refused) text = (e : E) × (e ≢ short) ×
+    IsVerdict (Err e) × (text ≡ refused e)
+EndsVerdict IsVerdict short accepted refused outcome text = ⊥
+
+-- over the files of these names, where a chain's may be named or not: as Ends says of a public key, a
+-- chain from it and the octets of a reply
+abbrev pub over_files : (List ℕ → List Link → List ℕ → Ending) → List ℕ → List ℕ →
+    Option (List ℕ) → Folder → Ending
+over_files Ends key reply chain folder =
+    EndsReading (public_key_at folder key)
+    (λ k. EndsReading (octets_at folder reply)
+    (λ octets. EndsReading (chain_at folder chain) (λ links. Ends k links octets)))

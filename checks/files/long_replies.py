@@ -6,6 +6,10 @@ arcs, with 255 arcs each, and with a code each; pair items; a cover of the node 
 tree; and node items behind which one octet is too many. `check` must refuse each with status 1, within 3 s of
 processor time, and with at most 0.3 GB of memory for 75 MB. A line a reply says what it took.
 
+Then two true answers, of a line and of a net of 65,536 nodes from end to end: `check` takes at most three octets
+of memory for each octet of the reply, beside what a reply of two nodes takes, each the least of five runs. GNU
+time measures it; without it that is left out.
+
 Ends with status 1 where anything differs. No client rests on it.
 """
 import os
@@ -14,7 +18,13 @@ import sys
 import tempfile
 
 sys.path.insert(0, os.path.dirname(os.path.abspath(__file__)))
+sys.path.insert(0, os.path.join(os.path.dirname(os.path.abspath(__file__)), os.pardir, "speed"))
 from hostile import MB, ROADS, Play  # noqa: E402
+from measure import GNU_TIME, memory_of, run  # noqa: E402
+
+NODES, ACROSS = 65536, 256
+# where the system puts a program's pages differs from run to run
+RUNS = 5
 
 
 def front_of(reply):
@@ -52,7 +62,36 @@ def replies(fronts, size):
     yield "an octet behind node items", plain + counted(node_items(size)) + 3 * none + b"\0"
 
 
+def line_or_net(steps):
+    """The road file of so many nodes, each with a road to those so many ids behind it."""
+    yield "roads 1\n"
+    yield from (f"node {node} {node % ACROSS} {node // ACROSS}\n" for node in range(1, NODES + 1))
+    for step in steps:
+        yield from (f"road {node} {node + step} {6 + step}\n" for node in range(1, NODES + 1 - step))
+
+
+def true_answers(program):
+    """What each true answer takes, in octets of memory for each of its own; those that take too much."""
+    wrong = 0
+    run([program, "key", "secret", "h5"], "owner.key", silent=True)
+    for what, steps in (("a line", [1]), ("a net", [1, ACROSS - 1, ACROSS, ACROSS + 1])):
+        with open("a.roads", "w", encoding="ascii") as file:
+            file.writelines(line_or_net(steps))
+        run([program, *"publish a.roads dij 1 id 0 2 0 0 0".split()], "a.pub", silent=True)
+        took = []
+        for end in ("2", str(NODES)):
+            run([program, "prove", "a.pub", "1", end], "a.reply", silent=True)
+            words = [program, "check", "owner.key", "a.reply", "1", end, "0"]
+            took.append(min(memory_of(words, "verdict") for _ in range(RUNS)) * MB)
+        size = os.path.getsize("a.reply")
+        each = (took[1] - took[0]) / size
+        wrong += each > 3
+        print(f"{'ok     ' if each <= 3 else 'DIFFERS'} an answer over {what}: {each:.2f} octets for each of {size / MB:.1f} MB", flush=True)
+    return wrong
+
+
 def main():
+    program = os.path.abspath(sys.argv[1])
     size = (int(sys.argv[2]) if len(sys.argv) > 2 else 75) * MB
     with tempfile.TemporaryDirectory() as folder:
         play = Play(sys.argv[1], folder)
@@ -70,6 +109,12 @@ def main():
             good = ended == 1 and seconds <= 3 and memory <= 4 * len(octets)
             wrong += not good
             print(f"{'ok     ' if good else 'DIFFERS'} {what}: status {ended}, {seconds:.2f} s, {memory / MB:.0f} MB for {len(octets) / MB:.0f} MB", flush=True)
+        if os.path.exists(GNU_TIME):
+            os.chdir(folder)
+            os.remove("owner.desk")
+            wrong += true_answers(program)
+        else:
+            print("skipped: the memory of true answers, since this machine has no GNU time")
         sys.exit(1 if wrong else 0)
 
 

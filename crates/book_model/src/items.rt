@@ -1,7 +1,7 @@
 //! What a query asks, and what an answer brings.
 
 use octet_text::List;
-use road_leaf::{NodeLeaf, PairLeaf};
+use road_leaf::{NodeLeaves, PairLeaf};
 use road_map::Ids;
 
 /// The two ends that are asked for, by id.
@@ -13,9 +13,6 @@ pub struct Query {
 
 /// Indices in a list of leaves, from 0.
 pub type Places = List<u32>;
-
-/// A list of the leaves of nodes.
-pub type NodeLeaves = List<NodeLeaf>;
 
 /// A list of the leaves of pairs.
 pub type PairLeaves = List<PairLeaf>;

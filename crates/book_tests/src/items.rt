@@ -5,7 +5,7 @@ use crate::same::{assert_printed, assert_row, assert_same};
 use book_model::Query;
 use octet_text::NoMemory;
 use proof_judge::{NodesById, PairsById, Refusal, arcs_of, begin, find_pair};
-use road_leaf::PairLeaf;
+use road_leaf::{NodeLeaves, PairLeaf};
 use road_map::Arc;
 use std::alloc::{AllocError, Global};
 use std::test::Fail;
@@ -57,7 +57,7 @@ static FROM_FOUR: [Arc; 2] = [Arc { to: 1, length: 3 }, Arc { to: 3, length: 7 }
 
 #[test]
 fn items_are_found_by_id(rt: HostRuntime) -> Result<(), Refusal> {
-    let leaves = leaves_of(rt.alloc(), &[4, 1])?;
+    let leaves = NodeLeaves::of(rt.alloc(), leaves_of(rt.alloc(), &[4, 1])?)?;
     let by_id = NodesById::new(rt.alloc(), &leaves)?;
     assert_same(&rt, found_id(&by_id, 1), Some(1));
     assert_same(&rt, found_id(&by_id, 2), None);

@@ -1,9 +1,9 @@
 //! What tests give a judge.
 ghost use Rattle.std.specs.Prelude.{◌≤◌, length, IfOk};
 
-use book_model::{Items, NodeLeaves, PairLeaves};
+use book_model::{Items, PairLeaves};
 use octet_text::copied;
-use road_leaf::{NodeLeaf, PairLeaf};
+use road_leaf::{NodeLeaf, NodeLeaves, PairLeaf};
 use road_map::Ids;
 use std::alloc::Global;
 use std::test::Fail;
@@ -23,7 +23,7 @@ pub(crate) fn items_of(
     }
     Ok(Items {
         route: Ids::from_vec(copied(alloc, route)?),
-        nodes: NodeLeaves::from_vec(leaves),
+        nodes: NodeLeaves::of(alloc, leaves)?,
         pairs: PairLeaves::from_vec(copied(alloc, pairs)?),
     })
 }

@@ -2,11 +2,11 @@
 ghost use Rattle.std.specs.Prelude.{◌≤◌, length};
 
 use crate::same::assert_same;
-use book_model::{Items, NodeLeaves, Numbers, PairLeaves, Query};
+use book_model::{Items, Numbers, PairLeaves, Query};
 use method_judges::{ItemLeaves, Ldm, bound};
 use octet_text::{NoMemory, copied, push};
 use proof_judge::{Judge, NodesById, Refusal};
-use road_leaf::{Codes, Extra, NodeLeaf};
+use road_leaf::{Codes, Extra, NodeLeaf, NodeLeaves};
 use road_map::{Arc, Arcs, Ids};
 use std::alloc::Global;
 
@@ -108,7 +108,7 @@ fn line_judged(alloc: Global, ids: &[u32], route: &[u32]) -> Result<u64, Refusal
     let leaves = on_the_line(alloc, ids)?;
     let items = Items {
         route: Ids::from_vec(copied(alloc, route)?),
-        nodes: NodeLeaves::from_vec(leaves),
+        nodes: NodeLeaves::of(alloc, leaves)?,
         pairs: PairLeaves::from_vec(Vec::new(alloc)),
     };
     Ldm::judge(
@@ -128,7 +128,7 @@ fn ways_judged(alloc: Global, ids: &[u32], route: &[u32]) -> Result<u64, Refusal
     let leaves = on_the_ways(alloc, ids)?;
     let items = Items {
         route: Ids::from_vec(copied(alloc, route)?),
-        nodes: NodeLeaves::from_vec(leaves),
+        nodes: NodeLeaves::of(alloc, leaves)?,
         pairs: PairLeaves::from_vec(Vec::new(alloc)),
     };
     Ldm::judge(
@@ -163,7 +163,7 @@ fn a_shorter_live_walk_is_found(rt: HostRuntime) {
 #[test]
 fn bounds_take_the_codes_at_hand(rt: HostRuntime) -> Result<(), Refusal> {
     let alloc = rt.alloc();
-    let leaves = on_the_ways(alloc, &[2, 3, 4])?;
+    let leaves = NodeLeaves::of(alloc, on_the_ways(alloc, &[2, 3, 4])?)?;
     let by_id = NodesById::new(alloc, &leaves)?;
     let some = ItemLeaves { by_id: &by_id };
     assert_same(&rt, bound(4, &some, 2, 3), 0);
@@ -174,7 +174,7 @@ fn bounds_take_the_codes_at_hand(rt: HostRuntime) -> Result<(), Refusal> {
 #[test]
 fn references_give_their_codes(rt: HostRuntime) -> Result<(), Refusal> {
     let alloc = rt.alloc();
-    let leaves = on_the_ways(alloc, &[1, 3, 4])?;
+    let leaves = NodeLeaves::of(alloc, on_the_ways(alloc, &[1, 3, 4])?)?;
     let by_id = NodesById::new(alloc, &leaves)?;
     let all = ItemLeaves { by_id: &by_id };
     assert_same(&rt, bound(4, &all, 1, 3), 4);

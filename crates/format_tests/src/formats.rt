@@ -4,7 +4,7 @@ use crate::asserts::{assert_octets, assert_same};
 use book_model::{Items, Numbers, Settings};
 use octet_text::{Malformed, ReadError};
 use proof_octets::{Answer, Header, Publication, Reply};
-use road_leaf::{Extra, NodeLeaf, PairLeaf};
+use road_leaf::{Extra, NodeView, PairLeaf};
 use road_map::{Node, Parts, Road};
 use std::alloc::Global;
 use std::process::Abort;
@@ -197,10 +197,10 @@ fn malformed_replies_are_named_by_their_place(rt: HostRuntime) -> Result<(), Fai
 }
 
 // Compares the leaf of node 1, a border of the cell 3.
-fn assert_first(rt: &impl Abort, leaf: &NodeLeaf) {
+fn assert_first(rt: &impl Abort, leaf: &NodeView<'_>) {
     assert_same(rt, &(leaf.id, leaf.x, leaf.y), &(1, -1, 2));
     match leaf.extra {
-        Extra::Cell { cell, border } => assert_same(rt, &(cell, border), &(3, true)),
+        Extra::Cell { cell, border } => assert_same(rt, &(*cell, *border), &(3, true)),
         _ => assert!(rt; false),
     }
 }
@@ -214,9 +214,10 @@ fn assert_items(rt: &impl Abort, items: &Items) {
         distance: 9,
     };
     assert_same(rt, &items.pairs.as_slice(), &[pair].as_slice());
-    match items.nodes.as_slice() {
-        [first, second] => {
-            assert_first(rt, first);
+    assert_same(rt, &items.nodes.len(), &2);
+    match (items.nodes.get(0), items.nodes.get(1)) {
+        (Some(first), Some(second)) => {
+            assert_first(rt, &first);
             assert_same(rt, &second.id, &3);
         }
         _ => assert!(rt; false),
@@ -296,7 +297,7 @@ fn an_answer_without_a_route_is_read_and_written_again(rt: HostRuntime) -> Resul
     };
     assert_answer(&rt, answer);
     assert_same(&rt, &answer.items.route.as_slice().len(), &0);
-    assert_same(&rt, &answer.items.nodes.as_slice().len(), &2);
+    assert_same(&rt, &answer.items.nodes.len(), &2);
     let again = reply.write(rt.alloc())?;
     assert_octets(&rt, &again, &octets);
     Ok(())

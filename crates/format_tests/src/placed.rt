@@ -1,23 +1,24 @@
 //! Answers and replies that are written from the texts of their node leaves: octets worked out by hand.
 ghost use Rattle.std.specs.Prelude.{◌≡◌, ◌<◌, [], ◌∷◌, ◌++◌, length, map, IfOk, OnOk, All};
 ghost use Rattle.road_leaf.specs.Leaves.{node_leaf_text};
+ghost use Rattle.road_leaf.specs.Seen.{seen};
 ghost use Rattle.proof_octets.specs.NearReplies.{near_reply};
 ghost use Rattle.proof_octets.specs.Placed.{text_at};
 ghost use Rattle.proof_octets.specs.Replies.{reply, reply_of};
 
 use crate::asserts::assert_octets;
 use crate::formats::{REPLY, changed};
-use book_model::{Items, NodeLeaves, Places};
+use book_model::{Items, Places};
 use merkle_cover::Texts;
 use proof_octets::{Answer, NearReply, PlacedAnswer, PlacedNear, Reply, range_laws};
-use road_leaf::NodeLeaf;
+use road_leaf::{NodeLeaves, NodeView};
 use std::alloc::Global;
 use std::test::Fail;
 
-fn text_of(alloc: Global, leaf: &NodeLeaf) -> Result<Vec<u8>, Fail>
-    ensures { IfOk result (λ text. text.items ≡ node_leaf_text leaf.now) }
+fn text_of(alloc: Global, leaf: &NodeView<'_>) -> Result<Vec<u8>, Fail>
+    ensures { IfOk result (λ text. text.items ≡ node_leaf_text (seen leaf.now)) }
 {
-    if leaf.arcs.as_slice().len() > 255 {
+    if leaf.arcs.len() > 255 {
         return Err(Fail::from("many arcs"));
     }
     let mut text = Vec::new(alloc);
@@ -36,9 +37,9 @@ fn push(texts: &mut Texts, text: &[u8]) -> Result<(), Fail>
 }
 
 // The texts of two leaves, and one of no octets between them.
-fn texts_around(alloc: Global, first: &NodeLeaf, last: &NodeLeaf) -> Result<Texts, Fail>
+fn texts_around(alloc: Global, first: &NodeView<'_>, last: &NodeView<'_>) -> Result<Texts, Fail>
     ensures { IfOk result (λ texts. texts ≡
-        node_leaf_text first.now ∷ [] ∷ node_leaf_text last.now ∷ []) }
+        node_leaf_text (seen first.now) ∷ [] ∷ node_leaf_text (seen last.now) ∷ []) }
 {
     let first = text_of(alloc, first)?;
     let last = text_of(alloc, last)?;
@@ -56,11 +57,10 @@ fn texts_for(alloc: Global, places: &Places, leaves: &NodeLeaves) -> Result<Text
         map node_leaf_text leaves.now) }
 {
     let places = places.as_slice();
-    let leaves = leaves.as_slice();
     if places.len() != 2 || places[0] != 0 || places[1] != 2 || leaves.len() != 2 {
         return Err(Fail::from("other leaves"));
     }
-    texts_around(alloc, &leaves[0], &leaves[1])
+    texts_around(alloc, &leaves.at(0), &leaves.at(1))
 }
 
 // The octets of an answer with two leaves, at the indices 0 and 2, from their texts.

@@ -9,7 +9,7 @@ ghost use Rattle.method_judges.specs.Scans.{border_length, IsBorderList};
 use crate::hyp_items::is_marked;
 use octet_text::{NoMemory, collected, insert};
 use proof_judge::NodesById;
-use road_leaf::NodeLeaf;
+use road_leaf::NodeLeaves;
 use road_search::Labels;
 use std::alloc::Global;
 use std::collections::BTreeMap;
@@ -40,7 +40,7 @@ fn note(near: &mut BTreeMap<u32, u64>, id: u32, length: Option<u64>) -> Result<(
 /// All borders with their least inner lengths.
 fn borders(
     alloc: Global,
-    nodes: &[NodeLeaf],
+    nodes: &NodeLeaves,
     by_id: &NodesById<'_>,
     labels: &Labels,
 ) -> Result<BTreeMap<u32, u64>, NoMemory>
@@ -49,9 +49,10 @@ fn borders(
         get nat_cmp near id ≡ border_length nodes.now (length_at labels.now) id) }
 {
     let mut near = BTreeMap::new(alloc);
-    for node in nodes {
-        let length = inner_length(by_id, labels, node.id);
-        note(&mut near, node.id, length)?;
+    for index in 0..nodes.len() {
+        let id = nodes.at(index).id;
+        let length = inner_length(by_id, labels, id);
+        note(&mut near, id, length)?;
     }
     Ok(near)
 }
@@ -68,7 +69,7 @@ fn in_order(alloc: Global, near: BTreeMap<u32, u64>) -> Result<Vec<(u32, u64)>, 
 /// All borders by ascending id, each with its least inner length.
 pub fn listed(
     alloc: Global,
-    nodes: &[NodeLeaf],
+    nodes: &NodeLeaves,
     by_id: &NodesById<'_>,
     labels: &Labels,
 ) -> Result<Vec<(u32, u64)>, NoMemory>

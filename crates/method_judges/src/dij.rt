@@ -34,7 +34,7 @@ impl Judge for Dij {
         items: &Items,
         query: Query,
     ) -> Result<(), Refusal> {
-        are_narrow(items.nodes.as_slice());
+        are_narrow(&items.nodes);
         let by_id = begin_apart(alloc, items, query)?;
         walk_tests(alloc, &Anywhere { by_id: &by_id }, query)
     }

@@ -48,7 +48,7 @@ impl Judge for Hyp {
         items: &Items,
         query: Query,
     ) -> Result<(), Refusal> {
-        are_narrow(items.nodes.as_slice());
+        are_narrow(&items.nodes);
         let by_id = begin_apart(alloc, items, query)?;
         inner_tests(alloc, items, &by_id, query)
     }
@@ -76,7 +76,7 @@ fn pair_tests(
         pairs: &pairs,
         most: length,
     };
-    let fault = scanned(alloc, &detours, items.nodes.as_slice(), by_id, near, far)?;
+    let fault = scanned(alloc, &detours, &items.nodes, by_id, near, far)?;
     match fault {
         None => Ok(length),
         Some(refusal) => Err(refusal),
@@ -133,7 +133,7 @@ fn border_tests(
 {
     let pairs = PairsById::new(alloc, items.pairs.as_slice())?;
     let joined = Joined { pairs: &pairs };
-    let fault = scanned(alloc, &joined, items.nodes.as_slice(), by_id, near, far)?;
+    let fault = scanned(alloc, &joined, &items.nodes, by_id, near, far)?;
     match fault {
         None => Ok(()),
         Some(refusal) => Err(refusal),

@@ -25,7 +25,7 @@ pub fn is_marked(by_id: &NodesById<'_>, id: u32) -> bool
 {
     match by_id.find(id) {
         None => false,
-        Some(leaf) => is_border(&leaf.extra),
+        Some(leaf) => is_border(leaf.extra),
     }
 }
 

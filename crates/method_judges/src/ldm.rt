@@ -24,7 +24,7 @@ impl Judge for Ldm {
     ghost kind = { ByLdm };
 
     fn judge(alloc: Global, numbers: Numbers, items: &Items, query: Query) -> Result<u64, Refusal> {
-        are_short(items.nodes.as_slice());
+        are_short(&items.nodes);
         let (by_id, length) = begin(alloc, items, query)?;
         tests(alloc, &by_id, numbers.first, query, length)
     }
@@ -35,7 +35,7 @@ impl Judge for Ldm {
         items: &Items,
         query: Query,
     ) -> Result<(), Refusal> {
-        are_narrow(items.nodes.as_slice());
+        are_narrow(&items.nodes);
         let by_id = begin_apart(alloc, items, query)?;
         let leaves = ItemLeaves { by_id: &by_id };
         let open = Open {

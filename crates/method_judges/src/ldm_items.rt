@@ -26,7 +26,7 @@ impl Lookup for ItemLeaves<'_, '_> {
     fn extra(&self, id: u32) -> Option<&Extra> {
         match self.by_id.find(id) {
             None => None,
-            Some(leaf) => Some(&leaf.extra),
+            Some(leaf) => Some(leaf.extra),
         }
     }
 

@@ -7,7 +7,7 @@ ghost use Rattle.method_judges.specs.Scans.{PairFault, scan_row, scan, IsScan};
 use crate::borders::listed;
 use octet_text::NoMemory;
 use proof_judge::{NodesById, PairsById, Refusal, joined_fault};
-use road_leaf::NodeLeaf;
+use road_leaf::NodeLeaves;
 use road_search::Labels;
 use std::alloc::Global;
 
@@ -127,7 +127,7 @@ fn first_fault<F: Faults>(faults: &F, near: &[(u32, u64)], far: &[(u32, u64)]) -
 pub fn scanned<F: Faults>(
     alloc: Global,
     faults: &F,
-    nodes: &[NodeLeaf],
+    nodes: &NodeLeaves,
     by_id: &NodesById<'_>,
     near: &Labels,
     far: &Labels,

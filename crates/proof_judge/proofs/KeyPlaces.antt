@@ -73,6 +73,23 @@ module _ {X : Type 0} (key : X → ℕ) where
       by_head true e le deeper = with_one e (once_from_count id xs (omega (arith, le)))
       by_head false e le deeper = later (deeper (omega (arith, le)))
 
+  -- a key that rises is no less than its index
+  pub index_below : (xs : List X) → RiseBy key xs → (k : ℕ) (m : X) → slice_get xs k ≡ Some m → k ≤ key m
+  index_below xs rise zero m at = omega arith
+  index_below xs rise (suc k) m at =
+      let lt : k < length xs = omega (arith, slice_get_within xs (suc k) m at) in
+      let here : slice_get xs k ≡ Some (get_or xs k m) = slice_get-get_or xs k m lt in
+      let before : k ≤ key (get_or xs k m) = index_below xs rise k (get_or xs k m) here in
+      let step : key (get_or xs k m) < key m = rise k (suc k) (get_or xs k m) m (omega arith) here at in
+      omega (arith, before, step)
+
+  -- there are no more keys than numbers below a bound of the last
+  pub few_keys : (xs : List X) (d : X) (most : ℕ) → RiseBy key xs → 0 < length xs → key (get_or xs (length xs - 1) d) < most → length xs ≤ most
+  few_keys xs d most rise some lt =
+      let at : slice_get xs (length xs - 1) ≡ Some (get_or xs (length xs - 1) d) = slice_get-get_or xs (length xs - 1) d (omega (arith, some)) in
+      let below : length xs - 1 ≤ key (get_or xs (length xs - 1) d) = index_below xs rise (length xs - 1) (get_or xs (length xs - 1) d) at in
+      omega (arith, below, lt, some)
+
   -- keys up to an index rise where no neighbours are equal
   module _ (xs : List X) (sorted : IsNonDecreasingBy key xs) where
     rise_below : (i : ℕ) → i ≤ length xs → AllAdjacentBelow (λ (x y : X). key x < key y) xs i → (j k : ℕ) (m n : X) → j < k → k < i → slice_get xs j ≡ Some m → slice_get xs k ≡ Some n → key m < key n

@@ -1,12 +1,10 @@
 -- Indices of items by ascending id.
-use Rattle.std.proofs.Common.{◌≡◌, ℕ, zero, suc, ◌+◌, ◌==◌, Option, None, Some, List, [], ◌∷◌, ◌++◌, inl, inr, refl, arith, ap, sym, ◌∙◌, cond, count_by, length, slice_get, get_or, subst, nat_lt, is_some, IfSome, ◌<◌, map}
+use Rattle.std.proofs.Common.{◌≡◌, ℕ, zero, suc, ◌+◌, ◌==◌, Option, None, Some, List, [], ◌∷◌, ◌++◌, inl, inr, refl, arith, ap, sym, ◌∙◌, cond, count_by, length, slice_get, get_or, subst, ◌<◌, ◌≤◌, ◌^◌, map}
 use Rattle.std.specs.List.{Contains}
-use Rattle.std.specs.Option.{option_map}
-use denote.Ref.{Bor}
 use Rattle.std.specs.List.Sorted.{IsNonDecreasingBy, IsPermutation}
 use Rattle.std.proofs.lemmas.List.Elements.{Contains-push_cases}
 use Rattle.std.proofs.lemmas.List.Sorted.{sum_by-IsPermutation, Contains-permutation, IsPermutation-sym}
-use Rattle.std.proofs.lemmas.Option.{slice_get-get_or, slice_get_past, slice_get_within, get_or_from_slice_get}
+use Rattle.std.proofs.lemmas.Option.{slice_get_within, get_or_from_slice_get}
 use Rattle.road_map.specs.Least.{IsLeast}
 use Rattle.road_map.specs.Places.{RiseBy, StandsAt, AreRising, place_in}
 use Rattle.road_map.proofs.LeastLaws.{IsLeast-same}
@@ -19,7 +17,7 @@ use Rattle.proof_judge.specs.ById.{IsPlaceIn, AsMany, IsTaken, ArePlaces, AreLis
 use Rattle.proof_judge.proofs.Keys.{one_more}
 use Rattle.proof_judge.proofs.KeyPlaces.{Once, once_from_count, keys_rise, found_at, found_none}
 
-abbrev id_of : Place → ℕ
+abbrev pub id_of : Place → ℕ
 id_of p = p.id
 
 abbrev node_id : NodeLeaf → ℕ
@@ -42,6 +40,10 @@ as_many_sorted nodes ps qs same h id = sum_by-IsPermutation (λ (p : Place). con
 
 pub placed_sorted : (nodes : List NodeLeaf) (ps qs : List Place) → IsPermutation ps qs → ((p : Place) → Contains ps p → IsPlaceIn nodes p) → (p : Place) → Contains qs p → IsPlaceIn nodes p
 placed_sorted nodes ps qs same h p c = h p (Contains-permutation qs ps p (IsPermutation-sym ps qs same) c)
+
+-- items are as few as their indices
+pub few_nodes : (nodes : List NodeLeaf) (ps qs : List Place) → length ps ≡ length nodes → qs ≡ ps → length qs ≤ 2 ^ 32 → length nodes ≤ 2 ^ 32
+few_nodes nodes ps qs count same few = omega (arith, count, ap length same, few)
 
 -- an id is taken where it stands at two items
 pub taken_twice : (nodes : List NodeLeaf) (ps : List Place) (o : Option ℕ) → AsMany nodes ps → IsLeast (IsTaken ps) o → IsLeast (StandsTwice nodes) o
@@ -71,11 +73,6 @@ item_missing nodes ps id h none = sym (found_none node_id id nodes (sym (h.as_ma
 
     zero_places : count_by (λ (p : Place). p.id == id) ps ≡ 0
     zero_places = by_count (count_by (λ (p : Place). p.id == id) ps) refl
-
--- what stands at an index of items
-pub at_place : (o : Option (Bor NodeLeaf)) (nodes : List NodeLeaf) (i : ℕ) → is_some o ≡ nat_lt i (length nodes) → IfSome o (λ x. x.now ≡ get_or nodes i x.now) → option_map (λ r. r.now) o ≡ slice_get nodes i
-at_place None nodes i is at = sym (slice_get_past nodes i (grind (arith, is)))
-at_place (Some x) nodes i is at = ap Some at ∙ sym (slice_get-get_or nodes i x.now (grind (arith, is)))
 
 -- ---- the list of their ids
 

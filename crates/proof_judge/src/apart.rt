@@ -35,7 +35,7 @@ pub fn begin_apart(alloc: Global, items: &Items, query: Query) -> Result<NodesBy
     ensures ends { OnOk result (end_lacking items.now.nodes query ≡ None) }
     ensures refused { IfErr result (RefusesApart items.now query) }
 {
-    let by_id = NodesById::new(alloc, items.nodes.as_slice())?;
+    let by_id = NodesById::new(alloc, &items.nodes)?;
     match end_lacking(&by_id, query) {
         None => Ok(by_id),
         Some(id) => Err(Refusal::MissingTuple(id)),

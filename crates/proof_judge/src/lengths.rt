@@ -6,7 +6,7 @@ ghost use Rattle.road_leaf.specs.declared.leaf.NodeLeaf.{NodeLeaf};
 ghost use Rattle.proof_judge.specs.ItemWalks.{item_at, leaf_ways};
 ghost use Rattle.proof_judge.specs.SharedTests.{AreShort, IsNarrow};
 
-use road_leaf::NodeLeaf;
+use road_leaf::{NodeLeaves, NodeView};
 use road_map::Arc;
 
 fn length_fits(arc: &Arc)
@@ -24,31 +24,31 @@ fn lengths_fit(arcs: &[Arc])
 }
 
 /// The lengths of all arcs are numbers of 32 bits, as their type says.
-pub fn are_short(nodes: &[NodeLeaf])
+pub fn are_short(nodes: &NodeLeaves)
     ensures { AreShort nodes.now }
 {
-    for node in nodes {
-        lengths_fit(node.arcs.as_slice());
+    for index in 0..nodes.len() {
+        lengths_fit(nodes.at(index).arcs);
     }
 }
 
-fn id_fits(node: &NodeLeaf)
+fn id_fits(node: &NodeView<'_>)
     ensures { node.now.id < 2 ^ 32 }
 {
     let _id = node.id;
 }
 
 /// All ids are numbers of 32 bits, as their type says.
-fn ids_fit(nodes: &[NodeLeaf])
+fn ids_fit(nodes: &NodeLeaves)
     ensures { (n : NodeLeaf) → Contains nodes.now n → n.id < 2 ^ 32 }
 {
-    for node in nodes {
-        id_fits(node);
+    for index in 0..nodes.len() {
+        id_fits(&nodes.at(index));
     }
 }
 
 /// Walks over the items go over few ids with an item, and by short arcs, whatever these let pass.
-pub fn are_narrow(nodes: &[NodeLeaf])
+pub fn are_narrow(nodes: &NodeLeaves)
     ensures { (lets : ℕ → ℕ → Bool) → IsNarrow (leaf_ways lets (item_at nodes.now)) }
 {
     are_short(nodes);

@@ -3,14 +3,15 @@
 ghost use Rattle.std.specs.Prelude.{◌≡◌, ℕ, None, Some, IfOk, OnOk, IfErr, ◌⊎◌};
 ghost use Rattle.octet_text.specs.Want.{no_memory};
 ghost use Rattle.std.specs.Option.{option_map};
+ghost use Rattle.road_leaf.specs.Seen.{seen};
 ghost use Rattle.road_map.specs.Least.{IsLeast};
 ghost use Rattle.proof_judge.specs.ItemWalks.{item_at, StandsTwice};
 ghost use Rattle.road_map.specs.Places.{AreRising};
 
-use crate::places::{Place, ids_of, repeated_id, sorted_places};
+use crate::places::{Place, are_few, ids_of, repeated_id, sorted_places};
 use crate::refusal::Refusal;
 use octet_text::{NoMemory, copied};
-use road_leaf::NodeLeaf;
+use road_leaf::{NodeLeaves, NodeView};
 use road_map::RisingIds;
 use std::alloc::Global;
 use std::marker::Model;
@@ -19,7 +20,7 @@ use std::marker::Model;
 /// own too, in which a search finds them with less memory to read.
 #[derive(Drop)]
 pub struct NodesById<'a> {
-    nodes: &'a [NodeLeaf],
+    nodes: &'a NodeLeaves,
     places: Vec<Place>,
     ids: RisingIds,
 }
@@ -38,7 +39,7 @@ impl<'a> Model for NodesById<'a> {
 
 impl<'a> NodesById<'a> {
     /// Puts node items by id, unless two carry the same.
-    pub fn new(alloc: Global, nodes: &'a [NodeLeaf]) -> Result<NodesById<'a>, Refusal>
+    pub fn new(alloc: Global, nodes: &'a NodeLeaves) -> Result<NodesById<'a>, Refusal>
         ensures nodes { IfOk result (λ by_id. by_id ≡ nodes.now) }
         ensures distinct { OnOk result (IsLeast (StandsTwice nodes.now) None) }
         ensures fault { IfErr result
@@ -49,6 +50,7 @@ impl<'a> NodesById<'a> {
         let places = sorted_places(alloc, nodes)?;
         match repeated_id(places.as_slice()) {
             None => {
+                are_few(places.as_slice());
                 let rising = ids_of(alloc, places.as_slice())?;
                 let ids = RisingIds::new(alloc, rising)?;
                 Ok(NodesById { nodes, places, ids })
@@ -58,12 +60,12 @@ impl<'a> NodesById<'a> {
     }
 
     /// The item of an id.
-    pub fn find(&self, id: u32) -> Option<&NodeLeaf>
-        ensures { option_map (λ r. r.now) result ≡ item_at self.now id }
+    pub fn find(&self, id: u32) -> Option<NodeView<'_>>
+        ensures { option_map seen result ≡ item_at self.now id }
     {
         match self.ids.place(id) {
             None => None,
-            Some(place) => self.nodes.get(self.places[place].index),
+            Some(place) => self.nodes.get(self.places[place].index as usize),
         }
     }
 

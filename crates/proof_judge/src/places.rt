@@ -1,41 +1,52 @@
 //! The indices of node items by ascending id.
 
-ghost use Rattle.std.specs.Prelude.{◌≡◌, IfOk, Contains, map};
+ghost use Rattle.std.specs.Prelude.{◌≡◌, ◌<◌, ◌≤◌, ◌^◌, IfOk, Contains, length, map};
 ghost use Rattle.std.specs.List.Sorted.{IsNonDecreasingBy};
 ghost use Rattle.road_map.specs.Least.{IsLeast};
+ghost use Rattle.road_map.specs.Places.{RiseBy};
 ghost use Rattle.proof_judge.specs.declared.places.Place.{Place};
 ghost use Rattle.proof_judge.specs.ById.{IsPlaceIn, AsMany, IsTaken};
 
-use octet_text::{NoMemory, collected, push, room_for};
-use road_leaf::NodeLeaf;
+use octet_text::{NoMemory, collected, push};
+use road_leaf::NodeLeaves;
 use std::alloc::Global;
 
-/// The id of an item, and where it stands.
+/// The id of an item, and its index.
 #[derive(Clone, Copy, Debug)]
 pub struct Place {
     pub id: u32,
-    pub index: usize,
+    pub index: u32,
 }
 
-/// The indices of items, in their order.
-fn places(alloc: Global, nodes: &[NodeLeaf]) -> Result<Vec<Place>, NoMemory>
+/// One more than the greatest index of a place.
+const INDICES: usize = 4_294_967_296;
+
+/// The indices of items, in their order. Each is less than 2^32: where there are more items, two of
+/// which then carry the same id, it is what is left of the index modulo 2^32.
+fn places(alloc: Global, nodes: &NodeLeaves) -> Result<Vec<Place>, NoMemory>
+    ensures count { IfOk result (λ places. length places.items ≡ length nodes.now) }
     ensures as_many { IfOk result (λ places. AsMany nodes.now places.items) }
-    ensures placed { IfOk result (λ places.
+    ensures placed { IfOk result (λ places. length nodes.now ≤ 2 ^ 32 →
         (p : Place) → Contains places.items p → IsPlaceIn nodes.now p) }
 {
-    let mut places = room_for(alloc, nodes)?;
-    for (index, node) in nodes.iter().enumerate() {
-        let id = node.id;
-        push(&mut places, Place { id, index })?;
+    let mut places = nodes.room(alloc)?;
+    for index in 0..nodes.len() {
+        let id = nodes.at(index).id;
+        let place = Place {
+            id,
+            index: (index % INDICES) as u32,
+        };
+        push(&mut places, place)?;
     }
     Ok(places)
 }
 
-/// The indices of items, sorted by id.
-pub fn sorted_places(alloc: Global, nodes: &[NodeLeaf]) -> Result<Vec<Place>, NoMemory>
+/// The indices of items, sorted by id. They are those modulo 2^32 where there are more.
+pub fn sorted_places(alloc: Global, nodes: &NodeLeaves) -> Result<Vec<Place>, NoMemory>
     ensures sorted { IfOk result (λ places. IsNonDecreasingBy (λ p. p.id) places.items) }
+    ensures count { IfOk result (λ places. length places.items ≡ length nodes.now) }
     ensures as_many { IfOk result (λ places. AsMany nodes.now places.items) }
-    ensures placed { IfOk result (λ places.
+    ensures placed { IfOk result (λ places. length nodes.now ≤ 2 ^ 32 →
         (p : Place) → Contains places.items p → IsPlaceIn nodes.now p) }
 {
     let mut places = places(alloc, nodes)?;
@@ -54,6 +65,24 @@ pub fn repeated_id(places: &[Place]) -> Option<u32>
         }
     }
     None
+}
+
+fn id_fits(place: &Place)
+    ensures { place.now.id < 2 ^ 32 }
+{
+    let _id = place.id;
+}
+
+/// There are no more indices than ids, where no id has two.
+pub fn are_few(places: &[Place])
+    requires { RiseBy (λ p. p.id) places.now }
+    ensures { length places.now ≤ 2 ^ 32 }
+{
+    if places.is_empty() {
+        return;
+    }
+    let last = places[places.len() - 1];
+    id_fits(&last);
 }
 
 /// The ids of indices, in their order.

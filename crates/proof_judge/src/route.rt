@@ -10,7 +10,6 @@ ghost use Rattle.proof_judge.specs.SharedTests.{HopSays, RefusesBefore};
 use crate::nodes_by_id::NodesById;
 use crate::refusal::Refusal;
 use book_model::{Items, Query};
-use road_leaf::NodeLeaf;
 use road_map::Arc;
 use std::alloc::Global;
 
@@ -20,20 +19,16 @@ pub fn arcs_of<'a>(by_id: &'a NodesById<'_>, id: u32) -> Option<&'a [Arc]>
 {
     match by_id.find(id) {
         None => None,
-        Some(leaf) => Some(leaf.arcs.as_slice()),
+        Some(leaf) => Some(leaf.arcs),
     }
 }
 
 /// The length of the arc to an id.
-fn arc_length(leaf: &NodeLeaf, to: u32) -> Option<u32>
-    ensures length { result ≡ arc_to leaf.now.arcs to }
+fn arc_length(arcs: &[Arc], to: u32) -> Option<u32>
+    ensures length { result ≡ arc_to arcs.now to }
     ensures fits { IfSome result (λ l. l < 2 ^ 32) }
 {
-    leaf.arcs
-        .as_slice()
-        .iter()
-        .find(|arc| arc.to == to)
-        .map(|arc| arc.length)
+    arcs.iter().find(|arc| arc.to == to).map(|arc| arc.length)
 }
 
 /// The length of a hop.
@@ -43,7 +38,7 @@ fn hop(by_id: &NodesById<'_>, index: u32, from: u32, to: u32) -> Result<u32, Ref
 {
     match by_id.find(from) {
         None => Err(Refusal::MissingTuple(from)),
-        Some(leaf) => match arc_length(leaf, to) {
+        Some(leaf) => match arc_length(leaf.arcs, to) {
             None => Err(Refusal::BadRoute(index + 1)),
             Some(length) => Ok(length),
         },
@@ -112,7 +107,7 @@ pub fn begin(alloc: Global, items: &Items, query: Query) -> Result<(NodesById<'_
     ensures distinct { OnOk result (IsLeast (StandsTwice items.now.nodes) None) }
     ensures refused { IfErr result (RefusesBefore items.now query) }
 {
-    let by_id = NodesById::new(alloc, items.nodes.as_slice())?;
+    let by_id = NodesById::new(alloc, &items.nodes)?;
     let length = walk(&by_id, query, items.route.as_slice())?;
     Ok((by_id, length))
 }

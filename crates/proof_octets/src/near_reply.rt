@@ -11,8 +11,9 @@ use crate::header::{Header, read_header};
 use crate::item_writing::put_node_items;
 use crate::items::read_node_items;
 use crate::lists::{put_digests, put_signature, read_digests, read_signature};
-use book_model::{NodeLeaves, Places};
+use book_model::Places;
 use octet_text::{Cursor, Digests, Malformed, NoMemory, Octets, ReadError, put_octets};
+use road_leaf::NodeLeaves;
 use std::alloc::Global;
 
 /// Leaves of nodes, with all that proves them: their places in the node tree under the signed header,

@@ -37,4 +37,5 @@ mod over_map;
 mod path;
 mod places;
 mod positions;
+mod slots;
 mod survey;

@@ -61,7 +61,8 @@ impl Listed {
         requires { AreRising ids.items }
         ensures { IfOk result (λ found. (id : ℕ) → listed found id ≡ None) }
     {
-        let found = Listed::of(alloc, ids, Numbered::new(alloc))?;
+        let marks = Numbered::for_ids(alloc, ids.as_slice())?;
+        let found = Listed::of(alloc, ids, marks)?;
         Ok(found)
     }
 

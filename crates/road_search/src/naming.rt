@@ -11,7 +11,8 @@ use crate::listed::Listed;
 use crate::marks::Mark;
 use crate::numbered::Numbered;
 use crate::places::rising_ids;
-use octet_text::{NoMemory, push, room_for};
+use crate::slots::Slots;
+use octet_text::NoMemory;
 use road_map::Map;
 use std::alloc::Global;
 
@@ -52,13 +53,13 @@ fn mark_named(map: &Map, mark: Option<Mark>) -> Option<Mark>
 }
 
 /// Marks of positions, each as that of an id.
-fn all_named(alloc: Global, map: &Map, marks: &[Option<Mark>]) -> Result<Numbered, NoMemory>
+fn all_named(alloc: Global, map: &Map, marks: &Slots) -> Result<Numbered, NoMemory>
     ensures { IfOk result (λ all. all.marks.items ≡
-        every (option_map (named map.now.order)) marks.now) }
+        every (option_map (named map.now.order)) marks.now.items) }
 {
-    let mut all = room_for(alloc, marks)?;
-    for mark in marks {
-        push(&mut all, mark_named(map, *mark))?;
+    let mut all = Slots::as_many_as(alloc, marks)?;
+    for number in 0..marks.len() {
+        all.push(mark_named(map, marks.get(number)))?;
     }
     Ok(Numbered { marks: all })
 }
@@ -69,7 +70,7 @@ pub fn by_ids(alloc: Global, map: &Map, marks: &Numbered) -> Result<Listed, NoMe
         AreNamed map.now.order (marked marks.now.marks.items) (listed found)) }
 {
     let ids = rising_ids(alloc, map)?;
-    let named = all_named(alloc, map, marks.marks.as_slice())?;
+    let named = all_named(alloc, map, &marks.marks)?;
     let found = Listed::of(alloc, ids, named)?;
     Ok(found)
 }

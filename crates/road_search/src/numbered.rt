@@ -1,16 +1,17 @@
 //! Marks in a list by number.
 
-ghost use Rattle.std.specs.Prelude.{◌≡◌, ◌+◌, ◌<◌, ◌^◌, ℕ, None, Some, OnOk, nat_eq, if◌then◌else◌};
+ghost use Rattle.std.specs.Prelude.{◌≡◌, ◌+◌, ◌<◌, ◌^◌, ℕ, None, Some, IfOk, OnOk, nat_eq, if◌then◌else◌};
 ghost use Rattle.road_search.specs.Marking.{marked};
 
 use crate::marks::{Mark, Marks};
-use octet_text::{NoMemory, fill_up};
+use crate::slots::Slots;
+use octet_text::NoMemory;
 use std::alloc::Global;
 
 /// Marks of ids that are small numbers: a mark for each number up to the greatest that was marked.
 #[derive(Drop)]
 pub struct Numbered {
-    pub(crate) marks: Vec<Option<Mark>>,
+    pub(crate) marks: Slots,
 }
 
 impl Numbered {
@@ -19,25 +20,31 @@ impl Numbered {
         ensures { (id : ℕ) → ⟦<Numbered as Marks>⟧.mark result id ≡ None }
     {
         Numbered {
-            marks: Vec::new(alloc),
+            marks: Slots::new(alloc),
         }
+    }
+
+    /// No mark, and room for as many as there are ids.
+    pub(crate) fn for_ids(alloc: Global, ids: &[u32]) -> Result<Numbered, NoMemory>
+        ensures { IfOk result (λ marks. (id : ℕ) →
+            ⟦<Numbered as Marks>⟧.mark marks id ≡ None) }
+    {
+        let marks = Slots::for_ids(alloc, ids)?;
+        Ok(Numbered { marks })
     }
 
     /// Takes all marks away, and keeps the room.
     pub fn clear(&mut self)
         ensures { (id : ℕ) → ⟦<Numbered as Marks>⟧.mark self.new id ≡ None }
     {
-        self.marks.fill(None);
+        self.marks.clear();
     }
 
     /// The mark of a number.
     pub(crate) fn at(&self, number: usize) -> Option<Mark>
         ensures { result ≡ marked self.now.marks.items number }
     {
-        match self.marks.get(number) {
-            None => None,
-            Some(mark) => *mark,
-        }
+        self.marks.get(number)
     }
 
     /// Gives a number this mark.
@@ -47,11 +54,7 @@ impl Numbered {
             marked self.new.marks.items v ≡ (if nat_eq number v then Some new else
             marked self.old.marks.items v)) }
     {
-        if number >= self.marks.len() {
-            fill_up(&mut self.marks, number + 1, None)?;
-        }
-        self.marks[number] = Some(new);
-        Ok(())
+        self.marks.put(number, new)
     }
 }
 

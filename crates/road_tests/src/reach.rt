@@ -119,7 +119,7 @@ fn count(alloc: Global, radius: u64) -> Result<usize, Fail> {
         return Ok(0);
     }
     let near = NearReply::read(alloc, &octets)?;
-    Ok(near.nodes.as_slice().len())
+    Ok(near.nodes.len())
 }
 
 static COUNTS: [(u64, usize); 6] = [(0, 1), (3, 2), (4, 3), (8, 3), (9, 4), (u64::MAX, 4)];

@@ -166,3 +166,11 @@ reached_apart hash key links octets q least c read is =
     let both : ◌≡◌ {A = Result NearReply ℕ} (Ok accepts.reply) (Ok c.reply) = sym accepts.spelled ∙ read in
     let same : accepts.reply ≡ c.reply = cc in
     subst (λ (r : NearReply). AreApart r.nodes) same accepts.distinct
+
+-- of what is accepted the verdict holds without an exception
+pub accepted_so : (P : Result Checked CheckError → Type 0) (checked : CheckedAnswer) → UnlessMemory P (taken (Ok checked)) → P (taken (Ok checked))
+accepted_so P checked h = by_length checked.length h
+  where
+    by_length : (length : Option ℕ) → UnlessMemory P (as_checked checked.answer (Ok length)) → P (as_checked checked.answer (Ok length))
+    by_length None h = h
+    by_length (Some d) h = h

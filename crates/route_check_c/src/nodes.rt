@@ -7,7 +7,7 @@ ghost use Rattle.route_check_c.specs.Placing.{AreApart, route_node as placed, re
 use octet_text::NoMemory;
 use proof_judge::{NodesById, Refusal};
 use proof_octets::Mark;
-use road_leaf::NodeLeaf;
+use road_leaf::NodeLeaves;
 use std::alloc::Global;
 
 /// A node of a route.
@@ -33,7 +33,7 @@ pub struct ReachedNode {
 }
 
 /// Leaves by their ids, of which no two are of one node.
-pub(crate) fn by_ids<'a>(alloc: Global, leaves: &'a [NodeLeaf]) -> Result<NodesById<'a>, NoMemory>
+pub(crate) fn by_ids<'a>(alloc: Global, leaves: &'a NodeLeaves) -> Result<NodesById<'a>, NoMemory>
     requires { AreApart leaves.now }
     ensures { IfOk result (λ by_id. by_id ≡ leaves.now) }
 {

@@ -27,7 +27,7 @@ fn tell(alloc: Global, checked: &CheckedReply, nodes: &mut [ReachedNode]) -> Ver
     requires apart { AreApart checked.now.reply.nodes }
     ensures { TellsReached checked.now nodes.old nodes.new result }
 {
-    match by_ids(alloc, checked.reply.nodes.as_slice()) {
+    match by_ids(alloc, &checked.reply.nodes) {
         Ok(by_id) => {
             let marks = checked.nodes.as_slice();
             fill_reached(nodes, &by_id, marks);

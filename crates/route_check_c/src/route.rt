@@ -53,7 +53,7 @@ fn tell_route(
     if let Err(why) = unwanted(alloc, ids, simple) {
         return refused(why, 0);
     }
-    match by_ids(alloc, answer.items.nodes.as_slice()) {
+    match by_ids(alloc, &answer.items.nodes) {
         Ok(by_id) => {
             fill_route(nodes, &by_id, ids);
             accepted(ids.len() as u64, length, answer.header.version)

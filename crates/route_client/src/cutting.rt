@@ -11,7 +11,7 @@ use crate::leaf_lengths::text_length;
 use merkle_cover::Cut;
 use octet_text::{NoMemory, push};
 use proof_octets::Answer;
-use road_leaf::{NodeLeaf, PairLeaf};
+use road_leaf::{NodeLeaves, PairLeaf};
 use std::alloc::Global;
 
 /// Where the texts of an answer's leaves stand in the octets that encode it.
@@ -35,15 +35,16 @@ fn push_cut(cuts: &mut Vec<Cut>, start: u32, length: u32) -> Result<u32, NoMemor
 
 /// Adds the cuts of node items that stand one after the other from an offset on, each text after its
 /// index in the tree and its length, and answers where they end.
-pub fn push_nodes(cuts: &mut Vec<Cut>, at: u32, leaves: &[NodeLeaf]) -> Result<u32, NoMemory>
+pub fn push_nodes(cuts: &mut Vec<Cut>, at: u32, leaves: &NodeLeaves) -> Result<u32, NoMemory>
     requires { end_at 6 at (map node_leaf_text leaves.now) < 2 ^ 32 }
     ensures cuts { OnOk result (cuts.new.items ≡ cuts.old.items ++ cuts_at 6 at
         (map node_leaf_text leaves.now)) }
     ensures end { IfOk result (λ end. end ≡ end_at 6 at (map node_leaf_text leaves.now)) }
 {
     let mut next = at;
-    for leaf in leaves {
-        next = push_cut(cuts, next + 6, text_length(leaf))?;
+    for index in 0..leaves.len() {
+        let leaf = leaves.at(index);
+        next = push_cut(cuts, next + 6, text_length(&leaf))?;
     }
     Ok(next)
 }
@@ -89,7 +90,7 @@ pub fn leaf_cuts(alloc: Global, octets: &[u8], answer: &Answer) -> Result<LeafCu
         map (cut_from octets.now) cuts.pairs.items ≡ map pair_leaf.spell answer.now.items.pairs) }
 {
     let mut nodes = Vec::new(alloc);
-    let end = push_nodes(&mut nodes, nodes_at(answer), answer.items.nodes.as_slice())?;
+    let end = push_nodes(&mut nodes, nodes_at(answer), &answer.items.nodes)?;
     let mut pairs = Vec::new(alloc);
     push_pairs(&mut pairs, end + 4, answer.items.pairs.as_slice())?;
     Ok(LeafCuts { nodes, pairs })

@@ -2,9 +2,10 @@
 
 ghost use Rattle.std.specs.Prelude.{◌≡◌, ◌<◌, ◌^◌, length};
 ghost use Rattle.road_leaf.specs.Leaves.{node_leaf_text};
+ghost use Rattle.road_leaf.specs.Seen.{seen};
 ghost use Rattle.proof_octets.specs.Lengths.{added_length};
 
-use road_leaf::{Extra, NodeLeaf};
+use road_leaf::{Extra, NodeView};
 
 // How many octets a leaf's text has of what its kind adds.
 fn length_added(extra: &Extra) -> usize
@@ -20,9 +21,9 @@ fn length_added(extra: &Extra) -> usize
 }
 
 /// How many octets the text of a node's leaf has.
-pub fn text_length(leaf: &NodeLeaf) -> u32
-    requires { length (node_leaf_text leaf.now) < 2 ^ 32 }
-    ensures { result ≡ length (node_leaf_text leaf.now) }
+pub fn text_length(leaf: &NodeView<'_>) -> u32
+    requires { length (node_leaf_text (seen leaf.now)) < 2 ^ 32 }
+    ensures { result ≡ length (node_leaf_text (seen leaf.now)) }
 {
-    (15 + 8 * leaf.arcs.as_slice().len() + length_added(&leaf.extra)) as u32
+    (15 + 8 * leaf.arcs.len() + length_added(leaf.extra)) as u32
 }

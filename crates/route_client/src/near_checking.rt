@@ -21,7 +21,7 @@ fn accept(alloc: Global, reply: NearReply, query: NearQuery) -> Result<CheckedRe
     ensures verdict { UnlessMemory (WalkedAfter (Ok reply) query) (taken result) }
     ensures same { IfOk result (λ checked. checked.reply ≡ reply) }
 {
-    match walk(alloc, reply.nodes.as_slice(), query) {
+    match walk(alloc, &reply.nodes, query) {
         Ok(nodes) => Ok(CheckedReply { reply, nodes }),
         Err(error) => Err(error),
     }

@@ -22,6 +22,6 @@ pub fn reply_cuts(alloc: Global, octets: &[u8], reply: &NearReply) -> Result<Vec
 {
     let signature = reply.signature.as_slice().len() as u32;
     let mut cuts = Vec::new(alloc);
-    push_nodes(&mut cuts, 114 + signature, reply.nodes.as_slice())?;
+    push_nodes(&mut cuts, 114 + signature, &reply.nodes)?;
     Ok(cuts)
 }

@@ -14,7 +14,7 @@ use method_judges::Anywhere;
 use octet_text::{NoMemory, push};
 use proof_judge::{NodesById, Refusal, are_narrow};
 use proof_octets::{Mark, Marks, NearQuery};
-use road_leaf::NodeLeaf;
+use road_leaf::NodeLeaves;
 use road_search::{Labels, search};
 use std::alloc::Global;
 
@@ -86,7 +86,7 @@ fn list(alloc: Global, by_id: &NodesById<'_>, query: NearQuery) -> Result<Marks,
 }
 
 // What the items show, or why they are refused.
-pub(crate) fn walk(alloc: Global, nodes: &[NodeLeaf], query: NearQuery) -> Result<Marks, NearError>
+pub(crate) fn walk(alloc: Global, nodes: &NodeLeaves, query: NearQuery) -> Result<Marks, NearError>
     ensures { UnlessMemory (Walked nodes.now query) result }
 {
     are_narrow(nodes);

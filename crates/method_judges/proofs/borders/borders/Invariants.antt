@@ -5,5 +5,5 @@ use Rattle.road_search.specs.Labelling.{length_at}
 use Rattle.method_judges.proofs.BorderLists.{border_among}
 use Rattle.method_judges.proofs.borders.borders.Given as goal
 
-abbrev pub invariant-loop-node : goal.invariant-loop-node
-invariant-loop-node l = (q : ℕ) → get nat_cmp l.near q ≡ border_among l.nodes (take l.node-index l.nodes) (length_at l.labels) q
+abbrev pub invariant-loop-index : goal.invariant-loop-index
+invariant-loop-index l = (q : ℕ) → get nat_cmp l.near q ≡ border_among l.nodes (take l.index l.nodes) (length_at l.labels) q

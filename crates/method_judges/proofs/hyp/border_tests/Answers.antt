@@ -1,6 +1,5 @@
 use Rattle.std.proofs.Common.{None, Some, Err, List, ◌∙◌, subst}
 use Rattle.road_search.specs.Labelling.{length_at}
-use Rattle.road_leaf.specs.declared.leaf.NodeLeaf.{NodeLeaf}
 use Rattle.road_leaf.specs.declared.pair.PairLeaf.{PairLeaf}
 use Rattle.proof_judge.specs.Apart.{joined_fault, BorderTests}
 use Rattle.proof_judge.proofs.Tested.{unless}
@@ -15,7 +14,7 @@ returns-in-None c =
     let s : IsScan (joined_fault c.args.items.now.pairs) 18446744073709551615 c.args.items.now.nodes near far None =
     subst (IsScan (joined_fault c.args.items.now.pairs) 18446744073709551615 c.args.items.now.nodes near far) c.in-None.is
     (subst (λ (ps : List PairLeaf). IsScan (joined_fault ps) 18446744073709551615 c.args.items.now.nodes near far c.in_ok-fault.fault) (c.in_ok-pairs.ensures ∙ c.as_slice.ensures)
-    (subst (λ (ns : List NodeLeaf). IsScan (joined_fault c.in_ok-pairs.pairs) 18446744073709551615 ns near far c.in_ok-fault.fault) c.as_slice-2.ensures c.in_ok-fault.ensures)) in
+    c.in_ok-fault.ensures) in
     border_tests c.args.items.now c.args.query near far c.requires.near.least c.requires.far.least c.requires.near.low c.requires.far.low None s
 
 pub returns : goal.returns
@@ -25,6 +24,6 @@ returns c =
     let s : IsScan (joined_fault c.args.items.now.pairs) 18446744073709551615 c.args.items.now.nodes near far (Some c.in-Some.refusal) =
     subst (IsScan (joined_fault c.args.items.now.pairs) 18446744073709551615 c.args.items.now.nodes near far) c.in-Some.is
     (subst (λ (ps : List PairLeaf). IsScan (joined_fault ps) 18446744073709551615 c.args.items.now.nodes near far c.in_ok-fault.fault) (c.in_ok-pairs.ensures ∙ c.as_slice.ensures)
-    (subst (λ (ns : List NodeLeaf). IsScan (joined_fault c.in_ok-pairs.pairs) 18446744073709551615 ns near far c.in_ok-fault.fault) c.as_slice-2.ensures c.in_ok-fault.ensures)) in
+    c.in_ok-fault.ensures) in
     unless (BorderTests c.args.items.now c.args.query) (Err c.in-Some.refusal)
     (border_tests c.args.items.now c.args.query near far c.requires.near.least c.requires.far.least c.requires.near.low c.requires.far.low (Some c.in-Some.refusal) s)

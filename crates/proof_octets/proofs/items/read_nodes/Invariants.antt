@@ -9,4 +9,4 @@ use Rattle.proof_octets.proofs.items.read_nodes.Given as goal
 abbrev pub invariant-loop : goal.invariant-loop
 invariant-loop l =
     (front : List NodeItem) × Begun (node_item l.fn.kind) after_node front (l.count - l.counter) l.least l.cursor (rows_at (node_item l.fn.kind) after_node l.count 0 l.fn.cursor) ×
-    (l.places.items ≡ map (λ (i : NodeItem). i.place) front) × (l.leaves.items ≡ map (λ (i : NodeItem). i.leaf) front)
+    (l.places.items ≡ map (λ (i : NodeItem). i.place) front) × (l.leaves ≡ map (λ (i : NodeItem). i.leaf) front)

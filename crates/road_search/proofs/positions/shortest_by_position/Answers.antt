@@ -1,6 +1,5 @@
-use Rattle.std.proofs.Common.{◌≡◌, ◌∙◌, Some, None, ap, sym, subst}
+use Rattle.std.proofs.Common.{◌∙◌, ap, sym}
 use Rattle.std.specs.Option.{option_map}
-use Rattle.road_map.specs.Routes.{IsShortest}
 use Rattle.road_search.specs.declared.label.Label.{Label}
 use Rattle.road_search.specs.declared.marks.Mark.{Mark}
 use Rattle.road_search.specs.Marking.{marked}

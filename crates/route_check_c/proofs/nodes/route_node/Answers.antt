@@ -5,6 +5,6 @@ use Rattle.route_check_c.proofs.nodes.route_node.Goals as goal
 
 pub returns : goal.returns
 returns c =
-    let x : SFits w32 c.in-Some.leaf.now.x = search rules in
-    let y : SFits w32 c.in-Some.leaf.now.y = search rules in
-    rw (to_z-of_z w32 c.in-Some.leaf.now.x x, to_z-of_z w32 c.in-Some.leaf.now.y y) (ap placed c.in-Some.ensures)
+    let x : SFits w32 c.in-Some.leaf.x = search rules in
+    let y : SFits w32 c.in-Some.leaf.y = search rules in
+    rw (to_z-of_z w32 c.in-Some.leaf.x x, to_z-of_z w32 c.in-Some.leaf.y y) (ap placed c.in-Some.ensures)

@@ -1,4 +1,4 @@
-use Rattle.std.proofs.Common.{◌≡◌, Ok, inr, refl, rules}
+use Rattle.std.proofs.Common.{◌≡◌, Ok, inl, inr, refl, rules}
 use Rattle.sha2.specs.Sha256.{sha256}
 use Rattle.octet_text.specs.Format.{whole}
 use Rattle.lms_tree.specs.ChainFiles.{chain_file}
@@ -6,7 +6,7 @@ use Rattle.route_client.specs.Verdicts.{IsVerdict}
 use Rattle.route_check_c.specs.Codes.{route_reason}
 use Rattle.road_line.specs.VerdictLine.{refused_line}
 use Rattle.route_client.specs.declared.errors.CheckError.TheVariants.{Memory}
-use Rattle.route_check_c.proofs.LeafLemmas.{checked_apart, checked_leaves}
+use Rattle.route_check_c.proofs.LeafLemmas.{accepted_so, checked_apart, checked_leaves}
 use Rattle.route_check_c.proofs.Refusals.{refusal_told, route_refused}
 use Rattle.route_check_c.proofs.route.gog_proved_route.Goals as goal
 use Rattle.route_check_c.proofs.route.gog_proved_route.Goals.{in-Ok-check_answer, in-Err-check_answer}
@@ -34,7 +34,17 @@ tell-requires-clause-apart c =
 pub returns-clause-told : goal.returns-clause-told
 returns-clause-told c =
     elim c.match-check_answer.branch [
-      | in-Ok-check_answer w ↦ search rules
+      | in-Ok-check_answer w ↦
+          let spelled : whole chain_file c.args.chain.now ≡ Ok c.as_slice.result.now = search rules in
+          rw (w.nodes-is, w.line-is, w.verdict-is) (inl (record {
+            links = c.as_slice.result.now;
+            spelled = spelled;
+            checked = w.in-Ok-check_answer.checked;
+            brought = w.in-Ok-check_answer.ensures.spelled;
+            verdict = accepted_so (IsVerdict sha256 c.args.public.now c.as_slice.result.now c.args.reply.now (record { from = c.args.from; to = c.args.to }) c.args.least) w.in-Ok-check_answer.checked w.in-Ok-check_answer.ensures.verdict;
+            told = w.tell.ensures;
+            line = refl;
+          }))
       | in-Err-check_answer w ↦
           let spelled : whole chain_file c.args.chain.now ≡ Ok c.as_slice.result.now = search rules in
           let error = w.in-Err-check_answer.error in

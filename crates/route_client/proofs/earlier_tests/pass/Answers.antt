@@ -1,7 +1,7 @@
 use Rattle.std.proofs.Common.{◌≡◌, Err}
 use Rattle.std.proofs.lemmas.Result.{err_from_is_err_and}
 use Rattle.route_client.proofs.NotAnswers.{answer_read, refused_at_once}
-use Rattle.route_client.proofs.VerdictLaws.{passed_so}
+use Rattle.route_client.proofs.VerdictLaws.{passed_so, refused_so}
 use Rattle.route_client.proofs.FewItems.{few_nodes}
 use Rattle.route_client.proofs.earlier_tests.pass.Goals as goal
 
@@ -31,3 +31,8 @@ returns-in_err-test_answer-clause-not_answer g c kind = answer_read c.args.octet
 
 pub returns-clause-not_answer : goal.returns-clause-not_answer
 returns-clause-not_answer g c kind = answer_read c.args.octets.now kind c.in_ok-answer.answer _ c.in_ok-answer.ensures.is
+
+pub returns-in_err-test_answer-clause-is : goal.returns-in_err-test_answer-clause-is
+returns-in_err-test_answer-clause-is g c =
+    let p = err_from_is_err_and c.from_residual-in_err-test_answer.result c.from_residual-in_err-test_answer.ensures.1 in
+    rw (p.1, p.2) (refused_so g.H.Hasher.hash c.args.public.now c.args.chain.now c.args.octets.now c.args.least c.in_ok-answer.answer _ c.in_ok-answer.ensures.is c.in_err-test_answer.ensures)

@@ -11,8 +11,8 @@ returns-in_err-by_id c = let p = err_from_is_err_and c.from_residual.result c.fr
 
 pub inner_tests-requires-clause-narrow : goal.inner_tests-requires-clause-narrow
 inner_tests-requires-clause-narrow c =
-    let nodes = c.as_slice.result.now in
-    subst (λ xs. IsNarrow (inner_ways (item_at xs))) (sym c.in_ok-by_id.ensures.nodes) (subst (λ xs. IsNarrow (inner_ways (item_at xs))) c.as_slice.ensures (c.are_narrow.ensures (λ id _. not (marks (item_at nodes id)))))
+    let nodes = c.args.items.now.nodes in
+    subst (λ xs. IsNarrow (inner_ways (item_at xs))) (sym c.in_ok-by_id.ensures.nodes) (c.are_narrow.ensures (λ id _. not (marks (item_at nodes id))))
 
 pub inner_tests-requires-clause-few : goal.inner_tests-requires-clause-few
 inner_tests-requires-clause-few c = subst (λ xs. length xs ≤ 65536) (sym c.in_ok-by_id.ensures.nodes) c.requires

@@ -13,4 +13,4 @@ pub returns : goal.returns
 returns c = judged_by Ldm c.args.numbers c.args.items.now c.args.query c.in_ok-by_id.length c.tests.result c.in_ok-by_id.ensures.distinct c.in_ok-by_id.ensures.length (subst (λ xs. UnlessMemory (LdmTests c.args.numbers.first xs c.args.query c.in_ok-by_id.length) c.tests.result) c.in_ok-by_id.ensures.nodes c.tests.ensures)
 
 pub tests-requires-clause-short : goal.tests-requires-clause-short
-tests-requires-clause-short c = subst AreShort (sym c.in_ok-by_id.ensures.nodes) (subst AreShort c.as_slice.ensures c.are_short.ensures)
+tests-requires-clause-short c = subst AreShort (sym c.in_ok-by_id.ensures.nodes) c.are_short.ensures

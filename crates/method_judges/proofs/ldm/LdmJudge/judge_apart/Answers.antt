@@ -12,9 +12,9 @@ returns-in_err-by_id c = let p = err_from_is_err_and c.from_residual.result c.fr
 
 pub walk_tests-requires : goal.walk_tests-requires
 walk_tests-requires c =
-    let nodes = c.as_slice.result.now in
+    let nodes = c.args.items.now.nodes in
     subst (λ xs. IsNarrow (open_ways (item_at xs) c.args.query.to)) (sym c.in_ok-by_id.ensures.nodes)
-    (subst (λ xs. IsNarrow (open_ways (item_at xs) c.args.query.to)) c.as_slice.ensures (c.are_narrow.ensures (λ u _. not (are_apart (item_at nodes) (item_at nodes u) (item_at nodes c.args.query.to)))))
+    (c.are_narrow.ensures (λ u _. not (are_apart (item_at nodes) (item_at nodes u) (item_at nodes c.args.query.to))))
 
 pub returns : goal.returns
 returns c = judged_apart Ldm c.args._numbers c.args.items.now c.args.query c.walk_tests.result c.in_ok-by_id.ensures.distinct c.in_ok-by_id.ensures.ends (subst (λ xs. UnlessMemory (WalkTests (open_ways (item_at xs) c.args.query.to) c.args.query) c.walk_tests.result) c.in_ok-by_id.ensures.nodes c.walk_tests.ensures)

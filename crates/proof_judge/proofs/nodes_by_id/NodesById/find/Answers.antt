@@ -1,6 +1,6 @@
 use Rattle.std.proofs.Common.{◌<◌, length, arith, ap, ◌∙◌}
 use Rattle.proof_judge.specs.ItemWalks.{item_at}
-use Rattle.proof_judge.proofs.PlaceLaws.{within_listed, found_listed, missing_listed, at_place}
+use Rattle.proof_judge.proofs.PlaceLaws.{within_listed, found_listed, missing_listed}
 use Rattle.proof_judge.proofs.nodes_by_id.NodesById.find.Goals as goal
 
 pub returns-in-None : goal.returns-in-None
@@ -14,5 +14,5 @@ index-requires c =
 
 pub returns-in-Some : goal.returns-in-Some
 returns-in-Some c =
-    at_place c.get.result c.self.inside.nodes.now c.index.result.now.index c.get.ensures.lookup.0 c.get.ensures.lookup.1
+    c.get.ensures
     ∙ (found_listed c.self.inside.nodes.now c.self.inside.places.items c.self.inside.ids c.args.id c.in-Some.place c.index.result.now c.self.invariant c.in-Some.ensures c.index.ensures ∙ ap (λ ns. item_at ns c.args.id) c.self.view_is)

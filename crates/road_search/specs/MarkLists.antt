@@ -1,0 +1,7 @@
+-- Marks in a list by number.
+use Rattle.std.specs.Prelude.{List, Option}
+use Rattle.road_search.specs.declared.marks.Mark.{Mark}
+
+-- the mark of each number, where it has one
+pub record MarkList : Type 0 where
+  pub items : List (Option Mark)

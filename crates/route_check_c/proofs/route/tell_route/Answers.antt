@@ -1,6 +1,0 @@
-use Rattle.std.proofs.Common.{sym, subst}
-use Rattle.route_check_c.specs.Placing.{AreApart}
-use Rattle.route_check_c.proofs.route.tell_route.Goals as goal
-
-pub by_ids-requires : goal.by_ids-requires
-by_ids-requires c = subst AreApart (sym c.as_slice.ensures) c.requires.apart

@@ -6,7 +6,7 @@ arcs, with 255 arcs each, and with a code each; pair items; a cover of the node 
 tree; and node items behind which one octet is too many. `check` must refuse each with status 1, within 3 s of
 processor time, and with at most 0.3 GB of memory for 75 MB. A line a reply says what it took.
 
-Then two true answers, of a line and of a net of 65,536 nodes from end to end: `check` takes at most three octets
+Then two true answers of DIJ, of a line and of a net of 65,536 nodes from end to end: `check` takes at most three octets
 of memory for each octet of the reply, beside what a reply of two nodes takes, each the least of five runs. GNU
 time measures it; without it that is left out.
 

@@ -6,9 +6,9 @@ arcs, with 255 arcs each, and with a code each; pair items; a cover of the node 
 tree; and node items behind which one octet is too many. `check` must refuse each with status 1, within 3 s of
 processor time, and with at most 0.3 GB of memory for 75 MB. A line a reply says what it took.
 
-Then two true answers of DIJ, of a line and of a net of 65,536 nodes from end to end: `check` takes at most three octets
-of memory for each octet of the reply, beside what a reply of two nodes takes, each the least of five runs. GNU
-time measures it; without it that is left out.
+Then true answers from one end of a map to the other, under each method, and to the widest radius: `check` and
+`check-reach` take at most three octets of memory for each octet of the reply (LDM three and a half), beside what a
+reply of two nodes takes, each the least of five runs. GNU time measures it; without it that is left out.
 
 Ends with status 1 where anything differs. No client rests on it.
 """
@@ -23,6 +23,8 @@ from hostile import MB, ROADS, Play  # noqa: E402
 from measure import GNU_TIME, memory_of, run  # noqa: E402
 
 NODES, ACROSS = 65536, 256
+# as many as FULL takes, and to how many nodes behind it each of them has a road
+FEW, ROADS_OF_EACH = 1024, 127
 # where the system puts a program's pages differs from run to run
 RUNS = 5
 
@@ -62,31 +64,76 @@ def replies(fronts, size):
     yield "an octet behind node items", plain + counted(node_items(size)) + 3 * none + b"\0"
 
 
-def line_or_net(steps):
-    """The road file of so many nodes, each with a road to those so many ids behind it."""
-    yield "roads 1\n"
-    yield from (f"node {node} {node % ACROSS} {node // ACROSS}\n" for node in range(1, NODES + 1))
-    for step in steps:
-        yield from (f"road {node} {node + step} {6 + step}\n" for node in range(1, NODES + 1 - step))
+class Atlas:
+    """A map of so many nodes in rows of 256: each has a road to the nodes so many behind it, as long as `length` says."""
+
+    def __init__(self, steps, nodes=NODES, length=lambda step: 6 + step, gap=1):
+        self.steps, self.nodes, self.length, self.gap = steps, nodes, length, gap
+
+    def id(self, node):
+        """The id of a node: without gaps, or with some of several widths."""
+        return self.gap * node + (node * node % 5 if self.gap > 1 else 0)
+
+    def lines(self):
+        yield "roads 1\n"
+        for node in range(1, self.nodes + 1):
+            yield f"node {self.id(node)} {node % ACROSS} {node // ACROSS}\n"
+        for step in self.steps:
+            for node in range(1, self.nodes + 1 - step):
+                yield f"road {self.id(node)} {self.id(node + step)} {self.length(step)}\n"
+
+
+LINE, APART = Atlas([1]), Atlas([1], gap=7)
+NET = Atlas([1, ACROSS - 1, ACROSS, ACROSS + 1])
+# of a street as long as it has nodes, and of roads that no route takes
+DENSE = Atlas(range(1, ROADS_OF_EACH + 1), FEW, lambda step: 7 if step == 1 else 9_000_000)
+# what is asked, the map, the method and its plan, and the most octets of memory for each of a reply
+ASKED = (
+    ("a route over a line", LINE, "dij 1 id 0 2 0 0 0", 3),
+    ("a route over a line of ids apart", APART, "dij 1 id 0 2 0 0 0", 3),
+    ("a route over a net", NET, "dij 1 id 0 2 0 0 0", 3),
+    ("a route of FULL", DENSE, "full 1 id 0 2 0 0 0", 3),
+    ("a route of HYP over a net in four cells", NET, "hyp 1 hilbert 0 2 2 2 0", 3),
+    ("a route of HYP over a net in three cells", NET, "hyp 1 hilbert 0 2 1 3 0", 3),
+    ("a route of LDM over a line, of one landmark", LINE, "ldm 1 id 0 2 1 12 0", 3.5),
+    ("a route of LDM over a line, of 16 landmarks", LINE, "ldm 1 id 0 2 16 12 0", 3.5),
+    ("a radius over a line", LINE, "dij 1 id 0 2 0 0 0", 3),
+    ("a radius over a net", NET, "dij 1 id 0 2 0 0 0", 3),
+)
+
+
+def memory_for(program, ask):
+    """The memory, in octets, of the check of the reply `a.reply`, which the words after the publication ask for."""
+    command = "check-reach" if ask[0] == "reach" else "check"
+    words = [program, command, "owner.key", "a.reply", *ask[1:], "0"]
+    return min(memory_of(words, "verdict") for _ in range(RUNS)) * MB
 
 
 def true_answers(program):
-    """What each true answer takes, in octets of memory for each of its own; those that take too much."""
+    """What each true answer takes, in octets of memory for each of its own; how many take too much."""
     wrong = 0
     run([program, "key", "secret", "h5"], "owner.key", silent=True)
-    for what, steps in (("a line", [1]), ("a net", [1, ACROSS - 1, ACROSS, ACROSS + 1])):
+    with open("owner.desk", "rb") as file:
+        desk = file.read()
+    for what, atlas, plan, most in ASKED:
+        with open("owner.desk", "wb") as file:
+            file.write(desk)
         with open("a.roads", "w", encoding="ascii") as file:
-            file.writelines(line_or_net(steps))
-        run([program, *"publish a.roads dij 1 id 0 2 0 0 0".split()], "a.pub", silent=True)
+            file.writelines(atlas.lines())
+        run([program, "publish", "a.roads", *plan.split()], "a.pub", silent=True)
+        first, second, last = (str(atlas.id(node)) for node in (1, 2, atlas.nodes))
+        if "radius" in what:
+            asks = [("reach", first, "1"), ("reach", first, str(1 << 40))]
+        else:
+            asks = [("prove", first, second), ("prove", first, last)]
         took = []
-        for end in ("2", str(NODES)):
-            run([program, "prove", "a.pub", "1", end], "a.reply", silent=True)
-            words = [program, "check", "owner.key", "a.reply", "1", end, "0"]
-            took.append(min(memory_of(words, "verdict") for _ in range(RUNS)) * MB)
+        for ask in asks:
+            run([program, ask[0], "a.pub", *ask[1:]], "a.reply", silent=True)
+            took.append(memory_for(program, ask))
         size = os.path.getsize("a.reply")
         each = (took[1] - took[0]) / size
-        wrong += each > 3
-        print(f"{'ok     ' if each <= 3 else 'DIFFERS'} an answer over {what}: {each:.2f} octets for each of {size / MB:.1f} MB", flush=True)
+        wrong += each > most
+        print(f"{'ok     ' if each <= most else 'DIFFERS'} {what}: {each:.2f} octets for each of {size / MB:.1f} MB", flush=True)
     return wrong
 
 

@@ -4,6 +4,7 @@ ghost use Rattle.std.specs.Prelude.{◌≡◌, ℕ, IfOk, IfErr};
 ghost use Rattle.road_map.specs.declared.parts.Parts.{Parts};
 ghost use Rattle.book_model.specs.Books.{Dij as ByDij, own_tests, first_failed};
 
+use crate::parameters::first_failed;
 use crate::within::{component, near};
 use book_model::{Numbers, Places, PlanError, Query, Settings};
 use octet_text::NoMemory;
@@ -98,14 +99,5 @@ impl MethodBook for DijBook {
 pub fn first_parameter(settings: &Settings) -> Option<u8>
     ensures { (parts : Parts) → result ≡ first_failed 3 (own_tests ByDij parts settings.now) }
 {
-    if settings.p1 != 0 {
-        return Some(3);
-    }
-    if settings.p2 != 0 {
-        return Some(4);
-    }
-    if settings.p3 != 0 {
-        return Some(5);
-    }
-    None
+    first_failed([settings.p1 == 0, settings.p2 == 0, settings.p3 == 0])
 }

@@ -13,6 +13,7 @@ ghost use Rattle.book_model.specs.declared.settings.PlanError.TheVariants as pla
 ghost use Rattle.method_books.specs.Grids.{IsGridOf};
 
 use crate::grid::{Grid, is_border_at};
+use crate::parameters::{first_failed, is_from_to};
 use book_model::{PairLeaves, PlanError, Settings};
 use octet_text::{NoMemory, push};
 use pair_dist::{PairError, pair_leaves};
@@ -41,16 +42,11 @@ pub fn first_parameter(settings: &Settings) -> Option<u8>
     ensures rows { IfNone result (1 ≤ settings.now.p2) }
     ensures rows_max { IfNone result (settings.now.p2 ≤ 1024) }
 {
-    if settings.p1 < 1 || settings.p1 > 1024 {
-        return Some(3);
-    }
-    if settings.p2 < 1 || settings.p2 > 1024 {
-        return Some(4);
-    }
-    if settings.p3 != 0 {
-        return Some(5);
-    }
-    None
+    first_failed([
+        is_from_to(1, 1024, settings.p1),
+        is_from_to(1, 1024, settings.p2),
+        settings.p3 == 0,
+    ])
 }
 
 /// The border nodes of a map in a grid, by ascending id.

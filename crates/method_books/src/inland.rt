@@ -11,9 +11,10 @@ ghost use Rattle.method_books.specs.HypBooks.{hyp_book, cell_extra};
 use crate::grid::{Grid, is_border_at};
 use crate::hyp_method::HypBook;
 use octet_text::NoMemory;
-use road_map::{Arc, Map};
-use road_search::{Ground, rising_ids};
+use road_map::{Arc, Map, RisingIds};
+use road_search::{Ground, placed_ids};
 use std::alloc::Global;
+use std::rc::Rc;
 
 /// The arcs out of an id, if it is known.
 fn arcs_at(map: &Map, id: u32) -> Option<&[Arc]>
@@ -61,9 +62,9 @@ impl Ground for Inland<'_> {
         lets_on(&book.map, &book.grid, id)
     }
 
-    fn ids(&self, alloc: Global) -> Result<Vec<u32>, NoMemory> {
+    fn ids(&self, alloc: Global) -> Result<Rc<RisingIds>, NoMemory> {
         let book = self.book;
-        rising_ids(alloc, &book.map)
+        placed_ids(alloc, &book.map)
     }
 
     ghost lets_shorter = { λ w id short long le h. h };

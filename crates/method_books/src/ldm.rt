@@ -7,6 +7,7 @@ ghost use Rattle.book_model.specs.Books.{Ldm as ByLdm, own_tests, first_failed};
 use crate::extras::Extras;
 use crate::ldm_method::{LdmBook, copy};
 use crate::near::needed;
+use crate::parameters::{first_failed, is_from_to};
 use book_model::{Numbers, Places, PlanError, Query, Settings};
 use landmarks::{compress, landmark_codes};
 use method_judges::{Open, live_labels};
@@ -118,14 +119,9 @@ fn refused_parameter(settings: &Settings, nodes: usize) -> Option<u8>
     ensures { (parts : Parts) → nodes ≡ length parts.nodes →
         result ≡ first_failed 3 (own_tests ByLdm parts settings.now) }
 {
-    if settings.p1 < 1 || settings.p1 > 64 || settings.p1 > nodes as u64 {
-        return Some(3);
-    }
-    if settings.p2 < 1 || settings.p2 > 16 {
-        return Some(4);
-    }
-    if settings.p3 > 65534 {
-        return Some(5);
-    }
-    None
+    first_failed([
+        is_from_to(1, 64, settings.p1) && settings.p1 <= nodes as u64,
+        is_from_to(1, 16, settings.p2),
+        settings.p3 <= 65534,
+    ])
 }

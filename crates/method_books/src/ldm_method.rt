@@ -11,9 +11,10 @@ use book_model::Numbers;
 use method_judges::Lookup;
 use octet_text::{NoMemory, copied};
 use road_leaf::{Codes, Extra};
-use road_map::{Arc, Map};
-use road_search::rising_ids;
+use road_map::{Arc, Map, RisingIds};
+use road_search::placed_ids;
 use std::alloc::Global;
+use std::rc::Rc;
 
 /// A map, what the leaf of each of its nodes says of codes, and the step and the count of landmarks.
 #[derive(Drop)]
@@ -43,8 +44,8 @@ impl Lookup for LdmBook {
         self.extras.get(id)
     }
 
-    fn ids(&self, alloc: Global) -> Result<Vec<u32>, NoMemory> {
-        rising_ids(alloc, &self.map)
+    fn ids(&self, alloc: Global) -> Result<Rc<RisingIds>, NoMemory> {
+        placed_ids(alloc, &self.map)
     }
 }
 

@@ -20,5 +20,6 @@ mod inland;
 mod ldm;
 mod ldm_method;
 mod near;
+mod parameters;
 mod rising;
 mod within;

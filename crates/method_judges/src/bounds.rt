@@ -10,8 +10,9 @@ ghost use Rattle.method_judges.specs.Lent.{shown};
 
 use octet_text::NoMemory;
 use road_leaf::Extra;
-use road_map::Arc;
+use road_map::{Arc, RisingIds};
 use std::alloc::Global;
+use std::rc::Rc;
 
 /// The code that says that no walk joins a node and a landmark.
 const NO_CODE: u16 = 65535;
@@ -29,9 +30,9 @@ pub trait Lookup {
     fn extra(&self, id: u32) -> Option<&Extra>
         ensures { option_copied result ≡ option_map (λ n. n.extra) (leaves self.now id) };
 
-    /// Rising ids for whose marks a search makes room by place: best all whose leaves are at hand.
-    fn ids(&self, alloc: Global) -> Result<Vec<u32>, NoMemory>
-        ensures { IfOk result (λ ids. AreRising ids.items) };
+    /// Ids for whose marks a search makes room by place: best all whose leaves are at hand.
+    fn ids(&self, alloc: Global) -> Result<Rc<RisingIds>, NoMemory>
+        ensures { IfOk result (λ ids. AreRising ids.value) };
 }
 
 /// Codes, one for each landmark, and by how much at most each may be off.

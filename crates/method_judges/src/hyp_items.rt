@@ -6,9 +6,10 @@ ghost use Rattle.proof_judge.specs.ItemWalks.{item_at, is_border, marks, inner_w
 use octet_text::NoMemory;
 use proof_judge::{NodesById, arcs_of};
 use road_leaf::Extra;
-use road_map::Arc;
+use road_map::{Arc, RisingIds};
 use road_search::Ground;
 use std::alloc::Global;
+use std::rc::Rc;
 
 fn is_border(extra: &Extra) -> bool
     ensures { result ≡ is_border extra.now }
@@ -48,9 +49,9 @@ impl Ground for Inner<'_, '_> {
         !is_marked(self.by_id, id)
     }
 
-    fn ids(&self, alloc: Global) -> Result<Vec<u32>, NoMemory> {
+    fn ids(&self, _alloc: Global) -> Result<Rc<RisingIds>, NoMemory> {
         let by_id = self.by_id;
-        by_id.ids(alloc)
+        by_id.ids()
     }
 
     ghost lets_shorter = { λ w id short long le h. h };

@@ -6,8 +6,9 @@ use crate::bounds::Lookup;
 use octet_text::NoMemory;
 use proof_judge::{NodesById, arcs_of};
 use road_leaf::Extra;
-use road_map::Arc;
+use road_map::{Arc, RisingIds};
 use std::alloc::Global;
+use std::rc::Rc;
 
 /// The items that a client was sent, by id.
 #[derive(Clone, Copy)]
@@ -30,8 +31,8 @@ impl Lookup for ItemLeaves<'_, '_> {
         }
     }
 
-    fn ids(&self, alloc: Global) -> Result<Vec<u32>, NoMemory> {
+    fn ids(&self, _alloc: Global) -> Result<Rc<RisingIds>, NoMemory> {
         let by_id = self.by_id;
-        by_id.ids(alloc)
+        by_id.ids()
     }
 }

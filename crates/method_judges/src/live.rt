@@ -9,9 +9,10 @@ ghost use Rattle.proof_judge.specs.ItemWalks.{live_ways};
 use crate::bounds::{Lookup, bound};
 use book_model::Query;
 use octet_text::NoMemory;
-use road_map::Arc;
+use road_map::{Arc, RisingIds};
 use road_search::{Ground, Labels, search};
 use std::alloc::Global;
+use std::rc::Rc;
 
 /// More than the length of any arc.
 const ABOVE_ARCS: u64 = 4294967296;
@@ -41,7 +42,7 @@ impl<L: Lookup> Ground for Live<'_, L> {
         u128::from(length) + bound < u128::from(self.most)
     }
 
-    fn ids(&self, alloc: Global) -> Result<Vec<u32>, NoMemory> {
+    fn ids(&self, alloc: Global) -> Result<Rc<RisingIds>, NoMemory> {
         self.leaves.ids(alloc)
     }
 

@@ -4,9 +4,10 @@ ghost use Rattle.proof_judge.specs.Apart.{open_ways};
 
 use crate::bounds::{Lookup, apart};
 use octet_text::NoMemory;
-use road_map::Arc;
+use road_map::{Arc, RisingIds};
 use road_search::Ground;
 use std::alloc::Global;
+use std::rc::Rc;
 
 /// Leaves at hand as a ground of walks towards an end: an id with a leaf has the leaf's arcs, and no
 /// walk goes on from an id that is apart from the end.
@@ -27,7 +28,7 @@ impl<L: Lookup> Ground for Open<'_, L> {
         !apart(self.leaves, id, self.to)
     }
 
-    fn ids(&self, alloc: Global) -> Result<Vec<u32>, NoMemory> {
+    fn ids(&self, alloc: Global) -> Result<Rc<RisingIds>, NoMemory> {
         self.leaves.ids(alloc)
     }
 

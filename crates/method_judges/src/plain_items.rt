@@ -4,9 +4,10 @@ ghost use Rattle.proof_judge.specs.ItemWalks.{item_at, any_ways};
 
 use octet_text::NoMemory;
 use proof_judge::{NodesById, arcs_of};
-use road_map::Arc;
+use road_map::{Arc, RisingIds};
 use road_search::Ground;
 use std::alloc::Global;
+use std::rc::Rc;
 
 /// Items as a ground: an id with an item has the item's arcs, and lets every length pass.
 #[derive(Clone, Copy)]
@@ -26,9 +27,9 @@ impl Ground for Anywhere<'_, '_> {
         true
     }
 
-    fn ids(&self, alloc: Global) -> Result<Vec<u32>, NoMemory> {
+    fn ids(&self, _alloc: Global) -> Result<Rc<RisingIds>, NoMemory> {
         let by_id = self.by_id;
-        by_id.ids(alloc)
+        by_id.ids()
     }
 
     ghost lets_shorter = { λ w id short long le h. h };

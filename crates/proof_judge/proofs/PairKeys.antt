@@ -1,6 +1,6 @@
 -- Pair items that are sorted by their two ids, and the first that names two ids.
 use Rattle.std.proofs.Common.{◌≡◌, ℕ, zero, suc, ◌+◌, ◌<◌, ◌≤◌, ◌==◌, ◌&&◌, nat_lt, Bool, true, false, not, cond, None, Some, List, [], ◌∷◌, ◌⊎◌, inl, inr, refl, arith, ap, sym, ◌∙◌, subst, length, slice_get, get_or}
-use Rattle.std.specs.List.{find, filter}
+use Rattle.std.specs.List.{find, filter, IsAllAdjacentAnswer}
 use Rattle.std.specs.List.Sorted.{IsSortedByKey, IsStableByKey, IsPartitionedBy, IsPartitionPoint, ties}
 use Rattle.std.specs.Ordering.{nat_cmp, ordering_then, is_lt}
 use Rattle.std.specs.declared.cmp.Ordering.{Ordering}
@@ -27,25 +27,42 @@ not_before_trans a b c d e f h k = grind (arith, h, k)
 last_or_before : (i j : ℕ) → i ≤ suc j → (i ≡ suc j) ⊎ (i ≤ j)
 last_or_before i j le = grind (arith, le)
 
+abbrev no_earlier : PairLeaf → PairLeaf → Bool
+no_earlier y x = is_before y.a y.b x.a x.b
+
 -- what neighbours show, all show
-pub all_sorted : (xs : List PairLeaf) → IsSortedByKey ids_of ids_cmp xs → AreSorted xs
-all_sorted xs h i j d le lt = by_end j i le lt
+pub neighbours_sorted : (xs : List PairLeaf) → ((j : ℕ) (d : PairLeaf) → j + 1 < length xs → no_earlier (get_or xs (j + 1) d) (get_or xs j d) ≡ false) → AreSorted xs
+neighbours_sorted xs h i j d le lt = by_end j i le lt
   where
-    itself : (k : ℕ) → is_before (get_or xs k d).a (get_or xs k d).b (get_or xs k d).a (get_or xs k d).b ≡ false
+    itself : (k : ℕ) → no_earlier (get_or xs k d) (get_or xs k d) ≡ false
     itself k = not_before_itself (get_or xs k d).a (get_or xs k d).b
 
-    by_end : (j i : ℕ) → i ≤ j → j < length xs → is_before (get_or xs j d).a (get_or xs j d).b (get_or xs i d).a (get_or xs i d).b ≡ false
-    by_end zero i le lt = let e : 0 ≡ i = omega (arith, le) in subst (λ k. is_before (get_or xs 0 d).a (get_or xs 0 d).b (get_or xs k d).a (get_or xs k d).b ≡ false) e (itself 0)
+    by_end : (j i : ℕ) → i ≤ j → j < length xs → no_earlier (get_or xs j d) (get_or xs i d) ≡ false
+    by_end zero i le lt = let e : 0 ≡ i = omega (arith, le) in subst (λ k. no_earlier (get_or xs 0 d) (get_or xs k d) ≡ false) e (itself 0)
     by_end (suc j) i le lt = elim (last_or_before i j le) [
-      | inl e ↦ subst (λ k. is_before (get_or xs (suc j) d).a (get_or xs (suc j) d).b (get_or xs k d).a (get_or xs k d).b ≡ false) (sym e) (itself (suc j))
+      | inl e ↦ subst (λ k. no_earlier (get_or xs (suc j) d) (get_or xs k d) ≡ false) (sym e) (itself (suc j))
       | inr less ↦
           let next : j + 1 ≡ suc j = omega arith in
           let x : PairLeaf = get_or xs (suc j) d in
           let y : PairLeaf = get_or xs j d in
           let z : PairLeaf = get_or xs i d in
-          let step : is_before x.a x.b y.a y.b ≡ false = sym (lt_before x.a x.b y.a y.b) ∙ subst (λ k. is_lt (ids_cmp (ids_of (get_or xs k d)) (ids_of y)) ≡ false) next (h j d (omega arith) (omega (arith, lt))) in
+          let step : no_earlier x y ≡ false = subst (λ k. no_earlier (get_or xs k d) y ≡ false) next (h j d (omega (arith, lt))) in
           not_before_trans x.a x.b y.a y.b z.a z.b step (by_end j i less (omega (arith, lt)))
     ]
+
+pub all_sorted : (xs : List PairLeaf) → IsSortedByKey ids_of ids_cmp xs → AreSorted xs
+all_sorted xs h = neighbours_sorted xs (λ j d lt. sym (lt_before (get_or xs (j + 1) d).a (get_or xs (j + 1) d).b (get_or xs j d).a (get_or xs j d).b) ∙ h j d (omega arith) lt)
+
+-- that an item comes no earlier than the one in front of it, as a test
+abbrev pub in_order : PairLeaf → PairLeaf → Bool
+in_order x y = not (no_earlier y x)
+
+not_true : (b : Bool) → true ≡ not b → b ≡ false
+not_true b h = grind (arith, h)
+
+pub tested_sorted : (xs : List PairLeaf) (r : Bool) → r ≡ true → IsAllAdjacentAnswer (λ x y b. b ≡ in_order x y) xs r → AreSorted xs
+tested_sorted xs true is h = neighbours_sorted xs (λ j d lt. not_true _ (h j d lt))
+tested_sorted xs false is h = cc
 
 -- ---- the first in another order
 

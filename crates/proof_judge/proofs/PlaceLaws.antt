@@ -1,110 +1,113 @@
 -- Indices of items by ascending id.
-use Rattle.std.proofs.Common.{◌≡◌, ℕ, zero, suc, ◌+◌, ◌==◌, Option, None, Some, List, [], ◌∷◌, ◌++◌, inl, inr, refl, arith, ap, sym, ◌∙◌, cond, count_by, length, slice_get, get_or, subst, ◌<◌, ◌≤◌, ◌^◌, map}
-use Rattle.std.specs.List.{Contains}
-use Rattle.std.specs.List.Sorted.{IsNonDecreasingBy, IsPermutation}
-use Rattle.std.proofs.lemmas.List.Elements.{Contains-push_cases}
-use Rattle.std.proofs.lemmas.List.Sorted.{sum_by-IsPermutation, Contains-permutation, IsPermutation-sym}
+use Rattle.std.proofs.Common.{set, ◌≡◌, ℕ, zero, suc, ◌+◌, ◌==◌, true, false, Option, None, Some, List, [], ◌∷◌, ◌⊎◌, inl, inr, refl, arith, ap, sym, ◌∙◌, cond, count_by, length, slice_get, get_or, ◌<◌, ◌≤◌, map}
+use Rattle.std.specs.List.Sorted.{IsNonDecreasing, IsPermutation}
+use Rattle.std.proofs.lemmas.List.Sorted.{sum_by-IsPermutation}
 use Rattle.std.proofs.lemmas.Option.{slice_get_within, get_or_from_slice_get}
 use Rattle.road_map.specs.Least.{IsLeast}
-use Rattle.road_map.specs.Places.{RiseBy, StandsAt, AreRising, place_in}
+use Rattle.road_map.specs.Places.{StandsAt, AreRising, place_in}
 use Rattle.road_map.proofs.LeastLaws.{IsLeast-same}
-use Rattle.road_map.proofs.Among.{contains_at, map_place, place_map}
-use Rattle.road_map.proofs.RisingLaws.{stands, found}
+use Rattle.road_map.proofs.Among.{slice_get-set}
+use Rattle.road_map.proofs.RisingLaws.{stands, found, one_id}
 use Rattle.road_leaf.specs.declared.leaf.NodeLeaf.{NodeLeaf}
-use Rattle.proof_judge.specs.declared.places.Place.{Place}
 use Rattle.proof_judge.specs.ItemWalks.{item_at, StandsTwice}
-use Rattle.proof_judge.specs.ById.{IsPlaceIn, AsMany, IsTaken, ArePlaces, AreListed}
-use Rattle.proof_judge.proofs.Keys.{one_more}
-use Rattle.proof_judge.proofs.KeyPlaces.{Once, once_from_count, keys_rise, found_at, found_none}
-
-abbrev pub id_of : Place → ℕ
-id_of p = p.id
+use Rattle.proof_judge.specs.ById.{AsMany, IsTaken, IsIndexOf, AreNoted, AreListed}
+use Rattle.proof_judge.proofs.Keys.{count-cons}
+use Rattle.proof_judge.proofs.KeyPlaces.{Once, once_from_count, one_counts, two_count, keys_rise, found_at, found_none}
 
 abbrev node_id : NodeLeaf → ℕ
 node_id n = n.id
 
--- one item more
-pub as_many_turn : (xs : List NodeLeaf) (ps : List Place) (n : NodeLeaf) (p : Place) → p.id ≡ n.id → AsMany xs ps → AsMany (xs ++ n ∷ []) (ps ++ p ∷ [])
-as_many_turn xs ps n p same h id =
-    one_more id_of id ps p ∙ (ap (λ k. k + cond (p.id == id) 1 0) (h id) ∙ (ap (λ x. count_by (λ (m : NodeLeaf). m.id == id) xs + cond (x == id) 1 0) same ∙ sym (one_more node_id id xs n)))
+abbrev itself : ℕ → ℕ
+itself id = id
 
-pub placed_turn : (nodes : List NodeLeaf) (ps : List Place) (n : NodeLeaf) (p : Place) → p.id ≡ n.id → slice_get nodes p.index ≡ Some n → ((q : Place) → Contains ps q → IsPlaceIn nodes q) → (q : Place) → Contains (ps ++ p ∷ []) q → IsPlaceIn nodes q
-placed_turn nodes ps n p same at h q c = elim (Contains-push_cases ps p q c) [
-  | inl there ↦ h q there
-  | inr e ↦ rw (sym e) (n, at, sym same)
-]
+-- the ids of items are as many
+pub as_many_mapped : (nodes : List NodeLeaf) → AsMany nodes (map (λ (n : NodeLeaf). n.id) nodes)
+as_many_mapped [] id = refl
+as_many_mapped (n ∷ ns) id =
+    count-cons itself id n.id (map (λ (m : NodeLeaf). m.id) ns) ∙ (ap (λ k. cond (n.id == id) 1 0 + k) (as_many_mapped ns id) ∙ sym (count-cons node_id id n ns))
 
 -- the order is free
-pub as_many_sorted : (nodes : List NodeLeaf) (ps qs : List Place) → IsPermutation ps qs → AsMany nodes ps → AsMany nodes qs
-as_many_sorted nodes ps qs same h id = sum_by-IsPermutation (λ (p : Place). cond (p.id == id) 1 0) ps qs same ∙ h id
-
-pub placed_sorted : (nodes : List NodeLeaf) (ps qs : List Place) → IsPermutation ps qs → ((p : Place) → Contains ps p → IsPlaceIn nodes p) → (p : Place) → Contains qs p → IsPlaceIn nodes p
-placed_sorted nodes ps qs same h p c = h p (Contains-permutation qs ps p (IsPermutation-sym ps qs same) c)
-
--- items are as few as their indices
-pub few_nodes : (nodes : List NodeLeaf) (ps qs : List Place) → length ps ≡ length nodes → qs ≡ ps → length qs ≤ 2 ^ 32 → length nodes ≤ 2 ^ 32
-few_nodes nodes ps qs count same few = omega (arith, count, ap length same, few)
+pub as_many_sorted : (nodes : List NodeLeaf) (is js : List ℕ) → IsPermutation is js → AsMany nodes is → AsMany nodes js
+as_many_sorted nodes is js same h id = sum_by-IsPermutation (λ (i : ℕ). cond (i == id) 1 0) is js same ∙ h id
 
 -- an id is taken where it stands at two items
-pub taken_twice : (nodes : List NodeLeaf) (ps : List Place) (o : Option ℕ) → AsMany nodes ps → IsLeast (IsTaken ps) o → IsLeast (StandsTwice nodes) o
-taken_twice nodes ps o same h = IsLeast-same (IsTaken ps) (StandsTwice nodes) o (λ id two. rw (sym (same id)) two) (λ id two. rw (same id) two) h
+pub taken_twice : (nodes : List NodeLeaf) (ids : List ℕ) (o : Option ℕ) → AsMany nodes ids → IsLeast (IsTaken ids) o → IsLeast (StandsTwice nodes) o
+taken_twice nodes ids o same h = IsLeast-same (IsTaken ids) (StandsTwice nodes) o (λ id two. rw (sym (same id)) two) (λ id two. rw (same id) two) h
 
-pub are_places : (nodes : List NodeLeaf) (ps : List Place) → IsNonDecreasingBy (λ (p : Place). p.id) ps → ((p : Place) → Contains ps p → IsPlaceIn nodes p) → AsMany nodes ps → IsLeast (IsTaken ps) None → ArePlaces nodes ps
-are_places nodes ps sorted placed same none = record {
-  rise = keys_rise id_of ps sorted (λ id two. none id two);
-  placed = placed;
-  as_many = same;
-  distinct = taken_twice nodes ps None same none;
-}
+pub rising : (ids : List ℕ) → IsNonDecreasing ids → IsLeast (IsTaken ids) None → AreRising ids
+rising ids sorted none = keys_rise itself ids sorted (λ id two. none id two)
 
--- the item at an index that was found
-pub item_found : (nodes : List NodeLeaf) (ps : List Place) (id k : ℕ) → ArePlaces nodes ps → (at : StandsAt (λ (p : Place). p.id) ps id k) → slice_get nodes at.0.index ≡ item_at nodes id
-item_found nodes ps id k h at =
-    let there : IsPlaceIn nodes at.0 = h.placed at.0 (contains_at ps k at.0 at.1) in
-    there.1 ∙ sym (found_at node_id id nodes at.0.index there.0 (λ two. h.distinct id two) there.1 (there.2 ∙ at.2))
+-- each item's id has a place
+pub has_place : (nodes : List NodeLeaf) (ids : List ℕ) → AreRising ids → AsMany nodes ids → (index : ℕ) (n : NodeLeaf) → slice_get nodes index ≡ Some n → (k : ℕ) × (place_in ids n.id ≡ Some k)
+has_place nodes ids rise same index n at =
+    let among : 1 ≤ count_by (λ (m : NodeLeaf). m.id == n.id) nodes = one_counts node_id n.id nodes index n at refl in
+    let some : 1 ≤ count_by (λ i. i == n.id) ids = omega (arith, among, same n.id) in
+    let o : Once itself n.id ids = once_from_count itself n.id ids some in
+    (o.i, found ids n.id o.i rise (o.m, o.at, o.same))
 
--- and none
-pub item_missing : (nodes : List NodeLeaf) (ps : List Place) (id : ℕ) → ArePlaces nodes ps → ((k : ℕ) → StandsAt (λ (p : Place). p.id) ps id k → ⊥) → None ≡ item_at nodes id
-item_missing nodes ps id h none = sym (found_none node_id id nodes (sym (h.as_many id) ∙ zero_places))
+order : (i j : ℕ) → i < j + 1 → (i ≡ j) ⊎ (i < j)
+order i j lt = grind (arith, lt)
+
+equal_test : (a b : ℕ) → a ≡ b → (a == b) ≡ true
+equal_test a b e = grind (arith, e)
+
+other_test : (a b : ℕ) → (a ≡ b → ⊥) → (a == b) ≡ false
+other_test a b e = grind (arith, e)
+
+-- one index more
+pub noted_turn : (nodes : List NodeLeaf) (ids indices after : List ℕ) (end place : ℕ) (n : NodeLeaf) → IsLeast (StandsTwice nodes) None → slice_get nodes end ≡ Some n → place_in ids n.id ≡ Some place → place < length indices → after ≡ set indices place end → AreNoted nodes ids indices end → AreNoted nodes ids after (end + 1)
+noted_turn nodes ids indices after end place n distinct at placed within turned h index m lt there = elim (order index end lt) [
+  | inl e ↦
+      let same : m ≡ n = let x : Some m ≡ Some n = sym there ∙ (ap (slice_get nodes) e ∙ at) in cc in (
+        place,
+        ap (λ (q : NodeLeaf). place_in ids q.id) same ∙ placed,
+        ap (λ xs. slice_get xs place) turned ∙ (slice_get-set indices place end place within ∙ (ap (λ b. cond b (Some end) (slice_get indices place)) (equal_test place place refl) ∙ ap Some (sym e))),
+      )
+  | inr less ↦
+      let old : IsIndexOf ids indices m.id index = h index m less there in
+      let apart : place ≡ old.0 → ⊥ = λ e. distinct n.id (two_count node_id n.id nodes index end m n less there at (one_id ids m.id n.id place (old.1 ∙ ap Some (sym e)) placed) refl) in (
+        old.0,
+        old.1,
+        ap (λ xs. slice_get xs old.0) turned ∙ (slice_get-set indices place end old.0 within ∙ (ap (λ b. cond b (Some end) (slice_get indices old.0)) (other_test place old.0 apart) ∙ old.2)),
+      )
+]
+
+-- ---- what is found
+
+-- the item that an id's place leads to
+record Led (nodes : List NodeLeaf) (indices : List ℕ) (id k : ℕ) : Type 0 where
+  index : ℕ
+  item : NodeLeaf
+  at : slice_get nodes index ≡ Some item
+  same : item.id ≡ id
+  noted : slice_get indices k ≡ Some index
+
+led : (nodes : List NodeLeaf) (indices ids : List ℕ) (id k : ℕ) → AreListed nodes indices ids → Some k ≡ place_in ids id → Led nodes indices id k
+led nodes indices ids id k h at =
+    let there : StandsAt (λ i. i) ids id k = stands ids id k (sym at) in
+    let some : 1 ≤ count_by (λ i. i == id) ids = one_counts itself id ids k there.0 there.1 there.2 in
+    let among : 1 ≤ count_by (λ (m : NodeLeaf). m.id == id) nodes = omega (arith, some, h.as_many id) in
+    let o : Once node_id id nodes = once_from_count node_id id nodes among in
+    let noted : IsIndexOf ids indices o.m.id o.i = h.indices_of o.i o.m (slice_get_within nodes o.i o.m o.at) o.at in
+    let here : noted.0 ≡ k = let x : Some noted.0 ≡ Some k = sym noted.1 ∙ (ap (place_in ids) o.same ∙ sym at) in cc in
+    record { index = o.i; item = o.m; at = o.at; same = o.same; noted = ap (slice_get indices) (sym here) ∙ noted.2 }
+
+pub within_listed : (nodes : List NodeLeaf) (indices ids : List ℕ) (id k : ℕ) → AreListed nodes indices ids → Some k ≡ place_in ids id → k < length indices
+within_listed nodes indices ids id k h at = let l : Led nodes indices id k = led nodes indices ids id k h at in slice_get_within indices k l.index l.noted
+
+pub found_listed : (nodes : List NodeLeaf) (indices ids : List ℕ) (id k index : ℕ) → AreListed nodes indices ids → Some k ≡ place_in ids id → index ≡ get_or indices k index → slice_get nodes index ≡ item_at nodes id
+found_listed nodes indices ids id k index h at read =
+    let l : Led nodes indices id k = led nodes indices ids id k h at in
+    let here : get_or indices k index ≡ l.index = get_or_from_slice_get indices k l.index index l.noted in
+    ap (slice_get nodes) (read ∙ here) ∙ (l.at ∙ sym (found_at node_id id nodes l.index l.item (λ two. h.distinct id two) l.at l.same))
+
+pub missing_listed : (nodes : List NodeLeaf) (indices ids : List ℕ) (id : ℕ) → AreListed nodes indices ids → None ≡ place_in ids id → None ≡ item_at nodes id
+missing_listed nodes indices ids id h at = sym (found_none node_id id nodes (by_count (count_by (λ (n : NodeLeaf). n.id == id) nodes) refl))
   where
-    by_count : (k : ℕ) → count_by (λ (p : Place). p.id == id) ps ≡ k → k ≡ 0
-    by_count zero e = refl
-    by_count (suc k) e = absurd (let o : Once id_of id ps = once_from_count id_of id ps (omega (arith, e)) in none o.i (o.m, o.at, o.same))
-
-    zero_places : count_by (λ (p : Place). p.id == id) ps ≡ 0
-    zero_places = by_count (count_by (λ (p : Place). p.id == id) ps) refl
-
--- ---- the list of their ids
-
-pub ids_rise : (ps : List Place) → RiseBy (λ (p : Place). p.id) ps → AreRising (map (λ (p : Place). p.id) ps)
-ids_rise ps rise i j x y lt a b =
-    let p = map_place (λ (q : Place). q.id) ps i x a in
-    let q = map_place (λ (q : Place). q.id) ps j y b in
-    let less : p.0.id < q.0.id = rise i j p.0 q.0 lt p.1 q.1 in
-    omega (arith, less, p.2, q.2)
-
-pub listed_rise : (nodes : List NodeLeaf) (ps : List Place) (ids : List ℕ) → AreListed nodes ps ids → AreRising ids
-listed_rise nodes ps ids h = subst AreRising (sym h.ids_of) (ids_rise ps h.places_of.rise)
-
-pub stands_listed : (nodes : List NodeLeaf) (ps : List Place) (ids : List ℕ) (id k : ℕ) → AreListed nodes ps ids → Some k ≡ place_in ids id → StandsAt (λ (p : Place). p.id) ps id k
-stands_listed nodes ps ids id k h at =
-    let there = stands (map (λ (p : Place). p.id) ps) id k (sym (at ∙ ap (λ is. place_in is id) h.ids_of)) in
-    let p = map_place (λ (q : Place). q.id) ps k there.0 there.1 in
-    (p.0, p.1, p.2 ∙ there.2)
-
-pub found_listed : (nodes : List NodeLeaf) (ps : List Place) (ids : List ℕ) (id k : ℕ) (p : Place) → AreListed nodes ps ids → Some k ≡ place_in ids id → p ≡ get_or ps k p → slice_get nodes p.index ≡ item_at nodes id
-found_listed nodes ps ids id k p h at read =
-    let there : StandsAt (λ (q : Place). q.id) ps id k = stands_listed nodes ps ids id k h at in
-    let here : get_or ps k p ≡ there.0 = get_or_from_slice_get ps k there.0 p there.1 in
-    ap (λ (q : Place). slice_get nodes q.index) (read ∙ here) ∙ item_found nodes ps id k h.places_of there
-
-pub within_listed : (nodes : List NodeLeaf) (ps : List Place) (ids : List ℕ) (id k : ℕ) → AreListed nodes ps ids → Some k ≡ place_in ids id → k < length ps
-within_listed nodes ps ids id k h at = let there = stands_listed nodes ps ids id k h at in slice_get_within ps k there.0 there.1
-
-pub missing_listed : (nodes : List NodeLeaf) (ps : List Place) (ids : List ℕ) (id : ℕ) → AreListed nodes ps ids → None ≡ place_in ids id → None ≡ item_at nodes id
-missing_listed nodes ps ids id h at = item_missing nodes ps id h.places_of (λ k there.
-    let rise : AreRising ids = listed_rise nodes ps ids h in
-    let stays : StandsAt (λ i. i) ids id k = subst (λ is. StandsAt (λ i. i) is id k) (sym h.ids_of) (there.0.id, place_map (λ (q : Place). q.id) ps k there.0 there.1, there.2) in
-    let found_it : place_in ids id ≡ Some k = found ids id k rise stays in
-    let bad : None ≡ Some k = at ∙ found_it in
-    cc)
+    by_count : (k : ℕ) → count_by (λ (n : NodeLeaf). n.id == id) nodes ≡ k → count_by (λ (n : NodeLeaf). n.id == id) nodes ≡ 0
+    by_count zero e = e
+    by_count (suc k) e = absurd (
+        let o : Once node_id id nodes = once_from_count node_id id nodes (omega (arith, e)) in
+        let p = has_place nodes ids h.rise h.as_many o.i o.m o.at in
+        let bad : None ≡ Some p.0 = at ∙ (ap (place_in ids) (sym o.same) ∙ p.1) in
+        cc)

@@ -1,36 +1,39 @@
 -- Indices of node items by ascending id, and pair items by their two ids.
-use Rattle.std.specs.Prelude.{◌≡◌, ◌==◌, ◌&&◌, ◌||◌, ℕ, ◌<◌, ◌≤◌, nat_lt, Bool, false, Some, None, Option, List, Contains, length, slice_get, get_or, count_by, find, map}
+use Rattle.std.specs.Prelude.{◌≡◌, ◌==◌, ◌&&◌, ◌||◌, ℕ, ◌<◌, ◌≤◌, nat_lt, Bool, false, Some, None, Option, List, length, slice_get, get_or, count_by, find}
 use Rattle.road_map.specs.Least.{IsLeast}
-use Rattle.road_map.specs.Places.{RiseBy}
+use Rattle.road_map.specs.Places.{AreRising, place_in}
 use Rattle.road_leaf.specs.declared.leaf.NodeLeaf.{NodeLeaf}
 use Rattle.road_leaf.specs.declared.pair.PairLeaf.{PairLeaf}
-use Rattle.proof_judge.specs.declared.places.Place.{Place}
 use Rattle.proof_judge.specs.ItemWalks.{StandsTwice}
 
--- the item at an index has its id
-abbrev pub IsPlaceIn : List NodeLeaf → Place → Type 0
-IsPlaceIn nodes p = (n : NodeLeaf) × (slice_get nodes p.index ≡ Some n) × (n.id ≡ p.id)
+-- an id stands as often among ids as among items
+abbrev pub AsMany : List NodeLeaf → List ℕ → Type 0
+AsMany nodes ids = (id : ℕ) → count_by (λ i. i == id) ids ≡ count_by (λ n. n.id == id) nodes
 
--- an id has as many indices as items
-abbrev pub AsMany : List NodeLeaf → List Place → Type 0
-AsMany nodes places = (id : ℕ) →
-    count_by (λ p. p.id == id) places ≡ count_by (λ n. n.id == id) nodes
+-- an id stands twice
+abbrev pub IsTaken : List ℕ → ℕ → Type 0
+IsTaken ids id = 2 ≤ count_by (λ i. i == id) ids
 
--- two indices of an id
-abbrev pub IsTaken : List Place → ℕ → Type 0
-IsTaken places id = 2 ≤ count_by (λ p. p.id == id) places
+-- an index stands where an id does
+abbrev pub IsIndexOf : List ℕ → List ℕ → ℕ → ℕ → Type 0
+IsIndexOf ids indices id index =
+    (k : ℕ) × (place_in ids id ≡ Some k) × (slice_get indices k ≡ Some index)
 
--- the indices of items with ids of their own, by ascending id
-pub record ArePlaces (nodes : List NodeLeaf) (places : List Place) : Type 0 where
-  pub rise : RiseBy (λ p. p.id) places
-  pub placed : (p : Place) → Contains places p → IsPlaceIn nodes p
-  pub as_many : AsMany nodes places
+-- the index of each item before one stands where its id does
+abbrev pub AreNoted : List NodeLeaf → List ℕ → List ℕ → ℕ → Type 0
+AreNoted nodes ids indices end = (index : ℕ) (n : NodeLeaf) → index < end →
+    slice_get nodes index ≡ Some n → IsIndexOf ids indices n.id index
+
+-- the index of each item stands where its id does
+abbrev pub AreIndices : List NodeLeaf → List ℕ → List ℕ → Type 0
+AreIndices nodes ids indices = AreNoted nodes ids indices (length nodes)
+
+-- the ids of items, each of which has its own, by ascending id, and the index of each item
+pub record AreListed (nodes : List NodeLeaf) (indices : List ℕ) (ids : List ℕ) : Type 0 where
+  pub rise : AreRising ids
+  pub as_many : AsMany nodes ids
   pub distinct : IsLeast (StandsTwice nodes) None
-
--- those indices, and a list of their ids
-pub record AreListed (nodes : List NodeLeaf) (places : List Place) (ids : List ℕ) : Type 0 where
-  pub places_of : ArePlaces nodes places
-  pub ids_of : ids ≡ map (λ p. p.id) places
+  pub indices_of : AreIndices nodes ids indices
 
 -- the first item that names two ids, in this order
 abbrev pub named_in : List PairLeaf → ℕ → ℕ → Option PairLeaf
@@ -45,3 +48,8 @@ abbrev pub AreSorted : List PairLeaf → Type 0
 AreSorted pairs = (i j : ℕ) (d : PairLeaf) → i ≤ j → j < length pairs →
     is_before (get_or pairs j d).a (get_or pairs j d).b (get_or pairs i d).a
     (get_or pairs i d).b ≡ false
+
+-- items sorted by their two ids, among which the first that names two ids is that of a list
+pub record IsSortedCopy (pairs : List PairLeaf) (copy : List PairLeaf) : Type 0 where
+  pub sorted : AreSorted copy
+  pub same_first : (a b : ℕ) → named_in copy a b ≡ named_in pairs a b

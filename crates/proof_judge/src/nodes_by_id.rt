@@ -5,24 +5,24 @@ ghost use Rattle.octet_text.specs.Want.{no_memory};
 ghost use Rattle.std.specs.Option.{option_map};
 ghost use Rattle.road_leaf.specs.Seen.{seen};
 ghost use Rattle.road_map.specs.Least.{IsLeast};
-ghost use Rattle.proof_judge.specs.ItemWalks.{item_at, StandsTwice};
 ghost use Rattle.road_map.specs.Places.{AreRising};
+ghost use Rattle.proof_judge.specs.ItemWalks.{item_at, StandsTwice};
 
-use crate::places::{Place, are_few, ids_of, repeated_id, sorted_places};
+use crate::places::{are_few, indices_of, repeated_id, sorted_ids};
 use crate::refusal::Refusal;
-use octet_text::{NoMemory, copied};
+use octet_text::{NoMemory, share, shared};
 use road_leaf::{NodeLeaves, NodeView};
 use road_map::RisingIds;
 use std::alloc::Global;
 use std::marker::Model;
+use std::rc::Rc;
 
-/// Node items, and the index of each id among them, by ascending id; the ids stand in a list of their
-/// own too, in which a search finds them with less memory to read.
+/// Node items, their ids, which rise, and the index of each id among the items. Searches share the ids.
 #[derive(Drop)]
 pub struct NodesById<'a> {
     nodes: &'a NodeLeaves,
-    places: Vec<Place>,
-    ids: RisingIds,
+    indices: Vec<u32>,
+    ids: Rc<RisingIds>,
 }
 
 impl<'a> Model for NodesById<'a> {
@@ -34,7 +34,7 @@ impl<'a> Model for NodesById<'a> {
 
     ghost view = { λ s. s.nodes.now };
 
-    ghost invariant = { λ s. AreListed s.nodes.now s.places.items s.ids };
+    ghost invariant = { λ s. AreListed s.nodes.now s.indices.items s.ids.value };
 }
 
 impl<'a> NodesById<'a> {
@@ -47,13 +47,18 @@ impl<'a> NodesById<'a> {
             ((id : ℕ) × (e ≡ Refusal.RepeatedNode id) ×
             IsLeast (StandsTwice nodes.now) (Some id))) }
     {
-        let places = sorted_places(alloc, nodes)?;
-        match repeated_id(places.as_slice()) {
+        let sorted = sorted_ids(alloc, nodes)?;
+        match repeated_id(sorted.as_slice()) {
             None => {
-                are_few(places.as_slice());
-                let rising = ids_of(alloc, places.as_slice())?;
-                let ids = RisingIds::new(alloc, rising)?;
-                Ok(NodesById { nodes, places, ids })
+                are_few(sorted.as_slice());
+                let rising = RisingIds::new(alloc, sorted)?;
+                let indices = indices_of(alloc, nodes, &rising)?;
+                let ids = shared(alloc, rising)?;
+                Ok(NodesById {
+                    nodes,
+                    indices,
+                    ids,
+                })
             }
             Some(id) => Err(Refusal::RepeatedNode(id)),
         }
@@ -65,15 +70,15 @@ impl<'a> NodesById<'a> {
     {
         match self.ids.place(id) {
             None => None,
-            Some(place) => self.nodes.get(self.places[place].index as usize),
+            Some(place) => self.nodes.get(self.indices[place] as usize),
         }
     }
 
-    /// The ids of the items, ascending.
-    pub fn ids(&self, alloc: Global) -> Result<Vec<u32>, NoMemory>
-        ensures { IfOk result (λ ids. AreRising ids.items) }
+    /// The ids of the items, shared.
+    pub fn ids(&self) -> Result<Rc<RisingIds>, NoMemory>
+        ensures { IfOk result (λ ids. AreRising ids.value) }
     {
-        let ids = copied(alloc, self.ids.as_slice())?;
+        let ids = share(&self.ids)?;
         Ok(ids)
     }
 }

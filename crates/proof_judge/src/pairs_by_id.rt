@@ -1,8 +1,8 @@
 //! Pair items at hand by their two ids.
 
-ghost use Rattle.std.specs.Prelude.{◌≡◌, ℕ, IfOk};
+ghost use Rattle.std.specs.Prelude.{◌≡◌, true, IfOk};
 ghost use Rattle.proof_judge.specs.Judgement.{pair_at};
-ghost use Rattle.proof_judge.specs.ById.{named_in, is_before, AreSorted};
+ghost use Rattle.proof_judge.specs.ById.{named_in, is_before, AreSorted, IsSortedCopy};
 
 use crate::pairs::names;
 use octet_text::{NoMemory, copied, sort_by_key};
@@ -10,35 +10,33 @@ use road_leaf::PairLeaf;
 use std::alloc::Global;
 use std::marker::Model;
 
-/// Pair items, and the same items by their two ids.
+/// Pair items by their two ids: as they lie, or in a sorted copy where they lie in another order.
 #[derive(Drop)]
 pub struct PairsById<'a> {
     pairs: &'a [PairLeaf],
-    sorted: Vec<PairLeaf>,
+    sorted: Option<Vec<PairLeaf>>,
 }
 
 impl<'a> Model for PairsById<'a> {
-    ghost use Rattle.std.specs.Prelude.{◌≡◌, ℕ, List};
+    ghost use Rattle.std.specs.Prelude.{◌≡◌, ℕ, List, None, IfSome};
     ghost use Rattle.road_leaf.specs.declared.pair.PairLeaf.{PairLeaf};
-    ghost use Rattle.proof_judge.specs.ById.{AreSorted, named_in};
+    ghost use Rattle.proof_judge.specs.ById.{AreSorted, IsSortedCopy};
 
     ghost Value = { List PairLeaf };
 
     ghost view = { λ s. s.pairs.now };
 
-    ghost invariant = { λ s. AreSorted s.sorted.items ×
-        ((a b : ℕ) → named_in s.sorted.items a b ≡ named_in s.pairs.now a b) };
+    ghost invariant = { λ s. (s.sorted ≡ None → AreSorted s.pairs.now) ×
+        IfSome s.sorted (λ copy. IsSortedCopy s.pairs.now copy.items) };
 }
 
 /// Items sorted by their two ids, those of the same two in the order that they had.
-fn sorted_pairs(alloc: Global, pairs: &[PairLeaf]) -> Result<Vec<PairLeaf>, NoMemory>
-    ensures sorted { IfOk result (λ sorted. AreSorted sorted.items) }
-    ensures same { IfOk result (λ sorted. (a b : ℕ) →
-        named_in sorted.items a b ≡ named_in pairs.now a b) }
+fn sorted_copy(alloc: Global, pairs: &[PairLeaf]) -> Result<Vec<PairLeaf>, NoMemory>
+    ensures { IfOk result (λ copy. IsSortedCopy pairs.now copy.items) }
 {
-    let mut sorted = copied(alloc, pairs)?;
-    sort_by_key(&mut sorted, |pair| (pair.a, pair.b))?;
-    Ok(sorted)
+    let mut copy = copied(alloc, pairs)?;
+    sort_by_key(&mut copy, |pair| (pair.a, pair.b))?;
+    Ok(copy)
 }
 
 /// Whether an item's ids come before two others.
@@ -46,6 +44,13 @@ fn precedes(pair: &PairLeaf, a: u32, b: u32) -> bool
     ensures { result ≡ is_before pair.now.a pair.now.b a b }
 {
     pair.a < a || (pair.a == a && pair.b < b)
+}
+
+/// Whether no item's ids come before those of the item in front of it.
+fn are_sorted(pairs: &[PairLeaf]) -> bool
+    ensures { result ≡ true → AreSorted pairs.now }
+{
+    pairs.is_sorted_by(|pair, next| !precedes(next, pair.a, pair.b))
 }
 
 /// The first item that names two ids, in this order, among sorted items.
@@ -71,14 +76,33 @@ impl<'a> PairsById<'a> {
     pub fn new(alloc: Global, pairs: &'a [PairLeaf]) -> Result<PairsById<'a>, NoMemory>
         ensures { IfOk result (λ by_id. by_id ≡ pairs.now) }
     {
-        let sorted = sorted_pairs(alloc, pairs)?;
-        Ok(PairsById { pairs, sorted })
+        if are_sorted(pairs) {
+            return Ok(PairsById {
+                pairs,
+                sorted: None,
+            });
+        }
+        let copy = sorted_copy(alloc, pairs)?;
+        Ok(PairsById {
+            pairs,
+            sorted: Some(copy),
+        })
+    }
+
+    /// The items, sorted.
+    fn sorted(&self) -> &[PairLeaf]
+        ensures { IsSortedCopy self.now result.now }
+    {
+        match &self.sorted {
+            None => self.pairs,
+            Some(copy) => copy.as_slice(),
+        }
     }
 
     /// The first pair item that names two ids.
     pub fn find(&self, b: u32, c: u32) -> Option<PairLeaf>
         ensures { result ≡ pair_at self.now b c }
     {
-        find_sorted(self.sorted.as_slice(), b.min(c), b.max(c))
+        find_sorted(self.sorted(), b.min(c), b.max(c))
     }
 }

@@ -1,93 +1,90 @@
-//! The indices of node items by ascending id.
+//! The ids of node items by ascending id, and where the item of each stands.
 
-ghost use Rattle.std.specs.Prelude.{◌≡◌, ◌<◌, ◌≤◌, ◌^◌, IfOk, Contains, length, map};
-ghost use Rattle.std.specs.List.Sorted.{IsNonDecreasingBy};
+ghost use Rattle.std.specs.Prelude.{◌≡◌, ◌<◌, ◌≤◌, ◌^◌, None, IfOk, length, map, set};
+ghost use Rattle.std.specs.List.Sorted.{IsNonDecreasing};
 ghost use Rattle.road_map.specs.Least.{IsLeast};
-ghost use Rattle.road_map.specs.Places.{RiseBy};
-ghost use Rattle.proof_judge.specs.declared.places.Place.{Place};
-ghost use Rattle.proof_judge.specs.ById.{IsPlaceIn, AsMany, IsTaken};
+ghost use Rattle.road_map.specs.Places.{AreRising};
+ghost use Rattle.proof_judge.specs.ItemWalks.{StandsTwice};
+ghost use Rattle.proof_judge.specs.ById.{AsMany, IsTaken, AreIndices};
 
-use octet_text::{NoMemory, collected, push};
+use octet_text::{NoMemory, filled, push};
 use road_leaf::NodeLeaves;
+use road_map::RisingIds;
 use std::alloc::Global;
 
-/// The id of an item, and its index.
-#[derive(Clone, Copy, Debug)]
-pub struct Place {
-    pub id: u32,
-    pub index: u32,
-}
-
-/// One more than the greatest index of a place.
-const INDICES: usize = 4_294_967_296;
-
-/// The indices of items, in their order. Each is less than 2^32: where there are more items, two of
-/// which then carry the same id, it is what is left of the index modulo 2^32.
-fn places(alloc: Global, nodes: &NodeLeaves) -> Result<Vec<Place>, NoMemory>
-    ensures count { IfOk result (λ places. length places.items ≡ length nodes.now) }
-    ensures as_many { IfOk result (λ places. AsMany nodes.now places.items) }
-    ensures placed { IfOk result (λ places. length nodes.now ≤ 2 ^ 32 →
-        (p : Place) → Contains places.items p → IsPlaceIn nodes.now p) }
+/// The ids of items, in their order.
+fn ids_of(alloc: Global, nodes: &NodeLeaves) -> Result<Vec<u32>, NoMemory>
+    ensures { IfOk result (λ ids. ids.items ≡ map (λ n. n.id) nodes.now) }
 {
-    let mut places = nodes.room(alloc)?;
+    let mut ids = nodes.room(alloc)?;
     for index in 0..nodes.len() {
-        let id = nodes.at(index).id;
-        let place = Place {
-            id,
-            index: (index % INDICES) as u32,
-        };
-        push(&mut places, place)?;
+        push(&mut ids, nodes.at(index).id)?;
     }
-    Ok(places)
+    Ok(ids)
 }
 
-/// The indices of items, sorted by id. They are those modulo 2^32 where there are more.
-pub fn sorted_places(alloc: Global, nodes: &NodeLeaves) -> Result<Vec<Place>, NoMemory>
-    ensures sorted { IfOk result (λ places. IsNonDecreasingBy (λ p. p.id) places.items) }
-    ensures count { IfOk result (λ places. length places.items ≡ length nodes.now) }
-    ensures as_many { IfOk result (λ places. AsMany nodes.now places.items) }
-    ensures placed { IfOk result (λ places. length nodes.now ≤ 2 ^ 32 →
-        (p : Place) → Contains places.items p → IsPlaceIn nodes.now p) }
+/// The ids of items, none less than the one before it.
+pub fn sorted_ids(alloc: Global, nodes: &NodeLeaves) -> Result<Vec<u32>, NoMemory>
+    ensures sorted { IfOk result (λ ids. IsNonDecreasing ids.items) }
+    ensures count { IfOk result (λ ids. length ids.items ≡ length nodes.now) }
+    ensures as_many { IfOk result (λ ids. AsMany nodes.now ids.items) }
 {
-    let mut places = places(alloc, nodes)?;
-    places.sort_unstable_by_key(|place| place.id);
-    Ok(places)
+    let mut ids = ids_of(alloc, nodes)?;
+    ids.sort_unstable();
+    Ok(ids)
 }
 
-/// The least id with two indices, among indices sorted by id.
-pub fn repeated_id(places: &[Place]) -> Option<u32>
-    requires { IsNonDecreasingBy (λ p. p.id) places.now }
-    ensures { IsLeast (IsTaken places.now) result }
+/// The least id that stands twice, among sorted ids.
+pub fn repeated_id(ids: &[u32]) -> Option<u32>
+    requires { IsNonDecreasing ids.now }
+    ensures { IsLeast (IsTaken ids.now) result }
 {
-    for index in 1..places.len() {
-        if places[index - 1].id == places[index].id {
-            return Some(places[index].id);
+    for index in 1..ids.len() {
+        if ids[index - 1] == ids[index] {
+            return Some(ids[index]);
         }
     }
     None
 }
 
-fn id_fits(place: &Place)
-    ensures { place.now.id < 2 ^ 32 }
+fn id_fits(id: u32)
+    ensures { id < 2 ^ 32 }
 {
-    let _id = place.id;
+    let _id = id;
 }
 
-/// There are no more indices than ids, where no id has two.
-pub fn are_few(places: &[Place])
-    requires { RiseBy (λ p. p.id) places.now }
-    ensures { length places.now ≤ 2 ^ 32 }
+/// There are no more ids than numbers of 32 bits, where none stands twice.
+pub fn are_few(ids: &[u32])
+    requires { AreRising ids.now }
+    ensures { length ids.now ≤ 2 ^ 32 }
 {
-    if places.is_empty() {
+    if ids.is_empty() {
         return;
     }
-    let last = places[places.len() - 1];
-    id_fits(&last);
+    id_fits(ids[ids.len() - 1]);
 }
 
-/// The ids of indices, in their order.
-pub fn ids_of(alloc: Global, places: &[Place]) -> Result<Vec<u32>, NoMemory>
-    ensures { IfOk result (λ ids. ids.items ≡ map (λ p. p.id) places.now) }
+fn note(indices: &mut Vec<u32>, place: usize, index: u32)
+    requires { place < length indices.old.items }
+    ensures { indices.new.items ≡ set indices.old.items place index }
 {
-    collected(alloc, places.iter().map(|place| place.id))
+    indices[place] = index;
+}
+
+/// The index of the item of each id.
+pub fn indices_of(alloc: Global, nodes: &NodeLeaves, ids: &RisingIds) -> Result<Vec<u32>, NoMemory>
+    requires rise { AreRising ids.now }
+    requires count { length ids.now ≡ length nodes.now }
+    requires as_many { AsMany nodes.now ids.now }
+    requires distinct { IsLeast (StandsTwice nodes.now) None }
+    requires few { length nodes.now ≤ 2 ^ 32 }
+    ensures { IfOk result (λ indices. AreIndices nodes.now ids.now indices.items) }
+{
+    let mut indices = filled(alloc, 0, nodes.len())?;
+    for index in 0..nodes.len() {
+        let id = nodes.at(index).id;
+        let place = ids.place(id).unwrap();
+        note(&mut indices, place, index as u32);
+    }
+    Ok(indices)
 }

@@ -1,9 +1,9 @@
 //! Hints of where an id stands in a list of ids.
 
-ghost use Rattle.std.specs.Prelude.{◌≡◌, ◌<◌, ◌≤◌, IfSome, length};
+ghost use Rattle.std.specs.Prelude.{◌≡◌, ◌<◌, ◌≤◌, IfSome, IsTrue, length};
 ghost use Rattle.road_map.specs.Places.{StandsAt};
 
-use octet_text::{NoMemory, fill_up, push, room_for};
+use octet_text::{NoMemory, fill_up, push};
 use std::alloc::Global;
 
 /// How many ids of a span are searched by halves; where there are more, they are parted again.
@@ -16,7 +16,8 @@ pub struct Spans {
     // How wide a span is, 2 to this power, and where the ids of each begin.
     shift: u32,
     starts: Vec<u32>,
-    // How each span is parted, and where the ids of each narrower span begin.
+    // How each span with many ids is parted, by ascending span, and where the ids of each narrower
+    // span begin.
     parts: Vec<Part>,
     inner: Vec<u32>,
 }
@@ -25,6 +26,7 @@ pub struct Spans {
 /// this power.
 #[derive(Clone, Copy, Debug)]
 pub struct Part {
+    span: u32,
     at: u32,
     shift: u32,
 }
@@ -63,6 +65,7 @@ impl Spans {
         ensures { IfSome result (StandsAt (λ id. id) ids.now id) }
     {
         let whole = Part {
+            span: 0,
             at: 0,
             shift: self.shift,
         };
@@ -70,8 +73,8 @@ impl Spans {
         if end - start <= FEW {
             return place_between(ids, start, end, id);
         }
-        let part = self.parts.get(span)?;
-        let (_span, start, end) = narrowed(ids, self.inner.as_slice(), *part, start, end, id)?;
+        let part = part_of(self.parts.as_slice(), span)?;
+        let (_span, start, end) = narrowed(ids, self.inner.as_slice(), part, start, end, id)?;
         place_between(ids, start, end, id)
     }
 }
@@ -127,7 +130,22 @@ fn low_half(place: usize) -> u32 {
     (place & 0xFFFF_FFFF) as u32
 }
 
-/// How each span of a width is parted, whose narrower spans are added. A span of width 1 has one id.
+/// How a span is parted, if it is.
+fn part_of(parts: &[Part], span: usize) -> Option<Part> {
+    let place = parts.partition_point(|part| (part.span as usize) < span);
+    parts.get(place).copied()
+}
+
+/// Whether ids stand at indices from START on and before END, and more than a few.
+fn are_many(ids: &[u32], start: usize, end: usize) -> bool
+    ensures order { IsTrue result → start ≤ end }
+    ensures within { IsTrue result → end ≤ length ids.now }
+{
+    start <= end && end <= ids.len() && end - start > FEW
+}
+
+/// How the spans of a width that have many ids are parted; their narrower spans are added. A span of
+/// width 1 has one id.
 fn parts_of(
     alloc: Global,
     ids: &[u32],
@@ -135,27 +153,39 @@ fn parts_of(
     shift: u32,
     inner: &mut Vec<u32>,
 ) -> Result<Vec<Part>, NoMemory> {
+    let mut parts = Vec::new(alloc);
     if shift == 0 {
-        return Ok(Vec::new(alloc));
+        return Ok(parts);
     }
-    let mut parts = room_for(alloc, starts)?;
     for span in 1..starts.len() {
-        let part = part_of(ids, starts[span - 1] as usize, starts[span] as usize, inner)?;
-        push(&mut parts, part)?;
+        let (start, end) = (starts[span - 1] as usize, starts[span] as usize);
+        if are_many(ids, start, end) {
+            push(&mut parts, parted(ids, span - 1, start, end, inner)?)?;
+        }
     }
     Ok(parts)
 }
 
 /// How the span of the ids at indices from START on and before END is parted.
-fn part_of(ids: &[u32], start: usize, end: usize, inner: &mut Vec<u32>) -> Result<Part, NoMemory> {
+fn parted(
+    ids: &[u32],
+    span: usize,
+    start: usize,
+    end: usize,
+    inner: &mut Vec<u32>,
+) -> Result<Part, NoMemory>
+    requires order { start ≤ end }
+    requires within { end ≤ length ids.now }
+{
     let at = low_half(inner.len());
-    if start >= end || end > ids.len() || end - start <= FEW {
-        return Ok(Part { at, shift: 0 });
-    }
     let among = &ids[start..end];
     let shift = width_of(among);
     add_starts(inner, among, start, shift)?;
-    Ok(Part { at, shift })
+    Ok(Part {
+        span: low_half(span),
+        at,
+        shift,
+    })
 }
 
 /// The span of an id among the parts of a span, and the indices from which on and before which its

@@ -1,6 +1,6 @@
 //! Marks of a few ids.
 
-ghost use Rattle.std.specs.Prelude.{◌≡◌, ℕ, None};
+ghost use Rattle.std.specs.Prelude.{◌≡◌, ℕ, None, IfOk};
 ghost use Rattle.road_search.specs.Listing.{listed};
 
 use crate::listed::Listed;
@@ -35,12 +35,11 @@ pub struct Few {
 
 impl Few {
     /// No mark.
-    pub fn new(alloc: Global) -> Few
-        ensures { (id : ℕ) → listed result.marks id ≡ None }
+    pub fn none(alloc: Global) -> Result<Few, NoMemory>
+        ensures { IfOk result (λ few. (id : ℕ) → listed few.marks id ≡ None) }
     {
-        Few {
-            marks: Listed::none(alloc),
-        }
+        let marks = Listed::none(alloc)?;
+        Ok(Few { marks })
     }
 
     /// The same marks, and room for any others.

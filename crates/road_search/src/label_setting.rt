@@ -261,7 +261,7 @@ fn search_few<G: Ground>(
         IsLeast (λ v. IsSome (length_at found v) × ((G.ways ground.now).arcs v ≡ None))
         found.missing) }
 {
-    let mut marks = Few::new(alloc);
+    let mut marks = Few::none(alloc)?;
     let lacking = search_in(alloc, ground, &mut marks, from, limit)?;
     Ok(Labels::new(marks.into_listed(), lacking))
 }

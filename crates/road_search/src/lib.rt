@@ -19,7 +19,7 @@ pub use marks::{Mark, Marks};
 pub use numbered::Numbered;
 pub use over_map::{WholeMap, distances_to};
 pub use path::{Path, knows, shortest};
-pub use places::rising_ids;
+pub use places::{placed_ids, rising_ids};
 pub use survey::Survey;
 
 mod few;

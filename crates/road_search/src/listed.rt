@@ -11,16 +11,18 @@ ghost use Rattle.road_search.specs.Labelling.{length_in};
 
 use crate::marks::{Mark, Marks};
 use crate::numbered::Numbered;
-use octet_text::{NoMemory, copied, insert, push};
+use octet_text::{NoMemory, copied, insert, push, shared};
 use road_map::RisingIds;
 use std::alloc::Global;
 use std::collections::BTreeMap;
 use std::marker::Model;
+use std::rc::Rc;
 
-/// Marks of any ids: those that stand in a list of ascending ids by their places, all others by id.
+/// Marks of any ids: those that stand in a list of ascending ids, which others hold too, by their
+/// places, all others by id.
 #[derive(Drop)]
 pub struct Listed {
-    ids: RisingIds,
+    ids: Rc<RisingIds>,
     marks: Numbered,
     others: BTreeMap<u32, Mark>,
 }
@@ -31,24 +33,21 @@ impl Model for Listed {
     ghost Value = { Listing };
 
     ghost view = { λ s. record {
-      ids = s.ids;
+      ids = s.ids.value;
       marks = s.marks.marks.items;
       others = s.others.entries;
     } };
 
-    ghost invariant = { λ s. IsListing s.ids s.others.entries };
+    ghost invariant = { λ s. IsListing s.ids.value s.others.entries };
 }
 
 impl Listed {
     /// No mark, and no room by place.
-    pub fn none(alloc: Global) -> Listed
-        ensures { (id : ℕ) → listed result id ≡ None }
+    pub fn none(alloc: Global) -> Result<Listed, NoMemory>
+        ensures { IfOk result (λ found. (id : ℕ) → listed found id ≡ None) }
     {
-        Listed {
-            ids: RisingIds::none(alloc),
-            marks: Numbered::new(alloc),
-            others: BTreeMap::new(alloc),
-        }
+        let ids = shared(alloc, RisingIds::none(alloc))?;
+        Ok(Listed::of(alloc, ids, Numbered::new(alloc)))
     }
 
     /// How many ids have a mark and stand in no list.
@@ -56,29 +55,27 @@ impl Listed {
         self.others.len()
     }
 
-    /// No mark, and room by place for ids that ascend.
-    pub fn new(alloc: Global, ids: Vec<u32>) -> Result<Listed, NoMemory>
-        requires { AreRising ids.items }
+    /// No mark, and room by place for these ids.
+    pub fn new(alloc: Global, ids: Rc<RisingIds>) -> Result<Listed, NoMemory>
+        requires { AreRising ids.value }
         ensures { IfOk result (λ found. (id : ℕ) → listed found id ≡ None) }
     {
         let marks = Numbered::for_ids(alloc, ids.as_slice())?;
-        let found = Listed::of(alloc, ids, marks)?;
-        Ok(found)
+        Ok(Listed::of(alloc, ids, marks))
     }
 
-    /// The marks of ids that ascend, by place.
-    pub fn of(alloc: Global, ids: Vec<u32>, marks: Numbered) -> Result<Listed, NoMemory>
-        requires { AreRising ids.items }
-        ensures ids { IfOk result (λ found. found.ids ≡ ids.items) }
-        ensures marks { IfOk result (λ found. found.marks ≡ marks.marks.items) }
-        ensures others { IfOk result (λ found. found.others ≡ []) }
+    /// The marks of these ids, by place.
+    pub fn of(alloc: Global, ids: Rc<RisingIds>, marks: Numbered) -> Listed
+        requires { AreRising ids.value }
+        ensures ids { result.ids ≡ ids.value }
+        ensures marks { result.marks ≡ marks.marks.items }
+        ensures others { result.others ≡ [] }
     {
-        let ids = RisingIds::new(alloc, ids)?;
-        Ok(Listed {
+        Listed {
             ids,
             marks,
             others: BTreeMap::new(alloc),
-        })
+        }
     }
 
     /// All ids that may have a mark, each once.

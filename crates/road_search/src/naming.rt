@@ -10,7 +10,7 @@ use crate::label::Label;
 use crate::listed::Listed;
 use crate::marks::Mark;
 use crate::numbered::Numbered;
-use crate::places::rising_ids;
+use crate::places::placed_ids;
 use crate::slots::Slots;
 use octet_text::NoMemory;
 use road_map::Map;
@@ -69,8 +69,7 @@ pub fn by_ids(alloc: Global, map: &Map, marks: &Numbered) -> Result<Listed, NoMe
     ensures { IfOk result (λ found.
         AreNamed map.now.order (marked marks.now.marks.items) (listed found)) }
 {
-    let ids = rising_ids(alloc, map)?;
+    let ids = placed_ids(alloc, map)?;
     let named = all_named(alloc, map, &marks.marks)?;
-    let found = Listed::of(alloc, ids, named)?;
-    Ok(found)
+    Ok(Listed::of(alloc, ids, named))
 }

@@ -14,10 +14,11 @@ use crate::labels::Labels;
 use crate::listed::Listed;
 use crate::naming::by_ids;
 use crate::numbered::Numbered;
-use crate::places::rising_ids;
+use crate::places::placed_ids;
 use octet_text::NoMemory;
-use road_map::{Arc, Map, map_laws};
+use road_map::{Arc, Map, RisingIds, map_laws};
 use std::alloc::Global;
+use std::rc::Rc;
 
 /// A map in which every length passes.
 #[derive(Clone, Copy)]
@@ -37,9 +38,8 @@ impl Ground for WholeMap<'_> {
         true
     }
 
-    fn ids(&self, alloc: Global) -> Result<Vec<u32>, NoMemory> {
-        let map = self.map;
-        rising_ids(alloc, map)
+    fn ids(&self, alloc: Global) -> Result<Rc<RisingIds>, NoMemory> {
+        placed_ids(alloc, self.map)
     }
 
     ghost lets_shorter = { λ w id short long le h. h };
@@ -57,11 +57,12 @@ fn arcs_at(map: &Map, id: u32) -> Option<&[Arc]>
 }
 
 /// No label.
-fn no_labels(alloc: Global) -> Labels
-    ensures labels { (id : ℕ) → listed result.labels id ≡ None }
-    ensures missing { result.missing ≡ None }
+fn no_labels(alloc: Global) -> Result<Labels, NoMemory>
+    ensures labels { IfOk result (λ found. (id : ℕ) → listed found.labels id ≡ None) }
+    ensures missing { IfOk result (λ found. found.missing ≡ None) }
 {
-    Labels::new(Listed::none(alloc), None)
+    let marks = Listed::none(alloc)?;
+    Ok(Labels::new(marks, None))
 }
 
 /// The distances from a node to one end and to all that is as near, while the labels are few.
@@ -77,7 +78,7 @@ pub(crate) fn few_distances(
     map_laws();
     let _parts = map.parts();
     let whole = WholeMap { map };
-    let mut marks = Few::new(alloc);
+    let mut marks = Few::none(alloc)?;
     let _bound = search_to(alloc, &whole, &mut marks, from, to, u64::MAX)?;
     Ok(Labels::new(marks.into_listed(), None))
 }
@@ -91,7 +92,8 @@ fn distances_by_position(alloc: Global, map: &Map, from: u32, to: u32) -> Result
     let _parts = map.parts();
     let start = map.place(from);
     let Some(end) = map.position(to) else {
-        return Ok(no_labels(alloc));
+        let none = no_labels(alloc)?;
+        return Ok(none);
     };
     let mut marks = Numbered::new(alloc);
     let net = map.net();

@@ -4,9 +4,10 @@ ghost use Rattle.std.specs.Prelude.{◌≡◌, IfOk};
 ghost use Rattle.road_map.specs.Places.{AreRising};
 ghost use Rattle.road_map.specs.Walks.{ids};
 
-use octet_text::NoMemory;
-use road_map::Map;
+use octet_text::{NoMemory, shared};
+use road_map::{Map, RisingIds};
 use std::alloc::Global;
+use std::rc::Rc;
 
 /// The ids of a map's nodes, ascending.
 pub fn rising_ids(alloc: Global, map: &Map) -> Result<Vec<u32>, NoMemory>
@@ -16,4 +17,14 @@ pub fn rising_ids(alloc: Global, map: &Map) -> Result<Vec<u32>, NoMemory>
     let _parts = map.parts();
     let found = map.ids(alloc)?;
     Ok(found.into_vec())
+}
+
+/// The same, parted for look-ups.
+pub fn placed_ids(alloc: Global, map: &Map) -> Result<Rc<RisingIds>, NoMemory>
+    ensures ids { IfOk result (λ found. found.value ≡ ids map.now.order) }
+    ensures rise { IfOk result (λ found. AreRising found.value) }
+{
+    let found = rising_ids(alloc, map)?;
+    let placed = RisingIds::new(alloc, found)?;
+    shared(alloc, placed)
 }

@@ -1,5 +1,5 @@
 -- The tests before the items are walked fail by few errors alone.
-use Rattle.std.proofs.Common.{◌≡◌, ℕ, ◌==◌, nat_lt, Bool, true, false, cond, if◌then◌else◌, List, length, map, Result, Ok, Err, subst}
+use Rattle.std.proofs.Common.{ℕ, ◌==◌, nat_lt, Bool, true, false, cond, if◌then◌else◌, List, length, map, Result, Ok, Err, subst}
 use Rattle.std.specs.Str.{bytes_eq}
 use Rattle.road_leaf.specs.Leaves.{node_leaf_text}
 use Rattle.lms_tree.specs.Chains.{chained, verified_along}

@@ -19,11 +19,14 @@ use Rattle.proof_octets.specs.declared.near_reply.NearReply.{NearReply}
 use Rattle.proof_octets.specs.NearReplies.{near_reply}
 use Rattle.proof_octets.specs.Radius.{ListsMarks}
 use Rattle.proof_octets.proofs.MarkLaws.{listed_once}
+use Rattle.road_search.specs.Labelling.{Found}
+use Rattle.route_client.specs.Reached.{IsLabelled, Reached, Measured}
+use Rattle.route_client.proofs.Walks.{reached_marks}
 use Rattle.route_client.specs.declared.near_errors.NearError.{NearError}
 use Rattle.route_client.specs.declared.near_errors.NearError.TheVariants as errors
 use Rattle.route_client.specs.declared.within.CheckedReply.{CheckedReply}
 use Rattle.route_client.specs.declared.within.Within.{Within}
-use Rattle.route_client.specs.NearVerdicts.{spelled, items_covered, header_and_cover, near_error, after_tests, tested, near_passed, IsReached, LacksItem, Listed, Walked, as_within, WalkedAfter, IsNearVerdict, NearAccepts, UnlessMemory, Meets}
+use Rattle.route_client.specs.NearVerdicts.{spelled, items_covered, header_and_cover, near_error, after_tests, tested, near_passed, IsReached, LacksItem, Walked, as_within, WalkedAfter, IsNearVerdict, NearAccepts, UnlessMemory, Meets}
 use Rattle.octet_text.specs.Want.{no_memory}
 
 -- ---- at most one verdict
@@ -256,16 +259,30 @@ read_tested hash key links octets least a r is meets = subst (λ (p : Result Nea
 
 -- ---- the walks
 
-pub walked_of : (nodes : List NodeLeaf) (q : NearQuery) (r : Result (List Mark) NearError) → IsLeast (StandsTwice nodes) None → UnlessMemory (Listed nodes q) r → UnlessMemory (Walked nodes q) r
-walked_of nodes q (Ok marks) distinct h = (distinct, h)
-walked_of nodes q (Err (errors.MissingTuple id)) distinct h = (distinct, h)
-walked_of nodes q (Err (errors.RepeatedNode id)) distinct h = absurd h
-walked_of nodes q (Err (errors.Malformed at)) distinct h = absurd h
-walked_of nodes q (Err (errors.Stale version)) distinct h = absurd h
-walked_of nodes q (Err (errors.BadChain link why)) distinct h = absurd h
-walked_of nodes q (Err (errors.BadSignature why)) distinct h = absurd h
-walked_of nodes q (Err (errors.BadCover why)) distinct h = absurd h
-walked_of nodes q (Err (errors.Memory _)) distinct h = tt
+-- what is listed is what was measured
+pub measured_of : (nodes : List NodeLeaf) (q : NearQuery) (r : Result Found NearError) → IsLeast (StandsTwice nodes) None → UnlessMemory (Reached nodes q) r → UnlessMemory (Measured nodes q) r
+measured_of nodes q (Ok found) distinct h = (distinct, h)
+measured_of nodes q (Err (errors.MissingTuple id)) distinct h = (distinct, h)
+measured_of nodes q (Err (errors.RepeatedNode id)) distinct h = absurd h
+measured_of nodes q (Err (errors.Malformed at)) distinct h = absurd h
+measured_of nodes q (Err (errors.Stale version)) distinct h = absurd h
+measured_of nodes q (Err (errors.BadChain link why)) distinct h = absurd h
+measured_of nodes q (Err (errors.BadSignature why)) distinct h = absurd h
+measured_of nodes q (Err (errors.BadCover why)) distinct h = absurd h
+measured_of nodes q (Err (errors.Memory _)) distinct h = tt
+
+pub walked_of : (nodes : List NodeLeaf) (q : NearQuery) (found : Found) (marks : List Mark) → Measured nodes q (Ok found) → ListsMarks (IsLabelled found q.radius) marks → Walked nodes q (Ok marks)
+walked_of nodes q found marks h listed = (h.0, (h.1.0, reached_marks nodes q found marks h.1.1 listed))
+
+pub refused_measure : (nodes : List NodeLeaf) (q : NearQuery) (e : NearError) → UnlessMemory (Measured nodes q) (Err e) → UnlessMemory (Walked nodes q) (Err e)
+refused_measure nodes q (errors.Memory _) h = tt
+refused_measure nodes q (errors.Malformed at) h = h
+refused_measure nodes q (errors.Stale version) h = h
+refused_measure nodes q (errors.BadChain link why) h = h
+refused_measure nodes q (errors.BadSignature why) h = h
+refused_measure nodes q (errors.BadCover why) h = h
+refused_measure nodes q (errors.RepeatedNode id) h = h
+refused_measure nodes q (errors.MissingTuple id) h = h
 
 pub refused_walk : (a : NearReply) (q : NearQuery) (e : NearError) → UnlessMemory (Walked a.nodes q) (Err e) → UnlessMemory (WalkedAfter (Ok a) q) (Err e)
 refused_walk a q (errors.Memory _) h = tt

@@ -1,12 +1,18 @@
 -- What a search over the items has found.
-use Rattle.std.specs.Prelude.{◌≡◌, ◌⊎◌, ℕ, ◌+◌, ◌^◌, ◌≤◌, ◌↔◌, IsTrue, Some, List, Contains}
+use Rattle.std.specs.Prelude.{◌≡◌, ◌⊎◌, ℕ, ◌+◌, ◌^◌, ◌≤◌, ◌↔◌, IsTrue, None, Some, Result, Ok, Err, List, Contains}
 use Rattle.std.specs.List.Sorted.{IsStrictlySortedBy}
 use Rattle.std.specs.Ordering.{nat_cmp}
+use Rattle.road_map.specs.Least.{IsLeast}
+use Rattle.road_leaf.specs.declared.leaf.NodeLeaf.{NodeLeaf}
 use Rattle.road_search.specs.Labelling.{Found, length_at}
 use Rattle.road_search.specs.Nearness.{is_within}
 use Rattle.road_search.specs.Passing.{Ways, IsLeastPassing}
+use Rattle.proof_judge.specs.ItemWalks.{item_at, StandsTwice, any_ways}
 use Rattle.proof_octets.specs.declared.marks.Mark.{Mark}
+use Rattle.proof_octets.specs.declared.query.NearQuery.{NearQuery}
 use Rattle.proof_octets.specs.Radius.{marked_ids}
+use Rattle.route_client.specs.declared.near_errors.NearError.{NearError}
+use Rattle.route_client.specs.NearVerdicts.{limit_of, LacksItem, Listed, Walked}
 
 -- the limit is one more than the radius, or both are the greatest numbers of 64 bits
 abbrev pub IsLimitAbove : ℕ → ℕ → Type 0
@@ -30,3 +36,15 @@ pub record IsLabelled (found : Found) (most : ℕ) (m : Mark) : Type 0 where
 pub record AreMarked (found : Found) (ids : List ℕ) (marks : List Mark) : Type 0 where
   pub named : marked_ids marks ≡ ids
   pub right : (m : Mark) → Contains marks m → length_at found m.id ≡ Some m.distance
+
+-- the least lengths of walks that are no longer than the radius, where each ends at an item, or why
+-- nothing is listed
+abbrev pub Reached : List NodeLeaf → NearQuery → Result Found NearError → Type 0
+Reached nodes q (Ok found) = IsLeast (LacksItem nodes q) None ×
+    AreLeast (any_ways (item_at nodes)) q.from (limit_of q) found
+Reached nodes q (Err e) = Listed nodes q (Err e)
+
+-- the same, where no id stands at two items
+abbrev pub Measured : List NodeLeaf → NearQuery → Result Found NearError → Type 0
+Measured nodes q (Ok found) = IsLeast (StandsTwice nodes) None × Reached nodes q (Ok found)
+Measured nodes q (Err e) = Walked nodes q (Err e)

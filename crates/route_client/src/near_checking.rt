@@ -8,11 +8,11 @@ ghost use Rattle.route_client.specs.declared.within.Within.{Within};
 ghost use Rattle.route_client.specs.NearVerdicts.{UnlessMemory, IsNearVerdict, NearAccepts, WalkedAfter, taken};
 
 use crate::passing::pass;
-use crate::walking::walk;
+use crate::walking::{marks_within, measured, walk};
 use crate::{CheckedReply, NearError, Within};
 use lms_tree::Link;
 use octet_text::Hasher;
-use proof_octets::{NearQuery, NearReply};
+use proof_octets::{Header, NearQuery, NearReply};
 use std::alloc::Global;
 
 // The verdict on a reply that passes all tests before its items are walked.
@@ -23,6 +23,31 @@ fn accept(alloc: Global, reply: NearReply, query: NearQuery) -> Result<CheckedRe
 {
     match walk(alloc, &reply.nodes, query) {
         Ok(nodes) => Ok(CheckedReply { reply, nodes }),
+        Err(error) => Err(error),
+    }
+}
+
+// The header of a reply, of which nothing else is kept.
+fn header_of(reply: NearReply) -> Header
+    ensures { result ≡ reply.header }
+{
+    reply.header
+}
+
+// The same verdict, and what a client takes. The items are given back before the nodes are listed.
+fn take(alloc: Global, reply: NearReply, query: NearQuery) -> Result<Within, NearError>
+    ensures { UnlessMemory (WalkedAfter (Ok reply) query) result }
+{
+    match measured(alloc, &reply.nodes, query) {
+        Ok(labels) => {
+            let header = header_of(reply);
+            let nodes = marks_within(alloc, &labels, query.radius)?;
+            Ok(Within {
+                nodes,
+                version: header.version,
+                header,
+            })
+        }
         Err(error) => Err(error),
     }
 }
@@ -75,8 +100,8 @@ pub fn check_near<H: Hasher>(
         → UnlessMemory (λ r. r ≡ Ok x) result }
     ensures named { result ≡ Err (NearError.Memory no_memory) → IsNamed reply.now }
 {
-    match check_near_reply::<H>(alloc, public, chain, reply, query, least) {
-        Ok(checked) => Ok(checked.into_within()),
+    match pass::<H>(alloc, public, chain, reply, least) {
+        Ok(reply) => take(alloc, reply, query),
         Err(error) => Err(error),
     }
 }

@@ -6,12 +6,12 @@ ghost use Rattle.road_search.specs.Passing.{IsLeastPassing};
 ghost use Rattle.proof_judge.specs.ItemWalks.{item_at, any_ways, Lacks};
 ghost use Rattle.proof_judge.specs.SharedTests.{IsNarrow};
 ghost use Rattle.proof_octets.specs.Radius.{ListsMarks};
-ghost use Rattle.route_client.specs.NearVerdicts.{UnlessMemory, Listed, Walked};
-ghost use Rattle.route_client.specs.Reached.{IsLimitAbove, AreLeast, RiseWithin, IsLabelled, AreMarked};
+ghost use Rattle.route_client.specs.NearVerdicts.{UnlessMemory, Walked};
+ghost use Rattle.route_client.specs.Reached.{IsLimitAbove, AreLeast, RiseWithin, IsLabelled, AreMarked, Reached, Measured};
 
 use crate::NearError;
 use method_judges::Anywhere;
-use octet_text::{NoMemory, push};
+use octet_text::{NoMemory, push, room_for};
 use proof_judge::{NodesById, Refusal, are_narrow};
 use proof_octets::{Mark, Marks, NearQuery};
 use road_leaf::NodeLeaves;
@@ -39,7 +39,7 @@ fn marks_of(alloc: Global, labels: &Labels, ids: &[u32]) -> Result<Marks, NoMemo
     requires { All (λ id. IsSome (length_at labels.now id)) ids.now }
     ensures { IfOk result (AreMarked labels.now ids.now) }
 {
-    let mut marks = Vec::new(alloc);
+    let mut marks = room_for(alloc, ids)?;
     for id in ids {
         match labels.get(*id) {
             Some(distance) => push(&mut marks, Mark { id: *id, distance })?,
@@ -50,7 +50,7 @@ fn marks_of(alloc: Global, labels: &Labels, ids: &[u32]) -> Result<Marks, NoMemo
 }
 
 // The ids that have a length of at most this one, by ascending id, each with its length.
-fn marks_within(alloc: Global, labels: &Labels, most: u64) -> Result<Marks, NoMemory>
+pub(crate) fn marks_within(alloc: Global, labels: &Labels, most: u64) -> Result<Marks, NoMemory>
     ensures { IfOk result (ListsMarks (IsLabelled labels.now most)) }
 {
     let ids = ids_within(alloc, labels, most)?;
@@ -72,28 +72,44 @@ fn reach(alloc: Global, by_id: &NodesById<'_>, query: NearQuery) -> Result<Label
     Ok(labels)
 }
 
-// The nodes at which such walks end, where each has an item, or the least that has none.
-fn list(alloc: Global, by_id: &NodesById<'_>, query: NearQuery) -> Result<Marks, NearError>
+// The same, where each such walk ends at an item, or the least id at which one ends that has none.
+fn reached(alloc: Global, by_id: &NodesById<'_>, query: NearQuery) -> Result<Labels, NearError>
     requires { IsNarrow (any_ways (item_at by_id.now)) }
-    ensures { UnlessMemory (Listed by_id.now query) result }
+    ensures { UnlessMemory (Reached by_id.now query) result }
 {
     let labels = reach(alloc, by_id, query)?;
     if let Some(id) = labels.missing() {
         return Err(NearError::MissingTuple(id));
     }
-    let marks = marks_within(alloc, &labels, query.radius)?;
-    Ok(marks)
+    Ok(labels)
+}
+
+// The least lengths of walks that are no longer than the radius, or why the items are refused.
+pub(crate) fn measured(
+    alloc: Global,
+    nodes: &NodeLeaves,
+    query: NearQuery,
+) -> Result<Labels, NearError>
+    ensures { UnlessMemory (Measured nodes.now query) result }
+{
+    are_narrow(nodes);
+    match NodesById::new(alloc, nodes) {
+        Ok(by_id) => reached(alloc, &by_id, query),
+        Err(Refusal::RepeatedNode(id)) => Err(NearError::RepeatedNode(id)),
+        Err(Refusal::Memory(none)) => Err(NearError::Memory(none)),
+        Err(_) => unreachable!(),
+    }
 }
 
 // What the items show, or why they are refused.
 pub(crate) fn walk(alloc: Global, nodes: &NodeLeaves, query: NearQuery) -> Result<Marks, NearError>
     ensures { UnlessMemory (Walked nodes.now query) result }
 {
-    are_narrow(nodes);
-    match NodesById::new(alloc, nodes) {
-        Ok(by_id) => list(alloc, &by_id, query),
-        Err(Refusal::RepeatedNode(id)) => Err(NearError::RepeatedNode(id)),
-        Err(Refusal::Memory(none)) => Err(NearError::Memory(none)),
-        Err(_) => unreachable!(),
+    match measured(alloc, nodes, query) {
+        Ok(labels) => {
+            let marks = marks_within(alloc, &labels, query.radius)?;
+            Ok(marks)
+        }
+        Err(error) => Err(error),
     }
 }

@@ -4,4 +4,4 @@ use Rattle.proof_judge.proofs.places.repeated_id.Given as goal
 
 -- the ids so far rise
 abbrev pub invariant-loop-index : goal.invariant-loop-index
-invariant-loop-index l = AllAdjacentBelow (λ x y. x.id < y.id) l.places l.index
+invariant-loop-index l = AllAdjacentBelow (λ x y. x < y) l.ids l.index

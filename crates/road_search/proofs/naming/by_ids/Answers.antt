@@ -11,4 +11,4 @@ parts : (l : Listing) (is : List ℕ) (ms : List (Option Mark)) → l.ids ≡ is
 parts l is ms a b c id = ap (λ x. listed_by x (marked l.marks) l.others id) a ∙ (ap (λ x. listed_by is (marked x) l.others id) b ∙ ap (λ x. listed_by is (marked ms) x id) c)
 
 pub returns : goal.returns
-returns c = are_named c.args.map.now.order c.args.marks.now.marks.items c.in_ok-named.named.marks.items (listed c.in_ok-found.found) (subst AreRising c.in_ok-ids.ensures.ids c.in_ok-ids.ensures.rise) c.in_ok-named.ensures (parts c.in_ok-found.found (ids c.args.map.now.order) c.in_ok-named.named.marks.items (c.in_ok-found.ensures.ids ∙ c.in_ok-ids.ensures.ids) c.in_ok-found.ensures.marks c.in_ok-found.ensures.others)
+returns c = are_named c.args.map.now.order c.args.marks.now.marks.items c.in_ok-named.named.marks.items (listed c.of.result) (subst AreRising c.in_ok-ids.ensures.ids c.in_ok-ids.ensures.rise) c.in_ok-named.ensures (parts c.of.result (ids c.args.map.now.order) c.in_ok-named.named.marks.items (c.of.ensures.ids ∙ c.in_ok-ids.ensures.ids) c.of.ensures.marks c.of.ensures.others)

@@ -15,14 +15,14 @@ use Rattle.road_search.proofs.over_map.distances_by_position.Goals as goal
 
 pub returns-in_default : goal.returns-in_default
 returns-in_default c =
-    let none : length_at c.no_labels.result c.args.to ≡ None = no_length c.no_labels.result c.args.to (c.no_labels.ensures.labels c.args.to) in
-    let away : route_at c.no_labels.result c.args.to ≡ None = ap (λ o. option_map (λ (l : Label). way_to (label_at c.no_labels.result.labels) l.hops c.args.to) (option_map (λ (m : Mark). m.label) o)) (c.no_labels.ensures.labels c.args.to) in
+    let none : length_at c.in_ok-none.none c.args.to ≡ None = no_length c.in_ok-none.none c.args.to (c.in_ok-none.ensures.labels c.args.to) in
+    let away : route_at c.in_ok-none.none c.args.to ≡ None = ap (λ o. option_map (λ (l : Label). way_to (label_at c.in_ok-none.none.labels) l.hops c.args.to) (option_map (λ (m : Mark). m.label) o)) (c.in_ok-none.ensures.labels c.args.to) in
     record {
-      end = no_length c.no_labels.result c.args.to (c.no_labels.ensures.labels c.args.to)
+      end = no_length c.in_ok-none.none c.args.to (c.in_ok-none.ensures.labels c.args.to)
           ∙ sym (no_end c.args.map.now.parts c.parts-parts.ensures.is_map (c.map_laws.ensures.distances c.args.map.now.parts c.parts-parts.ensures.is_map) c.args.from c.args.to (place_known c.args.map.now.parts c.args.map.now.order c.parts-parts.ensures.by_id c.args.to (λ p at. c.in_default.ensures.none p at.0 at.1 at.2)));
-      route = subst (λ o. IfSome o (IsShortestWay c.args.map.now.parts c.args.from c.args.to (length_at c.no_labels.result c.args.to))) (sym away) tt;
+      route = subst (λ o. IfSome o (IsShortestWay c.args.map.now.parts c.args.from c.args.to (length_at c.in_ok-none.none c.args.to))) (sym away) tt;
       near = λ v d most is le. absurd (let bad : None ≡ Some most = sym none ∙ is in cc);
-      missing = c.no_labels.ensures.missing;
+      missing = c.in_ok-none.ensures.missing;
     }
 
 -- ---- an end that a node has

@@ -6,7 +6,7 @@ use Rattle.route_client.proofs.MarkSteps.{none_marked, one_marked}
 use Rattle.route_client.proofs.walking.marks_of.Goals as goal
 
 pub loop-id-init : goal.loop-id-init
-loop-id-init c = subst (AreMarked c.args.labels.now (take 0 c.args.ids.now)) (sym c.new-marks.ensures.items) (none_marked c.args.labels.now c.args.ids.now)
+loop-id-init c = subst (AreMarked c.args.labels.now (take 0 c.args.ids.now)) (sym c.in_ok-marks.ensures.items) (none_marked c.args.labels.now c.args.ids.now)
 
 pub loop-id-preserved : goal.loop-id-preserved
 loop-id-preserved c =

@@ -1,17 +1,8 @@
-use Rattle.std.proofs.Common.{ℕ, true, Some, List, sym, subst}
-use Rattle.road_map.specs.Least.{IsLeast}
-use Rattle.road_leaf.specs.declared.leaf.NodeLeaf.{NodeLeaf}
-use Rattle.proof_judge.specs.ItemWalks.{StandsTwice, item_at, any_ways}
-use Rattle.proof_judge.specs.SharedTests.{IsNarrow}
-use Rattle.route_client.proofs.NearVerdictLaws.{repeated_is}
+use Rattle.route_client.proofs.NearVerdictLaws.{walked_of, refused_measure}
 use Rattle.route_client.proofs.walking.walk.Goals as goal
 
-pub list-requires : goal.list-requires
-list-requires c = subst (λ (nodes : List NodeLeaf). IsNarrow (any_ways (item_at nodes))) (sym c.in-Ok.ensures.nodes) (c.are_narrow.ensures (λ _ _. true))
+pub returns-in-Err : goal.returns-in-Err
+returns-in-Err c = refused_measure c.args.nodes.now c.args.query c.in-Err.error c.in-Err.ensures
 
-pub returns-in-Err-RepeatedNode : goal.returns-in-Err-RepeatedNode
-returns-in-Err-RepeatedNode c =
-    let found : IsLeast (StandsTwice c.args.nodes.now) (Some c.in-Err-RepeatedNode.id) =
-    repeated_is c.args.nodes.now c.args.query c.in-Err-RepeatedNode.field-0 c.in-Err-RepeatedNode.id c.in-Err-RepeatedNode.field-0-is c.in-Err-RepeatedNode.ensures.fault in
-    let Least : ℕ → Type 0 = λ n. IsLeast (StandsTwice c.args.nodes.now) (Some n) in
-    subst Least (sym c.in-Err-RepeatedNode.id-is) found
+pub returns-in_ok-marks-in-Ok : goal.returns-in_ok-marks-in-Ok
+returns-in_ok-marks-in-Ok c = walked_of c.args.nodes.now c.args.query c.in-Ok.labels c.in_ok-marks-in-Ok.marks c.in-Ok.ensures c.in_ok-marks-in-Ok.ensures

@@ -13,7 +13,7 @@ use Rattle.road_search.proofs.listed.Listed.all.Goals as goal
 
 pub loop-id-init : goal.loop-id-init
 loop-id-init c =
-    c.in_ok-all.ensures.items ∙ (c.as_slice.ensures ∙ (ap (λ (l : Listing). l.ids) c.self.view_is ∙ sym (append-nil c.args.self.now.ids)))
+    c.in_ok-all.ensures.items ∙ (c.as_slice.ensures ∙ (c.deref.ensures ∙ (ap (λ (l : Listing). l.ids) c.self.view_is ∙ sym (append-nil c.args.self.now.ids))))
 
 pub loop-id-preserved : goal.loop-id-preserved
 loop-id-preserved c =
@@ -22,11 +22,11 @@ loop-id-preserved c =
 pub returns-clause-distinct : goal.returns-clause-distinct
 returns-clause-distinct c =
     let ent : map deref_pair c.loop-id.yielded ≡ c.self.inside.others.entries = search (rules, iter_end) in
-    let whole : c.loop-id.all.items ≡ c.self.inside.ids ++ keys_of c.self.inside.others.entries = c.loop-id.invariant ∙ (ap (λ (l : Listing). l.ids ++ keys_of (map deref_pair c.loop-id.yielded)) (sym c.self.view_is) ∙ ap (λ (es : List (ℕ × Mark)). c.self.inside.ids ++ keys_of es) ent) in
-    subst (IsDistinct nat_eq) (sym whole) (all_distinct c.self.inside.ids c.self.inside.others.entries c.self.invariant (rising_apart _ c.iter-id-items.ensures.ordered))
+    let whole : c.loop-id.all.items ≡ c.self.inside.ids.value ++ keys_of c.self.inside.others.entries = c.loop-id.invariant ∙ (ap (λ (l : Listing). l.ids ++ keys_of (map deref_pair c.loop-id.yielded)) (sym c.self.view_is) ∙ ap (λ (es : List (ℕ × Mark)). c.self.inside.ids.value ++ keys_of es) ent) in
+    subst (IsDistinct nat_eq) (sym whole) (all_distinct c.self.inside.ids.value c.self.inside.others.entries c.self.invariant (rising_apart _ c.iter-id-items.ensures.ordered))
 
 pub returns-clause-all : goal.returns-clause-all
 returns-clause-all c = λ id there.
     let ent : map deref_pair c.loop-id.yielded ≡ c.self.inside.others.entries = search (rules, iter_end) in
-    let whole : c.loop-id.all.items ≡ c.self.inside.ids ++ keys_of c.self.inside.others.entries = c.loop-id.invariant ∙ (ap (λ (l : Listing). l.ids ++ keys_of (map deref_pair c.loop-id.yielded)) (sym c.self.view_is) ∙ ap (λ (es : List (ℕ × Mark)). c.self.inside.ids ++ keys_of es) ent) in
-    subst (λ xs. Contains xs id) (sym whole) (all_marked c.self.inside.ids (marked c.self.inside.marks.marks.items) c.self.inside.others.entries id (subst (λ (l : Listing). IsSome (listed l id)) (sym c.self.view_is) there))
+    let whole : c.loop-id.all.items ≡ c.self.inside.ids.value ++ keys_of c.self.inside.others.entries = c.loop-id.invariant ∙ (ap (λ (l : Listing). l.ids ++ keys_of (map deref_pair c.loop-id.yielded)) (sym c.self.view_is) ∙ ap (λ (es : List (ℕ × Mark)). c.self.inside.ids.value ++ keys_of es) ent) in
+    subst (λ xs. Contains xs id) (sym whole) (all_marked c.self.inside.ids.value (marked c.self.inside.marks.marks.items) c.self.inside.others.entries id (subst (λ (l : Listing). IsSome (listed l id)) (sym c.self.view_is) there))

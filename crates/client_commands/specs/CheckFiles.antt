@@ -1,14 +1,19 @@
 -- How a check of either kind of replies ends.
-use Rattle.std.specs.Prelude.{◌≡◌, ◌≢◌, ℕ, List}
+use Rattle.std.specs.Prelude.{◌≡◌, ◌≢◌, ℕ, List, ◌∷◌}
 use Rattle.std.specs.declared.option.Option.{Option}
 use Rattle.std.specs.declared.result.Result.{Result}
 use Rattle.std.specs.declared.result.Result.TheVariants.{Ok, Err}
 use Rattle.lms_tree.specs.declared.links.Link.{Link}
 use Rattle.road_io.specs.Contents.{Folder}
+use Rattle.command_files.specs.Asking.{AsksFront, if_named}
 use Rattle.command_files.specs.Reading.{octets_at, chain_at}
 use Rattle.command_files.specs.HexFiles.{public_key_at}
-use Rattle.command_files.specs.Endings.{Ending, EndsReading}
+use Rattle.command_files.specs.Endings.{Ending, EndsReading, Promises, TellsNone, NoDisk}
+use Rattle.command_files.specs.Spared.{SparesLibrary, SparesBut}
+use Rattle.command_files.specs.declared.ended.Conclusion.{Conclusion}
 use Rattle.command_files.specs.declared.ended.Conclusion.TheVariants.{Done, Refused}
+use Rattle.command_files.specs.declared.fault.Fault.{Fault}
+use Rattle.command_files.specs.declared.fault.Fault.TheVariants.{Sink}
 
 -- by its verdict, which is not that memory was short: with the line of what is accepted, or of why
 -- nothing is
@@ -28,3 +33,14 @@ over_files Ends key reply chain folder =
     EndsReading (public_key_at folder key)
     (λ k. EndsReading (octets_at folder reply)
     (λ octets. EndsReading (chain_at folder chain) (λ links. Ends k links octets)))
+
+-- a command of a check, over the files of these names: it ends as Ends says of what they hold
+pub record ChecksFiles (Ends : List ℕ → List Link → List ℕ → Ending) (key reply : List ℕ)
+    (chain : Option (List ℕ)) (files : Option Folder) (asked new_asked : List (List ℕ))
+    (loads new_loads : ℕ) (taken new_taken : Option (List ℕ)) (writes new_writes : ℕ)
+    (outcome : Result Conclusion Fault) : Type 0 where
+  pub promised : Promises (over_files Ends key reply chain) TellsNone NoDisk files loads new_loads
+      taken new_taken writes new_writes outcome
+  pub library : SparesLibrary outcome loads new_loads
+  pub asks : AsksFront (key ∷ reply ∷ if_named chain) asked new_asked
+  pub sink : SparesBut Sink outcome writes new_writes

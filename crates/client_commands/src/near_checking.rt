@@ -1,13 +1,12 @@
 //! The command `check-reach`.
 
-ghost use Rattle.std.specs.Prelude.{IfOk, length, ◌<◌, ◌≤◌, ◌^◌, ◌∷◌, [], ◌++◌};
+ghost use Rattle.std.specs.Prelude.{IfOk, length, ◌<◌, ◌≤◌, ◌^◌};
 ghost use Rattle.std.specs.Option.{option_map};
-ghost use Rattle.command_files.specs.Endings.{Promises, TellsNone, NoDisk, MayEnd};
-ghost use Rattle.command_files.specs.Asking.{AsksFront, if_named};
-ghost use Rattle.command_files.specs.Spared.{SparesLibrary, SparesBut};
-ghost use Rattle.client_commands.specs.NearChecking.{EndsCheckReach, ends_check_reach};
+ghost use Rattle.client_commands.specs.CheckFiles.{ChecksFiles};
+ghost use Rattle.client_commands.specs.NearChecking.{EndsCheckReach};
 
-use command_files::{Conclusion, Fault, Told, load_chain, load_file, load_hex, write_told};
+use crate::replies::{Judging, check_file};
+use command_files::{Conclusion, Fault, Told};
 use lms_tree::Link;
 use octet_text::{NoMemory, Sha};
 use proof_octets::NearQuery;
@@ -28,49 +27,43 @@ pub fn check_reach<L: Library, K: Sink>(
     least: u64,
     chain: Option<&str>,
 ) -> Result<Conclusion, Fault>
-    ensures promised { Promises (ends_check_reach key.now reply.now query least
-        (option_map (λ word. word.now) chain.entry)) TellsNone NoDisk
-        (L.files library.new) (L.faults library.old) (L.faults library.new)
+    ensures { ChecksFiles (λ k links octets. EndsCheckReach k links octets query least)
+        key.now reply.now (option_map (λ name. name.now) chain.entry)
+        (L.files library.new) (L.asked library.old) (L.asked library.new)
+        (L.faults library.old) (L.faults library.new)
         (K.taken sink.old) (K.taken sink.new) (K.faults sink.old) (K.faults sink.new) result }
-    ensures library { SparesLibrary result (L.faults library.old) (L.faults library.new) }
-    ensures asked { AsksFront (key.now ∷ reply.now ∷
-        if_named (option_map (λ word. word.now) chain.entry))
-        (L.asked library.old) (L.asked library.new) }
-    ensures sink { SparesBut Fault.Sink result (K.faults sink.old) (K.faults sink.new) }
 {
-    let key: [u8; 56] = load_hex(alloc, library, key)?;
-    let reply = load_file(alloc, library, reply)?;
-    let chain = load_chain(alloc, library, chain)?;
-    match verdict_on(alloc, &key, chain.as_slice(), &reply, query, least) {
-        Ok(told) => write_told(sink, &told),
-        Err(none) => Err(Fault::Memory(none)),
-    }
+    check_file::<RadiusJudging, L, K>(alloc, library, sink, key, reply, query, least, chain)
 }
 
-/// The client's verdict on a reply.
-fn verdict_on(
-    alloc: Global,
-    key: &[u8],
-    chain: &[Link],
-    reply: &[u8],
-    query: NearQuery,
-    least: u64,
-) -> Result<Told, NoMemory>
-    requires short { length reply.now < 2 ^ 32 }
-    requires few { length chain.now ≤ 7 }
-    ensures verdict { IfOk result (λ told. MayEnd TellsNone told.end) }
-    ensures told { IfOk result (λ told.
-        EndsCheckReach key.now chain.now reply.now query least told.end told.text.items) }
-{
-    match check_near::<Sha>(alloc, key, chain, reply, query, least) {
-        Ok(within) => Ok(Told {
-            text: line_of_within(alloc, within.nodes.as_slice())?,
-            end: Ok(Conclusion::Done),
-        }),
-        Err(NearError::Memory(none)) => Err(none),
-        Err(refusal) => Ok(Told {
-            text: line_of_refused_near(alloc, refusal)?,
-            end: Ok(Conclusion::Refused),
-        }),
+// What a client says of the nodes within a radius.
+struct RadiusJudging;
+
+impl Judging for RadiusJudging {
+    ghost use Rattle.client_commands.specs.NearChecking.{EndsCheckReach};
+
+    type Query = NearQuery;
+
+    ghost ends = { EndsCheckReach };
+
+    fn verdict_on(
+        alloc: Global,
+        key: &[u8],
+        chain: &[Link],
+        reply: &[u8],
+        query: NearQuery,
+        least: u64,
+    ) -> Result<Told, NoMemory> {
+        match check_near::<Sha>(alloc, key, chain, reply, query, least) {
+            Ok(within) => Ok(Told {
+                text: line_of_within(alloc, within.nodes.as_slice())?,
+                end: Ok(Conclusion::Done),
+            }),
+            Err(NearError::Memory(none)) => Err(none),
+            Err(refusal) => Ok(Told {
+                text: line_of_refused_near(alloc, refusal)?,
+                end: Ok(Conclusion::Refused),
+            }),
+        }
     }
 }

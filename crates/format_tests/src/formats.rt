@@ -1,10 +1,11 @@
 //! What no clause says: octets worked out by hand, and calls that succeed.
+ghost use Rattle.proof_octets.specs.Replies.{reply};
 
 use crate::asserts::{assert_octets, assert_same};
 use book_model::{Items, Numbers, Settings};
 use octet_text::{Malformed, ReadError};
 use proof_octets::{Answer, Header, Publication, Reply};
-use road_leaf::{Extra, NodeView, PairLeaf};
+use road_leaf::{ExtraView, NodeView, PairLeaf};
 use road_map::{Node, Parts, Road};
 use std::alloc::Global;
 use std::process::Abort;
@@ -200,7 +201,7 @@ fn malformed_replies_are_named_by_their_place(rt: HostRuntime) -> Result<(), Fai
 fn assert_first(rt: &impl Abort, leaf: &NodeView<'_>) {
     assert_same(rt, &(leaf.id, leaf.x, leaf.y), &(1, -1, 2));
     match leaf.extra {
-        Extra::Cell { cell, border } => assert_same(rt, &(*cell, *border), &(3, true)),
+        ExtraView::Cell { cell, border } => assert_same(rt, &(cell, border), &(3, true)),
         _ => assert!(rt; false),
     }
 }
@@ -256,29 +257,53 @@ fn a_route_is_read_and_written_again(rt: HostRuntime) -> Result<(), Fail> {
     Ok(())
 }
 
-// The reply that the octets encode, and its octets when it is written again.
-fn rewritten(alloc: Global) -> Result<(Reply, Vec<u8>), Fail> {
-    let reply = Reply::read(alloc, &REPLY)?;
-    let octets = reply.write(alloc)?;
-    Ok((reply, octets))
+// Compares an answer with its route, or one without.
+fn assert_whole(rt: &impl Abort, reply: &Reply, routed: bool) {
+    match (reply, routed) {
+        (Reply::Answer(answer), true) => {
+            assert_answer(rt, answer);
+            assert_items(rt, &answer.items);
+        }
+        (Reply::Apart(answer), false) => {
+            assert_answer(rt, answer);
+            assert_same(rt, &answer.items.route.as_slice().len(), &0);
+            assert_same(rt, &answer.items.nodes.len(), &2);
+        }
+        _ => assert!(rt; false),
+    }
+}
+
+// Compares the octets of a reply, written again, with those that it was read from.
+fn assert_written(rt: &impl Abort, alloc: Global, found: &Reply, octets: &[u8]) -> Result<(), Fail>
+    requires { reply.Fits found.now }
+{
+    let written = found.write(alloc)?;
+    assert_octets(rt, &written, octets);
+    Ok(())
+}
+
+// The octets encode that answer, and are what it is written as.
+fn assert_rewritten(
+    rt: &impl Abort,
+    alloc: Global,
+    octets: &[u8],
+    routed: bool,
+) -> Result<(), Fail> {
+    if octets.len() > 10_000 {
+        return Err(Fail::from("many octets"));
+    }
+    let reply = Reply::read(alloc, octets)?;
+    assert_whole(rt, &reply, routed);
+    assert_written(rt, alloc, &reply, octets)
 }
 
 #[test]
 fn an_answer_is_read_and_written_again(rt: HostRuntime) -> Result<(), Fail> {
-    let (reply, octets) = rewritten(rt.alloc())?;
-    assert_octets(&rt, &octets, &REPLY);
-    match &reply {
-        Reply::Answer(answer) => {
-            assert_answer(&rt, answer);
-            assert_items(&rt, &answer.items);
-        }
-        _ => assert!(rt; false),
-    }
-    Ok(())
+    assert_rewritten(&rt, rt.alloc(), &REPLY, true)
 }
 
 // The same answer without its route, which takes 12 octets: the reply that no walk joins the ends.
-fn without_route(alloc: Global) -> Result<Vec<u8>, Fail> {
+pub(crate) fn without_route(alloc: Global) -> Result<Vec<u8>, Fail> {
     let mut octets = vec![in alloc; 3]?;
     octets.extend_from_slice(&REPLY[1..110])?;
     octets.extend_from_slice(&REPLY[122..])?;
@@ -288,19 +313,7 @@ fn without_route(alloc: Global) -> Result<Vec<u8>, Fail> {
 #[test]
 fn an_answer_without_a_route_is_read_and_written_again(rt: HostRuntime) -> Result<(), Fail> {
     let octets = without_route(rt.alloc())?;
-    if octets.len() > 10_000 {
-        return Err(Fail::from("many octets"));
-    }
-    let reply = Reply::read(rt.alloc(), &octets)?;
-    let Reply::Apart(answer) = &reply else {
-        return Err(Fail::from("another kind"));
-    };
-    assert_answer(&rt, answer);
-    assert_same(&rt, &answer.items.route.as_slice().len(), &0);
-    assert_same(&rt, &answer.items.nodes.len(), &2);
-    let again = reply.write(rt.alloc())?;
-    assert_octets(&rt, &again, &octets);
-    Ok(())
+    assert_rewritten(&rt, rt.alloc(), &octets, false)
 }
 
 // Compares the last node and the road of a publication.

@@ -3,6 +3,7 @@
 use crate::asserts::{assert_octets, assert_same};
 use mem_io::{MemDisk, MemLibrary, MemSink, MemSource, Pick};
 use road_io::{Disk, Failed, Library, LoadError, read_whole, write_all};
+use std::process::Abort;
 use std::test::Fail;
 
 #[test]
@@ -66,6 +67,26 @@ fn files_are_found_by_name(rt: HostRuntime) -> Result<(), Fail> {
     Ok(())
 }
 
+// Ten octets that are synced, and four that are not: three over the first, and one behind the last.
+fn write_past_sync(rt: &impl Abort, disk: &mut MemDisk) -> Result<(), Fail> {
+    disk.write_at(0, b"old octets")?;
+    disk.sync()?;
+    disk.write_at(0, b"new")?;
+    assert_same(rt, &disk.len()?, &10);
+    disk.write_at(10, b"!")?;
+    Ok(())
+}
+
+// Compares what a disk holds, filled up with zeros to 11 octets, with these.
+fn assert_held(rt: &impl Abort, disk: &mut MemDisk, wanted: &[u8]) -> Result<(), Fail> {
+    let mut found = [0; 11];
+    let length = disk.len()? as usize;
+    assert!(rt; length <= 11);
+    disk.read_at(0, &mut found[..length])?;
+    assert_octets(rt, &found, wanted);
+    Ok(())
+}
+
 #[test]
 fn a_crash_leaves_what_was_picked(rt: HostRuntime) -> Result<(), Fail> {
     let alloc = rt.alloc();
@@ -76,25 +97,16 @@ fn a_crash_leaves_what_was_picked(rt: HostRuntime) -> Result<(), Fail> {
     ];
     for (pick, left) in rows {
         let mut disk = MemDisk::new(alloc, 11, 100, Vec::new(alloc), None)?;
-        disk.write_at(0, b"old octets")?;
-        disk.sync()?;
-        disk.write_at(0, b"new")?;
-        assert_same(&rt, &disk.len()?, &10);
-        disk.write_at(10, b"!")?;
+        write_past_sync(&rt, &mut disk)?;
         let mut crashed = disk.crash(pick);
-        let mut found = [0; 11];
-        let length = crashed.len()? as usize;
-        assert!(rt; length <= 11);
-        crashed.read_at(0, &mut found[..length])?;
-        assert_octets(&rt, &found, left);
+        assert_held(&rt, &mut crashed, left)?;
     }
     Ok(())
 }
 
-#[test]
-fn calls_fail_as_planned_and_for_want_of_room(rt: HostRuntime) -> Result<(), Fail> {
-    let alloc = rt.alloc();
-    let mut disk = MemDisk::new(alloc, 4, 84, vec![in alloc; 1]?, Some(8))?;
+// Calls of a disk with room for four octets and a journal for two writes and two syncs, whose call 1 is
+// planned to fail, and whose stop is its call 8.
+fn assert_calls(rt: &impl Abort, disk: &mut MemDisk) -> Result<(), Fail> {
     disk.write_at(0, b"four")?;
     assert_eq!(rt; disk.sync(), Err(Failed), "planned");
     disk.sync()?;
@@ -102,7 +114,14 @@ fn calls_fail_as_planned_and_for_want_of_room(rt: HostRuntime) -> Result<(), Fai
     disk.write_at(3, b"x")?;
     disk.sync()?;
     assert_eq!(rt; disk.sync(), Err(Failed), "past the journal's room");
-    assert_same(&rt, &disk.len(), &Ok(4));
+    assert_same(rt, &disk.len(), &Ok(4));
     assert_eq!(rt; disk.len(), Err(Failed), "from the stop on");
     Ok(())
+}
+
+#[test]
+fn calls_fail_as_planned_and_for_want_of_room(rt: HostRuntime) -> Result<(), Fail> {
+    let alloc = rt.alloc();
+    let mut disk = MemDisk::new(alloc, 4, 84, vec![in alloc; 1]?, Some(8))?;
+    assert_calls(&rt, &mut disk)
 }

@@ -7,12 +7,13 @@ ghost use Rattle.proof_octets.specs.Placed.{text_at};
 ghost use Rattle.proof_octets.specs.Replies.{reply, reply_of};
 
 use crate::asserts::assert_octets;
-use crate::formats::{REPLY, changed};
+use crate::formats::{REPLY, changed, without_route};
 use book_model::{Items, Places};
 use merkle_cover::Texts;
 use proof_octets::{Answer, NearReply, PlacedAnswer, PlacedNear, Reply, range_laws};
 use road_leaf::{NodeLeaves, NodeView};
 use std::alloc::Global;
+use std::process::Abort;
 use std::test::Fail;
 
 fn text_of(alloc: Global, leaf: &NodeView<'_>) -> Result<Vec<u8>, Fail>
@@ -118,37 +119,53 @@ fn written_near(alloc: Global, near: NearReply) -> Result<Vec<u8>, Fail>
     Ok(octets)
 }
 
-#[test]
-fn an_answer_is_written_from_texts(rt: HostRuntime) -> Result<(), Fail> {
+// Compares the octets of an answer with a route with what it is written as from the texts of its leaves.
+fn assert_routed(rt: &impl Abort, alloc: Global, octets: &[u8]) -> Result<(), Fail> {
     range_laws();
-    // The second leaf stands at the index 2.
-    let octets = changed(rt.alloc(), &REPLY, 163, 2)?;
     if octets.len() > 10_000 {
         return Err(Fail::from("many octets"));
     }
-    let reply = Reply::read(rt.alloc(), &octets)?;
-    let Reply::Answer(answer) = reply else {
+    let Reply::Answer(answer) = Reply::read(alloc, octets)? else {
         return Err(Fail::from("another kind"));
     };
-    assert_octets(&rt, &written(rt.alloc(), answer)?, &octets);
+    assert_octets(rt, &written(alloc, answer)?, octets);
+    Ok(())
+}
+
+// The same of an answer without a route.
+fn assert_apart(rt: &impl Abort, alloc: Global, octets: &[u8]) -> Result<(), Fail> {
+    range_laws();
+    if octets.len() > 10_000 {
+        return Err(Fail::from("many octets"));
+    }
+    let Reply::Apart(answer) = Reply::read(alloc, octets)? else {
+        return Err(Fail::from("another kind"));
+    };
+    assert_octets(rt, &written(alloc, answer)?, octets);
     Ok(())
 }
 
 #[test]
+fn an_answer_is_written_from_texts(rt: HostRuntime) -> Result<(), Fail> {
+    // The second leaf stands at the index 2.
+    let octets = changed(rt.alloc(), &REPLY, 163, 2)?;
+    assert_routed(&rt, rt.alloc(), &octets)
+}
+
+#[test]
 fn an_answer_without_a_route_is_written_from_texts(rt: HostRuntime) -> Result<(), Fail> {
-    range_laws();
-    let mut octets = vec![in rt.alloc(); 3]?;
-    octets.extend_from_slice(&REPLY[1..110])?;
-    octets.extend_from_slice(&REPLY[122..])?;
+    let octets = without_route(rt.alloc())?;
     let octets = changed(rt.alloc(), &octets, 151, 2)?;
+    assert_apart(&rt, rt.alloc(), &octets)
+}
+
+// Compares the octets of a reply within a radius with what it is written as from the texts of its leaves.
+fn assert_near(rt: &impl Abort, alloc: Global, octets: &[u8]) -> Result<(), Fail> {
     if octets.len() > 10_000 {
         return Err(Fail::from("many octets"));
     }
-    let reply = Reply::read(rt.alloc(), &octets)?;
-    let Reply::Apart(answer) = reply else {
-        return Err(Fail::from("another kind"));
-    };
-    assert_octets(&rt, &written(rt.alloc(), answer)?, &octets);
+    let near = NearReply::read(alloc, octets)?;
+    assert_octets(rt, &written_near(alloc, near)?, octets);
     Ok(())
 }
 
@@ -160,10 +177,5 @@ fn a_reply_within_a_radius_is_written_from_texts(rt: HostRuntime) -> Result<(), 
     octets.extend_from_slice(&REPLY[122..186])?;
     octets.extend_from_slice(&REPLY[211..247])?;
     let octets = changed(rt.alloc(), &octets, 154, 2)?;
-    if octets.len() > 10_000 {
-        return Err(Fail::from("many octets"));
-    }
-    let near = NearReply::read(rt.alloc(), &octets)?;
-    assert_octets(&rt, &written_near(rt.alloc(), near)?, &octets);
-    Ok(())
+    assert_near(&rt, rt.alloc(), &octets)
 }

@@ -1,5 +1,5 @@
 -- What HYP finds.
-use Rattle.std.proofs.Common.{◌≡◌, ℕ, suc, ◌+◌, ◌<◌, ◌≤◌, ◌*◌, ◌==◌, nat_eq, nat_lt, nat_le, Bool, true, false, cond, IsTrue, Option, None, Some, List, [], ◌∷◌, ◌++◌, ◌⊎◌, inl, inr, map, length, drop, drop-cons, get_or, slice_get, count_by, refl, arith, ap, sym, ◌∙◌, subst}
+use Rattle.std.proofs.Common.{◌≡◌, ◌↔◌, ℕ, suc, ◌+◌, ◌<◌, ◌≤◌, ◌*◌, ◌==◌, nat_eq, nat_lt, nat_le, Bool, true, false, cond, IsTrue, Option, None, Some, List, [], ◌∷◌, ◌++◌, ◌⊎◌, inl, inr, map, length, drop, drop-cons, get_or, slice_get, count_by, refl, arith, ap, sym, ◌∙◌, subst}
 use Rattle.std.specs.List.{Contains, IsDistinct, filter_map, cons_option}
 use Rattle.std.specs.List.Sorted.{IsStrictlySortedBy}
 use Rattle.std.specs.Ordering.{nat_cmp}
@@ -108,21 +108,27 @@ set_lists P old set v none is sorted adds = record {
   );
 }
 
--- the ids of three lists, put into a set one list after another
-pub ids_listed : (P : ℕ → Type 0) (on near far : List ℕ) (s0 s1 s2 s3 : BTreeSet ℕ) (v : List ℕ) → s0.keys ≡ [] → v ≡ s3.keys → IsStrictlySortedBy nat_cmp s3.keys
-    → Adds (Contains on) s0 s1 → Adds (Contains near) s1 s2 → Adds (Contains far) s2 s3
-    → ((n : ℕ) → Contains on n ⊎ Contains near n ⊎ Contains far n → P n) → ((n : ℕ) → P n → Contains on n ⊎ Contains near n ⊎ Contains far n) → Lists P v
-ids_listed P on near far s0 s1 s2 s3 v none is sorted first second third to from = set_lists P s0 s3 v none is sorted (λ n. (
+-- what is added is the same under another name
+pub adds_same : (P Q : ℕ → Type 0) (old new : BTreeSet ℕ) → ((n : ℕ) → P n ↔ Q n) → Adds P old new → Adds Q old new
+adds_same P Q old new same adds n = (
+  λ h. elim ((adds n).0 h) [ inl o ↦ inl o | inr p ↦ inr ((same n).0 p) ],
+  λ h. elim h [ inl o ↦ (adds n).1 (inl o) | inr q ↦ (adds n).1 (inr ((same n).1 q)) ],
+)
+
+-- the ids of three kinds, put into a set one kind after another
+pub ids_listed : (On Near Far : ℕ → Type 0) (s0 s1 s2 s3 : BTreeSet ℕ) (v : List ℕ) → s0.keys ≡ [] → v ≡ s3.keys → IsStrictlySortedBy nat_cmp s3.keys
+    → Adds On s0 s1 → Adds Near s1 s2 → Adds Far s2 s3 → Lists (λ id. On id ⊎ Near id ⊎ Far id) v
+ids_listed On Near Far s0 s1 s2 s3 v none is sorted first second third = set_lists (λ id. On id ⊎ Near id ⊎ Far id) s0 s3 v none is sorted (λ n. (
   λ h. elim ((third n).0 h) [
     | inl k ↦ elim ((second n).0 k) [
-      | inl l ↦ elim ((first n).0 l) [ inl o ↦ inl o | inr a ↦ inr (to n (inl a)) ]
-      | inr b ↦ inr (to n (inr (inl b)))
+      | inl l ↦ elim ((first n).0 l) [ inl o ↦ inl o | inr a ↦ inr (inl a) ]
+      | inr b ↦ inr (inr (inl b))
     ]
-    | inr c ↦ inr (to n (inr (inr c)))
+    | inr c ↦ inr (inr (inr c))
   ],
   λ h. elim h [
     | inl o ↦ (third n).1 (inl ((second n).1 (inl ((first n).1 (inl o)))))
-    | inr p ↦ elim (from n p) [
+    | inr p ↦ elim p [
       | inl a ↦ (third n).1 (inl ((second n).1 (inl ((first n).1 (inr a)))))
       | inr (inl b) ↦ (third n).1 (inl ((second n).1 (inr b)))
       | inr (inr c) ↦ (third n).1 (inr c)

@@ -1,10 +1,13 @@
 //! The book of FULL.
 
-ghost use Rattle.std.specs.Prelude.{◌≡◌, ◌≢◌, ℕ, ◌<◌, ◌^◌, min, max, Some, IfOk, slice_get};
+ghost use Rattle.std.specs.Prelude.{◌≡◌, ◌≢◌, ◌⊎◌, ℕ, ◌<◌, ◌^◌, min, max, None, Some, IfOk, OnOk, IfErr, slice_get};
+ghost use Rattle.octet_text.specs.Want.{no_memory};
 ghost use Rattle.road_map.specs.Walks.{Knows, distance};
 ghost use Rattle.road_leaf.specs.declared.pair.PairLeaf.{PairLeaf};
+ghost use Rattle.book_model.specs.Books.{Full as ByFull, method_fault};
 ghost use Rattle.book_model.specs.Orders.{by_id};
 ghost use Rattle.book_model.specs.Pairs.{pairs_of};
+ghost use Rattle.book_model.specs.declared.settings.PlanError.TheVariants as plan_error;
 ghost use Rattle.proof_method.specs.Gathering.{Lists, AreEnds, IsPairAt};
 ghost use Rattle.method_books.specs.PlainBooks.{plain_book};
 
@@ -24,6 +27,29 @@ pub struct FullBook {
     map: Map,
     pairs: PairLeaves,
     ghost all: { pairs ≡ pairs_of (distance map.parts) (by_id map.parts.nodes) },
+}
+
+// The leaves of all pairs of a map's nodes, unless a parameter or the number of the nodes forbids the book.
+fn table_over(alloc: Global, map: &Map, settings: &Settings) -> Result<PairLeaves, PlanError>
+    ensures pairs { IfOk result (λ pairs.
+        pairs ≡ pairs_of (distance map.now.parts) (by_id map.now.parts.nodes)) }
+    ensures allowed { OnOk result (method_fault ByFull map.now.parts settings.now ≡ None) }
+    ensures refused { IfErr result (λ e. (e ≡ plan_error.Memory no_memory) ⊎
+        (method_fault ByFull map.now.parts settings.now ≡ Some e)) }
+{
+    if let Some(index) = first_parameter(settings) {
+        return Err(PlanError::Settings(index));
+    }
+    let count = map.parts().nodes.as_slice().len();
+    if count > 1024 {
+        return Err(PlanError::TooManyNodes(count as u32));
+    }
+    let ids = ids_by_id(alloc, map)?;
+    match pair_leaves(alloc, map, ids.as_slice()) {
+        Ok(pairs) => Ok(pairs),
+        Err(PairError::TooMany) => Err(PlanError::TooManyNodes(count as u32)),
+        Err(PairError::Memory(none)) => Err(PlanError::Memory(none)),
+    }
 }
 
 impl MethodBook for FullBook {
@@ -49,18 +75,9 @@ impl MethodBook for FullBook {
         settings: &Settings,
         _order: &[u32],
     ) -> Result<FullBook, PlanError> {
-        if let Some(index) = first_parameter(settings) {
-            return Err(PlanError::Settings(index));
-        }
-        let count = map.parts().nodes.as_slice().len();
-        if count > 1024 {
-            return Err(PlanError::TooManyNodes(count as u32));
-        }
-        let ids = ids_by_id(alloc, &map)?;
-        match pair_leaves(alloc, &map, ids.as_slice()) {
+        match table_over(alloc, &map, settings) {
             Ok(pairs) => Ok(FullBook { map, pairs }),
-            Err(PairError::TooMany) => Err(PlanError::TooManyNodes(count as u32)),
-            Err(PairError::Memory(none)) => Err(PlanError::Memory(none)),
+            Err(fault) => Err(fault),
         }
     }
 

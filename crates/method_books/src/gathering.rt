@@ -29,6 +29,21 @@ fn add_ids(set: &mut BTreeSet<u32>, ids: &[u32]) -> Result<(), NoMemory>
     Ok(())
 }
 
+/// Adds the ids to which a search gives a length up to this one.
+fn add_near(
+    alloc: Global,
+    set: &mut BTreeSet<u32>,
+    labels: &Labels,
+    most: u64,
+) -> Result<(), NoMemory>
+    ensures { OnOk result (Adds (λ id. IsTrue (is_within most (length_at labels.now id)))
+        set.old set.new) }
+{
+    let near = labels.near(alloc, most)?;
+    add_ids(set, near.as_slice())?;
+    Ok(())
+}
+
 /// The ids on a route, and those to which one of two searches gives a length up to this one, by
 /// ascending id.
 pub fn wanted_nodes(
@@ -42,12 +57,10 @@ pub fn wanted_nodes(
         IsTrue (is_within most (length_at near.now id)) ⊎
         IsTrue (is_within most (length_at far.now id)))) }
 {
-    let near = near.near(alloc, most)?;
-    let far = far.near(alloc, most)?;
     let mut ids = BTreeSet::new(alloc);
     add_ids(&mut ids, route.as_slice())?;
-    add_ids(&mut ids, near.as_slice())?;
-    add_ids(&mut ids, far.as_slice())?;
+    add_near(alloc, &mut ids, near, most)?;
+    add_near(alloc, &mut ids, far, most)?;
     Ok(Ids::from_vec(in_order(alloc, ids)?))
 }
 

@@ -1,22 +1,68 @@
 //! How a book of HYP is planned, and what it brings for a query.
 
-ghost use Rattle.std.specs.Prelude.{◌≡◌, ℕ, IfOk, Some};
-ghost use Rattle.road_map.specs.Walks.{Knows};
-ghost use Rattle.book_model.specs.Books.{Hyp as ByHyp, leaf};
-ghost use Rattle.method_books.specs.HypBooks.{hyp_book, cell_extra};
+ghost use Rattle.std.specs.Prelude.{◌≡◌, ◌≤◌, ◌⊎◌, ℕ, List, IfOk, OnOk, IfErr, IsTrue, None, Some, Contains, length};
+ghost use Rattle.octet_text.specs.Want.{no_memory};
+ghost use Rattle.road_map.specs.Walks.{Knows, distance};
+ghost use Rattle.book_model.specs.Books.{Hyp as ByHyp, IsBookOf, borders as borders_in, leaf, method_fault};
+ghost use Rattle.book_model.specs.Pairs.{pairs_of};
+ghost use Rattle.book_model.specs.declared.settings.PlanError.TheVariants as plan_error;
+ghost use Rattle.method_books.specs.Grids.{IsGridOf};
+ghost use Rattle.road_search.specs.Labelling.{length_at};
+ghost use Rattle.road_search.specs.Nearness.{is_within};
+ghost use Rattle.proof_method.specs.Gathering.{Lists};
+ghost use Rattle.method_books.specs.HypBooks.{hyp_book, cell_extra, IsWantedPlace};
 
 use crate::gathering::{wanted_nodes, wanted_pairs};
-use crate::grid::{cell_at, grid_over, is_border_at};
+use crate::grid::{Grid, cell_at, grid_over, is_border_at};
 use crate::hyp_method::{HypBook, borders, first_parameter, table_of};
 use crate::inland::Inland;
-use book_model::{Numbers, PlanError, Query, Settings};
+use book_model::{Numbers, PairLeaves, Places, PlanError, Query, Settings};
 use octet_text::NoMemory;
 use proof_judge::search_all;
 use proof_method::{Found, GatherError, MethodBook, leaf_adding, reach};
 use road_leaf::{Extra, NodeLeaf, PairLeaf};
 use road_map::{Ids, Map};
-use road_search::search;
+use road_search::{Labels, search};
 use std::alloc::Global;
+
+// A grid of cells, its border nodes by ascending id, and the leaves of all pairs of these.
+#[derive(Drop)]
+struct Celled {
+    grid: Grid,
+    borders: Ids,
+    pairs: PairLeaves,
+}
+
+// The grid over a map, unless a parameter or the number of the border nodes forbids the book.
+fn cells_over(alloc: Global, map: &Map, settings: &Settings) -> Result<Celled, PlanError>
+    ensures grid { IfOk result (λ c. IsGridOf map.now.parts.nodes c.grid) }
+    ensures bordered { IfOk result
+        (λ c. c.borders ≡ borders_in map.now.parts c.grid.columns c.grid.rows) }
+    ensures few { IfOk result (λ c. length c.borders ≤ 2048) }
+    ensures pairs { IfOk result (λ c. c.pairs ≡ pairs_of (distance map.now.parts) c.borders) }
+    ensures book { (order : List ℕ) → IfOk result (λ c.
+        IsBookOf ByHyp map.now.parts settings.now order
+        (hyp_book map.now.parts c.grid.columns c.grid.rows c.pairs)) }
+    ensures allowed { OnOk result (method_fault ByHyp map.now.parts settings.now ≡ None) }
+    ensures refused { IfErr result (λ e. (e ≡ plan_error.Memory no_memory) ⊎
+        (method_fault ByHyp map.now.parts settings.now ≡ Some e)) }
+{
+    if let Some(index) = first_parameter(settings) {
+        return Err(PlanError::Settings(index));
+    }
+    let grid = grid_over(
+        map.parts().nodes.as_slice(),
+        settings.p1 as u32,
+        settings.p2 as u32,
+    );
+    let borders = borders(alloc, map, &grid)?;
+    let pairs = table_of(alloc, map, &borders)?;
+    Ok(Celled {
+        grid,
+        borders,
+        pairs,
+    })
+}
 
 impl MethodBook for HypBook {
     ghost use Rattle.std.specs.Prelude.{Some};
@@ -41,22 +87,15 @@ impl MethodBook for HypBook {
         settings: &Settings,
         _order: &[u32],
     ) -> Result<HypBook, PlanError> {
-        if let Some(index) = first_parameter(settings) {
-            return Err(PlanError::Settings(index));
+        match cells_over(alloc, &map, settings) {
+            Ok(celled) => Ok(HypBook {
+                map,
+                grid: celled.grid,
+                borders: celled.borders,
+                pairs: celled.pairs,
+            }),
+            Err(fault) => Err(fault),
         }
-        let grid = grid_over(
-            map.parts().nodes.as_slice(),
-            settings.p1 as u32,
-            settings.p2 as u32,
-        );
-        let borders = borders(alloc, &map, &grid)?;
-        let pairs = table_of(alloc, &map, &borders)?;
-        Ok(HypBook {
-            map,
-            grid,
-            borders,
-            pairs,
-        })
     }
 
     fn map(&self) -> &Map {
@@ -96,19 +135,11 @@ impl MethodBook for HypBook {
         let inland = Inland { book: self };
         let near = search(alloc, &inland, query.from, most)?;
         let far = search(alloc, &inland, query.to, most)?;
-        let nodes = wanted_nodes(alloc, &reached.route, &near, &far, most)?;
-        let pairs = wanted_pairs(
-            alloc,
-            self.pairs.as_slice(),
-            self.borders.as_slice(),
-            &near,
-            &far,
-            most,
-        )?;
+        let brought = bring(alloc, self, &reached.route, &near, &far, most)?;
         Ok(Found {
             route: reached.route,
-            nodes,
-            pairs,
+            nodes: brought.nodes,
+            pairs: brought.pairs,
         })
     }
 
@@ -118,21 +149,49 @@ impl MethodBook for HypBook {
         let near = search_all(alloc, &inland, query.from)?;
         let far = search_all(alloc, &inland, query.to)?;
         let route = Ids::from_vec(Vec::new(alloc));
-        let nodes = wanted_nodes(alloc, &route, &near, &far, u64::MAX)?;
-        let pairs = wanted_pairs(
-            alloc,
-            self.pairs.as_slice(),
-            self.borders.as_slice(),
-            &near,
-            &far,
-            u64::MAX,
-        )?;
+        let brought = bring(alloc, self, &route, &near, &far, u64::MAX)?;
         Ok(Found {
             route,
-            nodes,
-            pairs,
+            nodes: brought.nodes,
+            pairs: brought.pairs,
         })
     }
+}
+
+// What is brought beside a route: nodes, and places of pairs of borders.
+#[derive(Drop)]
+struct Brought {
+    nodes: Ids,
+    pairs: Places,
+}
+
+// The ids on a route and those that inner walks from its two ends reach within a length, and the places of
+// the pairs of borders that such walks lead to.
+fn bring(
+    alloc: Global,
+    book: &HypBook,
+    route: &Ids,
+    near: &Labels,
+    far: &Labels,
+    most: u64,
+) -> Result<Brought, NoMemory>
+    ensures nodes { IfOk result (λ b. Lists (λ id. Contains route.now id ⊎
+        IsTrue (is_within most (length_at near.now id)) ⊎
+        IsTrue (is_within most (length_at far.now id))) b.nodes) }
+    ensures pairs { IfOk result (λ b. Lists (IsWantedPlace book.now.pairs book.now.borders
+        (length_at near.now) (length_at far.now) most) b.pairs) }
+{
+    let _parts = book.map.parts();
+    let nodes = wanted_nodes(alloc, route, near, far, most)?;
+    let pairs = wanted_pairs(
+        alloc,
+        book.pairs.as_slice(),
+        book.borders.as_slice(),
+        near,
+        far,
+        most,
+    )?;
+    Ok(Brought { nodes, pairs })
 }
 
 /// The leaf of a node: its place, its arcs, its cell, and whether it is a border.

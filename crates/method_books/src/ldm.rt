@@ -1,8 +1,16 @@
 //! How a book of LDM is planned, and what it brings for a query.
 
-ghost use Rattle.std.specs.Prelude.{◌≡◌, ℕ, IfOk, length};
+ghost use Rattle.std.specs.Prelude.{◌≡◌, ◌⊎◌, ℕ, nat_eq, None, Some, is_some, IfOk, OnOk, IfErr, length};
+ghost use Rattle.std.specs.List.{list_any};
+ghost use Rattle.std.specs.Map.{lookup};
+ghost use Rattle.octet_text.specs.Want.{no_memory};
+ghost use Rattle.road_map.specs.Walks.{ids};
 ghost use Rattle.road_map.specs.declared.parts.Parts.{Parts};
-ghost use Rattle.book_model.specs.Books.{Ldm as ByLdm, own_tests, first_failed};
+ghost use Rattle.book_model.specs.Books.{Ldm as ByLdm, IsBookOf, own_tests, first_failed, method_fault};
+ghost use Rattle.book_model.specs.declared.settings.PlanError.TheVariants as plan_error;
+ghost use Rattle.proof_method.specs.Gathering.{IsOrderOf};
+ghost use Rattle.proof_method.specs.Vectors.{HasVectors};
+ghost use Rattle.method_books.specs.LdmBooks.{ldm_book};
 
 use crate::extras::Extras;
 use crate::ldm_method::{LdmBook, copy};
@@ -41,23 +49,14 @@ impl MethodBook for LdmBook {
         settings: &Settings,
         order: &[u32],
     ) -> Result<LdmBook, PlanError> {
-        method_laws();
-        let count = map.parts().nodes.as_slice().len();
-        if let Some(index) = refused_parameter(settings, count) {
-            return Err(PlanError::Settings(index));
+        match codes_over(alloc, &map, settings, order) {
+            Ok(coded) => Ok(LdmBook {
+                map,
+                extras: coded.extras,
+                numbers: coded.numbers,
+            }),
+            Err(fault) => Err(fault),
         }
-        let table = landmark_codes(alloc, &map, settings.p1 as u32, settings.p2 as u8)?;
-        let extras = compress(alloc, &table, order, settings.p3 as u16)?;
-        let numbers = Numbers {
-            first: table.step(),
-            second: settings.p1,
-        };
-        let extras = Extras::new(alloc, order, extras)?;
-        Ok(LdmBook {
-            map,
-            extras,
-            numbers,
-        })
     }
 
     fn map(&self) -> &Map {
@@ -111,6 +110,46 @@ impl MethodBook for LdmBook {
             pairs: Places::from_vec(Vec::new(alloc)),
         })
     }
+}
+
+// What the leaves of a book say of codes, and the step and the count of landmarks.
+#[derive(Drop)]
+struct Coded {
+    extras: Extras,
+    numbers: Numbers,
+}
+
+// The codes of a map's nodes, unless a parameter forbids the book.
+fn codes_over(
+    alloc: Global,
+    map: &Map,
+    settings: &Settings,
+    order: &[u32],
+) -> Result<Coded, PlanError>
+    requires { IsOrderOf map.now.parts order.now }
+    ensures covers { IfOk result (λ c. (id : ℕ) → is_some (lookup (nat_eq id) c.extras.entries)
+        ≡ list_any (nat_eq id) (ids map.now.parts.nodes)) }
+    ensures book { IfOk result (λ c. IsBookOf ByLdm map.now.parts settings.now order.now
+        (ldm_book map.now.parts c.extras.entries c.numbers)) }
+    ensures vectors { IfOk result (λ c.
+        HasVectors ByLdm (ldm_book map.now.parts c.extras.entries c.numbers)) }
+    ensures allowed { OnOk result (method_fault ByLdm map.now.parts settings.now ≡ None) }
+    ensures refused { IfErr result (λ e. (e ≡ plan_error.Memory no_memory) ⊎
+        (method_fault ByLdm map.now.parts settings.now ≡ Some e)) }
+{
+    method_laws();
+    let count = map.parts().nodes.as_slice().len();
+    if let Some(index) = refused_parameter(settings, count) {
+        return Err(PlanError::Settings(index));
+    }
+    let table = landmark_codes(alloc, map, settings.p1 as u32, settings.p2 as u8)?;
+    let extras = compress(alloc, &table, order, settings.p3 as u16)?;
+    let numbers = Numbers {
+        first: table.step(),
+        second: settings.p1,
+    };
+    let extras = Extras::new(alloc, order, extras)?;
+    Ok(Coded { extras, numbers })
 }
 
 /// The number of the first parameter that is out of its range, over a map of so many nodes: 1 to 64

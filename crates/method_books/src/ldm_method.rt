@@ -10,7 +10,7 @@ use crate::extras::Extras;
 use book_model::Numbers;
 use method_judges::Lookup;
 use octet_text::{NoMemory, copied};
-use road_leaf::{Codes, Extra};
+use road_leaf::{Codes, Extra, ExtraView};
 use road_map::{Arc, Map, RisingIds};
 use road_search::placed_ids;
 use std::alloc::Global;
@@ -40,8 +40,11 @@ impl Lookup for LdmBook {
         }
     }
 
-    fn extra(&self, id: u32) -> Option<&Extra> {
-        self.extras.get(id)
+    fn extra(&self, id: u32) -> Option<ExtraView<'_>> {
+        match self.extras.get(id) {
+            None => None,
+            Some(extra) => Some(extra.view()),
+        }
     }
 
     fn ids(&self, alloc: Global) -> Result<Rc<RisingIds>, NoMemory> {

@@ -2,6 +2,7 @@
 
 ghost use Rattle.std.specs.Prelude.{◌≡◌, ℕ, ◌^◌, ◌<◌, Option, IfOk, length};
 ghost use Rattle.std.specs.Option.{option_map, option_copied};
+ghost use Rattle.road_leaf.specs.Seen.{extra_seen};
 ghost use Rattle.road_leaf.specs.declared.leaf.NodeLeaf.{NodeLeaf};
 ghost use Rattle.road_map.specs.Places.{AreRising};
 ghost use Rattle.book_model.specs.Bounds.{gap, greatest_bound, own_vector, vector_at, bound_of, bound};
@@ -9,7 +10,7 @@ ghost use Rattle.proof_judge.specs.Apart.{is_split, are_split, are_apart};
 ghost use Rattle.method_judges.specs.Lent.{shown};
 
 use octet_text::NoMemory;
-use road_leaf::Extra;
+use road_leaf::ExtraView;
 use road_map::{Arc, RisingIds};
 use std::alloc::Global;
 use std::rc::Rc;
@@ -27,8 +28,8 @@ pub trait Lookup {
         ensures { option_copied result ≡ option_map (λ n. n.arcs) (leaves self.now id) };
 
     /// What the leaf of an id says beside the node's place and arcs, if it is at hand.
-    fn extra(&self, id: u32) -> Option<&Extra>
-        ensures { option_copied result ≡ option_map (λ n. n.extra) (leaves self.now id) };
+    fn extra(&self, id: u32) -> Option<ExtraView<'_>>
+        ensures { option_map extra_seen result ≡ option_map (λ n. n.extra) (leaves self.now id) };
 
     /// Ids for whose marks a search makes room by place: best all whose leaves are at hand.
     fn ids(&self, alloc: Global) -> Result<Rc<RisingIds>, NoMemory>
@@ -43,14 +44,11 @@ struct Vector<'a> {
 }
 
 /// The codes that a leaf keeps itself, off by an error.
-fn own(extra: &Extra, error: u16) -> Option<Vector<'_>>
-    ensures { option_map shown result ≡ own_vector error extra.now }
+fn own(extra: ExtraView<'_>, error: u16) -> Option<Vector<'_>>
+    ensures { option_map shown result ≡ own_vector error (extra_seen extra.entry) }
 {
     match extra {
-        Extra::Own(codes) => Some(Vector {
-            codes: codes.as_slice(),
-            error,
-        }),
+        ExtraView::Own(codes) => Some(Vector { codes, error }),
         _ => None,
     }
 }
@@ -61,9 +59,9 @@ fn vector_at<L: Lookup>(at: &L, id: u32) -> Option<Vector<'_>>
 {
     match at.extra(id) {
         None => None,
-        Some(Extra::Near { reference, error }) => match at.extra(*reference) {
+        Some(ExtraView::Near { reference, error }) => match at.extra(reference) {
             None => None,
-            Some(other) => own(other, *error),
+            Some(other) => own(other, error),
         },
         Some(extra) => own(extra, 0),
     }

@@ -1,21 +1,22 @@
 //! Inner walks over items.
 
 ghost use Rattle.std.specs.Prelude.{◌≡◌};
+ghost use Rattle.road_leaf.specs.Seen.{extra_seen};
 ghost use Rattle.proof_judge.specs.ItemWalks.{item_at, is_border, marks, inner_ways};
 
 use octet_text::NoMemory;
 use proof_judge::{NodesById, arcs_of};
-use road_leaf::Extra;
+use road_leaf::ExtraView;
 use road_map::{Arc, RisingIds};
 use road_search::Ground;
 use std::alloc::Global;
 use std::rc::Rc;
 
-fn is_border(extra: &Extra) -> bool
-    ensures { result ≡ is_border extra.now }
+fn is_border(extra: ExtraView<'_>) -> bool
+    ensures { result ≡ is_border (extra_seen extra.entry) }
 {
     match extra {
-        Extra::Cell { border, .. } => *border,
+        ExtraView::Cell { border, .. } => border,
         _ => false,
     }
 }

@@ -5,7 +5,7 @@ ghost use Rattle.proof_judge.specs.ItemWalks.{item_at};
 use crate::bounds::Lookup;
 use octet_text::NoMemory;
 use proof_judge::{NodesById, arcs_of};
-use road_leaf::Extra;
+use road_leaf::ExtraView;
 use road_map::{Arc, RisingIds};
 use std::alloc::Global;
 use std::rc::Rc;
@@ -24,7 +24,7 @@ impl Lookup for ItemLeaves<'_, '_> {
         arcs_of(by_id, id)
     }
 
-    fn extra(&self, id: u32) -> Option<&Extra> {
+    fn extra(&self, id: u32) -> Option<ExtraView<'_>> {
         match self.by_id.find(id) {
             None => None,
             Some(leaf) => Some(leaf.extra),

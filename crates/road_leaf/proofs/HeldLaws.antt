@@ -85,6 +85,21 @@ held_none start [] arcs es i h = refl
 held_none start (g ∷ hs) arcs es zero h = absurd (omega (arith, h))
 held_none start (g ∷ hs) arcs es (suc i) h = held_none g.end hs arcs (later es) i (omega (arith, h))
 
+-- ---- parts of lists
+
+-- what stands within a list stands there still once more stand behind
+pub part_more : {A : Type 0} (xs ys : List A) (start end : ℕ) → start ≤ end → end ≤ length xs → take (end - start) (drop start (xs ++ ys)) ≡ take (end - start) (drop start xs)
+part_more xs ys start end order within =
+    let long : length (drop start xs) ≡ length xs - start = length-drop start xs in
+    ap (take (end - start)) (drop-append-le start xs ys (omega (arith, order, within))) ∙ take-append-le (end - start) (drop start xs) ys (omega (arith, long, order, within))
+
+-- what was put behind others stands from their end on
+pub part_behind : {A : Type 0} (xs ys : List A) (start end : ℕ) → start ≡ length xs → end ≡ length xs + length ys → take (end - start) (drop start (xs ++ ys)) ≡ ys
+part_behind xs ys start end is all =
+    let rest : drop start (xs ++ ys) ≡ ys = ap (λ k. drop k (xs ++ ys)) is ∙ drop-append_seam xs ys in
+    let long : end - start ≡ length ys = omega (arith, is, all) in
+    ap (take (end - start)) rest ∙ (ap (λ k. take k ys) long ∙ take-length ys)
+
 -- ---- one leaf more
 
 -- what no leaf says is free
@@ -102,14 +117,10 @@ ends_more start (k ∷ hs) long g h le = (h.0, ends_more k.end hs long g h.1 le)
 pub held_more : (start : ℕ) (hs : List Head) (arcs more : List Arc) (es : List Extra) (g : Head) → EndAt start hs (length arcs) → g.end ≡ length arcs + length more
     → leaves_from start (hs ++ g ∷ []) (arcs ++ more) es ≡ leaves_from start hs arcs es ++ leaf_of g more (extra_at es (length hs)) ∷ []
 held_more start [] arcs more es g ends is =
-    let rest : drop start (arcs ++ more) ≡ more = ap (λ k. drop k (arcs ++ more)) ends ∙ drop-append_seam arcs more in
-    let long : g.end - start ≡ length more = omega (arith, ends, is) in
-    ap (λ part. leaf_of g part (extra_at es 0) ∷ []) (ap (take (g.end - start)) rest ∙ (ap (λ k. take k more) long ∙ take-length more))
+    ap (λ part. leaf_of g part (extra_at es 0) ∷ []) (part_behind arcs more start g.end ends is)
 held_more start (h ∷ hs) arcs more es g ends is =
     let within : h.end ≤ length arcs = start_within h.end hs (length arcs) ends.1 in
-    let rest : drop start (arcs ++ more) ≡ drop start arcs ++ more = drop-append-le start arcs more (omega (arith, ends.0, within)) in
-    let long : length (drop start arcs) ≡ length arcs - start = length-drop start arcs in
-    let here : take (h.end - start) (drop start (arcs ++ more)) ≡ take (h.end - start) (drop start arcs) = ap (take (h.end - start)) rest ∙ take-append-le (h.end - start) (drop start arcs) more (omega (arith, long, ends.0, within)) in
+    let here : take (h.end - start) (drop start (arcs ++ more)) ≡ take (h.end - start) (drop start arcs) = part_more arcs more start h.end ends.0 within in
     rw (here, held_more h.end hs arcs more (later es) g ends.1 is, later_at es (length hs)) refl
 
 -- ---- leaves behind others

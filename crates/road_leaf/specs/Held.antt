@@ -1,10 +1,14 @@
--- Leaves of nodes whose arcs lie one behind the other in one list, each up to its end.
+-- Leaves of nodes whose arcs lie one behind the other in one list, each up to its end, and whose codes
+-- lie in one list too.
 use Rattle.std.specs.Prelude.{◌≡◌, ℕ, zero, suc, ◌-◌, ◌≤◌, List, [], ◌∷◌, get_or, map, take, drop}
+use Rattle.std.specs.List.{All}
 use Rattle.road_map.specs.declared.arc.Arc.{Arc}
 use Rattle.road_leaf.specs.declared.leaf.Extra.{Extra}
-use Rattle.road_leaf.specs.declared.leaf.Extra.TheVariants.{Plain}
+use Rattle.road_leaf.specs.declared.leaf.Extra.TheVariants.{Plain, Own, Near, Cell}
 use Rattle.road_leaf.specs.declared.leaf.NodeLeaf.{NodeLeaf}
 use Rattle.road_leaf.specs.declared.node_leaves.Head.{Head}
+use Rattle.road_leaf.specs.declared.node_leaves.Note.{Note}
+use Rattle.road_leaf.specs.declared.node_leaves.Note.TheVariants as notes
 
 -- what the leaf at an index says: nothing behind the last one that says anything
 abbrev pub extra_at : List Extra → ℕ → Extra
@@ -36,7 +40,28 @@ abbrev pub EndAt : ℕ → List Head → ℕ → Type 0
 EndAt start [] long = start ≡ long
 EndAt start (h ∷ hs) long = (start ≤ h.end) × EndAt h.end hs long
 
--- the arcs of the leaves are so many, and what stands for no word says nothing
-pub record AreHeld (heads : List Head) (long : ℕ) (plain : Extra) : Type 0 where
+-- what a note says, where its codes are some of these
+abbrev pub said : List ℕ → Note → Extra
+said codes notes.Plain = Plain
+said codes (notes.Own start end) = Own (take (end - start) (drop start codes))
+said codes (notes.Near reference error) = Near reference error
+said codes (notes.Cell cell border) = Cell cell border
+
+-- the codes that are said
+abbrev pub codes_of : Extra → List ℕ
+codes_of (Own codes) = codes
+codes_of _ = []
+
+-- the codes of a note are some of so many
+abbrev pub IsWithin : ℕ → Note → Type 0
+IsWithin long (notes.Own start end) = (start ≤ end) × (end ≤ long)
+IsWithin long _ = Unit {0}
+
+-- the leaves
+abbrev pub held : List Head → List Arc → List Note → List ℕ → List NodeLeaf
+held heads arcs noted codes = leaves_from 0 heads arcs (map (said codes) noted)
+
+-- the arcs of the leaves are so many, and the codes of each are some of so many
+pub record AreHeld (heads : List Head) (long : ℕ) (noted : List Note) (count : ℕ) : Type 0 where
   pub ends : EndAt 0 heads long
-  pub none : plain ≡ Plain
+  pub within : All (IsWithin count) noted

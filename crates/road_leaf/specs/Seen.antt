@@ -1,7 +1,18 @@
 -- Leaves that are lent.
+use Rattle.road_leaf.specs.declared.leaf.Extra.{Extra}
+use Rattle.road_leaf.specs.declared.leaf.Extra.TheVariants.{Plain, Own, Near, Cell}
 use Rattle.road_leaf.specs.declared.leaf.NodeLeaf.{NodeLeaf}
+use Rattle.road_leaf.specs.declared.view.ExtraView.{ExtraView}
+use Rattle.road_leaf.specs.declared.view.ExtraView.TheVariants as views
 use Rattle.road_leaf.specs.declared.view.NodeView.{NodeView}
+
+-- what the leaf says beside its place and arcs
+abbrev pub extra_seen : ExtraView → Extra
+extra_seen views.Plain = Plain
+extra_seen (views.Own codes) = Own codes.now
+extra_seen (views.Near reference error) = Near reference error
+extra_seen (views.Cell cell border) = Cell cell border
 
 -- the leaf
 abbrev pub seen : NodeView → NodeLeaf
-seen v = record { id = v.id; x = v.x; y = v.y; arcs = v.arcs.now; extra = v.extra.now }
+seen v = record { id = v.id; x = v.x; y = v.y; arcs = v.arcs.now; extra = extra_seen v.extra }

@@ -1,10 +1,12 @@
 //! Leaves of nodes, in few lists.
-ghost use Rattle.std.specs.Prelude.{◌≡◌, ◌+◌, ◌-◌, ◌<◌, ◌≤◌, ◌^◌, [], ◌∷◌, ◌++◌, ℕ, Some, IfOk, OnOk, OnErr, IsTrue, length, take, drop, slice_get, vec_len};
+ghost use Rattle.std.specs.Prelude.{◌≡◌, ◌+◌, ◌-◌, ◌<◌, ◌≤◌, ◌^◌, [], ◌∷◌, ◌++◌, ℕ, List, Some, IfOk, OnOk, OnErr, IsTrue, length, map, take, drop, slice_get, vec_len};
+ghost use Rattle.std.specs.List.{All};
 ghost use Rattle.std.specs.Option.{option_map};
-ghost use Rattle.road_leaf.specs.Held.{extra_at, start_before, leaves_from, EndAt};
-ghost use Rattle.road_leaf.specs.Seen.{seen};
+ghost use Rattle.octet_text.specs.Puts.{Begins};
+ghost use Rattle.road_leaf.specs.Held.{extra_at, start_before, said, codes_of, held, IsWithin, AreHeld};
+ghost use Rattle.road_leaf.specs.Seen.{seen, extra_seen};
 
-use crate::view::NodeView;
+use crate::view::{ExtraView, NodeView};
 use crate::{Extra, NodeLeaf};
 use octet_text::{NoMemory, extend, push, room_for};
 use road_map::Arc;
@@ -20,32 +22,47 @@ pub struct Head {
     pub end: u32,
 }
 
-/// Leaves of nodes, in order. While they have fewer than 2^32 arcs together, no leaf has a list of its
-/// own for its arcs. Contracts see them as the list of the leaves.
+/// What a leaf says beside its place and arcs, in these lists.
+#[derive(Clone, Copy, Debug)]
+pub enum Note {
+    /// Nothing.
+    Plain,
+    /// The node's own codes: those from a start on and before an end.
+    Own { start: u32, end: u32 },
+    /// The node whose codes serve, and by how much at most the node's own differ from them.
+    Near { reference: u32, error: u16 },
+    /// The node's cell, and whether a road leads to another cell.
+    Cell { cell: u32, border: bool },
+}
+
+/// Leaves of nodes, in order. While they have fewer than 2^32 arcs together, and as few codes, no leaf
+/// has a list of its own for these. Contracts see them as the list of the leaves.
 #[derive(Debug, Drop)]
 pub struct NodeLeaves {
     heads: Vec<Head>,
     // The arcs of these leaves, one behind the other.
     arcs: Vec<Arc>,
     // What each of them says beside its place and arcs, up to the last one that says anything.
-    extras: Vec<Extra>,
-    // What the others say: nothing.
-    plain: Extra,
-    // The leaves behind these: from the first on whose arcs would end behind 2^32 - 1 arcs.
+    notes: Vec<Note>,
+    // The codes that the notes name, those of each leaf in one piece.
+    codes: Vec<u16>,
+    // The leaves behind these: from the first on whose arcs would end behind 2^32 - 1 arcs, or whose
+    // codes behind as many codes.
     further: Vec<NodeLeaf>,
 }
 
 impl Model for NodeLeaves {
     ghost use Rattle.std.specs.Prelude.{List, length, ◌++◌};
     ghost use Rattle.road_leaf.specs.declared.leaf.NodeLeaf.{NodeLeaf};
-    ghost use Rattle.road_leaf.specs.Held.{leaves_from, AreHeld};
+    ghost use Rattle.road_leaf.specs.Held.{held, AreHeld};
 
     ghost Value = { List NodeLeaf };
 
-    ghost view = { λ n. leaves_from 0 n.heads.items n.arcs.items n.extras.items
+    ghost view = { λ n. held n.heads.items n.arcs.items n.notes.items n.codes.items
         ++ n.further.items };
 
-    ghost invariant = { λ n. AreHeld n.heads.items (length n.arcs.items) n.plain };
+    ghost invariant = { λ n. AreHeld n.heads.items (length n.arcs.items) n.notes.items
+        (length n.codes.items) };
 }
 
 impl NodeLeaves {
@@ -56,8 +73,8 @@ impl NodeLeaves {
         NodeLeaves {
             heads: Vec::new(alloc),
             arcs: Vec::new(alloc),
-            extras: Vec::new(alloc),
-            plain: Extra::Plain,
+            notes: Vec::new(alloc),
+            codes: Vec::new(alloc),
             further: Vec::new(alloc),
         }
     }
@@ -113,7 +130,7 @@ impl NodeLeaves {
             x: head.x,
             y: head.y,
             arcs: between(&self.arcs, start as usize, head.end as usize),
-            extra: extra_or(&self.extras, index, &self.plain),
+            extra: said_at(&self.notes, &self.codes, index),
         }
     }
 
@@ -122,8 +139,17 @@ impl NodeLeaves {
         ensures ok { OnOk result (self.new ≡ self.old ++ leaf ∷ []) }
         ensures err { OnErr result (self.new ≡ self.old) }
     {
-        if self.further.is_empty() && end_fits(&self.arcs, leaf.arcs.as_slice()) {
-            hold(&mut self.heads, &mut self.arcs, &mut self.extras, leaf)
+        if self.further.is_empty()
+            && end_fits(&self.arcs, leaf.arcs.as_slice())
+            && end_fits(&self.codes, codes_of(&leaf.extra))
+        {
+            hold(
+                &mut self.heads,
+                &mut self.arcs,
+                &mut self.notes,
+                &mut self.codes,
+                leaf,
+            )
         } else {
             push(&mut self.further, leaf)
         }
@@ -142,47 +168,74 @@ fn start_before(heads: &[Head], index: usize) -> u32
 }
 
 // What stands at indices from START on and before END.
-fn between(arcs: &[Arc], start: usize, end: usize) -> &[Arc]
+fn between<T>(items: &[T], start: usize, end: usize) -> &[T]
     requires order { start ≤ end }
-    requires within { end ≤ length arcs.now }
-    ensures { result.now ≡ take (end - start) (drop start arcs.now) }
+    requires within { end ≤ length items.now }
+    ensures { result.now ≡ take (end - start) (drop start items.now) }
 {
-    &arcs[start..end]
+    &items[start..end]
 }
 
-// What stands at an index, or what stands for all that lack.
-fn extra_or<'a>(extras: &'a [Extra], index: usize, plain: &'a Extra) -> &'a Extra
-    requires { plain.now ≡ Extra.Plain }
-    ensures { result.now ≡ extra_at extras.now index }
+// What a note says.
+fn said(note: Note, codes: &[u16]) -> ExtraView<'_>
+    requires { IsWithin (length codes.now) note }
+    ensures { extra_seen result ≡ said codes.now note }
 {
-    match extras.get(index) {
-        Some(extra) => extra,
-        None => plain,
+    match note {
+        Note::Plain => ExtraView::Plain,
+        Note::Own { start, end } => ExtraView::Own(between(codes, start as usize, end as usize)),
+        Note::Near { reference, error } => ExtraView::Near { reference, error },
+        Note::Cell { cell, border } => ExtraView::Cell { cell, border },
     }
 }
 
-// Whether the number of arcs and of more of them is one of 32 bits.
-fn end_fits(arcs: &[Arc], more: &[Arc]) -> bool
-    ensures { IsTrue result → length arcs.now + length more.now < 2 ^ 32 }
+// What the note at an index says: nothing where there is none.
+fn said_at<'a>(notes: &[Note], codes: &'a [u16], index: usize) -> ExtraView<'a>
+    requires { All (IsWithin (length codes.now)) notes.now }
+    ensures { extra_seen result ≡ extra_at (map (said codes.now) notes.now) index }
+{
+    match notes.get(index) {
+        Some(note) => said(*note, codes),
+        None => ExtraView::Plain,
+    }
+}
+
+// The codes that a leaf says.
+fn codes_of(extra: &Extra) -> &[u16]
+    ensures { result.now ≡ codes_of extra.now }
+{
+    match extra {
+        Extra::Own(codes) => codes.as_slice(),
+        _ => &[],
+    }
+}
+
+// Whether the number of items and of more of them is one of 32 bits.
+fn end_fits<T>(items: &[T], more: &[T]) -> bool
+    ensures { IsTrue result → length items.now + length more.now < 2 ^ 32 }
 {
     let most = u32::MAX as usize;
-    arcs.len() <= most && more.len() <= most - arcs.len()
+    items.len() <= most && more.len() <= most - items.len()
 }
 
 // Puts a leaf behind those whose arcs lie in one list.
 fn hold(
     heads: &mut Vec<Head>,
     arcs: &mut Vec<Arc>,
-    extras: &mut Vec<Extra>,
+    notes: &mut Vec<Note>,
+    codes: &mut Vec<u16>,
     leaf: NodeLeaf,
 ) -> Result<(), NoMemory>
-    requires ends { EndAt 0 heads.old.items (length arcs.old.items) }
-    requires fits { length arcs.old.items + length leaf.arcs < 2 ^ 32 }
-    ensures ends { EndAt 0 heads.new.items (length arcs.new.items) }
-    ensures ok { OnOk result (leaves_from 0 heads.new.items arcs.new.items extras.new.items
-        ≡ leaves_from 0 heads.old.items arcs.old.items extras.old.items ++ leaf ∷ []) }
-    ensures err { OnErr result (leaves_from 0 heads.new.items arcs.new.items extras.new.items
-        ≡ leaves_from 0 heads.old.items arcs.old.items extras.old.items) }
+    requires held { AreHeld heads.old.items (length arcs.old.items) notes.old.items
+        (length codes.old.items) }
+    requires arcs_fit { length arcs.old.items + length leaf.arcs < 2 ^ 32 }
+    requires codes_fit { length codes.old.items + length (codes_of leaf.extra) < 2 ^ 32 }
+    ensures held { AreHeld heads.new.items (length arcs.new.items) notes.new.items
+        (length codes.new.items) }
+    ensures ok { OnOk result (held heads.new.items arcs.new.items notes.new.items codes.new.items
+        ≡ held heads.old.items arcs.old.items notes.old.items codes.old.items ++ leaf ∷ []) }
+    ensures err { OnErr result (held heads.new.items arcs.new.items notes.new.items codes.new.items
+        ≡ held heads.old.items arcs.old.items notes.old.items codes.old.items) }
 {
     let NodeLeaf {
         id,
@@ -191,7 +244,7 @@ fn hold(
         arcs: more,
         extra,
     } = leaf;
-    put_extra(extras, heads.len(), extra)?;
+    put_note(notes, codes, heads.len(), &extra)?;
     let count = arcs.len();
     extend(arcs, more.as_slice())?;
     let end = arcs.len() as u32;
@@ -205,28 +258,65 @@ fn hold(
 }
 
 // Adds that the leaves up to an index say nothing.
-fn pad(extras: &mut Vec<Extra>, count: usize) -> Result<(), NoMemory>
-    requires { vec_len extras.old ≤ count }
-    ensures same { (i : ℕ) → extra_at extras.new.items i ≡ extra_at extras.old.items i }
-    ensures count { OnOk result (vec_len extras.new ≡ count) }
+fn pad(notes: &mut Vec<Note>, count: usize) -> Result<(), NoMemory>
+    requires { vec_len notes.old ≤ count }
+    ensures same { (codes : List ℕ) (i : ℕ) → extra_at (map (said codes) notes.new.items) i
+        ≡ extra_at (map (said codes) notes.old.items) i }
+    ensures within { (long : ℕ) → All (IsWithin long) notes.old.items
+        → All (IsWithin long) notes.new.items }
+    ensures count { OnOk result (vec_len notes.new ≡ count) }
 {
-    for _ in extras.len()..count {
-        push(extras, Extra::Plain)?;
+    for _ in notes.len()..count {
+        push(notes, Note::Plain)?;
     }
     Ok(())
 }
 
-// Notes what the leaf at an index says, behind which there is none.
-fn put_extra(extras: &mut Vec<Extra>, index: usize, extra: Extra) -> Result<(), NoMemory>
-    ensures before { (i : ℕ) → i < index →
-        extra_at extras.new.items i ≡ extra_at extras.old.items i }
-    ensures here { OnOk result (extra_at extras.new.items index ≡ extra) }
+// The note of what a leaf says, whose codes are put behind the others.
+fn noted(codes: &mut Vec<u16>, extra: &Extra) -> Result<Note, NoMemory>
+    requires { length codes.old.items + length (codes_of extra.now) < 2 ^ 32 }
+    ensures begins { Begins codes.old.items codes.new.items }
+    ensures within { IfOk result (IsWithin (length codes.new.items)) }
+    ensures says { IfOk result (λ note. said codes.new.items note ≡ extra.now) }
 {
-    extras.truncate(index);
+    let start = codes.len() as u32;
+    extend(codes, codes_of(extra))?;
+    let end = codes.len() as u32;
+    match extra {
+        Extra::Plain => Ok(Note::Plain),
+        Extra::Own(_) => Ok(Note::Own { start, end }),
+        Extra::Near { reference, error } => Ok(Note::Near {
+            reference: *reference,
+            error: *error,
+        }),
+        Extra::Cell { cell, border } => Ok(Note::Cell {
+            cell: *cell,
+            border: *border,
+        }),
+    }
+}
+
+// Notes what the leaf at an index says, behind which there is none.
+fn put_note(
+    notes: &mut Vec<Note>,
+    codes: &mut Vec<u16>,
+    index: usize,
+    extra: &Extra,
+) -> Result<(), NoMemory>
+    requires within { All (IsWithin (length codes.old.items)) notes.old.items }
+    requires fits { length codes.old.items + length (codes_of extra.now) < 2 ^ 32 }
+    ensures within { All (IsWithin (length codes.new.items)) notes.new.items }
+    ensures before { (i : ℕ) → i < index → extra_at (map (said codes.new.items) notes.new.items) i
+        ≡ extra_at (map (said codes.old.items) notes.old.items) i }
+    ensures here { OnOk result (extra_at (map (said codes.new.items) notes.new.items) index
+        ≡ extra.now) }
+{
+    notes.truncate(index);
     if let Extra::Plain = extra {
         return Ok(());
     }
-    pad(extras, index)?;
-    push(extras, extra)?;
+    pad(notes, index)?;
+    let note = noted(codes, extra)?;
+    push(notes, note)?;
     Ok(())
 }

@@ -4,10 +4,22 @@ ghost use Rattle.octet_text.specs.Puts.{Puts};
 ghost use Rattle.road_leaf.specs.Leaves.{node_leaf_text};
 ghost use Rattle.road_leaf.specs.Seen.{seen};
 
-use crate::Extra;
 use crate::writing::put_fields;
 use octet_text::NoMemory;
 use road_map::Arc;
+
+/// What the leaf of a node says beside its place and arcs, lent.
+#[derive(Clone, Copy, Debug)]
+pub enum ExtraView<'a> {
+    /// Nothing.
+    Plain,
+    /// The node's own codes.
+    Own(&'a [u16]),
+    /// The node whose codes serve, and by how much at most the node's own differ from them.
+    Near { reference: u32, error: u16 },
+    /// The node's cell, and whether a road leads to another cell.
+    Cell { cell: u32, border: bool },
+}
 
 /// The leaf of a node, lent: its id, coordinates and arcs, by ascending id, and what its kind adds.
 #[derive(Clone, Copy, Debug)]
@@ -16,7 +28,7 @@ pub struct NodeView<'a> {
     pub x: i32,
     pub y: i32,
     pub arcs: &'a [Arc],
-    pub extra: &'a Extra,
+    pub extra: ExtraView<'a>,
 }
 
 impl NodeView<'_> {

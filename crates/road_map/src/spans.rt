@@ -97,7 +97,7 @@ fn width_of(ids: &[u32]) -> u32
     }
     let reach = ids[ids.len() - 1].wrapping_sub(ids[0]);
     for shift in 0..31u32 {
-        if ((reach >> shift) as usize) / 2 < ids.len() {
+        if ((reach >> shift) as usize) < ids.len() {
             return shift;
         }
     }

@@ -2,21 +2,21 @@
 
 ghost use Rattle.std.specs.Prelude.{◌≡◌, ◌<◌, ◌^◌, length};
 ghost use Rattle.road_leaf.specs.Leaves.{node_leaf_text};
-ghost use Rattle.road_leaf.specs.Seen.{seen};
+ghost use Rattle.road_leaf.specs.Seen.{seen, extra_seen};
 ghost use Rattle.proof_octets.specs.Lengths.{added_length};
 
-use road_leaf::{Extra, NodeView};
+use road_leaf::{ExtraView, NodeView};
 
 // How many octets a leaf's text has of what its kind adds.
-fn length_added(extra: &Extra) -> usize
-    requires { added_length extra.now < 2 ^ 32 }
-    ensures { result ≡ added_length extra.now }
+fn length_added(extra: ExtraView<'_>) -> usize
+    requires { added_length (extra_seen extra) < 2 ^ 32 }
+    ensures { result ≡ added_length (extra_seen extra.entry) }
 {
     match extra {
-        Extra::Plain => 0,
-        Extra::Own(codes) => 1 + 2 * codes.as_slice().len(),
-        Extra::Near { .. } => 7,
-        Extra::Cell { .. } => 5,
+        ExtraView::Plain => 0,
+        ExtraView::Own(codes) => 1 + 2 * codes.len(),
+        ExtraView::Near { .. } => 7,
+        ExtraView::Cell { .. } => 5,
     }
 }
 

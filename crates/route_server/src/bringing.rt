@@ -97,7 +97,7 @@ impl<H: Hasher> Held<H> {
         requires known { All (Knows self.now.map.parts) ids.now }
         ensures { IfOk result (AreBrought H.hash self.now ids.now) }
     {
-        let places = places_of(alloc, self.book.map(), &self.places, ids)?;
+        let places = places_of(alloc, self.book.map(), &self.order.places, ids)?;
         places_brought(alloc, &self.nodes, places)
     }
 

@@ -29,32 +29,37 @@ pub struct Headed {
     pub parts: Parts,
 }
 
-// The header of a book whose node leaves stand in this order.
+// The header of a book whose node leaves stand in this order, and the parts of the book.
 fn header_over_book<H: Hasher, B: MethodBook>(
     alloc: Global,
-    book: &B,
+    book: B,
     settings: &Settings,
     order: &[u32],
-) -> Result<Header, NoMemory>
-    requires map { IsMap (B.shown book.now).parts }
-    requires order { IsOrderOf (B.shown book.now).parts order.now }
-    requires fits { FitsFormats (B.kind book.now) (B.shown book.now) }
+) -> Result<Headed, NoMemory>
+    requires map { IsMap (B.shown book).parts }
+    requires order { IsOrderOf (B.shown book).parts order.now }
+    requires fits { FitsFormats (B.kind book) (B.shown book) }
     requires fan { 2 ≤ settings.now.fan }
     requires fan_max { settings.now.fan ≤ 32 }
-    ensures { IfOk result (λ header.
-        header ≡ book_header H.hash settings.now order.now (B.shown book.now)) }
+    ensures header { IfOk result (λ it.
+        it.header ≡ book_header H.hash settings.now order.now (B.shown book)) }
+    ensures parts { IfOk result (λ it. it.parts ≡ (B.charted book).parts) }
 {
-    let nodes = node_root::<H, B>(alloc, book, order, settings.fan)?;
+    let nodes = node_root::<H, B>(alloc, &book, order, settings.fan)?;
     let leaves = book.pairs();
     let pairs = pair_root::<H>(alloc, leaves, settings.fan)?;
-    Ok(header_with(
+    let header = header_with(
         settings,
         order.len() as u32,
         nodes,
         leaves.len() as u32,
         pairs,
         book.numbers(),
-    ))
+    );
+    Ok(Headed {
+        header,
+        parts: book.into_map().into_parts(),
+    })
 }
 
 // The header of the book of a map, under settings that pass the tests that all methods share.
@@ -78,11 +83,7 @@ fn header_over<H: Hasher>(
     let order = leaf_order(alloc, &map, settings)?;
     let ids = order.as_slice();
     let book = AnyBook::plan(alloc, map, settings, ids)?;
-    let header = header_over_book::<H, AnyBook>(alloc, &book, settings, ids)?;
-    Ok(Headed {
-        header,
-        parts: book.into_map().into_parts(),
-    })
+    Ok(header_over_book::<H, AnyBook>(alloc, book, settings, ids)?)
 }
 
 /// The header of the book of parts and settings, and the parts again: what `Held::build` answers,

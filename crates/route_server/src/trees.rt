@@ -60,39 +60,41 @@ pub fn pair_tree<H: Hasher>(
     Ok(Some(tree))
 }
 
-/// The trees over a book's leaves.
+/// A book, and the trees over its leaves.
 #[derive(Drop)]
-pub struct Trees<H: Hasher> {
+pub struct BookTrees<H: Hasher, B: MethodBook> {
+    /// The book.
+    pub book: B,
     /// The tree over its node leaves.
     pub nodes: LeafTree<H>,
     /// The tree over its pair leaves, if there are some.
     pub pairs: Option<LeafTree<H>>,
 }
 
-/// The trees over the leaves of a book, in an order of its ids.
-pub fn trees_of<H: Hasher, B: MethodBook>(
+/// A book with the trees over its leaves, in an order of its ids.
+pub fn with_trees<H: Hasher, B: MethodBook>(
     alloc: Global,
-    book: &B,
+    book: B,
     order: &[u32],
     fan: u8,
-) -> Result<Trees<H>, NoMemory>
-    requires map { IsMap (B.shown book.now).parts }
-    requires order { IsOrderOf (B.shown book.now).parts order.now }
-    requires fits { FitsFormats (B.kind book.now) (B.shown book.now) }
+) -> Result<BookTrees<H, B>, NoMemory>
+    requires map { IsMap (B.shown book).parts }
+    requires order { IsOrderOf (B.shown book).parts order.now }
+    requires fits { FitsFormats (B.kind book) (B.shown book) }
     requires fan { 2 ≤ fan }
     requires fan_max { fan ≤ 32 }
-    ensures nodes { IfOk result (λ trees. trees.nodes ≡
-        record { fan = fan; texts = node_texts (leaves_of (B.shown book.now) order.now) }) }
-    ensures pairs { IfOk result (λ trees.
-        trees.pairs ≡ leaves_in fan (pair_texts (B.shown book.now).pairs)) }
+    ensures book { IfOk result (λ it. it.book ≡ book) }
+    ensures nodes { IfOk result (λ it. it.nodes ≡
+        record { fan = fan; texts = node_texts (leaves_of (B.shown book) order.now) }) }
+    ensures pairs { IfOk result (λ it. it.pairs ≡ leaves_in fan (pair_texts (B.shown book).pairs)) }
     ensures nodes_fit { OnOk result (All
-        (node_leaf (kind_of_leaves (B.kind book.now) (B.shown book.now).numbers)).Fits
-        (leaves_of (B.shown book.now) order.now)) }
-    ensures pairs_fit { OnOk result (All pair_leaf.Fits (B.shown book.now).pairs) }
+        (node_leaf (kind_of_leaves (B.kind book) (B.shown book).numbers)).Fits
+        (leaves_of (B.shown book) order.now)) }
+    ensures pairs_fit { OnOk result (All pair_leaf.Fits (B.shown book).pairs) }
 {
-    let nodes = node_tree(alloc, book, order, fan)?;
+    let nodes = node_tree(alloc, &book, order, fan)?;
     let pairs = pair_tree(alloc, book.pairs(), fan)?;
-    Ok(Trees { nodes, pairs })
+    Ok(BookTrees { book, nodes, pairs })
 }
 
 /// How many leaves a tree has and its root, 0 and zeros where there is none.

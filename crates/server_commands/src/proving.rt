@@ -1,11 +1,13 @@
 //! The command `prove`.
 
 ghost use Rattle.std.specs.Prelude.{◌≡◌, ◌≤◌, length, IfOk, IfErr, OnOk, ◌∷◌, [], ◌++◌};
+ghost use Rattle.octet_text.specs.Want.{no_memory};
 ghost use Rattle.road_map.specs.Walks.{Knows};
 ghost use Rattle.sha2.specs.Sha256.{sha256};
 ghost use Rattle.route_server.specs.Honesty.{IsHonest};
 ghost use Rattle.route_server.specs.Keeping.{publication_in};
 ghost use Rattle.command_files.specs.Endings.{Promises, NoDisk, NoEnd, WhyNot};
+ghost use Rattle.command_files.specs.declared.fault.Fault.TheVariants.{Memory};
 ghost use Rattle.command_files.specs.Spared.{SparesLibrary, SparesBut};
 ghost use Rattle.command_books.specs.Installing.{EndsInstalling, IsInstallable};
 ghost use Rattle.server_commands.specs.Proving.{EndsReply, TellsEnds, ends_prove};
@@ -13,7 +15,7 @@ ghost use Rattle.server_commands.specs.Proving.{EndsReply, TellsEnds, ends_prove
 use book_model::Query;
 use command_books::install;
 use command_files::{Conclusion, Fault, Told, load_publication, write_told};
-use octet_text::{NoMemory, Sha};
+use octet_text::Sha;
 use proof_octets::{Publication, range_laws};
 use road_io::{Library, Sink};
 use road_search::knows;
@@ -49,21 +51,23 @@ fn told_of(alloc: Global, publication: Publication, query: Query) -> Result<Told
     ensures refused { IfErr result (WhyNot NoDisk (EndsInstalling publication NoEnd)) }
 {
     let held = install(alloc, publication)?;
-    match reply(alloc, &held, query) {
-        Ok(told) => Ok(told),
-        Err(none) => Err(Fault::Memory(none)),
-    }
+    reply(alloc, &held, query)
 }
 
 /// The reply to a query.
-fn reply(alloc: Global, held: &Held<Sha>, query: Query) -> Result<Told, NoMemory>
+fn reply(alloc: Global, held: &Held<Sha>, query: Query) -> Result<Told, Fault>
     requires { length held.now.signature ≤ 1452 }
-    ensures { IfOk result (λ told.
+    ensures told { IfOk result (λ told.
         EndsReply query (publication_in sha256 held.now) told.end told.text.items) }
+    ensures memory { IfErr result (λ fault. fault ≡ Memory no_memory) }
 {
-    let text = held.answer(alloc, query)?;
-    let end = end_of(held, query, &text);
-    Ok(Told { text, end })
+    match held.answer(alloc, query) {
+        Ok(text) => {
+            let end = end_of(held, query, &text);
+            Ok(Told { text, end })
+        }
+        Err(none) => Err(Fault::Memory(none)),
+    }
 }
 
 /// How a run ends that has written an honest reply.

@@ -1,4 +1,4 @@
-use Rattle.std.proofs.Common.{◌≡◌, ℕ, Option, get_or, sym, ap, ◌∙◌}
+use Rattle.std.proofs.Common.{ℕ, get_or, sym, ap, ◌∙◌}
 use Rattle.std.specs.List.{filter_map}
 use Rattle.std.specs.Option.{option_map}
 use Rattle.road_search.specs.Labelling.{length_at}

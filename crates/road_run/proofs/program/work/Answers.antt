@@ -44,7 +44,7 @@ pub returns-in-Some-Check : goal.returns-in-Some-Check
 returns-in-Some-Check g c = record {
   works =
       works_without_disk g.L.Library g.S.Source g.K.Sink g.D.Disk g.M.Mirror _ _ _ _ _ _ _ _ _ _ (rw c.in-Some-Check.field-0-is at c.in-Some-Check.ensures.is) (λ P. tt) (λ P p. p) (λ t. t) c.check.ensures.promised (λ h. h) refl
-      c.check.ensures.library c.check.ensures.sink c.check.ensures.asked (refl, refl);
+      c.check.ensures.library c.check.ensures.sink c.check.ensures.asks (refl, refl);
 }
 
 pub returns-in-Some-Reach : goal.returns-in-Some-Reach
@@ -58,7 +58,7 @@ pub returns-in-Some-CheckReach : goal.returns-in-Some-CheckReach
 returns-in-Some-CheckReach g c = record {
   works =
       works_without_disk g.L.Library g.S.Source g.K.Sink g.D.Disk g.M.Mirror _ _ _ _ _ _ _ _ _ _ (rw c.in-Some-CheckReach.field-0-is at c.in-Some-CheckReach.ensures.is) (λ P. tt) (λ P p. p) (λ t. t) c.check_reach.ensures.promised (λ h. h) refl
-      c.check_reach.ensures.library c.check_reach.ensures.sink c.check_reach.ensures.asked (refl, refl);
+      c.check_reach.ensures.library c.check_reach.ensures.sink c.check_reach.ensures.asks (refl, refl);
 }
 
 pub returns-in-Some-Survey : goal.returns-in-Some-Survey

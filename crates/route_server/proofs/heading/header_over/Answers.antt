@@ -41,10 +41,10 @@ header_over_book-requires g c =
 
 pub returns-clause-has : goal.returns-clause-has
 returns-clause-has g c =
-    has_so g.H.Hasher.hash c.args.map c.args.settings.now c.in_ok-order.order (shown_in c.in_ok-book.book) c.in_ok-header.header (kept g (goal.at.returns-clause-has g c).In_ok-book)
-    (c.in_ok-header.ensures ∙ ap (λ (o : List ℕ). book_header g.H.Hasher.hash c.args.settings.now o (shown_in c.in_ok-book.book)) c.as_slice-ids.ensures)
+    has_so g.H.Hasher.hash c.args.map c.args.settings.now c.in_ok-order.order (shown_in c.in_ok-book.book) c.in_ok-header_over_book.field-0.header (kept g (goal.at.returns-clause-has g c).In_ok-book)
+    (c.in_ok-header_over_book.ensures.header ∙ ap (λ (o : List ℕ). book_header g.H.Hasher.hash c.args.settings.now o (shown_in c.in_ok-book.book)) c.as_slice-ids.ensures)
 
 pub returns-clause-good : goal.returns-clause-good
 returns-clause-good g c =
-    good_so g.H.Hasher.hash c.header_laws.ensures c.args.map c.args.settings.now c.in_ok-order.order (shown_in c.in_ok-book.book) c.in_ok-header.header (kept g (goal.at.returns-clause-good g c).In_ok-book)
-    (c.in_ok-header.ensures ∙ ap (λ (o : List ℕ). book_header g.H.Hasher.hash c.args.settings.now o (shown_in c.in_ok-book.book)) c.as_slice-ids.ensures)
+    good_so g.H.Hasher.hash c.header_laws.ensures c.args.map c.args.settings.now c.in_ok-order.order (shown_in c.in_ok-book.book) c.in_ok-header_over_book.field-0.header (kept g (goal.at.returns-clause-good g c).In_ok-book)
+    (c.in_ok-header_over_book.ensures.header ∙ ap (λ (o : List ℕ). book_header g.H.Hasher.hash c.args.settings.now o (shown_in c.in_ok-book.book)) c.as_slice-ids.ensures)

@@ -13,24 +13,24 @@ node_root-requires g c = record { map = c.requires.map; order = c.requires.order
 
 pub pair_root-requires-clause-few : goal.pair_root-requires-clause-few
 pair_root-requires-clause-few g c =
-    subst (λ (ps : List PairLeaf). length ps ≤ 2097152) (sym c.pairs-leaves.ensures) (few_pairs (g.B.MethodBook.kind c.args.book.now) (g.B.MethodBook.shown c.args.book.now) c.requires.fits)
+    subst (λ (ps : List PairLeaf). length ps ≤ 2097152) (sym c.pairs-leaves.ensures) (few_pairs (g.B.MethodBook.kind c.args.book) (g.B.MethodBook.shown c.args.book) c.requires.fits)
 
 pub overflow_cast-order : goal.overflow_cast-order
-overflow_cast-order g c = omega (arith, few_ids (g.B.MethodBook.shown c.args.book.now).parts c.args.order.now c.requires.map c.requires.order)
+overflow_cast-order g c = omega (arith, few_ids (g.B.MethodBook.shown c.args.book).parts c.args.order.now c.requires.map c.requires.order)
 
 pub overflow_cast-leaves : goal.overflow_cast-leaves
 overflow_cast-leaves g c =
     subst (λ (ps : List PairLeaf). Fits w32 (length ps)) (sym c.pairs-leaves.ensures)
-    (omega (arith, few_pairs (g.B.MethodBook.kind c.args.book.now) (g.B.MethodBook.shown c.args.book.now) c.requires.fits))
+    (omega (arith, few_pairs (g.B.MethodBook.kind c.args.book) (g.B.MethodBook.shown c.args.book) c.requires.fits))
 
-pub returns : goal.returns
-returns g c =
+pub returns-clause-header : goal.returns-clause-header
+returns-clause-header g c =
     let hash = g.H.Hasher.hash in
     let s = c.args.settings.now in
-    let b = g.B.MethodBook.shown c.args.book.now in
+    let b = g.B.MethodBook.shown c.args.book in
     let order = c.args.order.now in
     let long : length (leaves_of b order) ≡ length order = length-leaves b order c.requires.order in
-    c.header_with.ensures
+    c.header_with-header.ensures
     ∙ header_so hash s (leaves_of b order) b.pairs b.numbers c.numbers.result (length order) c.in_ok-nodes.nodes (length c.pairs-leaves.result.now) c.in_ok-pairs.pairs
     (omega (arith, long, some_ids b.parts order c.requires.map c.requires.order)) (sym long) c.in_ok-nodes.ensures (ap (λ (ps : List PairLeaf). length ps) c.pairs-leaves.ensures)
     (c.in_ok-pairs.ensures ∙ ap (λ (ps : List PairLeaf). root_or_zeros hash s.fan (pair_texts ps)) c.pairs-leaves.ensures) c.numbers.ensures

@@ -1,30 +1,7 @@
 use Rattle.std.proofs.lemmas.Result.{err_from_is_err_and}
-use Rattle.std.proofs.Common.{◌∙◌, ◌≤◌, length, sym, ap, subst, arith}
-use Rattle.road_map.specs.Walks.{distance}
 use Rattle.road_search.specs.Labelling.{length_at}
-use Rattle.book_model.specs.Books.{borders}
-use Rattle.book_model.specs.Pairs.{pairs_of}
-use Rattle.method_books.specs.HypBooks.{HasPairs}
-use Rattle.method_books.proofs.HypLaws.{table_up, table_has, table_small}
-use Rattle.method_books.proofs.HypFound.{found_hyp, borders_sorted, places_same}
+use Rattle.method_books.proofs.HypFound.{found_hyp}
 use Rattle.method_books.proofs.hyp.HypBookMethodBook.gather.Goals as goal
-
-pub wanted_pairs-requires-clause-rise : goal.wanted_pairs-requires-clause-rise
-wanted_pairs-requires-clause-rise c =
-    let book = c.args.self.now in
-    table_up (distance book.map.parts) (borders book.map.parts book.grid.columns book.grid.rows) c.as_slice.result.now (c.as_slice.ensures ∙ (book.all ∙ ap (pairs_of (distance book.map.parts)) book.bordered)) (borders_sorted book.map.parts book.map.order c.parts-parts.ensures.is_map c.parts-parts.ensures.by_id book.grid.columns book.grid.rows)
-
-pub wanted_pairs-requires-clause-few : goal.wanted_pairs-requires-clause-few
-wanted_pairs-requires-clause-few c =
-    let book = c.args.self.now in
-    let few : length c.as_slice.result.now ≤ 2097152 = table_small (distance book.map.parts) book.borders c.as_slice.result.now (c.as_slice.ensures ∙ book.all) book.few in
-    omega (arith, few)
-
-pub wanted_pairs-requires-clause-there : goal.wanted_pairs-requires-clause-there
-wanted_pairs-requires-clause-there c =
-    let book = c.args.self.now in
-    subst (HasPairs c.as_slice.result.now) (sym (c.as_slice-2.ensures ∙ book.bordered))
-    (table_has (distance book.map.parts) (borders book.map.parts book.grid.columns book.grid.rows) c.as_slice.result.now (c.as_slice.ensures ∙ (book.all ∙ ap (pairs_of (distance book.map.parts)) book.bordered)) (borders_sorted book.map.parts book.map.order c.parts-parts.ensures.is_map c.parts-parts.ensures.by_id book.grid.columns book.grid.rows))
 
 pub returns-clause-found : goal.returns-clause-found
 returns-clause-found c =
@@ -34,8 +11,8 @@ returns-clause-found c =
     let near = length_at c.in_ok-near.near in
     let far = length_at c.in_ok-far.far in (
       d,
-      found_hyp book.map.parts book.map.order c.parts-parts.ensures.is_map c.parts-parts.ensures.by_id book.grid.columns book.grid.rows book.pairs c.args.query d (record { route = found.reached.route; nodes = c.in_ok-nodes.nodes; pairs = c.in_ok-pairs.pairs }) near far book.borders book.bordered found.ensures.route found.ensures.distinct c.in_ok-near.ensures.lengths c.in_ok-far.ensures.lengths c.in_ok-nodes.ensures
-          (places_same c.as_slice.result.now book.pairs c.as_slice-2.result.now book.borders near far d c.in_ok-pairs.pairs c.as_slice.ensures c.as_slice-2.ensures c.in_ok-pairs.ensures),
+      found_hyp book.map.parts book.map.order c.parts-parts.ensures.is_map c.parts-parts.ensures.by_id book.grid.columns book.grid.rows book.pairs c.args.query d (record { route = found.reached.route; nodes = c.in_ok-brought.brought.nodes; pairs = c.in_ok-brought.brought.pairs }) near far book.borders book.bordered found.ensures.route found.ensures.distinct c.in_ok-near.ensures.lengths c.in_ok-far.ensures.lengths c.in_ok-brought.ensures.nodes
+          c.in_ok-brought.ensures.pairs,
     )
 
 pub returns-in_err-reached-clause-unknown : goal.returns-in_err-reached-clause-unknown

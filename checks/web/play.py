@@ -384,8 +384,11 @@ def lies(owner, draw):
     liar.write_text(LIAR.format(program=owner.program, each=3))
     liar.chmod(0o755)
     started = Many(owner, "dij-3.pub", "--replicas", "2", "--haproxy", program=liar)
-    client, refused = Client(owner, started.address), 0
-    for _ in range(30):
+    until("both gateways are ready", lambda: all_ready(started))
+    client, refused, asks = Client(owner, started.address), 0, 0
+    # more asks where the liar got none of them that it lies about
+    while asks < 30 or not refused and asks < 300:
+        asks += 1
         start, end = draw.choice(owner.ids), draw.choice(owner.ids)
         before = client.asked
         line = client.route(start, end)

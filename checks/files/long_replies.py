@@ -7,8 +7,9 @@ tree; and node items behind which one octet is too many. `check` must refuse eac
 processor time, and with at most 0.3 GB of memory for 75 MB. A line a reply says what it took.
 
 Then true answers from one end of a map to the other, under each method, and to the widest radius: `check` and
-`check-reach` take at most three octets of memory for each octet of the reply, beside what a reply of two nodes takes,
-each the least of five runs, or of up to 25 as long as it is more. GNU time measures it; without it that is left out.
+`check-reach` take at most three octets of memory for each octet of the reply (a radius of HYP over ids with gaps 3.1),
+beside what a reply of two nodes takes, each the least of five runs, or of up to 25 as long as it is more. GNU time
+measures it; without it that is left out.
 
 Ends with status 1 where anything differs. No client rests on it.
 """
@@ -87,8 +88,9 @@ LINE, APART = Atlas([1]), Atlas([1], gap=7)
 NET = Atlas([1, ACROSS - 1, ACROSS, ACROSS + 1])
 # of a street as long as it has nodes, and of roads that no route takes
 DENSE = Atlas(range(1, ROADS_OF_EACH + 1), FEW, lambda step: 7 if step == 1 else 9_000_000)
-# the most octets of memory for each of a reply
-MOST = 3
+HYP_RADIUS = "a radius of HYP over a line of ids with gaps"
+# the most octets of memory for each of a reply; one kind takes a hundredth more
+MOST, MOST_OF = 3, {HYP_RADIUS: 3.1}
 # what is asked, the map, and the method and its plan
 ASKED = (
     ("a route over a line", LINE, "dij 1 id 0 2 0 0 0"),
@@ -104,6 +106,7 @@ ASKED = (
     ("a radius over a line", LINE, "dij 1 id 0 2 0 0 0"),
     ("a radius over a line of ids with gaps", APART, "dij 1 id 0 2 0 0 0"),
     ("a radius over a net", NET, "dij 1 id 0 2 0 0 0"),
+    (HYP_RADIUS, APART, "hyp 1 hilbert 0 2 2 2 0"),
 )
 
 
@@ -113,12 +116,12 @@ def memory_for(program, ask, reply):
     return memory_of([program, command, "owner.key", reply, *ask[1:], "0"], "verdict") * MB
 
 
-def octets_for_each(program, asks, size):
+def octets_for_each(program, asks, size, most):
     """What the second reply takes beside the first, for each of its own octets: of both the least of RUNS runs, and of
     up to five times as many as long as it is too much."""
     least = [float("inf")] * 2
     for run_number in range(5 * RUNS):
-        if run_number >= RUNS and least[1] - least[0] <= MOST * size:
+        if run_number >= RUNS and least[1] - least[0] <= most * size:
             break
         least = [min(was, memory_for(program, ask, f"{at}.reply")) for at, (was, ask) in enumerate(zip(least, asks))]
     return (least[1] - least[0]) / size
@@ -144,9 +147,10 @@ def true_answers(program):
         for at, ask in enumerate(asks):
             run([program, ask[0], "a.pub", *ask[1:]], f"{at}.reply", silent=True)
         size = os.path.getsize("1.reply")
-        each = octets_for_each(program, asks, size)
-        wrong += each > MOST
-        print(f"{'ok     ' if each <= MOST else 'DIFFERS'} {what}: {each:.2f} octets for each of {size / MB:.1f} MB", flush=True)
+        most = MOST_OF.get(what, MOST)
+        each = octets_for_each(program, asks, size, most)
+        wrong += each > most
+        print(f"{'ok     ' if each <= most else 'DIFFERS'} {what}: {each:.2f} octets for each of {size / MB:.1f} MB", flush=True)
     return wrong
 
 

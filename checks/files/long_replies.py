@@ -6,10 +6,10 @@ arcs, with 255 arcs each, and with a code each; pair items; a cover of the node 
 tree; and node items behind which one octet is too many. `check` must refuse each with status 1, within 3 s of
 processor time, and with at most 0.3 GB of memory for 75 MB. A line a reply says what it took.
 
-Then true answers from one end of a map to the other, under each method, and to the widest radius: `check` and
-`check-reach` take at most three octets of memory for each octet of the reply (a radius of HYP over ids with gaps 3.1),
-beside what a reply of two nodes takes, each the least of five runs, or of up to 25 as long as it is more. GNU time
-measures it; without it that is left out.
+Then true answers from one end of a map to the other, under each method, and to the widest radius, over lines, nets
+and hubs, and ids without gaps, with gaps and in clusters: `check` and `check-reach` take at most three octets of
+memory for each octet of the reply, beside what a reply of two nodes takes, each the least of five runs, or of up to
+25 as long as it is more. GNU time measures it; without it that is left out.
 
 Ends with status 1 where anything differs. No client rests on it.
 """
@@ -17,6 +17,7 @@ import os
 import struct
 import sys
 import tempfile
+from typing import Callable, Iterable, NamedTuple
 
 sys.path.insert(0, os.path.dirname(os.path.abspath(__file__)))
 sys.path.insert(0, os.path.join(os.path.dirname(os.path.abspath(__file__)), os.pardir, "speed"))
@@ -65,32 +66,49 @@ def replies(fronts, size):
     yield "an octet behind node items", plain + counted(node_items(size)) + 3 * none + b"\0"
 
 
-class Atlas:
-    """A map of so many nodes in rows of 256: each has a road to the nodes so many behind it, as long as `length` says."""
-
-    def __init__(self, steps, nodes=NODES, length=lambda step: 6 + step, gap=1):
-        self.steps, self.nodes, self.length, self.gap = steps, nodes, length, gap
-
-    def id(self, node):
-        """The id of a node: without gaps, or with some of several widths."""
-        return self.gap * node + (node * node % 5 if self.gap > 1 else 0)
+class Atlas(NamedTuple):
+    """A map of so many nodes in rows of 256, its roads as pairs of nodes with a length, and the id of each node."""
+    roads: Callable[[], Iterable[tuple[int, int, int]]]
+    nodes: int = NODES
+    id_of: Callable[[int], int] = int
 
     def lines(self):
         yield "roads 1\n"
         for node in range(1, self.nodes + 1):
-            yield f"node {self.id(node)} {node % ACROSS} {node // ACROSS}\n"
-        for step in self.steps:
-            for node in range(1, self.nodes + 1 - step):
-                yield f"road {self.id(node)} {self.id(node + step)} {self.length(step)}\n"
+            yield f"node {self.id_of(node)} {node % ACROSS} {node // ACROSS}\n"
+        for start, end, length in self.roads():
+            yield f"road {self.id_of(start)} {self.id_of(end)} {length}\n"
 
 
-LINE, APART = Atlas([1]), Atlas([1], gap=7)
-NET = Atlas([1, ACROSS - 1, ACROSS, ACROSS + 1])
+def with_gaps(node):
+    """Ids with gaps of several widths."""
+    return 7 * node + node * node % 5
+
+
+def in_clusters(node):
+    """Ids of which five stand in each fifth of as many spans of one width as there are nodes: each is parted again."""
+    return node // 5 * 5 * 8192 + node % 5 * 1000 + 1
+
+
+def steps(*widths, nodes=NODES, length=lambda step: 6 + step):
+    """Roads from each node to those so many behind it."""
+    return lambda: ((node, node + step, length(step)) for step in widths for node in range(1, nodes + 1 - step))
+
+
+def hubs():
+    """Roads from the first node to 255 others, and from each of these to 254 of its own."""
+    for hub in range(2, 257):
+        yield 1, hub, 7
+        yield from ((hub, 257 + 254 * (hub - 2) + at, 7) for at in range(254))
+
+
+LINE, NET = Atlas(steps(1)), Atlas(steps(1, ACROSS - 1, ACROSS, ACROSS + 1))
+APART = Atlas(steps(1), id_of=with_gaps)
+HUBS = Atlas(hubs, 1 + 255 * 255, in_clusters)
 # of a street as long as it has nodes, and of roads that no route takes
-DENSE = Atlas(range(1, ROADS_OF_EACH + 1), FEW, lambda step: 7 if step == 1 else 9_000_000)
-HYP_RADIUS = "a radius of HYP over a line of ids with gaps"
-# the most octets of memory for each of a reply; one kind takes a hundredth more
-MOST, MOST_OF = 3, {HYP_RADIUS: 3.1}
+DENSE = Atlas(steps(*range(1, ROADS_OF_EACH + 1), nodes=FEW, length=lambda step: 7 if step == 1 else 9_000_000), FEW)
+# the most octets of memory for each of a reply
+MOST = 3
 # what is asked, the map, and the method and its plan
 ASKED = (
     ("a route over a line", LINE, "dij 1 id 0 2 0 0 0"),
@@ -106,7 +124,9 @@ ASKED = (
     ("a radius over a line", LINE, "dij 1 id 0 2 0 0 0"),
     ("a radius over a line of ids with gaps", APART, "dij 1 id 0 2 0 0 0"),
     ("a radius over a net", NET, "dij 1 id 0 2 0 0 0"),
-    (HYP_RADIUS, APART, "hyp 1 hilbert 0 2 2 2 0"),
+    ("a radius over hubs with ids in clusters", HUBS, "dij 1 id 0 2 0 0 0"),
+    ("a radius of LDM over hubs, of one landmark", HUBS, "ldm 1 id 0 2 1 12 0"),
+    ("a radius of HYP over a line of ids with gaps", APART, "hyp 1 hilbert 0 2 2 2 0"),
 )
 
 
@@ -116,12 +136,12 @@ def memory_for(program, ask, reply):
     return memory_of([program, command, "owner.key", reply, *ask[1:], "0"], "verdict") * MB
 
 
-def octets_for_each(program, asks, size, most):
+def octets_for_each(program, asks, size):
     """What the second reply takes beside the first, for each of its own octets: of both the least of RUNS runs, and of
     up to five times as many as long as it is too much."""
     least = [float("inf")] * 2
     for run_number in range(5 * RUNS):
-        if run_number >= RUNS and least[1] - least[0] <= most * size:
+        if run_number >= RUNS and least[1] - least[0] <= MOST * size:
             break
         least = [min(was, memory_for(program, ask, f"{at}.reply")) for at, (was, ask) in enumerate(zip(least, asks))]
     return (least[1] - least[0]) / size
@@ -139,7 +159,7 @@ def true_answers(program):
         with open("a.roads", "w", encoding="ascii") as file:
             file.writelines(atlas.lines())
         run([program, "publish", "a.roads", *plan.split()], "a.pub", silent=True)
-        first, second, last = (str(atlas.id(node)) for node in (1, 2, atlas.nodes))
+        first, second, last = (str(atlas.id_of(node)) for node in (1, 2, atlas.nodes))
         if "radius" in what:
             asks = [("reach", first, "1"), ("reach", first, str(1 << 40))]
         else:
@@ -147,10 +167,9 @@ def true_answers(program):
         for at, ask in enumerate(asks):
             run([program, ask[0], "a.pub", *ask[1:]], f"{at}.reply", silent=True)
         size = os.path.getsize("1.reply")
-        most = MOST_OF.get(what, MOST)
-        each = octets_for_each(program, asks, size, most)
-        wrong += each > most
-        print(f"{'ok     ' if each <= most else 'DIFFERS'} {what}: {each:.2f} octets for each of {size / MB:.1f} MB", flush=True)
+        each = octets_for_each(program, asks, size)
+        wrong += each > MOST
+        print(f"{'ok     ' if each <= MOST else 'DIFFERS'} {what}: {each:.2f} octets for each of {size / MB:.1f} MB", flush=True)
     return wrong
 
 

@@ -12,7 +12,7 @@ use book_model::Query;
 use lms_tree::SealError;
 use octet_text::{Hasher, Sha, Toy};
 use proof_judge::Refusal;
-use route_client::{Accepted, CheckError, Checked, CoverFault, check};
+use route_client::{Accepted, CheckError, Checked, CoverFault, check, check_owned};
 use std::alloc::Global;
 use std::process::Abort;
 use std::test::Fail;
@@ -136,6 +136,31 @@ fn a_signed_answer_is_accepted(rt: HostRuntime) -> Result<(), Fail> {
     assert_same(&rt, &accepted.version, &3);
     let header = reply.get(1..105).unwrap_or(&[]);
     assert_octets(&rt, &accepted.header.write(), header);
+    Ok(())
+}
+
+// The check of octets that are handed over.
+fn checked_owned(
+    alloc: Global,
+    octets: Vec<u8>,
+    query: Query,
+    least: u64,
+) -> Result<Answered, Fail> {
+    if octets.len() > 10_000 {
+        return Err(Fail::from("many octets"));
+    }
+    Ok(check_owned::<Sha>(alloc, &PUBLIC, &[], octets, query, least))
+}
+
+#[test]
+fn octets_that_are_handed_over_are_checked(rt: HostRuntime) -> Result<(), Fail> {
+    let alloc = rt.alloc();
+    let accepted = route_in(checked_owned(alloc, octets_of(alloc, REPLY)?, ASKED, 3)??)?;
+    let route: &[u32] = &[1, 2, 3];
+    assert_same(&rt, &accepted.length, &9);
+    assert_same(&rt, &accepted.route.as_slice(), &route);
+    let stale = checked_owned(alloc, octets_of(alloc, REPLY)?, ASKED, 4)?.err();
+    assert_same(&rt, &stale, &Some(CheckError::Stale(3)));
     Ok(())
 }
 

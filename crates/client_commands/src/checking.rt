@@ -12,7 +12,7 @@ use lms_tree::Link;
 use octet_text::{NoMemory, Sha};
 use road_io::{Library, Sink};
 use road_line::{line_of_accepted, line_of_refused};
-use route_client::{CheckError, check as check_reply};
+use route_client::{CheckError, check_owned};
 use std::alloc::Global;
 
 /// Writes what a client says of a reply to a query, under a public key,
@@ -50,11 +50,11 @@ impl Judging for RouteJudging {
         alloc: Global,
         key: &[u8],
         chain: &[Link],
-        reply: &[u8],
+        reply: Vec<u8>,
         query: Query,
         least: u64,
     ) -> Result<Told, NoMemory> {
-        match check_reply::<Sha>(alloc, key, chain, reply, query, least) {
+        match check_owned::<Sha>(alloc, key, chain, reply, query, least) {
             Ok(checked) => Ok(Told {
                 text: line_of_accepted(alloc, &checked)?,
                 end: Ok(Conclusion::Done),

@@ -12,7 +12,7 @@ use octet_text::{NoMemory, Sha};
 use proof_octets::NearQuery;
 use road_io::{Library, Sink};
 use road_line::{line_of_refused_near, line_of_within};
-use route_client::{NearError, check_near};
+use route_client::{NearError, check_near_owned};
 use std::alloc::Global;
 
 /// Writes what a client says of a reply to a range query, under a public key,
@@ -50,11 +50,11 @@ impl Judging for RadiusJudging {
         alloc: Global,
         key: &[u8],
         chain: &[Link],
-        reply: &[u8],
+        reply: Vec<u8>,
         query: NearQuery,
         least: u64,
     ) -> Result<Told, NoMemory> {
-        match check_near::<Sha>(alloc, key, chain, reply, query, least) {
+        match check_near_owned::<Sha>(alloc, key, chain, reply, query, least) {
             Ok(within) => Ok(Told {
                 text: line_of_within(alloc, within.nodes.as_slice())?,
                 end: Ok(Conclusion::Done),

@@ -22,20 +22,20 @@ pub(crate) trait Judging {
     // How a check over a public key, a chain from it and the octets of a reply ends.
     ghost ends: { List ℕ → List Link → List ℕ → Self.Query → ℕ → Ending };
 
-    /// The client's verdict on a reply.
+    /// The client's verdict on a reply, whose octets are given back before it is judged.
     fn verdict_on(
         alloc: Global,
         key: &[u8],
         chain: &[Link],
-        reply: &[u8],
+        reply: Vec<u8>,
         query: Self::Query,
         least: u64,
     ) -> Result<Told, NoMemory>
-        requires short { length reply.now < 2 ^ 32 }
+        requires short { length reply.items < 2 ^ 32 }
         requires few { length chain.now ≤ 7 }
         ensures verdict { IfOk result (λ told. MayEnd TellsNone told.end) }
         ensures told { IfOk result (λ told.
-            ends key.now chain.now reply.now query least told.end told.text.items) };
+            ends key.now chain.now reply.items query least told.end told.text.items) };
 }
 
 /// Writes what a client says of the reply of a file, under the public key of a file,
@@ -63,7 +63,7 @@ pub(crate) fn check_file<J: Judging, L: Library, K: Sink>(
     let key: [u8; 56] = load_hex(alloc, library, key)?;
     let reply = load_file(alloc, library, reply)?;
     let chain = load_chain(alloc, library, chain)?;
-    match J::verdict_on(alloc, &key, chain.as_slice(), &reply, query, least) {
+    match J::verdict_on(alloc, &key, chain.as_slice(), reply, query, least) {
         Ok(told) => write_told(sink, &told),
         Err(none) => Err(Fault::Memory(none)),
     }

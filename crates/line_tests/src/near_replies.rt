@@ -1,5 +1,7 @@
 //! What no clause says: signed replies of another program are accepted, and changed ones are refused.
 //! The reference is that program (`checks/sources.py`).
+ghost use Rattle.std.specs.Prelude.{◌≤◌, length};
+
 use crate::same::assert_same;
 use crate::signed_near::{
     FRONT, NOTHING, NOTHING_COVERED, PUBLIC, TWO_WITH_ONE_ID, WITH_5, WITHIN_0, WITHIN_4,
@@ -8,7 +10,7 @@ use crate::signed_near::{
 use lms_tree::SealError;
 use octet_text::{Sha, Toy};
 use proof_octets::{Mark, NearQuery};
-use route_client::{CoverFault, NearError, check_near};
+use route_client::{CoverFault, NearError, Within, check_near, check_near_owned};
 use std::alloc::{AllocError, Global};
 
 const WITHIN_FOUR: NearQuery = NearQuery { from: 1, radius: 4 };
@@ -34,25 +36,35 @@ fn refusal(alloc: Global, octets: &[u8], query: NearQuery, least: u64) -> Option
     check_near::<Sha>(alloc, &PUBLIC, &[], octets, query, least).err()
 }
 
+// What a client takes of octets that are lent, or handed over.
+fn taken(
+    alloc: Global,
+    octets: Vec<u8>,
+    query: NearQuery,
+    are_lent: bool,
+) -> Result<Within, NearError>
+    requires { length octets.items ≤ 10000 }
+{
+    if are_lent {
+        check_near::<Sha>(alloc, &PUBLIC, &[], &octets, query, 3)
+    } else {
+        check_near_owned::<Sha>(alloc, &PUBLIC, &[], octets, query, 3)
+    }
+}
+
 // Whether a reply is accepted with these nodes.
 fn is_accepted(
     alloc: Global,
     rest: &[u8],
     radius: u64,
     nodes: &[Mark],
+    are_lent: bool,
 ) -> Result<bool, AllocError> {
     let octets = behind_front(alloc, rest)?;
     if octets.len() > 10_000 {
         return Ok(false);
     }
-    match check_near::<Sha>(
-        alloc,
-        &PUBLIC,
-        &[],
-        &octets,
-        NearQuery { from: 1, radius },
-        3,
-    ) {
+    match taken(alloc, octets, NearQuery { from: 1, radius }, are_lent) {
         Ok(within) => Ok(within.version == 3 && within.nodes.as_slice() == nodes),
         Err(_) => Ok(false),
     }
@@ -62,16 +74,18 @@ fn is_accepted(
 #[test]
 fn the_nodes_within_a_radius(rt: HostRuntime) -> Result<(), AllocError> {
     let alloc = rt.alloc();
-    assert!(rt; is_accepted(alloc, &WITHIN_4, 4, &NEAREST)?);
-    assert!(rt; is_accepted(alloc, &WITH_5, 4, &NEAREST)?);
-    assert!(rt; is_accepted(alloc, &WITHIN_0, 0, &NEAREST[..1])?);
     let all = [
         NEAREST[0],
         NEAREST[1],
         Mark { id: 3, distance: 9 },
         NEAREST[2],
     ];
-    assert!(rt; is_accepted(alloc, &WITHIN_ANY, u64::MAX, &all)?);
+    for are_lent in [true, false] {
+        assert!(rt; is_accepted(alloc, &WITHIN_4, 4, &NEAREST, are_lent)?);
+        assert!(rt; is_accepted(alloc, &WITH_5, 4, &NEAREST, are_lent)?);
+        assert!(rt; is_accepted(alloc, &WITHIN_0, 0, &NEAREST[..1], are_lent)?);
+        assert!(rt; is_accepted(alloc, &WITHIN_ANY, u64::MAX, &all, are_lent)?);
+    }
     Ok(())
 }
 

@@ -87,11 +87,15 @@ held_none start (g ∷ hs) arcs es (suc i) h = held_none g.end hs arcs (later es
 
 -- ---- parts of lists
 
+-- so many from a start on stand there still once more stand behind
+pub run_more : {A : Type 0} (xs ys : List A) (count start : ℕ) → start + count ≤ length xs → take count (drop start (xs ++ ys)) ≡ take count (drop start xs)
+run_more xs ys count start within =
+    let long : length (drop start xs) ≡ length xs - start = length-drop start xs in
+    ap (take count) (drop-append-le start xs ys (omega (arith, within))) ∙ take-append-le count (drop start xs) ys (omega (arith, long, within))
+
 -- what stands within a list stands there still once more stand behind
 pub part_more : {A : Type 0} (xs ys : List A) (start end : ℕ) → start ≤ end → end ≤ length xs → take (end - start) (drop start (xs ++ ys)) ≡ take (end - start) (drop start xs)
-part_more xs ys start end order within =
-    let long : length (drop start xs) ≡ length xs - start = length-drop start xs in
-    ap (take (end - start)) (drop-append-le start xs ys (omega (arith, order, within))) ∙ take-append-le (end - start) (drop start xs) ys (omega (arith, long, order, within))
+part_more xs ys start end order within = run_more xs ys (end - start) start (omega (arith, order, within))
 
 -- what was put behind others stands from their end on
 pub part_behind : {A : Type 0} (xs ys : List A) (start end : ℕ) → start ≡ length xs → end ≡ length xs + length ys → take (end - start) (drop start (xs ++ ys)) ≡ ys

@@ -10,7 +10,7 @@ use Rattle.road_leaf.specs.declared.leaf.Extra.TheVariants.{Plain, Own}
 use Rattle.road_leaf.specs.declared.node_leaves.Note.{Note}
 use Rattle.road_leaf.specs.declared.node_leaves.Note.TheVariants as notes
 use Rattle.road_leaf.specs.Held.{extra_at, said, IsWithin}
-use Rattle.road_leaf.proofs.HeldLaws.{plain_behind, cut_at, none_behind, before_last, at_last, there_at, part_more}
+use Rattle.road_leaf.proofs.HeldLaws.{plain_behind, cut_at, none_behind, before_last, at_last, there_at, run_more}
 
 -- ---- one note more
 
@@ -40,9 +40,9 @@ last_noted codes ns n i is =
 
 said_more : (codes more : List ℕ) (n : Note) → IsWithin (length codes) n → said (codes ++ more) n ≡ said codes n
 said_more codes more notes.Plain w = refl
-said_more codes more (notes.Own start end) w = ap Own (part_more codes more start end w.0 w.1)
-said_more codes more (notes.Near reference error) w = refl
-said_more codes more (notes.Cell cell border) w = refl
+said_more codes more (notes.Own count start) w = ap Own (run_more codes more count start w)
+said_more codes more (notes.Near error reference) w = refl
+said_more codes more (notes.Cell border cell) w = refl
 
 noted_more : (codes more : List ℕ) (ns : List Note) → All (IsWithin (length codes)) ns → map (said (codes ++ more)) ns ≡ map (said codes) ns
 noted_more codes more [] w = refl
@@ -57,9 +57,9 @@ same_noted codes new ns b w = ap (λ list. map (said list) ns) b.is ∙ noted_mo
 
 within_more : (short long : ℕ) → short ≤ long → (n : Note) → IsWithin short n → IsWithin long n
 within_more short long le notes.Plain w = tt
-within_more short long le (notes.Own start end) w = (w.0, omega (arith, le, w.1))
-within_more short long le (notes.Near reference error) w = tt
-within_more short long le (notes.Cell cell border) w = tt
+within_more short long le (notes.Own count start) w = omega (arith, le, w)
+within_more short long le (notes.Near error reference) w = tt
+within_more short long le (notes.Cell border cell) w = tt
 
 -- notes stay within codes that others stand behind
 pub all_within : (codes new : List ℕ) (ns : List Note) → Begins codes new → All (IsWithin (length codes)) ns → All (IsWithin (length new)) ns

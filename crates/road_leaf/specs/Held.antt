@@ -1,6 +1,6 @@
 -- Leaves of nodes whose arcs lie one behind the other in one list, each up to its end, and whose codes
 -- lie in one list too.
-use Rattle.std.specs.Prelude.{◌≡◌, ℕ, zero, suc, ◌-◌, ◌≤◌, List, [], ◌∷◌, get_or, map, take, drop}
+use Rattle.std.specs.Prelude.{◌≡◌, ℕ, zero, suc, ◌+◌, ◌-◌, ◌≤◌, List, [], ◌∷◌, get_or, map, take, drop}
 use Rattle.std.specs.List.{All}
 use Rattle.road_map.specs.declared.arc.Arc.{Arc}
 use Rattle.road_leaf.specs.declared.leaf.Extra.{Extra}
@@ -43,9 +43,9 @@ EndAt start (h ∷ hs) long = (start ≤ h.end) × EndAt h.end hs long
 -- what a note says, where its codes are some of these
 abbrev pub said : List ℕ → Note → Extra
 said codes notes.Plain = Plain
-said codes (notes.Own start end) = Own (take (end - start) (drop start codes))
-said codes (notes.Near reference error) = Near reference error
-said codes (notes.Cell cell border) = Cell cell border
+said codes (notes.Own count start) = Own (take count (drop start codes))
+said codes (notes.Near error reference) = Near reference error
+said codes (notes.Cell border cell) = Cell cell border
 
 -- the codes that are said
 abbrev pub codes_of : Extra → List ℕ
@@ -54,7 +54,7 @@ codes_of _ = []
 
 -- the codes of a note are some of so many
 abbrev pub IsWithin : ℕ → Note → Type 0
-IsWithin long (notes.Own start end) = (start ≤ end) × (end ≤ long)
+IsWithin long (notes.Own count start) = start + count ≤ long
 IsWithin long _ = Unit {0}
 
 -- the leaves

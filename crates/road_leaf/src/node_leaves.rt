@@ -12,6 +12,7 @@ use octet_text::{NoMemory, extend, push, room_for};
 use road_map::Arc;
 use std::alloc::Global;
 use std::marker::Model;
+use std::mem::size_of;
 
 /// What a leaf has of its own in these lists: the node's id and coordinates, and where its arcs end.
 #[derive(Clone, Copy, Debug)]
@@ -22,21 +23,24 @@ pub struct Head {
     pub end: u32,
 }
 
-/// What a leaf says beside its place and arcs, in these lists.
+/// What a leaf says beside its place and arcs, in these lists. Each case has its shorter field first, so that a
+/// note takes eight octets.
 #[derive(Clone, Copy, Debug)]
 pub enum Note {
     /// Nothing.
     Plain,
-    /// The node's own codes: those from a start on and before an end.
-    Own { start: u32, end: u32 },
-    /// The node whose codes serve, and by how much at most the node's own differ from them.
-    Near { reference: u32, error: u16 },
-    /// The node's cell, and whether a road leads to another cell.
-    Cell { cell: u32, border: bool },
+    /// The node's own codes: so many from a start on.
+    Own { count: u16, start: u32 },
+    /// By how much at most the node's own codes differ from those that serve, and the node that has these.
+    Near { error: u16, reference: u32 },
+    /// Whether a road leads to another cell, and the node's cell.
+    Cell { border: bool, cell: u32 },
 }
 
-/// Leaves of nodes, in order. While they have fewer than 2^32 arcs together, and as few codes, no leaf
-/// has a list of its own for these. Contracts see them as the list of the leaves.
+const _: () = prove!(size_of::<Note>() == 8);
+
+/// Leaves of nodes, in order. While they have fewer than 2^32 arcs together, and as few codes, and none more
+/// than 65,535 codes, no leaf has a list of its own for these. Contracts see them as the list of the leaves.
 #[derive(Debug, Drop)]
 pub struct NodeLeaves {
     heads: Vec<Head>,
@@ -47,7 +51,7 @@ pub struct NodeLeaves {
     // The codes that the notes name, those of each leaf in one piece.
     codes: Vec<u16>,
     // The leaves behind these: from the first on whose arcs would end behind 2^32 - 1 arcs, or whose
-    // codes behind as many codes.
+    // codes behind as many codes, or that has more than 65,535 codes.
     further: Vec<NodeLeaf>,
 }
 
@@ -142,6 +146,7 @@ impl NodeLeaves {
         if self.further.is_empty()
             && end_fits(&self.arcs, leaf.arcs.as_slice())
             && end_fits(&self.codes, codes_of(&leaf.extra))
+            && is_short(codes_of(&leaf.extra))
         {
             hold(
                 &mut self.heads,
@@ -183,9 +188,12 @@ fn said(note: Note, codes: &[u16]) -> ExtraView<'_>
 {
     match note {
         Note::Plain => ExtraView::Plain,
-        Note::Own { start, end } => ExtraView::Own(between(codes, start as usize, end as usize)),
-        Note::Near { reference, error } => ExtraView::Near { reference, error },
-        Note::Cell { cell, border } => ExtraView::Cell { cell, border },
+        Note::Own { count, start } => {
+            let start = start as usize;
+            ExtraView::Own(between(codes, start, start + count as usize))
+        }
+        Note::Near { error, reference } => ExtraView::Near { reference, error },
+        Note::Cell { border, cell } => ExtraView::Cell { cell, border },
     }
 }
 
@@ -218,6 +226,13 @@ fn end_fits<T>(items: &[T], more: &[T]) -> bool
     items.len() <= most && more.len() <= most - items.len()
 }
 
+// Whether a note can name so many codes.
+fn is_short(codes: &[u16]) -> bool
+    ensures { IsTrue result → length codes.now < 2 ^ 16 }
+{
+    codes.len() <= u16::MAX as usize
+}
+
 // Puts a leaf behind those whose arcs lie in one list.
 fn hold(
     heads: &mut Vec<Head>,
@@ -230,6 +245,7 @@ fn hold(
         (length codes.old.items) }
     requires arcs_fit { length arcs.old.items + length leaf.arcs < 2 ^ 32 }
     requires codes_fit { length codes.old.items + length (codes_of leaf.extra) < 2 ^ 32 }
+    requires short { length (codes_of leaf.extra) < 2 ^ 16 }
     ensures held { AreHeld heads.new.items (length arcs.new.items) notes.new.items
         (length codes.new.items) }
     ensures ok { OnOk result (held heads.new.items arcs.new.items notes.new.items codes.new.items
@@ -274,24 +290,26 @@ fn pad(notes: &mut Vec<Note>, count: usize) -> Result<(), NoMemory>
 
 // The note of what a leaf says, whose codes are put behind the others.
 fn noted(codes: &mut Vec<u16>, extra: &Extra) -> Result<Note, NoMemory>
-    requires { length codes.old.items + length (codes_of extra.now) < 2 ^ 32 }
+    requires fits { length codes.old.items + length (codes_of extra.now) < 2 ^ 32 }
+    requires short { length (codes_of extra.now) < 2 ^ 16 }
     ensures begins { Begins codes.old.items codes.new.items }
     ensures within { IfOk result (IsWithin (length codes.new.items)) }
     ensures says { IfOk result (λ note. said codes.new.items note ≡ extra.now) }
 {
     let start = codes.len() as u32;
-    extend(codes, codes_of(extra))?;
-    let end = codes.len() as u32;
+    let own = codes_of(extra);
+    let count = own.len() as u16;
+    extend(codes, own)?;
     match extra {
         Extra::Plain => Ok(Note::Plain),
-        Extra::Own(_) => Ok(Note::Own { start, end }),
+        Extra::Own(_) => Ok(Note::Own { count, start }),
         Extra::Near { reference, error } => Ok(Note::Near {
-            reference: *reference,
             error: *error,
+            reference: *reference,
         }),
         Extra::Cell { cell, border } => Ok(Note::Cell {
-            cell: *cell,
             border: *border,
+            cell: *cell,
         }),
     }
 }
@@ -305,6 +323,7 @@ fn put_note(
 ) -> Result<(), NoMemory>
     requires within { All (IsWithin (length codes.old.items)) notes.old.items }
     requires fits { length codes.old.items + length (codes_of extra.now) < 2 ^ 32 }
+    requires short { length (codes_of extra.now) < 2 ^ 16 }
     ensures within { All (IsWithin (length codes.new.items)) notes.new.items }
     ensures before { (i : ℕ) → i < index → extra_at (map (said codes.new.items) notes.new.items) i
         ≡ extra_at (map (said codes.old.items) notes.old.items) i }

@@ -16,7 +16,8 @@ use Rattle.route_client.proofs.VerdictLaws.{header_passes, passes_header}
 use Rattle.proof_octets.specs.declared.marks.Mark.{Mark}
 use Rattle.proof_octets.specs.declared.query.NearQuery.{NearQuery}
 use Rattle.proof_octets.specs.declared.near_reply.NearReply.{NearReply}
-use Rattle.proof_octets.specs.NearReplies.{near_reply}
+use Rattle.proof_octets.specs.NearReplies.{near_reply, IsNamed}
+use Rattle.proof_octets.proofs.Named.{read_named}
 use Rattle.proof_octets.specs.Radius.{ListsMarks}
 use Rattle.proof_octets.proofs.MarkLaws.{listed_once}
 use Rattle.road_search.specs.Labelling.{Found}
@@ -26,7 +27,7 @@ use Rattle.route_client.specs.declared.near_errors.NearError.{NearError}
 use Rattle.route_client.specs.declared.near_errors.NearError.TheVariants as errors
 use Rattle.route_client.specs.declared.within.CheckedReply.{CheckedReply}
 use Rattle.route_client.specs.declared.within.Within.{Within}
-use Rattle.route_client.specs.NearVerdicts.{spelled, items_covered, header_and_cover, near_error, after_tests, tested, near_passed, IsReached, LacksItem, Walked, as_within, WalkedAfter, IsNearVerdict, NearAccepts, UnlessMemory, Meets}
+use Rattle.route_client.specs.NearVerdicts.{spelled, items_covered, header_and_cover, near_error, after_tests, tested, near_passed, IsReached, LacksItem, Walked, as_within, WalkedAfter, IsNearVerdict, NearAccepts, UnlessMemory, Meets, ChecksNear}
 use Rattle.octet_text.specs.Want.{no_memory}
 
 -- ---- at most one verdict
@@ -226,6 +227,33 @@ pub walked : (hash : List ℕ → List ℕ) (key : List ℕ) (links : List Link)
     → UnlessMemory (WalkedAfter (Ok a) q) r → UnlessMemory (IsNearVerdict hash key links octets q least) r
 unfolding IsNearVerdict
 walked hash key links octets q least a r is h = subst (λ (p : Result NearReply NearError). UnlessMemory (WalkedAfter p q) r) (sym is) h
+
+-- ---- what a check answers
+
+error_of : {A : Type 0} (e f : NearError) → ◌≡◌ {A = Result A NearError} (Err e) (Err f) → e ≡ f
+error_of e f is = cc
+
+-- what is refused before the items are walked
+pub checks_refused : (hash : List ℕ → List ℕ) (key : List ℕ) (links : List Link) (octets : List ℕ) (q : NearQuery) (least : ℕ) (e : NearError)
+    → Meets {A = NearReply} (Err e) (near_passed hash key links octets least) → (◌≡◌ {A = Result NearReply NearError} (Err e) (Err (errors.Memory no_memory)) → IsNamed octets) → ChecksNear hash key links octets q least (Err e)
+checks_refused hash key links octets q least e is named =
+    let verdict = refused hash key links octets q least e is in
+    record {
+      verdict = verdict;
+      accepts = only_accepted hash key links octets q least (Err e) verdict;
+      named = λ memory. named (ap (λ x. Err x) (error_of {A = Within} e (errors.Memory no_memory) memory));
+    }
+
+-- and what is walked
+pub checks_walked : (hash : List ℕ → List ℕ) (key : List ℕ) (links : List Link) (octets : List ℕ) (q : NearQuery) (least : ℕ) (a : NearReply) (r : Result Within NearError) → near_passed hash key links octets least ≡ Ok a
+    → UnlessMemory (WalkedAfter (Ok a) q) r → ChecksNear hash key links octets q least r
+checks_walked hash key links octets q least a r is h =
+    let verdict = walked hash key links octets q least a r is h in
+    record {
+      verdict = verdict;
+      accepts = only_accepted hash key links octets q least r verdict;
+      named = λ memory. read_named octets a (spelled_of hash key links octets least a is);
+    }
 
 -- ---- the tests before the items are walked
 

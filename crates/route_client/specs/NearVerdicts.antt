@@ -20,7 +20,7 @@ use Rattle.route_client.specs.Verdicts.{◌>>=◌, header_tested, covered}
 use Rattle.proof_octets.specs.declared.marks.Mark.{Mark}
 use Rattle.proof_octets.specs.declared.query.NearQuery.{NearQuery}
 use Rattle.proof_octets.specs.declared.near_reply.NearReply.{NearReply}
-use Rattle.proof_octets.specs.NearReplies.{near_reply}
+use Rattle.proof_octets.specs.NearReplies.{near_reply, IsNamed}
 use Rattle.proof_octets.specs.Radius.{ListsMarks}
 use Rattle.route_client.specs.declared.near_errors.NearError.{NearError}
 use Rattle.route_client.specs.declared.near_errors.NearError.TheVariants as errors
@@ -155,3 +155,12 @@ UnlessMemory P r = P r
 
 abbrev pub Meets : {A : Type 0} → Result A NearError → Result A NearError → Type 0
 Meets r v = UnlessMemory (λ x. v ≡ x) r
+
+-- what a check of octets answers: their verdict, so that each reply that passes each test is accepted, and
+-- memory runs out only over octets that begin with the name of such a reply
+pub record ChecksNear (hash : List ℕ → List ℕ) (key : List ℕ) (links : List Link) (octets : List ℕ)
+    (q : NearQuery) (least : ℕ) (result : Result Within NearError) : Type 0 where
+  pub verdict : UnlessMemory (IsNearVerdict hash key links octets q least) result
+  pub accepts : (x : Within) → NearAccepts hash key links octets q least x →
+      UnlessMemory (λ r. r ≡ Ok x) result
+  pub named : result ≡ Err (errors.Memory no_memory) → IsNamed octets

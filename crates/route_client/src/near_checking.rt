@@ -4,8 +4,7 @@ ghost use Rattle.octet_text.specs.Want.{no_memory};
 ghost use Rattle.octet_text.specs.Format.{whole};
 ghost use Rattle.proof_octets.specs.NearReplies.{near_reply, IsGoodNear, IsNamed};
 ghost use Rattle.route_client.specs.declared.near_errors.NearError.{NearError};
-ghost use Rattle.route_client.specs.declared.within.Within.{Within};
-ghost use Rattle.route_client.specs.NearVerdicts.{UnlessMemory, IsNearVerdict, NearAccepts, WalkedAfter, taken};
+ghost use Rattle.route_client.specs.NearVerdicts.{UnlessMemory, IsNearVerdict, WalkedAfter, ChecksNear, taken};
 
 use crate::passing::pass;
 use crate::walking::{marks_within, measured, walk};
@@ -94,13 +93,31 @@ pub fn check_near<H: Hasher>(
 ) -> Result<Within, NearError>
     requires short { length reply.now < 2 ^ 32 }
     requires few { length chain.now ≤ 7 }
-    ensures verdict { UnlessMemory
-        (IsNearVerdict H.hash public.now chain.now reply.now query least) result }
-    ensures accepts { (x : Within) → NearAccepts H.hash public.now chain.now reply.now query least x
-        → UnlessMemory (λ r. r ≡ Ok x) result }
-    ensures named { result ≡ Err (NearError.Memory no_memory) → IsNamed reply.now }
+    ensures { ChecksNear H.hash public.now chain.now reply.now query least result }
 {
     match pass::<H>(alloc, public, chain, reply, least) {
+        Ok(reply) => take(alloc, reply, query),
+        Err(error) => Err(error),
+    }
+}
+
+/// Checks a reply as `check_near` does, and gives its octets back before its items are walked, so that they
+/// and what the walks take are never held at once.
+pub fn check_near_owned<H: Hasher>(
+    alloc: Global,
+    public: &[u8],
+    chain: &[Link],
+    reply: Vec<u8>,
+    query: NearQuery,
+    least: u64,
+) -> Result<Within, NearError>
+    requires short { length reply.items < 2 ^ 32 }
+    requires few { length chain.now ≤ 7 }
+    ensures { ChecksNear H.hash public.now chain.now reply.items query least result }
+{
+    let passed = pass::<H>(alloc, public, chain, &reply, least);
+    drop(reply);
+    match passed {
         Ok(reply) => take(alloc, reply, query),
         Err(error) => Err(error),
     }

@@ -1,4 +1,4 @@
-use Rattle.std.proofs.Common.{◌∷◌, []}
+use Rattle.std.proofs.Common.{◌∷◌, [], refl}
 use Rattle.client_commands.proofs.CheckFiles.{told_over_files}
 use Rattle.command_files.proofs.Asked.{then_asked, asks_front, asks_all}
 use Rattle.client_commands.proofs.replies.check_file.Goals as goal
@@ -8,7 +8,7 @@ returns-in-Ok-clause-promised g c =
     told_over_files (λ k links octets. g.J.Judging.ends k links octets c.args.query c.args.least) _ _ _ _ _ _ _ _ _ _ _ _ _ _ _ _ _ c.in-Ok.told.end _ _
     c.in-Ok.ensures.verdict
     c.in_ok-reply.ensures.narrows c.in_ok-chain.ensures.narrows c.in_ok-key.ensures.loads.read c.in_ok-reply.ensures.loads.read c.in_ok-chain.ensures.loads.read
-    c.deref.ensures.value c.as_slice.ensures c.in-Ok.ensures.told c.write_told.ensures.writes
+    refl c.as_slice.ensures c.in-Ok.ensures.told c.write_told.ensures.writes
 
 pub returns-in_err-key-clause-asked : goal.returns-in_err-key-clause-asked
 returns-in_err-key-clause-asked g c = asks_front (_ ∷ []) _ _ _ c.in_err-key.ensures.asked

@@ -1,7 +1,7 @@
 #!/usr/bin/env python3
 """Counts what the documents may have: checks/docs/sizes.py
 
-Words beside code blocks of README.md and docs/*.md; sentences of more than 40 words, links to files or headings that
+Words beside code blocks of README.md and docs/*.md, the six longest told; sentences of more than 40 words, links to files or headings that
 are not there, and names of files that are not there, in these and in the documents apart. It compares the version of
 the file VERSION with the one that the program, the changelog, the C header and the modules for Python and JavaScript
 say, and the toolchain that the program names with that of SUMS, and looks that Git tracks nothing under an out folder.
@@ -14,7 +14,7 @@ import subprocess
 import sys
 
 TOP = os.path.dirname(os.path.dirname(os.path.dirname(os.path.abspath(__file__))))
-README_WORDS, ALL_WORDS, SENTENCE_WORDS = 1_100, 20_000, 40
+README_WORDS, ALL_WORDS, SENTENCE_WORDS, TOLD = 1_100, 22_000, 40, 6
 VERSIONS = {"crates/road_tell/src/usage.rt": r'VERSION: &str = "([^"]*)"', "CHANGELOG.md": r"^## (\S+)",
             "bindings/gogbetiku.h": r'GOG_VERSION "([^"]*)"', "bindings/python/gogbetiku/__init__.py": r'__version__ = "([^"]*)"',
             "web/route_check.mjs": r'VERSION = "([^"]*)"', "web/package.json": r'"version": "([^"]*)"'}
@@ -124,14 +124,13 @@ def tracked_in_out():
 
 def main():
     documents = ["README.md"] + sorted(os.path.relpath(name, TOP) for name in glob.glob(f"{TOP}/docs/*.md"))
-    faults, total = [*versions_that_differ(), *tracked_in_out()], 0
+    faults, counts = [*versions_that_differ(), *tracked_in_out()], {}
     for document in documents + APART:
         text = read(document)
         lines = prose_of(text)
         words = sum(len(line.split()) for line in lines)
         if document not in APART:
-            total += words
-            print(f"{words:6} {document}")
+            counts[document] = words
         for sentence in sentences_of(lines):
             count = len(re.findall(r"[A-Za-z0-9`'’\-]*[A-Za-z0-9][^\s]*", sentence))
             if count > SENTENCE_WORDS and document not in ["checks/README.md"]:
@@ -139,6 +138,9 @@ def main():
         faults += [f"{document}: {target} is not there" for target in not_there(document, text)]
         if document == "README.md" and words > README_WORDS:
             faults.append(f"README.md has {words} words, and may have {README_WORDS}")
+    total = sum(counts.values())
+    for document in sorted(counts, key=counts.get, reverse=True)[:TOLD]:
+        print(f"{counts[document]:6} {document}")
     print(f"{total:6} together")
     if total > ALL_WORDS:
         faults.append(f"README.md and docs/*.md have {total} words, and may have {ALL_WORDS}")

@@ -3,6 +3,7 @@ No client trusts it; `proved` asks the proved client.
 """
 import struct
 from dataclasses import dataclass, field
+from typing import Any
 
 from roads import Place, Roads, Trouble
 
@@ -18,7 +19,7 @@ class Octets:
     def __init__(self, octets: bytes, path: str):
         self.octets, self.path, self.at = octets, path, 0
 
-    def take(self, form: str):
+    def take(self, form: str) -> Any:
         try:
             values = struct.unpack_from(">" + form, self.octets, self.at)
         except struct.error:

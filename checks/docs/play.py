@@ -1,9 +1,9 @@
 #!/usr/bin/env python3
 """Plays what the documents show: checks/docs/play.py PROGRAM [DOCUMENT..]
 
-Takes the commands behind `$ ` and the outputs under them out of README.md, docs/COMMANDS.md, docs/WALKTHROUGH.md
-and docs/OPERATING.md, or the documents that are named, types each document's commands into one shell in a fresh folder, and compares. A command's
-output is what stands under it, standard output and standard error together; its status is 0, or
+Takes the commands behind `$ ` and the outputs under them out of README.md, docs/COMMANDS.md, docs/WALKTHROUGH.md,
+docs/BEFORE_YOU_SIGN.md and docs/OPERATING.md, or the documents that are named, types each document's commands into one
+shell in a fresh folder, and compares. A command's output is what stands under it, standard output and standard error together; its status is 0, or
 what an `echo $?` right behind it shows. The fresh folder has what a clone has behind its first build (`out`, `crates/road_proof`
 with `data` and `out`, `tools`, `bindings` and the archive of the client). `./build` is stood in for by what it does there,
 nothing, and `rt run --` and `rt try --` by the built program, since a proof takes its time. Everything else is run as typed.
@@ -19,7 +19,7 @@ import sys
 import tempfile
 
 TOP = os.path.dirname(os.path.dirname(os.path.dirname(os.path.abspath(__file__))))
-DOCUMENTS = ["README.md", "docs/COMMANDS.md", "docs/WALKTHROUGH.md", "docs/OPERATING.md"]
+DOCUMENTS = ["README.md", "docs/COMMANDS.md", "docs/WALKTHROUGH.md", "docs/BEFORE_YOU_SIGN.md", "docs/OPERATING.md"]
 ARCHIVE = "crates/route_check_c/out/libroute_check_c.a"
 PROMPT = "$ "
 SECONDS = 120

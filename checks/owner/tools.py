@@ -1,10 +1,13 @@
 #!/usr/bin/env python3
-"""Plays tools/release and tools/monitor.py over a desk that goes back: checks/owner/tools.py PROGRAM
+"""Plays tools/publish, tools/release and tools/monitor.py: checks/owner/tools.py PROGRAM
 
 An owner signs versions 1 to 3. Then the desk of behind version 1 is put back, as a backup would, and signs version 9 by a
-one-time key that has signed version 2. `release` lets out the first three and destroys the fourth; `monitor.py` tells that
-the key is broken, that a version fell, that a version has two headers, that a slot is not the owner's, and what is not
-signed. Nobody trusts this script.
+one-time key that has signed version 2. `release` lets out the first three and destroys the fourth; it takes no log that is
+torn, no key that is none, nothing that is not signed, and destroys nothing that it can't judge; behind `succeed` it lets
+out what the next key signs. `monitor.py` tells that the key is broken, that a version fell, that a version has two
+headers, that a slot is not the owner's, and what is not signed, also of files with line ends in their names. `publish`
+refuses versions, places, keys and desks; it is killed at each step that changes a file, within the program's output, and
+while the program goes on, and is then run again: nothing is lost. Nobody trusts this script.
 """
 import os
 import pathlib
@@ -12,97 +15,398 @@ import shutil
 import subprocess
 import sys
 import tempfile
+import time
 
 TOP = pathlib.Path(__file__).resolve().parents[2]
+TOOLS, STOP_AT = TOP / "tools", TOP / "checks/owner/stop_at.py"
 FIVE = "roads 1\nnode 1 0 0\nnode 2 10 0\nnode 3 20 0\nnode 4 10 10\nnode 5 50 50\nroad 1 2 4\nroad 2 3 5\nroad 1 4 3\nroad 4 3 7\n"
+SECRET, NEXT = bytes(range(48)), bytes(range(100, 148))
+SECONDS, SIGNED = 60, 1402
+BLOCK, SLOT, LAST = 64, 128, 31
+Ended = tuple[int, bytes, str]
 played = 0
 
 
-def same(what, seen, wanted):
+def same(what: str, seen: object, wanted: object) -> None:
     global played
     played += 1
     if seen != wanted:
         sys.exit(f"{what}: {seen!r}, and not {wanted!r}")
 
 
-def run(*words):
-    done = subprocess.run([str(word) for word in words], capture_output=True, check=False)
+def run(*words: object) -> Ended:
+    done = subprocess.run([str(word) for word in words], capture_output=True, check=False, timeout=SECONDS)
     return done.returncode, done.stdout, done.stderr.decode()
 
 
-def publish(program, version, name):
+def says(what: str, ended: Ended, status: int, *parts: str) -> None:
+    """A command ended with this status, and said each of these."""
+    same(f"{what}: the status, where it said {ended[2]!r}", ended[0], status)
+    for part in parts:
+        same(f"{what}: {ended[2]!r} has {part!r}", part in ended[2], True)
+
+
+def write(name: str, text: str) -> None:
+    pathlib.Path(name).write_text(text, encoding="ascii")
+
+
+def octets(name: str) -> bytes:
+    return pathlib.Path(name).read_bytes()
+
+
+def there(*names: str) -> list[str]:
+    return [name for name in names if os.path.exists(name)]
+
+
+def signed(program: str, version: int, name: str) -> None:
     status, publication, said = run(program, "publish", "five.roads", "dij", version, "id", 0, 2, 0, 0, 0)
     same(f"publish of version {version}: {said}", status, 0)
     pathlib.Path(name).write_bytes(publication)
 
 
-def prepare(program):
-    """Four publications: slots 0, 1, 2, and slot 1 again behind a desk that was put back."""
-    os.umask(0o077)
-    pathlib.Path("five.roads").write_text(FIVE, encoding="ascii")
-    pathlib.Path("secret.hex").write_text(bytes(range(48)).hex(), encoding="ascii")
+def key(program: str) -> None:
+    """A road file, a key and its public key."""
+    write("five.roads", FIVE)
+    write("secret.hex", SECRET.hex())
+    write("next.hex", NEXT.hex())
     status, public, said = run(program, "key", "secret.hex", "h5")
     same(f"key: {said}", status, 0)
     pathlib.Path("owner.key").write_bytes(public)
-    publish(program, 1, "one.pub.new")
+
+
+def prepare(program: str) -> None:
+    """Publications by slots 0, 1, 2, slot 1 again behind a desk that was put back, by the next key and again by the first."""
+    key(program)
+    signed(program, 1, "one.pub.new")
     shutil.copyfile("owner.desk", "backup")
-    publish(program, 2, "two.pub.new")
-    publish(program, 3, "three.pub.new")
+    signed(program, 2, "two.pub.new")
+    signed(program, 3, "three.pub.new")
+    shutil.copyfile("owner.desk", "good")
     shutil.copyfile("backup", "owner.desk")
-    publish(program, 9, "nine.pub.new")
+    signed(program, 9, "nine.pub.new")
+    shutil.copyfile("good", "owner.desk")
+    same("succeed", run(program, "succeed", "next.hex", "h5")[0], 0)
+    pathlib.Path("owner.chain").write_bytes(run(program, "links")[1])
+    signed(program, 10, "ten.pub.new")
+    shutil.copyfile("good", "owner.desk")
+    signed(program, 11, "eleven.pub.new")
 
 
-def released(name):
-    return run(sys.executable, TOP / "tools/release", f"{name}.pub.new", "log", "owner.key")
+def released(program: str, name: str, *more: str, log: str = "log", key_name: str = "owner.key") -> Ended:
+    return run(sys.executable, TOOLS / "release", program, f"{name}.pub.new", log, key_name, *more)
 
 
-def of_release():
-    for name in ("one", "two"):
-        same(f"release of {name}", released(name), (0, b"", ""))
-        same(f"{name} is let out", (os.path.exists(f"{name}.pub"), os.path.exists(f"{name}.pub.new")), (True, False))
+def left(what: str, ended: Ended, name: str, *parts: str) -> None:
+    """A publication was neither let out nor destroyed, nor the log changed."""
+    says(what, ended, 1, *parts)
+    same(f"{what}: what is left", (there(f"{name}.pub", f"{name}.pub.new"), octets(f"{name}.pub.new")), ([f"{name}.pub.new"], octets("copy")))
+
+
+def of_doubt(program: str) -> None:
+    """What can't be judged is left as it is."""
+    shutil.copyfile("two.pub.new", "copy")
+    whole = octets("log")
+    torn, other = whole[:-60], whole.replace(b" 0 1 ", b" 0 one ")
+    for what, log, part in (("a torn last line", torn, "line 1 has no line end"), ("no last line end", whole[:-1], "line 1 has no line end"),
+                            ("a line that is none", whole + b"what?\n" + whole, "line 2 is none of the form"),
+                            ("an empty line", b"\n" + whole, "line 1 is none of the form"),
+                            ("a number that is none", other, "line 1 is none of the form"), ("no text", b"\xff\xfe\n" + whole, "line 1 is none of the form"),
+                            ("two lines grown together", torn + whole, "line 1 is none of the form")):
+        pathlib.Path("log").write_bytes(log)
+        left(what, released(program, "two"), "two", part)
+        same(f"{what}: the log", octets("log"), log)
+    pathlib.Path("log").write_bytes(whole)
+    write("ffff.key", "ffff\n")
+    write("other.key", octets("owner.key").decode()[:48] + "0" * 64)
+    left("a key that is none", released(program, "two", key_name="ffff.key"), "two", "it is no public key")
+    left("another key", released(program, "two", key_name="other.key"), "two", "it is not signed under other.key")
+    left("no log, where the key has signed before", released(program, "two", log="nowhere"), "two", "there is no such log")
+    left("a program that is none", released("no/program", "two"), "two", "there is no such program")
+    left("a program that fails", released("/bin/false", "two"), "two", "check ended with status 1")
+    changed = bytearray(octets("two.pub.new"))
+    changed[600] ^= 1
+    pathlib.Path("copy").write_bytes(changed)
+    shutil.copyfile("copy", "false.pub.new")
+    left("a changed signature", released(program, "false"), "false", "it is not signed under owner.key")
+    same("the log", octets("log"), whole)
+
+
+def of_release(program: str) -> None:
+    same("release of one", released(program, "one"), (0, b"", ""))
+    of_doubt(program)
+    same("release of two", released(program, "two"), (0, b"", ""))
+    same("two are let out", there("one.pub", "one.pub.new", "two.pub", "two.pub.new"), ["one.pub", "two.pub"])
     shutil.copyfile("two.pub", "two.pub.new")
-    same("the same publication again", released("two")[0], 0)
-    same("release of three", released("three")[0], 0)
+    same("the same publication again", released(program, "two")[0], 0)
+    same("release of three", released(program, "three")[0], 0)
+    shutil.copyfile("two.pub", "two.pub.new")
+    says("an earlier one that was let out, again", released(program, "two"), 0, "version 2 is below 3, which was let out before")
     shutil.copyfile("nine.pub.new", "nine.copy")
-    status, _, said = released("nine")
-    same("release of nine", (status, "one-time key 1 has signed another header before, of version 2" in said), (1, True))
-    same("nine is destroyed", (os.path.exists("nine.pub"), os.path.exists("nine.pub.new")), (False, False))
+    says("release of nine", released(program, "nine"), 1, "one-time key 1 has signed another header before, of version 2")
+    same("nine is destroyed", there("nine.pub", "nine.pub.new"), [])
     pathlib.Path("junk.pub.new").write_bytes(b"RPP1")
-    same("release of junk", released("junk")[0], 1)
-    lines = pathlib.Path("log").read_text(encoding="ascii").splitlines()
-    same("the log", [line.split(" ")[1:3] for line in lines], [["0", "1"], ["1", "2"], ["2", "3"]])
+    shutil.copyfile("junk.pub.new", "copy")
+    left("junk", released(program, "junk"), "junk", "it is no publication")
 
 
-def monitored(program, *files, desk=None):
+def of_succession(program: str) -> None:
+    """What the next key signs goes out along the chain, and the first key signs no more behind it."""
+    shutil.copyfile("ten.pub.new", "copy")
+    left("the next key's without a chain", released(program, "ten"), "ten", "After `succeed` name the chain file too")
+    same("the next key's along the chain", released(program, "ten", "owner.chain"), (0, b"", ""))
+    says("the first key's behind it", released(program, "eleven", "owner.chain"), 1, "one-time key 3 is below 0 of a later key")
+    same("eleven is destroyed", there("eleven.pub", "eleven.pub.new"), [])
+    lines = octets("log").decode("ascii").splitlines()
+    same("the log", [line.split(" ")[1:3] for line in lines], [["0", "1"], ["1", "2"], ["2", "3"], ["0", "10"]])
+    same("whose keys it has", [line.split(" ")[0] for line in lines],
+         [octets("owner.key").decode().strip()] * 3 + [octets("owner.chain")[4:60].hex()])
+
+
+def monitored(program: str, *files: str, desk: int | None = None) -> tuple[int, str]:
     extra = [] if desk is None else ["--desk", desk]
-    status, told, said = run(sys.executable, TOP / "tools/monitor.py", "book", "owner.key", program, *files, *extra)
+    status, told, said = run(sys.executable, TOOLS / "monitor.py", "book", "owner.key", program, *files, *extra)
     same(f"monitor of {files}", said, "")
     return status, told.decode()
 
 
-def of_monitor(program):
+def of_monitor(program: str) -> None:
     status, reply, _ = run(program, "prove", "one.pub", 1, 3)
     same("prove", status, 0)
     pathlib.Path("one.reply").write_bytes(reply)
-    same("what is in order", monitored(program, "one.pub", "one.reply", "two.pub", "three.pub", desk=3), (0, ""))
+    shutil.copyfile("two.pub", "t w\no.pub")
+    same("what is in order", monitored(program, "one.pub", "one.reply", "t w\no.pub", "three.pub", desk=3), (0, ""))
     same("a slot that the desk has free", "at or above 2" in monitored(program, "three.pub", desk=2)[1], True)
     status, told = monitored(program, "nine.copy")
-    same("a broken key", (status, "broken: one-time key 1 has signed two headers, in two.pub and in nine.copy" in told), (1, True))
+    same("a broken key", (status, "broken: one-time key 1 has signed two headers, in t%20w%0ao.pub and in nine.copy" in told), (1, True))
     same("a version that falls", "versions 3 and 9 are of one-time keys 2 and 1" in told, True)
-    octets = bytearray(pathlib.Path("one.pub").read_bytes())
-    octets[30] ^= 1
-    pathlib.Path("false.pub").write_bytes(octets)
-    same("an unsigned header", monitored(program, "false.pub"), (1, "unsigned: false.pub has no header that this key has signed\n"))
+    changed = bytearray(octets("one.pub"))
+    changed[30] ^= 1
+    pathlib.Path("fal\nse.pub").write_bytes(changed)
+    same("an unsigned header", monitored(program, "fal\nse.pub"), (1, "unsigned: fal%0ase.pub has no header that this key has signed\n"))
+    book = octets("book")
+    for what, broken, number in (("torn", book[:-3], 4), ("with a name in two lines", book.replace(b"%0a", b"\n"), 3), ("with a word less", book + b"a b c d\n", 5)):
+        pathlib.Path("book").write_bytes(broken)
+        says(f"a book {what}", run(sys.executable, TOOLS / "monitor.py", "book", "owner.key", program, "one.pub"), 2, f"book: line {number} ")
+        same(f"a book {what}, behind it", octets("book"), broken)
 
 
-def main():
+def day(program: str, version: object, out: str = "m.pub", *more: str) -> Ended:
+    """One day by `publish`."""
+    return run(sys.executable, TOOLS / "publish", program, "five.roads", "dij", version, "id", 0, 2, 0, 0, 0, out, *more)
+
+
+def spent() -> int:
+    """How many one-time keys of the desk's first key are used for maps."""
+    return sum(octets("owner.desk")[BLOCK + SLOT * slot] != 0 for slot in range(LAST))
+
+
+def version_in(name: str) -> int | None:
+    return int.from_bytes(octets(name)[12:20], "big") if os.path.exists(name) and os.path.getsize(name) > 20 else None
+
+
+def refused(what: str, ended: Ended, *parts: str) -> None:
+    """A day was refused before anything was signed."""
+    before = octets("before")
+    says(what, ended, 1, *parts)
+    same(f"{what}: desk and place", (octets("owner.desk"), there("m.pub.new"), version_in("m.pub")), (before, [], 7))
+
+
+def of_days(program: str) -> None:
+    """Days that go well, and what is refused before anything is signed."""
+    says("a first day", day(program, 7), 0, "m.pub: Version 7 is in its place. One-time keys left: 30.")
+    same("what is there", (version_in("m.pub"), there("m.pub.new"), octets("released.log").count(b"\n")), (7, [], 1))
+    shutil.copyfile("owner.desk", "before")
+    for version, part in ((7, "version 7 is not above version 7"), (6, "is not above"), (7 + 2**32 + 1, "more than 2^32 above version 7"), (2**64 - 1, "more than 2^32"),
+                          (2**64, "is no number"), ("x", "is no number")):
+        refused(f"version {version}", day(program, version), part)
+    for name, part in (("owner.desk", "it is there and no publication"), ("five.roads", "it is there and no publication"), (".", "a link or no file")):
+        refused(f"the place {name}", day(program, 8, name), part)
+    write("torn", octets("released.log").decode()[:-1])
+    refused("a torn log", day(program, 8, "m.pub", "--log", "torn"), "line 1 has no line end")
+    refused("another log", day(program, 8, "m.pub", "--log", "nowhere"), "there is no such log")
+    write("ffff.key", "ffff")
+    refused("a key that is none", day(program, 8, "m.pub", "--key", "ffff.key"), "it is no public key")
+    write("other.key", octets("owner.key").decode()[:16] + "0" * 96)
+    refused("another key", day(program, 8, "m.pub", "--key", "other.key"), "its keys are not those of other.key")
+    says("a version anyway", day(program, 7 + 2**32 + 1, "m.pub", "--version-anyway"), 0, "One-time keys left: 29.")
+    says("a bad map", run(sys.executable, TOOLS / "publish", program, "five.roads", "full", 2**33, "id", 0, 99, 0, 0, 0, "m.pub"), 2)
+    os.mkdir("mirror-1")
+    says("a lost mirror", day(program, 2**33), 15, "lost mirror 1", "Version 8589934592 is in its place")
+    os.rmdir("mirror-1")
+    shutil.copyfile("owner.desk", "later")
+    shutil.copyfile("before", "owner.desk")
+    says("a desk that was put back", day(program, 2**33 + 1), 1, "The desk has gone back. Nothing was signed")
+    same("what it signed", octets("owner.desk"), octets("before"))
+    shutil.copyfile("later", "owner.desk")
+    same("succeed", run(program, "succeed", "next.hex", "h5")[0], 0)
+    says("no chain", day(program, 2**33 + 1), 1, "it signs by its key 2")
+    pathlib.Path("owner.chain").write_bytes(run(program, "links")[1])
+    says("the next key", day(program, 2**33 + 1), 0, "One-time keys left: 30.")
+    same("whose it is", octets("released.log").split(b"\n")[-2].startswith(octets("owner.chain")[4:60].hex().encode()), True)
+
+
+class Folder:
+    """A folder like one that was prepared."""
+
+    def __init__(self, base: str):
+        self.base = base
+
+    def __enter__(self) -> None:
+        self.room = tempfile.TemporaryDirectory()
+        shutil.copytree(self.base, f"{self.room.name}/desk")
+        os.chdir(f"{self.room.name}/desk")
+
+    def __exit__(self, *_: object) -> None:
+        os.chdir("/")
+        self.room.cleanup()
+
+
+def stood(what: str) -> None:
+    """Behind a stop the old publication stands whole, or the new one."""
+    same(f"{what}: what stands", (version_in("m.pub"), len(octets("m.pub"))), (version_in("m.pub") if version_in("m.pub") in (7, 8) else 8, len(octets("old.pub"))))
+
+
+def of_kills(program: str, base: str) -> int:
+    """Kills at each step that changes a file. Run again, version 8 is in its place, and one one-time key is used for it."""
+    words = [TOOLS / "publish", program, "five.roads", "dij", 8, "id", 0, 2, 0, 0, 0, "m.pub"]
+    with Folder(base):
+        says("an uninterrupted day", run(sys.executable, STOP_AT, 0, *words), 0)
+        steps = list(map(int, octets("steps").split()))
+    same("the steps that change a file", len(steps) >= 6, True)
+    for number in steps:
+        with Folder(base):
+            same(f"a kill at step {number}", run(sys.executable, STOP_AT, number, *words)[0], -9)
+            stood(f"a kill at step {number}")
+            ended = day(program, 8)
+            for _ in range(100):
+                if "another run is at work" not in ended[2]:
+                    break
+                time.sleep(0.1)
+                ended = day(program, 8)
+            done = ended[0] == 0 or "version 8 is not above version 8" in ended[2]
+            same(f"the run behind it, {ended}: what is there", (done, version_in("m.pub"), there("m.pub.new"), spent(), octets("released.log").count(b"\n")),
+                 (True, 8, [], 2, 2))
+            says("a day behind it", day(program, 9), 0, "One-time keys left: 28.")
+    return len(steps)
+
+
+def stand_in(text: str, program: str) -> str:
+    """A program that does what a script says where it is to publish."""
+    write("stand-in", f"#!/bin/sh\ncase $1 in publish) {text};; esac\nexec {program} \"$@\"\n")
+    os.chmod("stand-in", 0o755)
+    return "./stand-in"
+
+
+def of_stopped_programs(program: str, base: str) -> None:
+    """The program is stopped, alone or with the tool, before it signs, within its output, and goes on behind a stopped tool."""
+    for count in (0, 3, 110, 700, SIGNED, SIGNED + 8):
+        with Folder(base):
+            stopped = stand_in(f"{program} \"$@\" | head -c {count}; kill -9 $PPID; exit 9", program)
+            same(f"a stop behind {count} octets", day(stopped, 8)[0], -9)
+            stood(f"a stop behind {count} octets")
+            says("the same day again", day(program, 8), 1, "One-time key 1 has signed version 8, and nothing of it was let out.", "not above version 8")
+            same("what is there", (version_in("m.pub"), there("m.pub.new"), spent()), (7, [], 2))
+            says("the next version", day(program, 9), 0, "One-time keys left: 28.")
+    with Folder(base):
+        same("a stop before it signs", day(stand_in("kill -9 $PPID; exit 9", program), 8)[0], -9)
+        says("the same day again", day(program, 8), 0, "It is taken away.", "One-time keys left: 29.")
+    with Folder(base):
+        says("the program alone is stopped", day(stand_in(f"{program} \"$@\"; kill -9 $$", program), 8), 1, "was stopped by signal 9")
+        says("the same day again", day(program, 8), 0, "which a stopped run had signed by one-time key 1", "One-time keys left: 29.")
+        same("one one-time key is used", spent(), 2)
+    with Folder(base):
+        says("the output fails", day(stand_in(f"{program} \"$@\" | head -c 500; exit 6", program), 8), 6, "One-time key 1 has signed version 8")
+        same("what is there", (version_in("m.pub"), there("m.pub.new")), (7, []))
+    with Folder(base):
+        going_on = stand_in(f"kill -9 $PPID; sleep 1; exec {program} \"$@\"", program)
+        with subprocess.Popen([sys.executable, str(TOOLS / "publish"), going_on, "five.roads", "dij", "8", "id", "0", "2", "0", "0", "0", "m.pub"],
+                              stdout=subprocess.DEVNULL, stderr=subprocess.DEVNULL) as running:
+            same("a stop beside a program that goes on", running.wait(SECONDS), -9)
+        says("a run beside it", day(program, 8), 1, "another run is at work on it")
+        for _ in range(100):
+            ended = day(program, 8)
+            if "another run" not in ended[2]:
+                break
+            time.sleep(0.1)
+        says("a run behind it", ended, 0, "which a stopped run had signed by one-time key 1")
+        same("one one-time key is used", spent(), 2)
+
+
+def of_left(program: str, base: str) -> None:
+    """What is found under the name OUT.new and can't be judged is left as it is, and nothing is signed."""
+    with Folder(base):
+        before = octets("owner.desk")
+        signed(program, 8, "m.pub.new")
+        shutil.copyfile("m.pub.new", "eight")
+        for what, found, part in (("another file", b"notes", "it is no publication that is signed"), ("a changed signature", octets("eight")[:700] + b"!" + octets("eight")[701:], "it is no publication")):
+            pathlib.Path("m.pub.new").write_bytes(found)
+            says(what, day(program, 9), 1, part)
+            same(f"{what}: behind it", (octets("m.pub.new"), spent()), (found, 2))
+        shutil.copyfile("eight", "m.pub.new")
+        pathlib.Path("owner.desk").write_bytes(before)
+        says("one that the desk does not hold", day(program, 9), 1, "the desk does not hold its header")
+        same("it is left", octets("m.pub.new"), octets("eight"))
+        os.remove("m.pub.new")
+        signed(program, 9, "other.pub.new")
+        shutil.copyfile("eight", "m.pub.new")
+        says("one whose slot signed another", day(program, 10), 1, "the desk does not hold its header")
+
+
+CLOCK = "import runpy, sys, time; now = float(sys.argv[1]); time.time = lambda: now; sys.argv = sys.argv[2:]; sys.path.insert(0, {folder!r}); runpy.run_path(sys.argv[0], run_name='__main__')"
+
+
+def dated(program: str, now: int, *more: str) -> Ended:
+    """One dated day, at this second."""
+    words = ["--dated", program, "five.roads", "dij", "id", 0, 2, 0, 0, 0, "m.pub", *more]
+    return run(sys.executable, "-c", CLOCK.format(folder=str(TOOLS)), now, TOOLS / "publish", *words)
+
+
+def of_dates(program: str, base: str) -> None:
+    """Dated versions: clocks at the edges, the same map each day, no way back to counts, and how long the keys last."""
+    first, last, a_day = 1_577_836_800, 2**34 - 1, 86_400
+    with Folder(base):
+        says("a clock before 2020", dated(program, first - 1), 1, "is no second from 2020")
+        says("a clock behind the last second", dated(program, last + 1), 1, "is no second from 2020")
+        says("the first second, behind counts", dated(program, first), 0, f"Version {first} is in its place")
+        says("the same second", dated(program, first), 1, f"is not above version {first}")
+        says("a second before", dated(program, first - 1, "--version-anyway"), 1, "is no second from 2020")
+        says("400 days later and a second", dated(program, first + 400 * a_day + 1), 1, "more than 400 days above")
+        says("the next day", dated(program, first + a_day), 0, "One-time keys left: 28. At the pace of the last 2 signings they last 28 days. Make the next key in time")
+        says("a count", day(program, 8), 1, "there is no way back to counts")
+        says("a count anyway", day(program, 8, "m.pub", "--version-anyway"), 1, "there is no way back to counts")
+        says("400 days later", dated(program, first + 401 * a_day), 0, f"Version {first + 401 * a_day} is in its place")
+        says("a clock that went back, anyway", dated(program, first + 2 * a_day, "--version-anyway"), 0)
+        says("the last second, anyway", dated(program, last, "--version-anyway"), 0)
+    for version in (2**30, first - 1, last + 1):
+        with Folder(base):
+            says(f"a desk with version {version}", day(program, version, "m.pub", "--version-anyway"), 0)
+            says("a date behind it", dated(program, first + a_day, "--version-anyway"), 1, "neither a count nor a date")
+
+
+def main() -> None:
     program = os.path.abspath(sys.argv[1])
-    with tempfile.TemporaryDirectory() as folder:
-        os.chdir(folder)
+    os.umask(0o077)
+    with tempfile.TemporaryDirectory() as room:
+        for name in ("logs", "days"):
+            os.mkdir(f"{room}/{name}")
+        os.chdir(f"{room}/logs")
         prepare(program)
-        of_release()
+        of_release(program)
+        of_succession(program)
         of_monitor(program)
-    print(f"tools/release and tools/monitor.py: {played} looks, each as wanted")
+        os.chdir(f"{room}/days")
+        key(program)
+        shutil.copytree(".", f"{room}/base")
+        of_days(program)
+        os.chdir(f"{room}/base")
+        says("a first day", day(program, 7), 0)
+        shutil.copyfile("m.pub", "old.pub")
+        kills = of_kills(program, f"{room}/base")
+        of_stopped_programs(program, f"{room}/base")
+        of_left(program, f"{room}/base")
+        of_dates(program, f"{room}/base")
+        os.chdir("/")
+    print(f"tools/publish, tools/release and tools/monitor.py: {played} looks, each as wanted; kills at {kills} steps")
 
 
 if __name__ == "__main__":

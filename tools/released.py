@@ -10,6 +10,7 @@ import re
 import stat
 from typing import NamedTuple
 
+from replies import map_of
 from roads import Trouble
 from signed import Signed
 
@@ -110,9 +111,10 @@ class Log:
     def append(self, out: Out) -> None:
         """Adds a line, if it is not there yet, and syncs."""
         if not self.has(out):
-            line = out.line()
+            line, size = out.line(), os.fstat(self.handle).st_size
             if os.write(self.handle, line) != len(line):
-                raise Trouble(f"{self.path}: its line was not written whole")
+                os.ftruncate(self.handle, size)
+                raise Trouble(f"{self.path}: there is no room for its line, and nothing was let out")
             self.lines.append(out)
         os.fsync(self.handle)
 
@@ -135,6 +137,15 @@ def octets_to_release(path: str) -> bytes:
             raise Trouble(f"{path}: it is no regular file of one name")
         os.fsync(handle)
         return file.read()
+
+
+def is_whole(octets: bytes) -> bool:
+    """Whether octets are a publication to its end."""
+    try:
+        map_of(octets, "publication")
+    except Trouble:
+        return False
+    return True
 
 
 def let_out(new: str, name: str) -> None:

@@ -128,6 +128,9 @@ def of_doubt(program: str) -> None:
     pathlib.Path("copy").write_bytes(changed)
     shutil.copyfile("copy", "false.pub.new")
     left("a changed signature", released(program, "false"), "false", "it is not signed under owner.key")
+    pathlib.Path("copy").write_bytes(octets("two.pub.new")[:-1])
+    shutil.copyfile("copy", "cut.pub.new")
+    left("one that is cut off", released(program, "cut"), "cut", "it is no whole publication")
     same("the log", octets("log"), whole)
 
 
@@ -146,7 +149,7 @@ def of_release(program: str) -> None:
     same("nine is destroyed", there("nine.pub", "nine.pub.new"), [])
     pathlib.Path("junk.pub.new").write_bytes(b"RPP1")
     shutil.copyfile("junk.pub.new", "copy")
-    left("junk", released(program, "junk"), "junk", "it is no publication")
+    left("junk", released(program, "junk"), "junk", "it is no whole publication")
 
 
 def of_succession(program: str) -> None:

@@ -11,6 +11,7 @@ while the program goes on, and is then run again: nothing is lost. Nobody trusts
 """
 import os
 import pathlib
+import re
 import shutil
 import subprocess
 import sys
@@ -224,6 +225,8 @@ def of_days(program: str) -> None:
         refused(f"version {version}", day(program, version), part)
     for name, part in (("owner.desk", "it is there and no publication"), ("five.roads", "it is there and no publication"), (".", "a link or no file")):
         refused(f"the place {name}", day(program, 8, name), part)
+    os.symlink("m.pub", "link.pub")
+    refused("a place that is a link", day(program, 8, "link.pub"), "a link or no file")
     write("torn", octets("released.log").decode()[:-1])
     refused("a torn log", day(program, 8, "m.pub", "--log", "torn"), "line 1 has no line end")
     refused("another log", day(program, 8, "m.pub", "--log", "nowhere"), "there is no such log")
@@ -267,6 +270,23 @@ class Folder:
 def stood(what: str) -> None:
     """Behind a stop the old publication stands whole, or the new one."""
     same(f"{what}: what stands", (version_in("m.pub"), len(octets("m.pub"))), (version_in("m.pub") if version_in("m.pub") in (7, 8) else 8, len(octets("old.pub"))))
+
+
+def of_syncs(program: str, base: str) -> None:
+    """What is written is stable before what rests on it: the publication before the log, the log before the move."""
+    if shutil.which("strace") is None:
+        print("skipped: what tools/publish syncs, since this machine has no strace")
+        return
+    with Folder(base):
+        calls = "trace=fsync,write,rename,renameat,renameat2"
+        says("a traced day", run("strace", "-f", "-y", "-o", "trace", "-e", calls, sys.executable, TOOLS / "publish", program, "five.roads", "dij", 8, "id", 0, 2, 0, 0, 0, "m.pub"), 0)
+        here = os.path.realpath(".")
+        marks = ((r"write\(\d+<.*/m\.pub\.new>", "signs"), (r"fsync\(\d+<.*/m\.pub\.new>", "syncs it"), (r"write\(\d+<.*/released\.log>", "writes the log"),
+                 (r"fsync\(\d+<.*/released\.log>", "syncs the log"), (r"rename.*m\.pub\.new", "moves it"), (rf"fsync\(\d+<{here}>", "syncs the folder"))
+        seen = [what for line in pathlib.Path("trace").read_text(errors="replace").splitlines() for mark, what in marks if re.search(mark, line)]
+        last = [max(number for number, what in enumerate(seen) if what == mark) if mark in seen else -1 for _, mark in marks]
+        same(f"the order of {seen}", (-1 in last, last), (False, sorted(last)))
+        same("the name is stable before it signs", "syncs the folder" in seen[: seen.index("signs")], True)
 
 
 def of_kills(program: str, base: str) -> int:
@@ -404,6 +424,7 @@ def main() -> None:
         os.chdir(f"{room}/base")
         says("a first day", day(program, 7), 0)
         shutil.copyfile("m.pub", "old.pub")
+        of_syncs(program, f"{room}/base")
         kills = of_kills(program, f"{room}/base")
         of_stopped_programs(program, f"{room}/base")
         of_left(program, f"{room}/base")

@@ -443,9 +443,9 @@ def samples(owner, _draw):
 
 def main(program):
     try:
-        import waitress  # noqa: F401
+        import h11  # noqa: F401
     except ImportError:
-        print("skipped: checks/web/play.py, since this machine has no python3-waitress")
+        print("skipped: checks/web/play.py, since this machine has no python3-h11")
         return 0
     owner, draw = Owner(program, roads(STREETS, 900)), random.Random(7)
     for version in (3, 4, 5):

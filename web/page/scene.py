@@ -18,7 +18,7 @@ TOP = HERE.parents[1]
 sys.path.insert(0, str(HERE))
 from place import Place  # noqa: E402
 
-PYTHON = "/usr/bin/python3"  # Debian's, which has waitress
+PYTHON = "/usr/bin/python3"  # Debian's, which has h11
 PROGRAM = TOP / "crates/road_proof/out/road_proof"
 ATTRIBUTION = "A made town, which stands nowhere"
 METHODS = {"dij": "hilbert 0 2 0 0 0", "full": "kd 0 2 0 0 0", "ldm": "hilbert 0 2 16 10 24", "hyp": "hilbert 0 2 4 4 0"}

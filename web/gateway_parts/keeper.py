@@ -1,0 +1,268 @@
+"""Takes what is moved into the files' places, and keeps children over it, whatever happens to them or to the files."""
+
+import asyncio
+import collections
+import concurrent.futures
+import contextlib
+import os
+import time
+from collections.abc import Awaitable, Callable
+from typing import Protocol, TypeVar
+
+from .children import Crew, Ended
+from .counts import Counts
+from .log import tell
+from .publications import MOST_CHAIN, MOST_PUBLICATION, Publication, Refused, Stamp, read_file, stamp_of
+
+Result = TypeVar("Result")
+# what the gateway itself takes beside its children: its modules, connections, and answers that are being made
+OWN_OCTETS = 128 << 20
+
+
+class Settings(Protocol):
+    """What the command says of files and children."""
+
+    program: str
+    publication: str
+    chain: str | None
+    key_octets: bytes
+    keep: int
+    serves: int
+    memory: int
+    ask_seconds: float
+    install_seconds: float
+    look_seconds: float
+    most_waiting: int
+    patience: float
+    retry: int
+    longest_pause: float
+
+
+class Missing(Exception):
+    """What is asked is not here: for now, or for good."""
+
+    def __init__(self, text: str, for_good: bool = False) -> None:
+        super().__init__(text)
+        self.for_good = for_good
+
+
+class Keeper:
+    """The publications, the one that is announced, and the children that answer over them."""
+
+    def __init__(self, options: Settings, counts: Counts) -> None:
+        self.options, self.counts = options, counts
+        self.crew: Crew | None = None
+        self.publications: list[Publication] = []
+        self.announced: Publication | None = None
+        self.gone: collections.deque[str] = collections.deque(maxlen=1_000)
+        self.chain, self.seen, self.stopping = b"", tuple[Stamp, ...](), False
+        self.begun, self.loss = asyncio.Event(), asyncio.Event()
+        # a disk that stands still holds up this thread alone
+        self.disk = concurrent.futures.ThreadPoolExecutor(1, "disk")
+
+    # ---- for those who ask
+
+    async def _begins(self) -> None:
+        """Waits for the first publication, for a while."""
+        if not self.begun.is_set():
+            with contextlib.suppress(asyncio.TimeoutError):
+                await asyncio.wait_for(self.begun.wait(), self.options.patience)
+
+    async def newest(self, least: int) -> str:
+        """The id of the newest publication that is announced, or of one that was taken in where a client wants no older one."""
+        await self._begins()
+        for publication in [self.announced, *self.publications]:
+            if publication is not None and publication.version >= least:
+                return publication.id
+        raise Missing("No publication as new as this is here yet.")
+
+    async def held(self, name: str) -> Publication:
+        """A publication that is here."""
+        await self._begins()
+        for publication in self.publications:
+            if publication.id == name:
+                return publication
+        if name in self.gone:
+            raise Missing("This publication is no longer served.", for_good=True)
+        raise Missing("This publication is not here yet.")
+
+    async def ask(self, name: str, code: int, words: bytes, address: str) -> bytes:
+        """A reply over a publication."""
+        await self.held(name)
+        crew = self.crew
+        if crew is None or name not in crew.sessions:
+            raise Missing("The server is starting anew.")
+        try:
+            async with asyncio.timeout(self.options.ask_seconds + self.options.patience):
+                return await crew.ask(name, code, words, address)
+        except (Ended, TimeoutError):
+            raise Missing("The server is starting anew.") from None
+
+    def is_ready(self) -> bool:
+        return self.crew is not None and bool(self.crew.children) and not self.stopping
+
+    # ---- its own work
+
+    async def run(self) -> None:
+        """Works until it is cancelled."""
+        try:
+            await asyncio.gather(self._repeat(self._look, None), self._repeat(self._mend, self.loss))
+        finally:
+            self.disk.shutdown(wait=False, cancel_futures=True)
+
+    async def _repeat(self, work: Callable[[], Awaitable[None]], wake: asyncio.Event | None) -> None:
+        pause = 0.0
+        while True:
+            try:
+                await work()
+                pause = 0.0
+            except Exception as error:  # it goes on, whatever comes, and waits longer each time
+                tell(f"{error}" if isinstance(error, (Ended, Refused)) else f"{type(error).__name__}: {error}")
+                pause = min(self.options.longest_pause, max(0.1, 2 * pause))
+            if pause or wake is None:
+                await asyncio.sleep(pause or self.options.look_seconds)
+            else:
+                with contextlib.suppress(asyncio.TimeoutError):
+                    await asyncio.wait_for(wake.wait(), self.options.look_seconds)
+                wake.clear()
+
+    async def _on_disk(self, work: Callable[[], Result]) -> Result:
+        return await asyncio.get_running_loop().run_in_executor(self.disk, work)
+
+    def _files(self) -> list[str]:
+        return [self.options.publication, f"{self.options.publication}.next", *([self.options.chain] if self.options.chain else [])]
+
+    async def _look(self) -> None:
+        seen = await self._on_disk(lambda: tuple(stamp_of(file) for file in self._files()))
+        if seen != self.seen:
+            await self._take(is_next_there=seen[1] is not None)
+            self.seen = seen
+
+    async def _mend(self) -> None:
+        """Puts a child in the place of one that ended, or that is near its last frame."""
+        crew = self.crew
+        if crew is None or self.stopping:
+            return
+        spent = crew.spent()
+        if len(crew.children) >= crew.wanted and spent is None:
+            return
+        child = await crew.pinned()
+        self.counts.add("road_gateway_serve_starts_total")
+        if crew is not self.crew or crew.is_leaving:
+            child.end()
+            return
+        crew.add(child)
+        if spent in crew.children and spent is not None:
+            crew.retire(spent)
+        if len(crew.children) < crew.wanted:
+            self.loss.set()
+
+    # ---- what the files hold
+
+    def _refused(self, why: Exception) -> None:
+        self.counts.add("road_gateway_refused_publications_total")
+        tell(f"what the files hold is not taken: {why}")
+
+    async def _take(self, is_next_there: bool) -> None:
+        """Takes what the files hold now; what is refused changes nothing."""
+        try:
+            octets = await self._on_disk(lambda: read_file(self.options.publication, MOST_PUBLICATION))
+            file = self.options.chain or ""
+            chain = await self._on_disk(lambda: read_file(file, MOST_CHAIN)) if file else b""
+            announced = self._announced_of(octets)
+        except (Refused, OSError) as error:
+            self._refused(error)
+            return
+        kept = [it for it in self.publications if it.version < announced.version][-self.options.keep + 1 :] if self.options.keep > 1 else []
+        plain = [*kept, announced]
+        following = await self._following(announced) if is_next_there else None
+        for wanted in [[*plain, following], plain] if following is not None else [plain]:
+            try:
+                await self._hold(wanted, announced, chain)
+                return
+            except Refused as error:
+                self._refused(error)
+
+    def _announced_of(self, octets: bytes) -> Publication:
+        """What is the newest publication where the file holds these octets."""
+        known = next((it for it in self.publications if it.octets == octets), None)
+        fresh = known or Publication(octets)
+        if self.announced is None or fresh.version > self.announced.version:
+            return fresh
+        if known is None:
+            raise Refused(f"version {fresh.version} is not above {self.announced.version}")
+        return self.announced
+
+    async def _following(self, announced: Publication) -> Publication | None:
+        """What is taken in before it is announced."""
+        try:
+            octets = await self._on_disk(lambda: read_file(f"{self.options.publication}.next", MOST_PUBLICATION))
+            found = next((it for it in self.publications if it.octets == octets), None) or Publication(octets)
+            if found.version > announced.version:
+                return found
+        except FileNotFoundError:
+            pass  # it was moved into the publication's place
+        except (Refused, OSError) as error:
+            self._refused(error)
+        return None
+
+    async def _hold(self, wanted: list[Publication], announced: Publication, chain: bytes) -> None:
+        """Has children over these publications, and announces one of them."""
+        if self.crew is None or chain != self.chain or any(it not in self.publications for it in wanted):
+            await self._build(wanted, chain)
+        if self.announced is not announced:
+            tell(f"version {announced.version} is announced")
+        self.announced = announced
+        self.begun.set()
+
+    async def _build(self, publications: list[Publication], chain: bytes) -> None:
+        """Puts new children in the place of those that there are, once each of them holds all the publications."""
+        began, options = time.monotonic(), self.options
+        crew = Crew(options.program, options.key_octets, publications, chain, options.ask_seconds, options.install_seconds)
+        try:
+            # the first alone tells whether they are taken, and what each costs
+            crew.add(await crew.pinned())
+            crew.wanted = self._serves(crew.children[0].resident())
+            more = await asyncio.gather(*(crew.pinned() for _ in range(crew.wanted - 1)), return_exceptions=True)
+            for child in more:
+                if isinstance(child, BaseException):
+                    tell(f"a child of {crew.wanted} does not start: {child}")
+                else:
+                    crew.add(child)
+        except BaseException:
+            crew.end()
+            raise
+        self.counts.add("road_gateway_serve_starts_total", count=len(crew.children))
+        crew.on_loss = self._lost
+        before, self.crew = self.crew, crew
+        self.gone.extend(it.id for it in self.publications if it not in publications)
+        self.publications, self.chain = list(publications), chain
+        if before is not None:
+            before.leave()
+        if len(crew.children) < crew.wanted:
+            self.loss.set()
+        versions = ", ".join(str(it.version) for it in publications)
+        tell(f"serving version {versions} by {len(crew.children)} of serve; built in {time.monotonic() - began:.1f} s")
+
+    def _serves(self, resident: int) -> int:
+        """How many children there are to be, each of which takes so many octets, and twice as many during an install."""
+        if self.options.serves:
+            return self.options.serves
+        room = self.options.memory - OWN_OCTETS - self.options.most_waiting
+        count = max(1, min(len(os.sched_getaffinity(0)) - 1, room // (2 * max(resident, 1 << 20))))
+        tell(f"each serve takes {resident >> 20} MB, and an install twice that: {count} of them")
+        return count
+
+    def _lost(self, why: str) -> None:
+        tell(f"{why}; it is started anew")
+        self.loss.set()
+
+    def end(self) -> None:
+        """Is ready no longer."""
+        self.stopping = True
+
+    def close(self) -> None:
+        """Ends the children, and with them what is still asked."""
+        if self.crew is not None:
+            self.crew.on_loss = lambda why: None
+            self.crew.end()

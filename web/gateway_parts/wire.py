@@ -1,0 +1,314 @@
+"""HTTP over connections, parsed by h11. One connection has one request at a time, and what it does not take is dropped.
+
+A request has no body here, so that its octets end where its head does: what has one is refused, and its connection closed.
+Heads are refused before the parser where two readers could part them otherwise: bare line feeds, folded lines."""
+
+import asyncio
+import email.utils
+import functools
+import re
+import socket
+import time
+from typing import Protocol
+
+import h11
+
+from .answers import REASONS, Answer, Answers, Headers, Problem, Request, problem
+from .counts import Counts
+from .limits import Connected
+from .log import tell
+
+MOST_HEAD = 8_192
+PIECE = 1 << 16
+LINGER_SECONDS = 2.0
+SEND_OCTETS = 1 << 18
+# an end of line that is not CR LF, or a line that begins with a blank
+ODD = re.compile(rb"(?<!\r)\n|\r(?!\n)|\n[ \t]|\0")
+AUTHORITY = re.compile(r"https?://[^/?#]*", re.I)
+
+
+class Settings(Protocol):
+    """What the command says of connections."""
+
+    host: str
+    port: int
+    proxies: frozenset[str]
+    connections: int
+    connections_by_address: int
+    most_waiting: int
+    request_seconds: float
+    reply_seconds: float
+    idle_seconds: float
+
+
+@functools.lru_cache(maxsize=2)
+def date_of(second: int) -> str:
+    return email.utils.formatdate(second, usegmt=True)
+
+
+class Connection(asyncio.BufferedProtocol):
+    """One connection. It reads a head, works on it, sends the answer, and only then reads on."""
+
+    # what comes is copied at once, so that all connections take turns with one buffer
+    buffer = bytearray(16_384)
+
+    def __init__(self, server: "Server") -> None:
+        self.server, self.head = server, bytearray()
+        self.task: asyncio.Task[None] | None = None
+        self.left, self.is_sending, self.is_lingering, self.is_paused = memoryview(b""), False, False, False
+        self.until, self.peer, self.began = 0.0, "", 0.0
+        self.transport: asyncio.Transport
+        self.parser = h11.Connection(h11.SERVER, max_incomplete_event_size=MOST_HEAD)
+
+    # ---- what asyncio calls
+
+    def connection_made(self, transport: asyncio.BaseTransport) -> None:
+        assert isinstance(transport, asyncio.Transport)
+        self.transport = transport
+        transport.set_write_buffer_limits(high=0)
+        self.peer = (transport.get_extra_info("peername") or ("?",))[0]
+        self._wait_for_head()
+        self.server.came(self)
+
+    def connection_lost(self, exc: Exception | None) -> None:
+        if self.task is not None:
+            self.task.cancel()
+        self._sent_so_far(0)
+        self.server.went(self)
+
+    def get_buffer(self, sizehint: int) -> bytearray:
+        return self.buffer
+
+    def buffer_updated(self, nbytes: int) -> None:
+        if self.is_lingering:
+            return
+        if not self.head:
+            self.until = time.monotonic() + self.server.options.request_seconds
+        self.head += memoryview(self.buffer)[:nbytes]
+        self._next()
+
+    def eof_received(self) -> bool:
+        return False
+
+    def pause_writing(self) -> None:
+        self.is_paused = True
+
+    def resume_writing(self) -> None:
+        self.is_paused = False
+        if self.is_sending:
+            self._send_on()
+
+    # ---- requests
+
+    def _wait_for_head(self) -> None:
+        options = self.server.options
+        self.until = time.monotonic() + (options.request_seconds if self.head else options.idle_seconds)
+
+    def is_idle(self) -> bool:
+        """Whether it has no request that is whole, and no answer under way."""
+        return self.task is None and not self.is_sending
+
+    def _next(self) -> None:
+        """Takes the next head, where all of it is here."""
+        if not self.is_idle() or self.is_lingering or self.transport.is_closing():
+            return
+        if self.head.startswith(b"\r\n"):
+            del self.head[:2]
+        end = self.head.find(b"\r\n\r\n")
+        whole = bytes(self.head[: end + 4] if end >= 0 else self.head)
+        if ODD.search(whole.removesuffix(b"\r")):
+            self._refuse(Problem(400, "A line of the request ends in no CR LF, or is folded."))
+        elif len(whole) > MOST_HEAD:
+            self._refuse(Problem(431, f"The request's head has more than {MOST_HEAD} octets."))
+        elif end >= 0:
+            self.transport.pause_reading()
+            del self.head[: end + 4]
+            self.began = time.monotonic()
+            self._take(whole)
+
+    def _take(self, whole: bytes) -> None:
+        try:
+            self.parser.receive_data(whole)
+            event = self.parser.next_event()
+            assert isinstance(event, h11.Request)
+            headers: dict[bytes, bytes] = {}
+            for name, value in event.headers:
+                headers[name] = headers[name] + b", " + value if name in headers else value
+            has_body = b"transfer-encoding" in headers or headers.get(b"content-length", b"0") != b"0"
+            request = Request(event.method.decode("ascii"), event.target.decode("ascii"), self.peer, headers)
+        except h11.RemoteProtocolError as error:
+            self._refuse(Problem(501 if error.error_status_hint == 501 else 400, "The request is not understood."))
+            return
+        except (AssertionError, ValueError):
+            self._refuse(Problem(400, "The request is not understood."))
+            return
+        if has_body:
+            status = 400 if request.method in ("GET", "HEAD", "OPTIONS") else 405
+            self._refuse(Problem(status, "A request with a body is not answered." if status == 400 else "GET, HEAD and OPTIONS are answered."))
+            return
+        self.parser.next_event()
+        path, _, query = AUTHORITY.sub("", request.target, count=1).partition("?")
+        answer = self.server.answers.at_once(request, path, query)
+        if answer is not None:
+            self._answer(request, path, answer)
+        else:
+            self.task = asyncio.get_running_loop().create_task(self._later(request, path, query))
+
+    async def _later(self, request: Request, path: str, query: str) -> None:
+        answer = await self.server.answers.later(request, path, query)
+        self.task = None
+        self._answer(request, path, answer)
+
+    # ---- answers
+
+    def _answer(self, request: Request, path: str, answer: Answer) -> None:
+        status, headers, octets = self.server.answers.finished(request, answer)
+        self.server.answers.told(request, path, answer, status, time.monotonic() - self.began)
+        self._send(status, headers, b"" if request.method == "HEAD" else octets)
+
+    def _refuse(self, why: Problem) -> None:
+        """Answers octets that are no request, and closes."""
+        answer = problem(why)
+        request = Request("GET", "", self.peer, {})
+        status, headers, octets = self.server.answers.finished(request, answer)
+        self.server.answers.told(request, "", answer, status, 0.0)
+        self.head.clear()
+        self.transport.pause_reading()
+        if self.parser.our_state not in (h11.IDLE, h11.SEND_RESPONSE):
+            self.transport.abort()
+            return
+        self._send(status, [*headers, ("Connection", "close")], octets)
+
+    def _send(self, status: int, headers: Headers, octets: bytes) -> None:
+        if self.transport.is_closing():
+            return
+        headers = [*headers, ("Date", date_of(int(time.time())))]
+        response = h11.Response(status_code=status, headers=headers, reason=REASONS[status].encode())
+        head = self.parser.send(response) or b""
+        if octets:
+            self.parser.send_with_data_passthrough(h11.Data(data=octets))
+        self.parser.send(h11.EndOfMessage())
+        self.is_sending = True
+        self.until = time.monotonic() + self.server.options.reply_seconds
+        if len(octets) <= PIECE:
+            self.transport.write(head + octets)
+        else:
+            self.transport.write(head)
+            self.left = memoryview(octets)
+            self.server.waiting += len(octets)
+        self._send_on()
+
+    def _send_on(self) -> None:
+        """Sends what is left, piece by piece, as the client takes it."""
+        while not self.is_paused and self.left and not self.transport.is_closing():
+            self.transport.write(self.left[:PIECE])
+            self._sent_so_far(max(0, len(self.left) - PIECE))
+        if self.left or self.is_paused:
+            self.server.hold(self)
+            return
+        self.is_sending = False
+        if self.parser.our_state is h11.DONE and self.parser.their_state is h11.DONE:
+            self.parser.start_next_cycle()
+            self._wait_for_head()
+            if self.head:
+                asyncio.get_running_loop().call_soon(self._read_on)
+            else:
+                self._read_on()
+        else:
+            self._linger()
+
+    def _sent_so_far(self, left: int) -> None:
+        self.server.waiting -= len(self.left) - left
+        self.left = self.left[len(self.left) - left :]
+
+    def waits(self) -> int:
+        """Octets that wait for its reader."""
+        return len(self.left) + self.transport.get_write_buffer_size()
+
+    def _read_on(self) -> None:
+        if self.server.is_stopping and not self.head:
+            self.transport.close()
+        elif not self.transport.is_closing():
+            if self.head:
+                self._next()
+            if self.is_idle():
+                self.transport.resume_reading()
+
+    def _linger(self) -> None:
+        """Ends its side, and lets what still comes run out for a while, so that the answer is not lost to a reset."""
+        self.is_lingering = True
+        self.until = time.monotonic() + LINGER_SECONDS
+        if self.transport.can_write_eof():
+            self.transport.write_eof()
+        self.transport.resume_reading()
+
+
+class Server:
+    """All connections, and what bounds them."""
+
+    def __init__(self, options: Settings, answers: Answers, counts: Counts) -> None:
+        self.options, self.answers, self.counts = options, answers, counts
+        self.open: set[Connection] = set()
+        self.by_address = Connected[Connection](options.connections, options.connections_by_address, options.proxies, Connection.is_idle)
+        self.waiting, self.is_stopping = 0, False
+        self.listening: asyncio.Server | None = None
+        answers.gauges = lambda: {"road_gateway_connections": len(self.open), "road_gateway_waiting_octets": self.waiting}
+
+    async def listen(self) -> None:
+        loop = asyncio.get_running_loop()
+        loop.set_exception_handler(lambda _, found: tell(f"{found.get('message')}: {found.get('exception')!r}"))
+        self.listening = await loop.create_server(lambda: Connection(self), self.options.host, self.options.port, backlog=1024, family=socket.AF_UNSPEC)
+        for it in self.listening.sockets:
+            # what the system holds for a slow reader is bounded too
+            it.setsockopt(socket.SOL_SOCKET, socket.SO_SNDBUF, SEND_OCTETS)
+
+    def came(self, connection: Connection) -> None:
+        self.open.add(connection)
+        closed = self.by_address.add(connection.peer, connection)
+        if closed is not None:
+            self.close(closed, "others")
+
+    def went(self, connection: Connection) -> None:
+        self.open.discard(connection)
+        self.by_address.drop(connection.peer, connection)
+
+    def close(self, connection: Connection, why: str) -> None:
+        """Closes a connection now, and gives its octets back."""
+        self.counts.add("road_gateway_closed_total", f'{{why="{why}"}}')
+        connection.transport.abort()
+        # it counts no more, although asyncio calls back later
+        self.went(connection)
+
+    def hold(self, _: Connection) -> None:
+        """Where more octets wait than may, those of the address with the most are dropped."""
+        if self.waiting <= self.options.most_waiting:
+            return
+        sums: dict[str, int] = {}
+        for it in self.open:
+            sums[it.peer] = sums.get(it.peer, 0) + len(it.left)
+        most = max(sums, key=lambda peer: sums[peer])
+        for it in sorted((it for it in self.open if it.peer == most and it.left), key=lambda it: it.until):
+            if self.waiting <= self.options.most_waiting:
+                break
+            it._sent_so_far(0)
+            self.close(it, "waiting")
+
+    async def sweep(self) -> None:
+        """Closes connections that take too long: idle ones, requests that never end, answers that nobody reads."""
+        while True:
+            now = time.monotonic()
+            for it in [it for it in self.open if it.task is None and it.until < now]:
+                self.close(it, "reply" if it.is_sending else "request" if it.head else "idle")
+            await asyncio.sleep(0.25)
+
+    def is_busy(self) -> bool:
+        """Whether an answer is being made or sent."""
+        return any(not it.is_idle() for it in self.open)
+
+    def stop(self) -> None:
+        """Takes no new connection, and closes each once its answer is out."""
+        self.is_stopping = True
+        if self.listening is not None:
+            self.listening.close()
+        for it in [it for it in self.open if it.is_idle()]:
+            it.transport.close()

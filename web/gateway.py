@@ -69,7 +69,7 @@ async def serve(options: Options) -> None:
     for task in at_work:
         task.cancel()
     keeper.close()
-    await asyncio.sleep(0)
+    await keeper.closed()
 
 
 def main(words: list[str]) -> int:

@@ -19,6 +19,7 @@ import asyncio
 import collections
 import contextlib
 import dataclasses
+import hashlib
 import json
 import os
 import random
@@ -30,7 +31,7 @@ import subprocess
 import sys
 import time
 import urllib.parse
-from collections.abc import Awaitable, Callable, Iterator
+from collections.abc import Awaitable, Callable, Coroutine, Iterator
 
 from parties import STREETS, Gateway, Many, Owner, Place, replace, roads, serves_of
 
@@ -58,8 +59,6 @@ def holds(what: str, value: float, most: float, room: float = 1) -> None:
 
 
 def id_of_file(octets: bytes) -> str:
-    import hashlib
-
     length = int.from_bytes(octets[108:110], "big")
     return hashlib.sha256(octets[4:108] + octets[110 : 110 + length]).hexdigest()[:16]
 
@@ -171,7 +170,7 @@ def each(number: int) -> str:
 
 
 def same(_: int) -> str:
-    return "127.0.0.1"
+    return "127.5.5.5"
 
 
 # ---- hostile clients
@@ -239,7 +238,10 @@ class Bench:
 async def deaf(bench: Bench) -> None:
     gateway = Gateway(bench.owner, bench.name, "--reply-seconds", "20")
     seconds = bench.seconds(15, 3)
-    one = lambda: load(gateway.address, bench.ids, 8, after(seconds), each, pause=0.02)
+
+    async def one() -> Seen:
+        return await load(gateway.address, bench.ids, 8, after(seconds), each, pause=0.02)
+
     before = await one()
     with deaf_one(gateway.address, bench.id()):
         beside = await one()
@@ -498,7 +500,7 @@ async def speed(bench: Bench) -> None:
     many.end()
 
 
-BARS: dict[str, Callable[[Bench], Awaitable[None]]] = {
+BARS: dict[str, Callable[[Bench], Coroutine[None, None, None]]] = {
     "speed": speed, "deaf": deaf, "busy": busy, "least": least, "rolls": rolls, "kills": kills, "smuggled": smuggled, "hour": hour,
 }
 
@@ -510,8 +512,9 @@ def main(words: list[str]) -> int:
     parser.add_argument("--short", action="store_true")
     parser.add_argument("--room", type=float, default=1)
     parser.add_argument("--minutes", type=float, default=60)
-    parser.add_argument("--nodes", type=int, default=4000)
+    parser.add_argument("--nodes", type=int, default=0)
     given = parser.parse_args(words)
+    given.nodes = given.nodes or (900 if given.short else 4000)
     try:
         import h11  # noqa: F401
     except ImportError:

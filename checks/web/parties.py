@@ -12,6 +12,8 @@ import sys
 import tempfile
 import time
 import urllib.parse
+from email.message import Message
+from typing import Any
 
 TOP = pathlib.Path(__file__).resolve().parents[2]
 PYTHON = "/usr/bin/python3"
@@ -22,7 +24,7 @@ METHODS = {"dij": "hilbert 0 2 0 0 0", "full": "kd 0 2 0 0 0", "ldm": "hilbert 0
 class Owner:
     """A folder with a desk, and publications of one map."""
 
-    def __init__(self, program, roads):
+    def __init__(self, program: str, roads: bytes) -> None:
         """`roads` is the text of a road file."""
         self.program = os.path.abspath(program)
         self.held = tempfile.TemporaryDirectory(prefix="web_play.")
@@ -35,40 +37,40 @@ class Owner:
         self.keep("owner.key", self.run("key secret.hex h5"))
         self.keep("owner.chain", b"")
 
-    def keep(self, name, octets):
+    def keep(self, name: str, octets: bytes) -> None:
         (self.folder / name).write_bytes(octets)
 
-    def path(self, name):
+    def path(self, name: str) -> pathlib.Path:
         return self.folder / name
 
-    def run(self, words, wanted=0):
+    def run(self, words: str, wanted: int = 0) -> bytes:
         """What a command writes."""
         status, octets = self.ended(words)
         if status != wanted:
             sys.exit(f"{words}: status {status}")
         return octets
 
-    def ended(self, words):
+    def ended(self, words: str) -> tuple[int, bytes]:
         done = subprocess.run([self.program, *words.split()], cwd=self.folder, stdout=subprocess.PIPE, stderr=subprocess.DEVNULL, check=False)
         return done.returncode, done.stdout
 
-    def publish(self, version, method="dij", settings=None):
+    def publish(self, version: int, method: str = "dij", settings: str | None = None) -> str:
         """The name of a publication."""
         name = f"{method}-{version}.pub"
         self.keep(name, self.run(f"publish map.roads {method} {version} {settings or METHODS[method]}"))
         return name
 
-    def succeed(self):
+    def succeed(self) -> None:
         self.run("succeed next.hex h5")
         self.keep("owner.chain", self.run("links"))
 
-    def prove(self, name, start, end):
+    def prove(self, name: str, start: int, end: int) -> bytes:
         return self.ended(f"prove {name} {start} {end}")[1]
 
-    def reach(self, name, start, radius):
+    def reach(self, name: str, start: int, radius: int) -> bytes:
         return self.ended(f"reach {name} {start} {radius}")[1]
 
-    def verdict(self, reply, start, end, least, chain=True):
+    def verdict(self, reply: bytes, start: int, end: int, least: int, chain: bool = True) -> str:
         """What the command line says of a reply on a route."""
         name = f"{os.getpid()}-{time.monotonic_ns()}.reply"
         self.keep(name, reply)
@@ -78,32 +80,32 @@ class Owner:
         return line
 
 
-def roads(script, size):
+def roads(script: pathlib.Path, size: int) -> bytes:
     return subprocess.run([sys.executable, script, str(size)], capture_output=True, check=True).stdout
 
 
-def replace(file, octets):
+def replace(file: pathlib.Path, octets: bytes) -> None:
     """A file in another's place, at once."""
     fresh = pathlib.Path(f"{file}.fresh")
     fresh.write_bytes(octets)
     fresh.rename(file)
 
 
-def free_port():
+def free_port() -> int:
     with socket.socket() as one:
         one.bind(("127.0.0.1", 0))
-        return one.getsockname()[1]
+        return int(one.getsockname()[1])
 
 
 class Place:
     """An address of HTTP, asked over one connection."""
 
-    def __init__(self, address, seconds=30, headers=None):
+    def __init__(self, address: str, seconds: float = 30, headers: dict[str, str] | None = None) -> None:
         parts = urllib.parse.urlsplit(address)
-        self.host, self.port, self.seconds, self.headers = parts.hostname, parts.port, seconds, headers or {}
-        self.connection = None
+        self.host, self.port, self.seconds, self.headers = parts.hostname or "", parts.port or 0, seconds, headers or {}
+        self.connection: http.client.HTTPConnection | None = None
 
-    def ask(self, path, method="GET", **headers):
+    def ask(self, path: str, method: str = "GET", **headers: str) -> tuple[int, Message, bytes]:
         """Status, headers and octets. A connection that is gone is opened anew, and an answer that ends early asked once more."""
         for trial in (1, 2):
             if self.connection is None:
@@ -116,9 +118,9 @@ class Place:
                 self.close()
                 if trial == 2:
                     raise
-        return None
+        raise AssertionError
 
-    def close(self):
+    def close(self) -> None:
         if self.connection is not None:
             self.connection.close()
             self.connection = None
@@ -127,13 +129,13 @@ class Place:
 class Client:
     """A client as it should be: it carries its least version, checks each reply, and asks past caches where one is refused."""
 
-    def __init__(self, owner, address, least=0, checks=True):
+    def __init__(self, owner: Owner, address: str, least: int = 0, checks: bool = True) -> None:
         self.owner, self.place, self.least, self.checks = owner, Place(address), least, checks
         self.asked = 0
 
-    def route(self, start, end):
+    def route(self, start: int, end: int) -> str:
         """The line of an accepted reply, or `servers disagree`."""
-        refused = []
+        refused: list[str] = []
         for trial in range(3):
             reply = self.reply(f"from={start}&to={end}", past_caches=trial > 0)
             line = self.owner.verdict(reply, start, end, self.least)
@@ -143,7 +145,7 @@ class Client:
             refused.append(line)
         return "servers disagree"
 
-    def reply(self, words, past_caches=False, kind="route"):
+    def reply(self, words: str, past_caches: bool = False, kind: str = "route") -> bytes:
         """The octets over the newest publication, which is no older than the least version."""
         more = {"Cache_Control": "no-cache"} if past_caches else {}
         for _ in range(20):
@@ -162,11 +164,11 @@ class Client:
 class Started:
     """A process that is ended with the script."""
 
-    def __init__(self, words, cwd, log):
+    def __init__(self, words: list[Any], cwd: pathlib.Path, log: pathlib.Path | str) -> None:
         with open(log, "ab") as it:
             self.process = subprocess.Popen(list(map(str, words)), cwd=cwd, stdin=subprocess.DEVNULL, stdout=subprocess.PIPE, stderr=it)
 
-    def end(self, number=signal.SIGTERM, seconds=20):
+    def end(self, number: signal.Signals = signal.SIGTERM, seconds: float = 20) -> int:
         if self.process.poll() is None:
             self.process.send_signal(number)
         try:
@@ -179,7 +181,7 @@ class Started:
 class Gateway(Started):
     """A gateway over files of its own in an owner's folder."""
 
-    def __init__(self, owner, name, *more, program=None, log=None, wait=True):
+    def __init__(self, owner: Owner, name: str, *more: Any, program: Any = None, log: pathlib.Path | str | None = None, wait: bool = True) -> None:
         self.folder = owner.folder / f"gateway-{free_port()}"
         self.folder.mkdir()
         for file, held in (("map.pub", name), ("owner.key", "owner.key"), ("owner.chain", "owner.chain")):
@@ -193,7 +195,7 @@ class Gateway(Started):
         if wait:
             self.wait()
 
-    def wait(self, seconds=60):
+    def wait(self, seconds: float = 60) -> None:
         """Until it is ready."""
         until = time.monotonic() + seconds
         while time.monotonic() < until:
@@ -205,34 +207,35 @@ class Gateway(Started):
             if self.process.poll() is not None:
                 break
             time.sleep(0.05)
-        sys.exit(f"the gateway does not start: {self.log.read_text()}")
+        sys.exit(f"the gateway does not start: {pathlib.Path(self.log).read_text()}")
 
-    def info(self):
-        return json.loads(self.place.ask("/v1/info")[2])["publications"]
+    def info(self) -> list[dict[str, Any]]:
+        found: list[dict[str, Any]] = json.loads(self.place.ask("/v1/info")[2])["publications"]
+        return found
 
-    def newest(self):
-        return self.info()[0]["id"]
+    def newest(self) -> str:
+        return str(self.info()[0]["id"])
 
-    def serves(self):
+    def serves(self) -> list[int]:
         """The processes of `serve`."""
         return serves_of(self.process.pid)
 
-    def memory(self):
+    def memory(self) -> tuple[float, int]:
         """Its memory in MB, and how many files it has open."""
         lines = pathlib.Path(f"/proc/{self.process.pid}/status").read_text().splitlines()
         held = next(int(line.split()[1]) for line in lines if line.startswith("VmRSS"))
         return held / 1024, len(os.listdir(f"/proc/{self.process.pid}/fd"))
 
 
-def serves_of(gateway):
+def serves_of(gateway: int) -> list[int]:
     """The processes of `serve` that a gateway has started."""
-    found = []
+    found: list[bytes] = []
     for task in pathlib.Path(f"/proc/{gateway}/task").iterdir():
         found += read(task / "children").split()
     return sorted({int(pid) for pid in found if b"serve" in read(f"/proc/{int(pid)}/cmdline")})
 
 
-def read(file):
+def read(file: pathlib.Path | str) -> bytes:
     try:
         return pathlib.Path(file).read_bytes()
     except OSError:
@@ -242,19 +245,20 @@ def read(file):
 class Many(Started):
     """web/many over a publication."""
 
-    def __init__(self, owner, name, *more, program=None):
+    def __init__(self, owner: Owner, name: str, *more: Any, program: Any = None) -> None:
         command = [TOP / "web/many", program or owner.program, owner.path(name), owner.path("owner.key"), owner.path("owner.chain"), *more]
         self.log = owner.folder / f"many-{free_port()}.log"
         super().__init__(command, owner.folder, self.log)
+        assert self.process.stdout
         line = self.process.stdout.readline()
         if not line:
             sys.exit(f"web/many does not start: {self.log.read_text()}")
         self.said = json.loads(line)
         self.address, self.gateways, self.folder = self.said["service"], self.said["gateways"], pathlib.Path(self.said["folder"])
 
-    def replica(self, number):
+    def replica(self, number: int) -> pathlib.Path:
         return self.folder / f"replica-{number}"
 
-    def number_of(self, name):
+    def number_of(self, name: str) -> int:
         """The number of the process that goes by this name now."""
-        return json.loads((self.folder / "processes.json").read_text())[name]
+        return int(json.loads((self.folder / "processes.json").read_text())[name])

@@ -1,5 +1,5 @@
 #!/usr/bin/python3
-"""Plays the gateway, the caches in front of it, and their clients, good and bad: checks/web/play.py PROGRAM
+"""Plays the gateway, the caches in front of it, and their clients, good and bad: checks/web/play.py PROGRAM [PART ..]
 
 examples  what web/openapi.json shows, with its statuses, headers and octets beside `prove` and `reach`
 files     publications and chains moved into their places: new, broken, old, another owner's, and a key's successor
@@ -8,7 +8,9 @@ shared    ten ask the same while `serve` stands still, which then goes on, or is
 odd       octets that are no HTTP, requests in a row, 200 connections held open, clients that read nothing
 limits    asks by address, behind a proxy that is named and without one
 stopped   a stop while clients ask
-many      two replicas behind cache and balancing: a killed gateway, a rolled publication, a replica that lies
+many      two replicas behind cache and balancing: a killed gateway, a publication rolled by moving it to FOLDER/map.pub, a
+          replica that lies
+anew      asks past the cache are limited for each address, by the front of one of IPv6; both forms of an answer are kept
 samples   nginx -t, haproxy -c, systemd-analyze and promtool over the samples
 
 Half a minute of what checks/web/measure.py measures by hand. What needs a package that this machine lacks is skipped by
@@ -352,19 +354,60 @@ def many(owner, draw):
     # a publication rolls through the replicas, and no client goes back
     until("the gateway is back", lambda: all_ready(started))
     later = owner.path("dij-4.pub").read_bytes()
-    for number in range(2):
-        replace(started.replica(number) / "map.pub", later)
-        until("rolled", lambda: newest_of(started.gateways[number]) == id_of(later))
-        client.route(*asked[0])
-        versions = [client.least]
+    replace(started.folder / "map.pub", later)
+    versions = []
+    while not all(newest_of(it) == id_of(later) for it in started.gateways):
         for ends in asked[:5]:
             same("accepted", client.route(*ends).split()[0], "accepted")
             versions.append(client.least)
-        same("never back", versions, sorted(versions))
+    client.route(*asked[0])
+    same("never back", versions, sorted(versions))
     same("the new one", client.least, 4)
-    same("the owner's place", Place(started.said["owner"]).ask("/owner.key")[2], owner.path("owner.key").read_bytes())
+    status, headers, octets = Place(started.said["owner"]).ask("/owner.key")
+    same("the owner's place", (status, octets), (200, owner.path("owner.key").read_bytes()))
+    same("its policy", "default-src 'none'" in (headers["Content-Security-Policy"] or ""), True)
     same("end", started.end(), 0)
     lies(owner, draw)
+
+
+def anew(owner, _draw):
+    """Whoever asks past the cache too often is told so, and nobody else is."""
+    if shutil.which("nginx") is None:
+        print("skipped: asks past the cache, since this machine has no nginx")
+        return
+    started = Many(owner, "dij-3.pub", "--replicas", "1")
+    conf = started.folder / "nginx/nginx.conf"
+    # whom a request names stands in for its address here, since this machine has one of IPv6 alone
+    conf.write_text(conf.read_text().replace("server_tokens off;", "server_tokens off; set_real_ip_from 127.0.0.0/8; real_ip_header X-Real-IP;", 1))
+    os.kill(started.number_of("nginx"), signal.SIGHUP)
+    time.sleep(1)
+    until("nginx is back", lambda: answers(started.address))
+    here = id_of(owner.path("dij-3.pub").read_bytes())
+    path, wanted = f"/v1/p/{here}/route?from={owner.ids[0]}&to={owner.ids[-1]}", owner.prove("dij-3.pub", owner.ids[0], owner.ids[-1])
+    place = Place(started.address)
+
+    def statuses(name, count):
+        return [place.ask(path, Cache_Control="no-cache", X_Real_IP=name)[0] for _ in range(count)]
+
+    for much, likewise, other in (("192.0.2.1", "192.0.2.1", "192.0.2.2"), ("2001:db8:1:2::1", "2001:db8:1:2:3:4:5:6", "2001:db8:1:3::1")):
+        end = time.monotonic() + 20
+        while 429 not in (seen := statuses(much, 30)) and time.monotonic() < end:
+            pass
+        same(f"{much} asks too much", 429 in seen, True)
+        same(f"{likewise} is the same", 429 in statuses(likewise, 3), True)
+        same(f"{other} is another", statuses(other, 3), [200] * 3)
+    for accepted, is_packed in (("gzip", True), ("", False), ("gzip;q=0", False), ("br, gzip", True)):
+        for _ in range(2):
+            status, headers, octets = place.ask(path, Accept_Encoding=accepted)
+            same(f"cached for {accepted}", (status, headers["Content-Encoding"] == "gzip", gzip.decompress(octets) if is_packed else octets), (200, is_packed, wanted))
+    same("end", started.end(), 0)
+
+
+def answers(address):
+    try:
+        return Place(address).ask("/v1/ready")[0] == 200
+    except OSError:
+        return False
 
 
 def all_ready(started):
@@ -423,7 +466,7 @@ def samples(owner, _draw):
         if done.returncode:
             faults.append(done.stderr[:300])
 
-    conf = filled("nginx.conf.in", "server 127.0.0.1:2;")
+    conf = filled("nginx.conf.in", "server 127.0.0.1:2 max_fails=0;")
     passes("nginx -t", ["nginx", "-e", str(folder / "log"), "-t", "-c"], "nginx.conf", conf)
     passes("haproxy -c", ["haproxy", "-c", "-f"], "haproxy.cfg", filled("haproxy.cfg.in", "server one 127.0.0.1:2"))
     if shutil.which("openssl"):
@@ -441,7 +484,7 @@ def samples(owner, _draw):
         print("skipped: systemd-analyze security, since this machine has no systemd-analyze")
 
 
-def main(program):
+def main(program, *names):
     try:
         import h11  # noqa: F401
     except ImportError:
@@ -459,7 +502,9 @@ def main(program):
     owner.path("owner.chain").rename(owner.path("later.chain"))
     owner.keep("owner.chain", b"")
     owner.publish(6)
-    for part in (examples, files, killed, shared, odd, limits, stopped, many, samples):
+    for part in (examples, files, killed, shared, odd, limits, stopped, many, anew, samples):
+        if names and part.__name__ not in names:
+            continue
         began = time.monotonic()
         said = part(owner, draw)
         print(f"{part.__name__}: {time.monotonic() - began:.1f} s{'; ' + said if said else ''}", flush=True)

@@ -54,6 +54,8 @@ class Keeper:
         self.crew: Crew | None = None
         self.publications: list[Publication] = []
         self.announced: Publication | None = None
+        self.leaving: list[Crew] = []
+        self.ending: list[asyncio.Future[int]] = []
         self.gone: collections.deque[str] = collections.deque(maxlen=1_000)
         self.chain, self.seen, self.stopping = b"", tuple[Stamp, ...](), False
         self.begun, self.loss = asyncio.Event(), asyncio.Event()
@@ -239,6 +241,7 @@ class Keeper:
         self.publications, self.chain = list(publications), chain
         if before is not None:
             before.leave()
+            self.leaving = [it for it in [*self.leaving, before] if it.children]
         if len(crew.children) < crew.wanted:
             self.loss.set()
         versions = ", ".join(str(it.version) for it in publications)
@@ -263,6 +266,12 @@ class Keeper:
 
     def close(self) -> None:
         """Ends the children, and with them what is still asked."""
-        if self.crew is not None:
-            self.crew.on_loss = lambda why: None
-            self.crew.end()
+        for crew in [*self.leaving, *([self.crew] if self.crew else [])]:
+            self.ending += [it.gone for it in crew.children]
+            crew.on_loss = lambda why: None
+            crew.end()
+
+    async def closed(self, seconds: float = 2.0) -> None:
+        """Waits until the children that were ended are gone."""
+        if self.ending:
+            await asyncio.wait(self.ending, timeout=seconds)

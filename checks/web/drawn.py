@@ -1,0 +1,165 @@
+#!/usr/bin/python3
+"""Draws asks from web/openapi.json and holds each answer of a gateway to it: checks/web/drawn.py PROGRAM [--count 1500] [--seed N]
+
+Path, method, parameters good and bad, and headers are drawn. The status must be one that the document lists for the path
+and the method, the headers must fit what it says of them, and octets their type and schema. Schemas are checked by Debian's
+python3-jsonschema, and skipped by name without it. Ends with status 1 where an answer is not described. No client trusts this."""
+
+import argparse
+import collections
+import json
+import random
+import re
+import sys
+import urllib.parse
+
+from parties import STREETS, TOP, Gateway, Owner, Place, roads
+
+try:
+    import jsonschema
+except ImportError:
+    jsonschema = None
+METHODS = ["GET"] * 12 + ["HEAD"] * 2 + ["OPTIONS", "POST", "PUT", "DELETE", "PATCH"]
+NOT_ALLOWED = ("POST", "PUT", "DELETE", "PATCH")
+
+
+class Document:
+    """web/openapi.json, with its references followed."""
+
+    def __init__(self):
+        self.page = json.loads((TOP / "web/openapi.json").read_text())
+        self.paths = self.page["paths"]
+
+    def found(self, it):
+        """What a reference leads to."""
+        while "$ref" in it:
+            part = self.page
+            for word in it["$ref"].removeprefix("#/").split("/"):
+                part = part[word]
+            it = part
+        return it
+
+    def schema_fits(self, schema, value):
+        """Why a value does not fit, or nothing."""
+        if jsonschema is None:
+            return ""
+        whole = {**schema, "components": self.page["components"]}
+        why = next(iter(jsonschema.Draft202012Validator(whole).iter_errors(value)), None)
+        return why.message if why else ""
+
+
+def number(draw, pattern, near):
+    """A number that fits a parameter's pattern, or nearly."""
+    turn = draw.randrange(12)
+    if turn < 8:
+        return str(draw.choice(near))
+    good = [str(draw.randrange(10 ** draw.randrange(1, 21))), "0", str(2**32 - 1), str(2**32), str(2**64 - 1), str(2**64)]
+    bad = ["01", "", "-1", "+1", "1.0", "0x1", "%31", "1" * 30, " 1", "a", "\u0661"]
+    return draw.choice(good if turn < 11 else bad)
+
+
+def query_of(document, operation, draw, near, versions):
+    """The words of a query, mostly in their one spelling."""
+    words = []
+    for reference in operation.get("parameters", []):
+        it = document.found(reference)
+        if it["in"] != "query" or (not it["required"] and draw.random() < 0.5):
+            continue
+        value = number(draw, it["schema"]["pattern"], versions if it["name"] == "least" else near)
+        words.append(f"{it['name']}={value}")
+    turn = draw.randrange(14)
+    if turn == 0:
+        draw.shuffle(words)
+    elif turn == 1:
+        words.append(draw.choice(["x=1", "", "least=1", "from=1", "%00", "a" * 300]))
+    elif turn == 2 and words:
+        words.pop(draw.randrange(len(words)))
+    return urllib.parse.quote("&".join(words), safe="=&%+.-")
+
+
+def ask(document, place, draw, ids, near, versions):
+    """One drawn ask: what is wrong with its answer, and which path and status it was."""
+    path, item = draw.choice(list(document.paths.items()))
+    method = draw.choice(METHODS)
+    operation = item.get(method.lower(), item["get"])
+    query = query_of(document, operation, draw, near, versions)
+    target = path.replace("{id}", draw.choice(ids)) + (f"?{query}" if query or draw.random() < 0.02 else "")
+    headers = {"Accept-Encoding": draw.choice(["", "gzip", "gzip;q=0", "br, gzip", "*"])}
+    if draw.random() < 0.3:
+        headers["If-None-Match"] = draw.choice(["*", "*", '"x"', 'W/"y", *', place.tag])
+    status, given, octets = place.ask(target, method, **{name.replace("-", "_"): value for name, value in headers.items()})
+    place.tag = given.get("ETag", place.tag)
+    listed = item["get"]["responses"] if method in NOT_ALLOWED else operation["responses"]
+    name = f"{method} {path} {status}"
+    if str(status) not in listed or (method in NOT_ALLOWED) != (status == 405):
+        return f"{method} {target}: {status} is not described", name
+    response = document.found(listed[str(status)])
+    for header, said in response.get("headers", {}).items():
+        value = given.get(header)
+        if header == "Retry-After" and (status not in (429, 503)):
+            continue
+        if value is None:
+            return f"{method} {target}: {status} has no {header}", name
+        why = document.schema_fits(said["schema"], int(value) if said["schema"].get("type") == "integer" else value)
+        if why:
+            return f"{method} {target}: {status}, {header}: {why}", name
+    if method == "HEAD" or status in (204, 304):
+        return (f"{method} {target}: {status} has octets" if octets else ""), name
+    kinds = response.get("content", {})
+    kind = given.get("Content-Type", "").split(";")[0]
+    if kinds and kind not in kinds:
+        return f"{method} {target}: {status} is {kind}", name
+    schema = kinds.get(kind, {}).get("schema")
+    if schema:
+        why = document.schema_fits(schema, json.loads(octets))
+        if why:
+            return f"{method} {target}: {status}: {why}", name
+    return "", name
+
+
+def main(words):
+    parser = argparse.ArgumentParser(description=__doc__.splitlines()[0])
+    parser.add_argument("program")
+    parser.add_argument("--count", type=int, default=1500)
+    parser.add_argument("--seed", type=int, default=1)
+    given = parser.parse_args(words)
+    if jsonschema is None:
+        print("skipped: the schemas of checks/web/drawn.py, since this machine has no python3-jsonschema")
+    document, draw = Document(), random.Random(given.seed)
+    owner = Owner(given.program, roads(STREETS, 400))
+    for version in (3, 4, 5):
+        owner.publish(version)
+    faults, seen = [], collections.Counter()
+    # one gateway as it is, and one that lets each address ask little
+    for more in ([], ["--asks-per-second", "3", "--burst", "5"]):
+        gateway = Gateway(owner, "dij-3.pub", "--keep", "1", *more)
+        first = gateway.newest()
+        (gateway.folder / "map.pub.fresh").write_bytes(owner.path("dij-4.pub").read_bytes())
+        (gateway.folder / "map.pub.fresh").rename(gateway.folder / "map.pub")
+        while gateway.place.ask("/v1/ready")[0] != 200 or gateway.place.ask(f"/v1/p/{first}/publication")[0] == 200:
+            pass
+        (gateway.folder / "map.pub.next").write_bytes(owner.path("dij-5.pub").read_bytes())
+        ids = [it["id"] for it in gateway.info()] * 9 if not more else [first]
+        ids += [first, "0123456789abcdef", "0123456789ABCDEF", "x", "%41", "0" * 17]
+        place = Place(gateway.address)
+        place.tag = '"x"'
+        for _ in range(given.count if not more else given.count // 5):
+            why, name = ask(document, place, draw, ids, [*owner.ids[:50], 4_000_000_000], [0, 3, 4, 5, 9, 2**64 - 1])
+            seen[re.sub(r"^(POST|PUT|DELETE|PATCH)", "other", name)] += 1
+            if why:
+                faults.append(why)
+        gateway.end()
+    listed = {f"GET {path} {status}" for path, item in document.paths.items() for status in item["get"]["responses"] if status != "405"}
+    # what the document lists is met, but for what one gateway of one process is never asked into
+    rare = {name for name in listed if name.endswith(" 503") and not re.search(r"/(route|reach|publication) 503$", name)}
+    missing = sorted(listed - rare - set(seen))
+    for fault in faults[:20]:
+        print("DIFFERS", fault)
+    for name in missing:
+        print("NOT MET", name)
+    print(f"drawn: {sum(seen.values())} asks, {len(seen)} of path, method and status, {len(faults)} not as described, {len(missing)} listed and not met")
+    return 1 if faults or missing else 0
+
+
+if __name__ == "__main__":
+    sys.exit(main(sys.argv[1:]))

@@ -10,7 +10,7 @@ from gogbetiku_reference.octets import u8, u16, u32
 from gogbetiku_reference.replies import APART, ROUTE, Answer
 from gogbetiku_reference.servers import near_reply
 
-from .asking import HEADER, ORDER, SEALED, books, good_chain, honest, leaf, neared, put, routed, turned
+from .asking import HEADER, ORDER, ROUTED, SEALED, books, good_chain, honest, leaf, neared, put, routed, turned
 from .client_every import KINDS, Query, good, of_kind, with_node, with_pair
 from .families import Case
 from .scenes import at_places, brings_apart, by_hand, owner
@@ -71,6 +71,12 @@ def octets_in_order() -> Iterator[Case]:
     yield routed("kind 1 before the chain", "refused NotAnswer 1", b"\x01", chain=chain)
 
 
+    negated = honest("dij").octets()
+    item = ROUTED + 4 + 12 + 4
+    for kind, at in (("less 2^16 is the leaf's", 2**16 - 31), ("but for its highest bit is the leaf's", 2**15 + 31)):
+        yield routed(f"a leaf's length that {kind}", f"refused Malformed {item + 6}", put(negated, item + 4, u16(at)))
+
+
 def _octets(kind: str, why: str, line: str, reply: bytes, query: Query) -> Case:
     why, line = f"{kind}, in order: {why}", f"refused {line}"
     if kind == "radius":
@@ -104,6 +110,8 @@ def covers_in_order() -> Iterator[Case]:
     near = replace(reply, header=twice.publication.header, signature=twice.publication.signature, nodes=at_places(twice, ROUTE, [3], everything).nodes)
     yield neared("radius: of two repeated ids the lesser is told", "refused RepeatedNode 1", near, 9, 3)
     yield neared("radius: a repeated id is told before a missing leaf", "refused RepeatedNode 1", near, 9, 8)
+    short = replace(at_places(twice, ROUTE, [3], everything), node_cover=(bytes(32),))
+    yield routed("the cover, in order: a digest more, and a repeated id", "refused BadCover 1 Long", short, 3, 3)
     thrice = by_hand("dij", [leaf(5, {}), leaf(5, {}), leaf(4, {}), leaf(5, {})])
     yield routed("an id stands three times", "refused RepeatedNode 5", at_places(thrice, ROUTE, [4], range(4)), 4, 4)
 

@@ -1,54 +1,68 @@
 #!/usr/bin/env python3
-"""Switches off each test of the reference's client in turn: checks/switched_off.py [WORD] [--bounds]
+"""Makes the reference wrong in each way that is listed, and finds the vector that catches it: checks/switched_off.py [WORD] [--write] [--long]
 
-A test is a `raise`, or a range or a wanted text of a field that is read, in the modules that a client's verdict stands on;
-each is left out alone. With --bounds, each bound there, `<`, `<=`, `>` or `>=`, is moved by one as well. The vectors of
-the client and of its parts are played: at least one must come out otherwise. With WORD, only the tests of modules whose name has it. Prints the tests that no vector misses, and ends with status 1 where
-there is one. Nothing here is proved, and no client trusts it.
+The ways are those of reference/gogbetiku_wrong: the client's, the server's, the owner's and the auditor's, each a text of
+the reference that another takes the place of. Beside them each test of each module is left out, and with --long each
+bound is moved by one: a test is a `raise`, or a range or a wanted text of a field that is read. The vectors are played by
+what is wrong: at least one must come out otherwise. reference/gogbetiku_wrong/caught.json has for each way the vector that
+caught it last, which is played first; --write writes it anew. With WORD, only the ways whose name has it. Ways that no
+octets can show are listed with the reason, and no vector may catch them. Runs four processes of low priority. Ends with
+status 1 where a way passes all vectors. Nothing here is proved, and no client trusts it.
 """
 import ast
-import importlib
-import importlib.abc
-import importlib.util
+import json
+import multiprocessing
+import os
 import pathlib
 import signal
 import sys
-from collections.abc import Iterator
-from types import CodeType, ModuleType
+from collections import Counter
+from collections.abc import Callable, Iterator
+from dataclasses import dataclass
+from types import CodeType, FrameType
+from typing import Any
 
 TOP = pathlib.Path(__file__).resolve().parent.parent
-PACKAGE = TOP / "reference/gogbetiku_reference"
 sys.path.insert(0, str(TOP / "reference"))
-MODULES = ("octets", "leaves", "chains", "headers", "replies", "lms", "trees", "judges", "clients")
-FAMILIES = ("leaves", "headers", "chain_files", "folds", "client_radius", "client", "signatures")
-SECONDS = 2
-# these calls of the modules are of owners or servers alone
-OTHERS = {"Key", "key_of", "levels_of", "clash", "clash_of"}
 
+from gogbetiku_vectors import files  # noqa: E402
+from gogbetiku_reference import lms as whole_lms  # noqa: E402
+from gogbetiku_wrong import PACKAGE, WRONG, loaded, source_of, switched  # noqa: E402
 
+CAUGHT = TOP / "reference/gogbetiku_wrong/caught.json"
+PROCESSES, SECONDS = 4, 5
+# these modules say what Python and this package need, and no rule
+OTHERS = {"__init__", "__main__", "faults", "hashing", "commands", "codes"}
+# calls that no octets reach: what is built is always within their bounds
 MOVED = {ast.Lt: ast.LtE, ast.LtE: ast.Lt, ast.Gt: ast.GtE, ast.GtE: ast.Gt}
+# where no vector can show that a test is left out
+UNSEEN: dict[str, str] = {}
+Fields = dict[str, Any]
 
 
-def is_test(node: ast.AST) -> bool:
-    """Whether a node refuses something or bounds it: a `raise`, a field whose values are limited, or a comparison."""
-    if isinstance(node, ast.Compare):
-        return "--bounds" in sys.argv and type(node.ops[0]) in MOVED
+@dataclass(frozen=True)
+class Way:
+    name: str
+    module: str
+    code: Callable[[], CodeType]
+    unseen: str = ""
+
+
+def is_test(node: ast.AST, bounds: bool) -> bool:
+    """Whether a node refuses something: a `raise`, or a field whose values are limited; with `bounds`, a comparison."""
+    if bounds:
+        return isinstance(node, ast.Compare) and type(node.ops[0]) in MOVED
     is_field = (
         isinstance(node, ast.Call) and isinstance(node.func, ast.Attribute) and node.func.attr in ("number", "take")
     )
-    return isinstance(node, ast.Raise) or (is_field and len(node.args) > 1)
-
-
-def tests_of(tree: ast.Module) -> list[ast.AST]:
-    used = [node for node in tree.body if getattr(node, "name", None) not in OTHERS]
-    return [node for part in used for node in ast.walk(part) if is_test(node)]
+    return isinstance(node, ast.Raise) or (is_field and len(node.args) > 1)  # type: ignore[attr-defined]
 
 
 class Off(ast.NodeTransformer):
     """Leaves one test out, or moves one bound."""
 
-    def __init__(self, at: int, tree: ast.Module):
-        self.target = tests_of(tree)[at]
+    def __init__(self, target: ast.AST):
+        self.target = target
 
     def visit_Raise(self, node: ast.Raise) -> ast.AST:
         return ast.copy_location(ast.Pass(), node) if node is self.target else node
@@ -66,84 +80,149 @@ class Off(ast.NodeTransformer):
         return node
 
 
-class Finder(importlib.abc.MetaPathFinder, importlib.abc.Loader):
-    """Gives one module of the package in a changed form."""
-
-    def __init__(self, name: str, code: CodeType):
-        self.name, self.code = f"gogbetiku_reference.{name}", code
-
-    def find_spec(self, name: str, _path, _target=None):
-        return importlib.util.spec_from_loader(name, self) if name == self.name else None
-
-    def create_module(self, _spec):
-        return None
-
-    def exec_module(self, module: ModuleType) -> None:
-        exec(self.code, module.__dict__)
+def without(module: str, at: int, bounds: bool) -> CodeType:
+    tree = ast.parse(source_of(module))
+    target = [node for node in ast.walk(tree) if is_test(node, bounds)][at]
+    return compile(ast.fix_missing_locations(Off(target).visit(tree)), f"{module}.py", "exec")
 
 
-def forget() -> None:
-    for name in [name for name in sys.modules if name.startswith("gogbetiku_")]:
-        del sys.modules[name]
+def left_out(bounds: bool) -> Iterator[Way]:
+    """Each test of each module, by its text."""
+    for path in sorted(PACKAGE.glob("*.py")):
+        module, seen = path.stem, Counter[str]()
+        if module in OTHERS:
+            continue
+        lines = source_of(module).splitlines()
+        for at, node in enumerate(node for node in ast.walk(ast.parse(source_of(module))) if is_test(node, bounds)):
+            text = lines[node.lineno - 1].strip()  # type: ignore[attr-defined]
+            seen[text] += 1
+            name = f"{'a bound moved' if bounds else 'left out'}, {module}.py: {text}" + (f" ({seen[text]})" if seen[text] > 1 else "")
+            yield Way(name, module, lambda module=module, at=at: without(module, at, bounds), UNSEEN.get(name, ""))  # type: ignore[misc]
 
 
-def whole() -> tuple[list[tuple[str, list[dict]]], dict]:
-    """The cases of the families, and what the whole reference says of each signature, kept as it is asked."""
-    files = importlib.import_module("gogbetiku_vectors.files")
-    by_name = {family.name: family for family in files.FAMILIES}
-    why_not = importlib.import_module("gogbetiku_reference.lms").why_not
-    return [(name, files.read_family(TOP / "vectors", by_name[name])) for name in FAMILIES], why_not
+def ways() -> list[Way]:
+    found = [Way(one.name(), one.module, one.code, one.unseen) for one in WRONG]
+    found += left_out(bounds=False)
+    if "--long" in sys.argv:
+        found += left_out(bounds=True)
+    twice = [name for name, count in Counter(way.name for way in found).items() if count > 1]
+    if twice:
+        raise SystemExit(f"two ways have one name: {twice}")
+    words = [word for word in sys.argv[1:] if not word.startswith("--")]
+    return [way for way in found if all(word in way.name for word in words)]
 
 
-def missed_by(cases: list[tuple[str, list[dict]]], why_not, name: str, code: CodeType) -> str | None:
-    """The first vector that comes out otherwise with a changed module, or nothing."""
-    forget()
-    finder = Finder(name, code)
-    sys.meta_path.insert(0, finder)
-    try:
-        lms = importlib.import_module("gogbetiku_reference.lms")
-        if name not in ("lms", "octets"):
-            lms.why_not = why_not
-        families = {family.name: family for family in importlib.import_module("gogbetiku_vectors.files").FAMILIES}
-        return next(differing(cases, families), None)
-    finally:
-        sys.meta_path.remove(finder)
+# what is played, the families of a client first; turned bits say nothing that the others don't
+LAST = {"turned", "turned_signatures", "great_keys"}
 
 
-def differing(cases, families) -> Iterator[str]:
-    for name, listed in cases:
-        for case in listed:
-            signal.alarm(SECONDS)
-            try:
-                same = families[name].run(case["given"]) == case["result"]
-            except Exception:
-                same = False
-            signal.alarm(0)
-            if not same:
-                yield case["id"]
+def all_cases() -> list[tuple[str, list[Fields]]]:
+    return [(family.name, files.read_family(TOP / "vectors", family)) for family in files.FAMILIES if family.name not in LAST]
 
 
-def too_long(_signal, _frame) -> None:
+CASES = all_cases()
+RUNS = {family.name: family.run for family in files.FAMILIES}
+BY_ID: dict[str, tuple[str, Fields]] = {case["id"]: (name, case) for name, cases in CASES for case in cases}
+HINTS: dict[str, str] = json.loads(CAUGHT.read_text()) if CAUGHT.exists() else {}
+# which families show most of a module
+FIRST: dict[str, list[str]] = {
+    "octets": ["leaves", "headers", "chain_files", "client"],
+    "leaves": ["leaves", "client"],
+    "chains": ["chain_files", "client"],
+    "headers": ["headers", "client"],
+    "lms": ["signatures", "keys", "client"],
+    "trees": ["folds", "trees", "client"],
+    "desks": ["desks", "desk_changes", "audits"],
+    "audits": ["audits"],
+    "reductions": ["reductions"],
+    "frames": ["services", "guarded_services"],
+    "servers": ["replies", "radii", "installs"],
+    "orders": ["orders", "publications"],
+    "books": ["publications", "installs"],
+    "landmarks": ["client", "publications", "replies"],
+    "road_files": ["road_files"],
+    "dimacs": ["dimacs_files"],
+    "maps": ["road_files", "routes"],
+    "publications": ["installs", "publications"],
+    "draws": ["surveys"],
+    "surveys": ["surveys"],
+    "lines": ["routes", "client", "audits", "reductions"],
+    "cells": ["publications"],
+}
+
+
+def in_order(way: Way) -> Iterator[tuple[str, Fields]]:
+    """The vector that caught the way last, then those of the families that show most of its module, then all."""
+    if HINTS.get(way.name) in BY_ID and "--write" not in sys.argv:
+        yield BY_ID[HINTS[way.name]]
+    first = FIRST.get(way.module, ["client", "client_radius"])
+    for name, cases in sorted(CASES, key=lambda named: first.index(named[0]) if named[0] in first else len(first)):
+        yield from ((name, case) for case in cases)
+
+
+def too_long(_signal: int, _frame: FrameType | None) -> None:
     raise TimeoutError
 
 
+def is_same(run: Callable[[Fields], Fields], case: Fields) -> bool:
+    signal.setitimer(signal.ITIMER_VIRTUAL, SECONDS)
+    try:
+        return bool(run(case["given"]) == case["result"])
+    except Exception:
+        return False
+    finally:
+        signal.setitimer(signal.ITIMER_VIRTUAL, 0)
+
+
+def caught_by(way: Way) -> str | None:
+    """The first vector that comes out otherwise, or nothing."""
+    forget()
+    with switched(way.module, way.code()):
+        return next((case["id"] for name, case in in_order(way) if not is_same(RUNS[name], case)), None)
+
+
+def forget() -> None:
+    """What calls keep, but for keys and signatures, which no other module makes otherwise."""
+    for module in loaded():
+        for value in vars(module).values():
+            if hasattr(value, "cache_clear") and value not in (whole_lms.why_not, whole_lms.key_of):
+                value.cache_clear()
+
+
+def search(number: int) -> tuple[int, str | None]:
+    try:
+        return number, caught_by(WAYS[number])
+    except Exception as fault:
+        return number, f"does not load: {fault!r}"
+
+
+def calm() -> None:
+    os.nice(10)
+    signal.signal(signal.SIGVTALRM, too_long)
+
+
+WAYS = ways()
+
+
 def main() -> int:
-    signal.signal(signal.SIGALRM, too_long)
-    cases, why_not = whole()
-    words, missed, count = [word for word in sys.argv[1:] if word != "--bounds"], [], 0
-    word = words[0] if words else ""
-    for name in MODULES:
-        source = (PACKAGE / f"{name}.py").read_text(encoding="utf-8")
-        for at, test in enumerate(tests_of(ast.parse(source)) if word in name else []):
-            tree = ast.parse(source)
-            code = compile(ast.fix_missing_locations(Off(at, tree).visit(tree)), f"{name}.py", "exec")
-            count += 1
-            if missed_by(cases, why_not, name, code) is None:
-                missed.append(f"{name}.py, line {test.lineno}: {source.splitlines()[test.lineno - 1].strip()}")
-    for line in missed:
-        print(f"no vector misses {line}")
-    print(f"switched off or moved: {count} tests and bounds, {len(missed)} of which no vector misses")
-    return 1 if missed else 0
+    with multiprocessing.get_context("fork").Pool(PROCESSES, calm) as pool:
+        found = dict(pool.imap_unordered(search, range(len(WAYS)), chunksize=4))
+    wrong, unseen, parts = 0, 0, Counter[str]()
+    for number, way in enumerate(WAYS):
+        case = found[number]
+        parts[way.name.split(",")[0]] += 1
+        unseen += bool(way.unseen)
+        if way.unseen and case is None:
+            print(f"no octets show: {way.name} ({way.unseen})")
+        elif way.unseen or case is None or case not in BY_ID:
+            wrong += 1
+            print(f"{case or 'no vector'} catches: {way.name}")
+    if "--write" in sys.argv:
+        listed = {way.name: found[number] for number, way in enumerate(WAYS) if found[number] is not None}
+        CAUGHT.write_text(json.dumps(listed, indent=0) + "\n", encoding="ascii")
+    counts = ", ".join(f"{part} {count}" for part, count in parts.items())
+    print(f"switched off: {len(WAYS)} ways to be wrong ({counts}), {wrong} differ, {unseen} that no octets show")
+    return 1 if wrong else 0
 
 
 if __name__ == "__main__":

@@ -3,14 +3,20 @@
 Tested, not proved; no client trusts it.
 """
 from collections.abc import Iterator
+from contextlib import contextmanager
 from dataclasses import replace
+from functools import lru_cache
 
+from gogbetiku_reference import clients
+from gogbetiku_reference.faults import Refused
+from gogbetiku_reference.headers import Header
+from gogbetiku_reference.lms import Signature, kind_of
 from gogbetiku_reference.octets import u8, u16, u32
 from gogbetiku_reference.replies import ROUTE, NearReply, NodeItem
 from gogbetiku_reference.servers import Held, near_reply
 
 from .families import NUMBER, SPAN, TEXT, WIDE, Case, Family, Fields, listed, octets, record
-from .scenes import at_places, brings_apart, by_hand, owner
+from .scenes import PARAMETERS, at_places, by_hand, owner
 from .asking import (
     GREATEST,
     NEAR_FRONT,
@@ -36,6 +42,19 @@ from .asking import (
 from .client_forms import header_fields, kinds, list_fields
 from .client_seals import covers, repeated, signatures, versions_and_chains
 from .client_judged import judged_apart, judged_dij, judged_full, judged_hyp, judged_ldm, routes
+from .client_causes import causes
+from .client_every import KINDS, every, good, turned_kinds
+from .client_limits import limits
+from .signing import FIELDS
+from .client_widths import distances, high_ids, radii, steps, versions
+
+
+@lru_cache(maxsize=1)
+def both() -> tuple[list[Case], list[Case]]:
+    """The cases of each test under each method, of widths, limits and orders: those of routes, and those of radii."""
+    made = [*every(KINDS), *turned_kinds(), *versions(KINDS), *distances(), *radii(), *steps(), *high_ids()]
+    made += [*limits(), *causes()]
+    return [case for case in made if "to" in case.given], [case for case in made if "radius" in case.given]
 
 
 def make_client() -> Iterator[Case]:
@@ -52,6 +71,7 @@ def make_client() -> Iterator[Case]:
     yield from judged_ldm()
     yield from judged_hyp()
     yield from judged_apart()
+    yield from both()[0]
 
 
 def make_near() -> Iterator[Case]:
@@ -74,6 +94,7 @@ def make_near() -> Iterator[Case]:
         yield neared(f"under {method.upper()}", "within 3: 1 2 4", near_reply(books()[method], [1, 2, 4]))
     yield from near_fields(held, good, text)
     yield from near_signatures(held, good, text)
+    yield from both()[1]
 
 
 def near_fields(held: Held, good: NearReply, text: bytes) -> Iterator[Case]:
@@ -153,41 +174,59 @@ def line_with_bit(given: Fields, bit: int) -> str:
     return (run_near if "radius" in given else run_route)({**given, "reply": reply})["line"]
 
 
-def ranges_of(given: Fields, begin: int, end: int) -> tuple[list[list[int]], list[str]]:
+def quick(public: bytes, text: bytes, signature: bytes) -> str | None:
+    """Why a signature is not good, where all that are good are the desk's own: what has a key's form and no other fault
+    does not match. So no bit needs a hash."""
+    try:
+        Signature(kind_of(public), signature)
+    except Refused as refused:
+        return refused.name
+    return None if (public, text, signature) in GOOD else "NoMatch"
+
+
+GOOD: set[tuple[bytes, bytes, bytes]] = set()
+
+
+@contextmanager
+def without_hashing(header: Header, signature: bytes) -> Iterator[None]:
+    """Signatures are looked at by `quick`."""
+    GOOD.add((owner().public, header.octets(), signature))
+    kept, clients.why_not = clients.why_not, quick
+    try:
+        yield
+    finally:
+        clients.why_not = kept
+
+
+def lines_of(given: Fields, seal: int) -> Iterator[tuple[int, int, str]]:
+    """The line of each bit; within the signature, that of each of its fields."""
+    yield from ((bit, bit + 1, line_with_bit(given, bit)) for bit in range(seal))
+    yield from ((seal + begin, seal + end, f"refused BadSignature {why}\n") for _, begin, end, why in FIELDS)
+    yield from ((bit, bit + 1, line_with_bit(given, bit)) for bit in range(seal + FIELDS[-1][2], 4 * len(given["reply"])))
+
+
+def ranges_of(given: Fields, seal: int) -> tuple[list[list[int]], list[str]]:
     """The ranges of bits that give one line."""
     bits: list[list[int]] = []
     lines: list[str] = []
-    for bit in range(begin, end):
-        line = line_with_bit(given, bit)
+    for begin, end, line in lines_of(given, seal):
         if lines and lines[-1] == line:
-            bits[-1][1] = bit + 1
+            bits[-1][1] = end
         else:
-            bits.append([bit, bit + 1])
+            bits.append([begin, end])
             lines.append(line)
     return bits, lines
 
 
 def make_turned() -> Iterator[Case]:
-    """Each bit of some replies but of their signatures; of the first one, of the kind and the header too."""
-    held = books()
-    routed_replies = [
-        ("DIJ", honest("dij"), 1, 3),
-        ("FULL", honest("full"), 1, 3),
-        ("LDM", honest("ldm"), 1, 3),
-        ("HYP", honest("hyp"), 1, 3),
-        ("DIJ, no route", brings_apart(held["dij"], [1, 2, 3, 4, 5]), 1, 5),
-    ]
-    for name, reply, start, end in routed_replies:
-        given = asked(reply, start, end)
-        behind = 8 * (SEAL + 1292)
-        bits, lines = ranges_of(given, behind, 4 * len(given["reply"]))
-        if name == "DIJ":
-            front = ranges_of(given, 0, 8 * SEAL)
-            bits, lines = front[0] + bits, front[1] + lines
-        yield Case(f"each bit of a reply turned, {name}", {**given, "bits": bits}, {"lines": lines})
-    given = near_asked(near_reply(held["dij"], [1, 2, 4]), 1, 4)
-    bits, lines = ranges_of(given, 8 * NEAR_FRONT, 4 * len(given["reply"]))
-    yield Case("each bit of a reply on a radius turned", {**given, "bits": bits}, {"lines": lines})
+    """Each bit of replies with a route, without one and on a radius, under each method."""
+    for kind in KINDS:
+        for method in PARAMETERS:
+            reply = good(kind, method)
+            given = near_asked(reply, 1, 4) if kind == "radius" else asked(reply, 1, 5 if kind == "no route" else 3)
+            with without_hashing(reply.header, reply.signature):
+                bits, lines = ranges_of(given, 8 * (NEAR_FRONT - 1292 if kind == "radius" else SEAL))
+            yield Case(f"each bit of a reply turned: {kind}, {method.upper()}", {**given, "bits": bits}, {"lines": lines})
 
 
 CLIENT = Family(

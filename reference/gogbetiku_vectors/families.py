@@ -75,7 +75,7 @@ class Family:
         """The JSON Schema of the file."""
         case = record(
             {
-                "id": {"type": "string", "pattern": f"^{self.name}-[0-9]{{3}}$"},
+                "id": {"type": "string", "pattern": f"^{self.name}-[0-9]{{3,4}}$"},
                 "why": TEXT,
                 "given": self.given,
                 "result": self.result,

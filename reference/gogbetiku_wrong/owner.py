@@ -1,0 +1,6 @@
+"""Ways for owner to be wrong.
+
+Tested, not proved; no client trusts it.
+"""
+
+WRONG: list[tuple[str, ...]] = []

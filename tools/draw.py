@@ -1,26 +1,31 @@
 #!/usr/bin/env python3
 """Draws a map, and over it what a reply brings: tools/draw.py PUB|ROADS [REPLY] > FILE.svg
 
-Grey lines are the map's roads, small grey points its nodes; orange points are the nodes whose leaves the reply
-brings, blue lines the pairs whose distances it brings (each a straight line between the two nodes), and the dark
-line is the route. It reads the files by docs/SPEC.md alone and draws what they say, true or not; with --check
-the proved client is asked first, a refused reply gives its refusal and no picture, and dark points are both ends
-of the question, or the node that the radius is around. No client trusts this file.
+Orange points are the nodes whose leaves the reply brings, blue lines the pairs whose distances it brings (each a
+straight line between the two nodes), and the dark line is the route. Their places are those of the reply's leaves.
+Grey is the map that is given, which nobody proves: it is drawn behind a reply only where each leaf agrees with it in
+place, roads and lengths. With --check the proved client is asked first, a refused reply gives its refusal and no
+picture, and dark points are both ends of the question, or the node that the radius is around. Without it the picture
+shows what the files say, true or not. No client trusts this file.
 """
 import argparse
 import pathlib
 import sys
+from dataclasses import dataclass, field
 from math import cos, radians
 from typing import Iterable
 from xml.sax.saxutils import escape
 
 from proved import Question, accepted, add_arguments
-from replies import APART, PUBLICATION, RADIUS, Reply, map_of, reply_of
+from replies import APART, PUBLICATION, RADIUS, ROUTE, Reply, map_of, reply_of
 from roads import UNITS, Place, Roads, Trouble, end_of, read_roads
+from shapes import PER_METRE, Shapes, line_of, read_shapes
 
 TOOL = "draw.py"
 WIDTH, EDGE, LINE = 640, 12, 24
 GREY, POINT, BLUE, ORANGE, DARK = "#d8d8d8", "#b0b0b0", "#4a90d9", "#f08c2e", "#202040"
+
+Pair = tuple[int, int]
 
 
 class Paper:
@@ -38,25 +43,65 @@ class Paper:
     def at(self, place: Place) -> str:
         return f"{EDGE + (place[0] - self.left) * self.narrow * self.scale:.0f} {EDGE + (self.top - place[1]) * self.scale:.0f}"
 
+    def line(self, places: Iterable[Place]) -> str:
+        return "M" + "L".join(map(self.at, places))
 
-def lines_of(paper: Paper, nodes: dict[int, Place], pairs: Iterable[tuple[int, int]]) -> str:
-    return " ".join(f"M{paper.at(nodes[a])}L{paper.at(nodes[b])}" for a, b in pairs)
+
+@dataclass
+class Bends:
+    """Lines of roads between their ends, which nobody signs, and what a coordinate and a length are."""
+
+    unit: str
+    lengths: str
+    shapes: Shapes = field(default_factory=dict)
+
+    def line(self, ends: Pair, places: dict[int, Place], length: int) -> list[Place]:
+        return line_of(self.shapes, ends, (places[ends[0]], places[ends[1]]), length, self.unit, self.lengths)
 
 
-def points_of(paper: Paper, nodes: dict[int, Place], ids: Iterable[int]) -> str:
+@dataclass
+class Drawn:
+    """What is drawn over a map: a reply, the nodes of its route, and the ends of the question."""
+
+    reply: Reply
+    route: list[int]
+    ends: list[int]
+
+
+def unlike(chart: Roads, reply: Reply) -> str | None:
+    """How the map shows the first leaf of a reply otherwise than the leaf itself."""
+    roads: dict[int, dict[int, int]] = {node: {} for node in reply.places}
+    for a, b, length in chart.roads:
+        for here, there in ((a, b), (b, a)):
+            if here in roads:
+                roads[here][there] = min(length, roads[here].get(there, length))
+    for node, place in reply.places.items():
+        if chart.nodes.get(node) != place:
+            return f"it shows node {node} at {chart.nodes.get(node, 'no place')}, and the reply's leaf at {place}"
+        for other in sorted(roads[node].items() ^ reply.arcs[node].items()):
+            whose = "the reply's leaf" if other in reply.arcs[node].items() else "this map alone"
+            return f"a road of length {other[1]:,} between the nodes {node} and {other[0]} is in {whose}"
+    return None
+
+
+def points_of(paper: Paper, places: Iterable[Place]) -> str:
     """Points as lines of no length with round ends, which is the shortest way to say them."""
-    return " ".join(f"M{paper.at(nodes[node])}h0" for node in ids)
+    return " ".join(f"M{paper.at(place)}h0" for place in places)
 
 
-def layers_of(paper: Paper, chart: Roads, reply: Reply | None, ends: list[int]) -> list[tuple[str, float, str]]:
-    """Colour, width and path of each layer, the lowest first."""
-    nodes = chart.nodes
-    layers = [(GREY, 1, lines_of(paper, nodes, [road[:2] for road in chart.roads])), (POINT, 2.2, points_of(paper, nodes, nodes))]
-    if reply:
-        layers += [(BLUE, 0.35, lines_of(paper, nodes, reply.pairs)), (ORANGE, 4, points_of(paper, nodes, reply.places))]
-        if reply.route:
-            layers.append((DARK, 3, "M" + "L".join(paper.at(nodes[node]) for node in reply.route)))
-    return [*layers, (DARK, 9, points_of(paper, nodes, ends))]
+def layers_of(paper: Paper, chart: Roads, over: Drawn | None, bends: Bends) -> list[tuple[str, float, str]]:
+    """Colour, width and path of each layer, the lowest first. What a reply brings is drawn by its leaves alone."""
+    grey = " ".join(paper.line(bends.line((a, b), chart.nodes, length)) for a, b, length in chart.roads)
+    layers: list[tuple[str, float, str]] = [(GREY, 1, grey), (POINT, 2.2, points_of(paper, chart.nodes.values()))]
+    if not over:
+        return layers
+    places, arcs = over.reply.places, over.reply.arcs
+    pairs = " ".join(paper.line((places[a], places[b])) for a, b in over.reply.pairs if a in places and b in places)
+    layers += [(BLUE, 0.35, pairs), (ORANGE, 4, points_of(paper, places.values()))]
+    hops = [bends.line(hop, places, arcs[hop[0]].get(hop[1], 0)) for hop in zip(over.route, over.route[1:])]
+    if hops:
+        layers.append((DARK, 3, paper.line([hops[0][0], *(place for hop in hops for place in hop[1:])])))
+    return [*layers, (DARK, 9, points_of(paper, (places[node] for node in over.ends)))]
 
 
 def brought(chart: Roads, reply: Reply, size: int) -> str:
@@ -65,9 +110,9 @@ def brought(chart: Roads, reply: Reply, size: int) -> str:
     return f"{reply.method}: {len(reply.places)} of {len(chart.nodes)} nodes{pairs}, {size:,} octets"
 
 
-def picture_of(chart: Roads, reply: Reply | None, ends: list[int], told: list[str], unit: str) -> str:
-    paper = Paper(chart.nodes.values(), unit)
-    paths = "\n".join(f'<path d="{path}" stroke="{colour}" stroke-width="{width}"/>' for colour, width, path in layers_of(paper, chart, reply, ends) if path)
+def picture_of(chart: Roads, over: Drawn | None, told: list[str], bends: Bends) -> str:
+    paper = Paper(chart.nodes.values(), bends.unit)
+    paths = "\n".join(f'<path d="{path}" stroke="{colour}" stroke-width="{width}"/>' for colour, width, path in layers_of(paper, chart, over, bends) if path)
     words = "\n".join(f'<text x="{EDGE}" y="{paper.height + EDGE + at * LINE}" font-family="sans-serif" font-size="14" fill="{DARK}">{escape(line)}</text>'
                       for at, line in enumerate(told))
     return (f'<svg xmlns="http://www.w3.org/2000/svg" width="{WIDTH}" height="{paper.height + LINE * len(told)}" fill="none" '
@@ -75,18 +120,35 @@ def picture_of(chart: Roads, reply: Reply | None, ends: list[int], told: list[st
             f'<rect width="100%" height="100%" fill="white"/>\n{paths}\n{words}\n</svg>\n')
 
 
-def checked(asked: argparse.Namespace) -> tuple[list[int], str]:
-    """The ends of the question, and what the proved client accepted of the reply, in a line."""
+def checked(asked: argparse.Namespace, reply: Reply) -> tuple[Drawn, str]:
+    """What the proved client accepted of the reply, and that in a line."""
     key, *numbers = asked.check
     try:
         start, end, least = map(int, numbers)
     except ValueError:
         raise Trouble("--check: FROM, TO and LEAST are numbers") from None
     found = accepted(Question(key, asked.reply, start, end, least, asked.chain, asked.reach, asked.library))
+    if any(reply.places[node] != place for node, place in found.places.items()):
+        raise Trouble(f"{asked.reply}: its leaves are read otherwise than by the client")
     if found.kind is RADIUS:
-        return [start], f"checked: {len(found.nodes)} nodes lie within {end:,} of node {start}, by version {found.version} of the map"
+        return Drawn(reply, [], [start]), f"checked: {len(found.nodes)} nodes lie within {end:,} of node {start}, by version {found.version} of the map"
     said = "no route joins nodes" if found.kind is APART else f"the shortest route, {found.length:,}, joins nodes"
-    return [start, end], f"checked: {said} {start} and {end}, by version {found.version} of the map"
+    return Drawn(reply, found.nodes if found.kind is ROUTE else [], [start, end]), f"checked: {said} {start} and {end}, by version {found.version} of the map"
+
+
+def drawn(asked: argparse.Namespace, chart: Roads) -> tuple[Drawn, list[str]]:
+    """A reply over the map, and what is said of both."""
+    octets = pathlib.Path(asked.reply).read_bytes()
+    reply = reply_of(octets, asked.reply)
+    over, verdict = checked(asked, reply) if asked.check else (Drawn(reply, reply.route, []), "")
+    difference = unlike(chart, reply)
+    if difference:
+        raise Trouble(f"{asked.map}: {difference}: it is not the map of {asked.reply}")
+    lacking = [node for node in over.route if node not in reply.places]
+    if lacking:
+        raise Trouble(f"{asked.reply}: its route passes node {lacking[0]}, whose leaf it lacks")
+    behind = "grey: the rest of the map, not proved" if asked.check else ""
+    return over, [line for line in (verdict, brought(chart, reply, len(octets)), behind) if line]
 
 
 def arguments() -> argparse.Namespace:
@@ -96,6 +158,8 @@ def arguments() -> argparse.Namespace:
     parser.add_argument("--check", nargs=4, metavar=("PUBKEY", "FROM", "TO", "LEAST"), help="ask the proved client first")
     parser.add_argument("--chain", metavar="FILE", help="the chain file of an owner with later keys, with --check")
     parser.add_argument("--unit", choices=UNITS, default="1e-7", help="what a coordinate of the map is, in degrees (1e-7)")
+    parser.add_argument("--shapes", metavar="FILE", help="the bends of roads, which nobody signs: a line is drawn where its ends are the map's, and it is no longer than the road")
+    parser.add_argument("--lengths", default="decimetres", metavar="WORD", help=f"what a length of the map is (decimetres): of {', '.join(PER_METRE)} a shape is measured")
     parser.add_argument("--licence", default="", metavar="TEXT", help="the licence of the map's data, for a line below the picture")
     add_arguments(parser)
     return parser.parse_args()
@@ -107,19 +171,12 @@ def main() -> None:
     chart = map_of(octets, asked.map) if octets.startswith(PUBLICATION) else read_roads(asked.map)
     if not chart.nodes:
         raise Trouble(f"{asked.map}: it has no node")
-    ends, told, reply = [], [f"{len(chart.nodes):,} nodes, {len(chart.roads):,} roads"], None
     if asked.check and not asked.reply:
         raise Trouble("--check: there is no reply to check")
-    if asked.reply:
-        octets = pathlib.Path(asked.reply).read_bytes()
-        ends, verdict = checked(asked) if asked.check else ([], None)
-        reply = reply_of(octets, asked.reply)
-        told = [verdict] * (verdict is not None) + [brought(chart, reply, len(octets))]
-    lacking = sorted({*reply.places, *reply.route, *(node for pair in reply.pairs for node in pair), *ends} - chart.nodes.keys()) if reply else []
-    if lacking:
-        raise Trouble(f"{asked.reply}: its node {lacking[0]} is not in {asked.map}")
-    sys.stdout.reconfigure(encoding="utf-8")
-    sys.stdout.write(picture_of(chart, reply, ends, told + [asked.licence] * bool(asked.licence), asked.unit))
+    over, told = drawn(asked, chart) if asked.reply else (None, [f"{len(chart.nodes):,} nodes, {len(chart.roads):,} roads"])
+    bends = Bends(asked.unit, asked.lengths, read_shapes(asked.shapes) if asked.shapes else {})
+    told += ["bends between nodes: not proved"] * bool(asked.shapes) + [asked.licence] * bool(asked.licence)
+    sys.stdout.buffer.write(picture_of(chart, over, told, bends).encode())
 
 
 if __name__ == "__main__":

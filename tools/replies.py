@@ -37,12 +37,14 @@ class Octets:
 
 @dataclass
 class Reply:
-    """What a reply says and brings: the route, the places of the nodes whose leaves it has, and its pairs."""
+    """What a reply says and brings: the route, the leaves by their nodes, each with its place and the lengths of its
+    arcs by the nodes that they lead to, and the pairs."""
 
     kind: str
     method: str
     route: list[int] = field(default_factory=list)
     places: dict[int, Place] = field(default_factory=dict)
+    arcs: dict[int, dict[int, int]] = field(default_factory=dict)
     pairs: list[tuple[int, int]] = field(default_factory=list)
 
 
@@ -78,8 +80,9 @@ def reply_of(octets: bytes, path: str) -> Reply:
     for _ in range(it.take("I")):
         _, length = it.take("IH")
         begins = it.at
-        _, node, x, y = it.take("BIii")
+        _, node, x, y, count = it.take("BIiiH")
         reply.places[node] = (x, y)
+        reply.arcs[node] = dict(it.take("II") for _ in range(count))
         it.at = begins + length
     if kind is not RADIUS:
         reply.pairs = [it.take("IBIIQ")[2:4] for _ in range(it.take("I"))]

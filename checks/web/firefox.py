@@ -109,7 +109,7 @@ def played(firefox, scene, picture):
     for version, method in enumerate(METHODS, 1):
         firefox.run(ASK, "route", START, END, maps[5 - version])
         state, text, _ = firefox.settled()
-        same(method, (state, f" {far[END]:,} decimetres long" in text, f"in version {version} " in text), ("accepted", True, True))
+        same(method, (state, f" {far[END] / 10_000:.2f} km long" in text, f"in version {version} " in text), ("accepted", True, True))
         for name, kind in KINDS.items():
             firefox.run(LIE, name)
             state, text, line = firefox.settled()
@@ -118,12 +118,12 @@ def played(firefox, scene, picture):
                 same(f"{method}, {name}", (state, line.split()[1]), ("refused", kind or line.split()[1]))
     firefox.run(ASK, "route", START, ISLAND, "")
     same("no route", (firefox.settled()[0], "no road leads" in firefox.run(SAID)[2]), ("accepted", ISLAND not in far))
-    firefox.run(ASK, "reach", START, RADIUS, "")
+    firefox.run(ASK, "reach", START, RADIUS // 10_000, "")
     count = sum(one <= RADIUS for one in far.values())
     same("a radius", (firefox.settled()[0], f"{count} nodes, and no other" in firefox.run(SAID)[2]), ("accepted", True))
     if picture:
         picture.write_bytes(base64.b64decode(firefox.told("WebDriver:TakeScreenshot", full=False)["value"]))
-    for name, state in (("route_check.wasm", "failed"), ("formats.mjs", "waiting")):
+    for name, state in (("route_check.wasm", "failed"), ("lengths.mjs", "waiting")):
         held = place.files[f"/{name}"]
         place.files[f"/{name}"] = (held[0], held[1] + b"\0\1\0" if name.endswith("m") else b"//\n" + held[1], b"")
         firefox.open(f"{scene.page.origin}/?{name}")

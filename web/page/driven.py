@@ -11,6 +11,10 @@ from selenium.webdriver.common.by import By
 from selenium.webdriver.support.ui import Select, WebDriverWait
 
 PATIENCE = 120
+# counts what the page itself, and not its worker, makes of a compiled module
+MADE = """window.made = 0;
+WebAssembly.Instance = new Proxy(WebAssembly.Instance, { construct: (...words) => { made++; return Reflect.construct(...words); } });
+WebAssembly.instantiate = new Proxy(WebAssembly.instantiate, { apply: (...words) => { made++; return Reflect.apply(...words); } });"""
 HOST = "owner.test"  # a name of this machine that is no secure context
 CONTRAST = """
 const number = (text) => (text.match(/[\\d.]+/g) ?? [0, 0, 0, 0]).map(Number);
@@ -25,20 +29,33 @@ const lines = ["route", "leaf", "pair", "cell", "start", "end"].map((name) => { 
 probe.remove();
 return { texts: texts.map((it) => [it.tagName + " " + it.textContent.trim().slice(0, 30), ratio(number(getComputedStyle(it).color), behind(it))]), lines };
 """
+# for each colour how many points of the drawing have it, and their middle in pixels of the page; `faint` is route's, drawn at 0.3
 COLOURED = """
 const canvas = document.getElementById("picture");
-const { data } = canvas.getContext("2d").getImageData(0, 0, canvas.width, canvas.height);
+const { data, width } = canvas.getContext("2d").getImageData(0, 0, canvas.width, canvas.height);
 const probe = document.body.appendChild(document.createElement("i"));
-const counts = {};
-for (const name of ["route", "leaf", "pair", "cell", "grey"]) {
+const found = {};
+for (const name of ["route", "leaf", "pair", "cell", "grey", "start", "end", "outline", "band1", "band2", "band3", "band4", "band5"]) {
     probe.style.color = getComputedStyle(canvas).getPropertyValue("--" + name);
     const [r, g, b] = getComputedStyle(probe).color.match(/\\d+/g).map(Number);
-    counts[name] = 0;
-    for (let at = 0; at < data.length; at += 4) if (data[at] === r && data[at + 1] === g && data[at + 2] === b && data[at + 3] === 255) counts[name]++;
+    let [count, right, down, faint] = [0, 0, 0, 0];
+    for (let at = 0; at < data.length; at += 4) {
+        if (data[at] === r && data[at + 1] === g && data[at + 2] === b && data[at + 3] === 255) {
+            count++;
+            right += (at / 4) % width;
+            down += Math.floor(at / 4 / width);
+        }
+        const isNear = [r, g, b].every((value, part) => Math.abs(data[at + part] - value) < 6);
+        if (isNear && data[at + 3] > 60 && data[at + 3] < 100) faint++;
+    }
+    const dense = width / canvas.clientWidth;
+    found[name] = { count, middle: count ? [right / count / dense, down / count / dense] : null, faint };
 }
 probe.remove();
-return counts;
+return found;
 """
+LONG = """window.longest = 0;
+new PerformanceObserver((list) => list.getEntries().forEach((one) => { window.longest = Math.max(window.longest, one.duration); })).observe({ type: "longtask", buffered: true });"""
 
 
 def chromium(saved):
@@ -85,7 +102,7 @@ class Used:
         self.driver.execute_script("arguments[0].value = arguments[1]", self.find(selector), str(text))
 
     def ask(self, ask, start, end, version=None):
-        """Asks for a route or a radius, over the newest map or a version."""
+        """Asks for a route or a radius, which is a text as `1.5`, over the newest map or a version."""
         self.driver.execute_script("arguments[0].click()", self.find(f"[name=ask][value={ask}]"))
         self.fill("[name=from]", start)
         self.fill("[name=to]" if ask == "route" else "[name=radius]", end)
@@ -104,6 +121,12 @@ class Used:
         """Whether all that the page fetches behind the first ask is there."""
         return self.driver.execute_script("return document.querySelectorAll('[name=map] option').length > 1") and self.coloured()["grey"] > 0
 
+    def has_streets(self):
+        """Whether the owner's table is there, which the page takes behind the first ask."""
+        self.fill("[name=from]", "e")
+        self.driver.execute_script("arguments[0].dispatchEvent(new Event('input', { bubbles: true }))", self.find("[name=from]"))
+        return self.driver.execute_script("return document.querySelectorAll('#offers option').length > 0")
+
     def lies(self):
         self.until(lambda: self.driver.execute_script("return document.querySelectorAll('[name=lie] option').length > 0"))
         return self.driver.execute_script("return [...document.querySelectorAll('[name=lie] option')].map((it) => it.value)")
@@ -117,8 +140,32 @@ class Used:
         return dict(self.driver.execute_script("return [...document.querySelectorAll('dt')].map((it) => [it.innerText, it.nextElementSibling.innerText])"))
 
     def listed(self):
-        """All nodes of the verdict."""
-        return self.driver.execute_script("return [...document.querySelectorAll('#all li')].map((it) => it.textContent)")
+        """All nodes of the verdict, behind their fold."""
+        self.driver.execute_script("document.getElementById('all').open = true")
+        self.until(lambda: self.driver.execute_script("return document.getElementById('nodes').textContent !== '' || document.getElementById('all').hidden"))
+        text = self.driver.execute_script("return document.getElementById('nodes').textContent")
+        self.driver.execute_script("document.getElementById('all').open = false")
+        return text.split("\n")
+
+    def ids(self):
+        """Their ids."""
+        return [int(line.partition(",")[0]) for line in self.listed()]
+
+    def rows(self, selector):
+        """The texts of some elements, each by its parts."""
+        return self.driver.execute_script("return [...document.querySelectorAll(arguments[0])].map((it) => [...it.children].map((part) => part.textContent))", selector)
+
+    def text(self, selector):
+        return self.driver.execute_script("return document.querySelector(arguments[0]).textContent", selector)
+
+    def shown(self, selector):
+        """Whether an element is to be seen on the page, wherever it is scrolled to."""
+        return self.driver.execute_script("return document.querySelector(arguments[0]).checkVisibility()", selector)
+
+    def in_view(self, selector):
+        """Whether an element is wholly on the screen."""
+        return self.driver.execute_script("const it = document.querySelector(arguments[0]); const box = it.getBoundingClientRect();"
+                                          " return it.checkVisibility() && box.top >= 0 && box.left >= 0 && box.bottom <= innerHeight && box.right <= innerWidth;", selector)
 
     def saves(self, text, name):
         """The octets of a file that the page offers."""
@@ -136,8 +183,37 @@ class Used:
         """A tap on the picture, so far from its middle."""
         ActionChains(self.driver).move_to_element_with_offset(self.find("#picture"), right, down).click().perform()
 
-    def coloured(self):
+    def place(self, right, down):
+        """The place of the screen that is so far from the drawing's middle."""
+        box = self.driver.execute_script("const box = document.getElementById('picture').getBoundingClientRect(); return [box.left + box.width / 2, box.top + box.height / 2];")
+        return box[0] + right, box[1] + down
+
+    def wheel(self, turned, right=0, down=0):
+        x, y = self.place(right, down)
+        self.driver.execute_cdp_cmd("Input.dispatchMouseEvent", {"type": "mouseWheel", "x": x, "y": y, "deltaX": 0, "deltaY": turned})
+
+    def drag(self, right, down):
+        ActionChains(self.driver).move_to_element(self.find("#picture")).click_and_hold().move_by_offset(right, down).release().perform()
+
+    def touch(self, *steps):
+        """Fingers: each step is the places of all of them, from the drawing's middle."""
+        for kind, places in zip(["touchStart", *["touchMove"] * (len(steps) - 1), "touchEnd"], [*steps, []]):
+            told = [{"x": x, "y": y, "id": finger} for finger, (x, y) in enumerate(self.place(*place) for place in places)]
+            self.driver.execute_cdp_cmd("Input.dispatchTouchEvent", {"type": kind, "touchPoints": told})
+
+    def colours(self):
+        """What COLOURED says of each colour."""
         return self.driver.execute_script(COLOURED)
+
+    def coloured(self):
+        """How many points have each colour."""
+        return {name: one["count"] for name, one in self.colours().items()}
+
+    def marks(self):
+        """Where both ends are drawn."""
+        self.driver.execute_async_script("requestAnimationFrame(() => requestAnimationFrame(arguments[0]))")
+        seen = self.colours()
+        return seen["start"]["middle"], seen["end"]["middle"]
 
     def contrasts(self):
         return self.driver.execute_script(CONTRAST)
@@ -145,9 +221,9 @@ class Used:
     def shape(self, width, height, dense=1, mobile=False):
         self.driver.execute_cdp_cmd("Emulation.setDeviceMetricsOverride", {"width": width, "height": height, "deviceScaleFactor": dense, "mobile": mobile})
 
-    def media(self, **features):
+    def media(self, kind="", **features):
         told = [{"name": name.replace("_", "-"), "value": value} for name, value in features.items()]
-        self.driver.execute_cdp_cmd("Emulation.setEmulatedMedia", {"features": told})
+        self.driver.execute_cdp_cmd("Emulation.setEmulatedMedia", {"media": kind, "features": told})
 
     def faults(self):
         """What the console has as errors since it was last asked."""

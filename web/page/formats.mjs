@@ -106,12 +106,24 @@ function pair(it) {
 
 const digest = (it) => it.take(32);
 
+/** What stands in front of a reply's leaves. */
+function frontOf(it) {
+    const isNear = RADIUS.every((octet, place) => it.octets[place] === octet);
+    const first = isNear ? it.skip(4) : it.u8();
+    return { isNear, first, head: header(it) };
+}
+
+/** How many leaves a reply on a radius says that it has. */
+export function leavesIn(octets) {
+    const it = new Octets(octets);
+    frontOf(it);
+    return it.u32();
+}
+
 /** The parts of an accepted reply. */
 export function partsOf(octets) {
     const it = new Octets(octets);
-    const isNear = RADIUS.every((octet, place) => octets[place] === octet);
-    const first = isNear ? it.skip(4) : it.u8();
-    const head = header(it);
+    const { isNear, first, head } = frontOf(it);
     const kind = isNear ? "within" : first === ROUTE ? "route" : "no route";
     const route = kind === "route" ? it.list(() => it.u32()) : [];
     const leaves = it.list(() => leaf(it, head));
@@ -136,14 +148,14 @@ export function octetsOf({ kind, head, route, leaves, pairs, nodeCover, pairCove
     return joined(...front, u32(pairs.length), ...items, u32(nodeCover.length), ...nodeCover, u32(pairCover.length), ...pairCover);
 }
 
-/** The nodes and roads of a publication, of which nothing is checked but that there are not too many to be drawn. */
+/** The header, the nodes and the roads of a publication, of which nothing is checked but that there are not too many to be drawn. */
 export function mapOf(octets) {
     const it = new Octets(octets);
     it.skip(4);
-    header(it);
+    const head = header(it);
     it.skip(4 * 8);
     const nodes = it.list(() => ({ id: it.u32(), x: it.i32(), y: it.i32() }));
     const roads = it.list(() => ({ a: it.u32(), b: it.u32(), length: it.u32() }));
     if (nodes.length > MOST_NODES || roads.length > MOST_ROADS) throw new RangeError("more than a map has");
-    return { nodes, roads };
+    return { head, nodes, roads };
 }

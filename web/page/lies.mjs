@@ -2,10 +2,12 @@
  * What a server could send in place of an accepted reply: the page makes these lies itself, of honest replies, to
  * show that the client refuses them. Nobody trusts this file.
  */
-import { octetsOf, partsOf } from "./formats.mjs";
+import { leavesIn, octetsOf, partsOf } from "./formats.mjs";
+import { Pauses } from "./pauses.mjs";
+import { Graph } from "./shortest.mjs";
 import { Tree } from "./tree.mjs";
 
-/** Over more leaves the page looks for no way, since it would stand still meanwhile. */
+/** Over more leaves the page looks for no way, in one reply or in two that it joins. */
 const MOST_LEAVES = 4_096;
 
 /** Octets with a number changed at a place, by a method of DataView. */
@@ -21,31 +23,13 @@ function versionAt({ kind }) {
     return (kind === "within" ? 4 : 1) + 8;
 }
 
-/** Each node that arcs between leaves lead to, by rising distance, with the node before it; no hop of `barred` is gone. */
-function reached(leaves, start, barred = []) {
-    const arcs = new Map(leaves.map((leaf) => [leaf.id, leaf.arcs]));
-    const open = new Map([[start, { distance: 0, before: null }]]);
-    const settled = new Map();
-    while (open.size > 0) {
-        const [here, label] = [...open].reduce((one, two) => (two[1].distance < one[1].distance ? two : one));
-        open.delete(here);
-        settled.set(here, label);
-        for (const { to, length } of arcs.get(here) ?? []) {
-            if (settled.has(to) || !arcs.has(to) || (barred[0] === here && barred[1] === to)) continue;
-            const distance = label.distance + length;
-            if (distance < (open.get(to)?.distance ?? Infinity)) open.set(to, { distance, before: here });
-        }
-    }
-    return settled;
-}
-
 /** A longer way than the route over these leaves: the least one that misses a hop, or else there and back at first. */
-function detour({ route }, leaves) {
-    const goal = route.at(-1);
-    const least = reached(leaves, route[0]).get(goal).distance;
+async function detour({ route }, leaves) {
+    const [goal, graph] = [route.at(-1), new Graph(leaves, new Pauses())];
+    const least = (await graph.reached(route[0])).get(goal).distance;
     let best = null;
     for (let hop = 0; hop + 1 < route.length; hop++) {
-        const ways = reached(leaves, route[0], route.slice(hop, hop + 2));
+        const ways = await graph.reached(route[0], route.slice(hop, hop + 2));
         const far = ways.get(goal)?.distance ?? 0;
         if (far > least && far < (best?.far ?? 2 * least)) best = { far, ways };
     }
@@ -59,20 +43,20 @@ function detour({ route }, leaves) {
 }
 
 /** The parts with other leaves and pairs, which the parts themselves or more replies brought, and good covers of them. */
-function withItems(parts, { leaves = parts.leaves, pairs = parts.pairs, more = [] }) {
-    const { head } = parts;
-    const [nodes, distances] = [new Tree(head.nodes, head.fan), new Tree(Math.max(1, head.pairs), head.fan)];
-    for (const reply of [parts, ...more]) nodes.learn(reply.leaves, reply.nodeCover);
-    distances.learn(parts.pairs, parts.pairCover);
-    return { ...parts, leaves, pairs, nodeCover: nodes.cover(leaves), pairCover: distances.cover(pairs) };
+async function withItems(parts, { leaves = parts.leaves, pairs = parts.pairs, more = [] }) {
+    const [{ head }, pauses] = [parts, new Pauses()];
+    const [nodes, distances] = [new Tree(head.nodes, head.fan, pauses), new Tree(Math.max(1, head.pairs), head.fan, pauses)];
+    for (const reply of [parts, ...more]) await nodes.learn(reply.leaves, reply.nodeCover);
+    await distances.learn(parts.pairs, parts.pairCover);
+    return { ...parts, leaves, pairs, nodeCover: await nodes.cover(leaves), pairCover: await distances.cover(pairs) };
 }
 
 /** A leaf that the proof needs: beside the route where the method asks for it, else on it. */
-function needed({ kind, head, route, leaves }, { from, end }) {
+async function needed({ kind, head, route, leaves }, { from, end }) {
     const find = (wanted) => leaves.find(({ id }) => id === wanted);
     if (kind === "no route") return find(end);
     if (leaves.length > MOST_LEAVES) return find(from);
-    const near = [...reached(leaves, from).keys()];
+    const near = [...(await new Graph(leaves, new Pauses()).reached(from)).keys()];
     if (kind === "within") return find(near.at(-1));
     const beside = near.find((id) => !route.includes(id));
     if (head.method === "DIJ" && beside !== undefined && near.indexOf(beside) < near.indexOf(end)) return find(beside);
@@ -102,19 +86,19 @@ export const LIES = {
         if (parts.kind === "route" && at < 0) return null;
         return octetsOf({ ...parts, kind: "route", route: at < 0 ? [asked.from, asked.end] : parts.route.toSpliced(at, 1) });
     }],
-    hide: ["hide a crossing", ({ parts, asked }) => {
-        const leaf = needed(parts, asked);
-        return octetsOf(withItems(parts, { leaves: parts.leaves.filter((one) => one !== leaf) }));
+    hide: ["hide a crossing", async ({ parts, asked }) => {
+        const leaf = await needed(parts, asked);
+        return octetsOf(await withItems(parts, { leaves: parts.leaves.filter((one) => one !== leaf) }));
     }],
-    pair: ["hide a signed distance", ({ parts }) => (parts.pairs.length === 0 ? null : octetsOf(withItems(parts, { pairs: parts.pairs.slice(1) })))],
-    round: ["lead the long way round", async ({ parts, asked, server, id }) => {
+    pair: ["hide a signed distance", async ({ parts }) => (parts.pairs.length === 0 ? null : octetsOf(await withItems(parts, { pairs: parts.pairs.slice(1) })))],
+    round: ["lead the long way round", async ({ parts, asked, found, server, id }) => {
         if (parts.kind !== "route" || parts.route.length < 2 || parts.leaves.length > MOST_LEAVES) return null;
-        const radius = BigInt(2 * reached(parts.leaves, asked.from).get(asked.end).distance);
-        const more = partsOf(await server.reply({ ask: "reach", from: asked.from, end: radius }, { id }));
-        const own = new Set(parts.leaves.map(({ index }) => index));
+        const octets = await server.reply({ ask: "reach", from: asked.from, end: 2n * found.length }, { id });
+        if (leavesIn(octets) > MOST_LEAVES) return null;
+        const [more, own] = [partsOf(octets), new Set(parts.leaves.map(({ index }) => index))];
         const leaves = [...parts.leaves, ...more.leaves.filter(({ index }) => !own.has(index))].sort((a, b) => a.index - b.index);
-        const way = detour(parts, leaves);
-        return way && octetsOf({ ...withItems(parts, { leaves, more: [more] }), route: way });
+        const way = leaves.length > MOST_LEAVES ? null : await detour(parts, leaves);
+        return way && octetsOf({ ...(await withItems(parts, { leaves, more: [more] })), route: way });
     }],
     none: ["say that no road leads there", ({ parts }) => (parts.kind === "route" ? octetsOf({ ...parts, kind: "no route" }) : null)],
 };

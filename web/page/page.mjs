@@ -2,26 +2,25 @@
  * The owner's page: asks a server that nobody trusts, has the proved client check what it answers, and shows what was
  * proved. Whoever uses it trusts the owner, from whom page and key come, and nobody else.
  */
+import { Asker } from "./asker.mjs";
 import { Checker, taken } from "./checker.mjs";
-import { UNITS } from "./files.mjs";
-import { mapOf, partsOf } from "./formats.mjs";
+import { Ends } from "./ends.mjs";
 import { Least } from "./least.mjs";
-import { Picture } from "./picture.mjs";
+import { Lengths } from "./lengths.mjs";
 import { NoAnswer, Server } from "./server.mjs";
-import { counted, factsOf, listAll, offer, say, sentenceOf, shortName, tell } from "./shown.mjs";
+import { hint, part, say, sayBefore } from "./shown.mjs";
 import { Streets } from "./streets.mjs";
 
-const TRIALS = 3;
-const CHAIN_FAULTS = ["BadSignature", "BadChain", "MalformedChain"];
-const part = (id) => document.getElementById(id);
+const FIRST = "Tap where to start, or name both ends.";
 const owner = JSON.parse(part("owner").textContent);
-const key = Uint8Array.from(owner.key.match(/../g), (digits) => parseInt(digits, 16));
-const [question, lying] = [part("question").elements, part("lie").elements];
+const [form, lying] = [part("question"), part("lie").elements];
+const question = form.elements;
 const server = new Server(owner.gateway);
 const checker = new Checker(owner.key, owner);
 const least = new Least(owner.key, BigInt(owner.least));
-const streets = new Streets();
-const picture = new Picture(part("picture"), UNITS[owner.unit]);
+const asker = new Asker(server, checker, least);
+const [streets, lengths] = [new Streets(), new Lengths(owner.lengths)];
+const ends = new Ends(question, streets, lengths);
 
 /** What was accepted last: the question, the reply with its parts, and the verdict. */
 let accepted = null;
@@ -29,170 +28,123 @@ let publications = [];
 /** The last of what the user asked for: what is not of it is not shown any more. */
 let turn = 0;
 
-// ---- checks
-
-/** A verdict on a reply. Where the owner may have another key the chain is fetched again, and the reply checked again. */
-async function checked(asked, octets, version) {
-    try {
-        return await checker.check(asked, octets, version);
-    } catch (error) {
-        if (!CHAIN_FAULTS.includes(error.kind)) throw error;
-        return againByChain(asked, octets, version, error);
-    }
-}
-
-/** A chain that does not help is not kept: a server could give any. */
-async function againByChain(asked, octets, version, before) {
-    const [chain, known] = [await server.chain().catch(() => null), checker.chain];
-    if (!chain || !checker.follow(chain)) throw before;
-    try {
-        return await checker.check(asked, octets, version);
-    } catch (error) {
-        if (CHAIN_FAULTS.includes(error.kind)) checker.follow(known);
-        throw error.kind === "BadChain" || error.kind === "MalformedChain" ? before : error;
-    }
-}
-
-/** A reply that is accepted. A refused one may be a cache's: it is asked for again, past all caches. */
-async function answered(asked, id) {
-    let refused = null;
-    for (let trial = 0; trial < TRIALS; trial++) {
-        const octets = await server.reply(asked, { id, least: least.version, pastCaches: trial > 0 }).catch((error) => {
-            throw refused ?? error;
-        });
-        if (refused && isSame(refused.octets, octets)) break;
-        try {
-            return { asked, octets, ...(await checked(asked, octets, least.version)) };
-        } catch (error) {
-            refused = Object.assign(error, { octets });
-            if (error.name !== "Refused") break;
-        }
-    }
-    throw refused;
-}
-
-function isSame(one, two) {
-    return one.length === two.length && one.every((octet, place) => octet === two[place]);
-}
+/** What shows a verdict is fetched behind what asks for one. */
+const showing = checker.ready().catch(() => {}).then(() => import("./result.mjs")).then(
+    ({ Result }) => new Result({ owner, streets, lengths, server, checker, tapped }),
+    () => {
+        throw new Error("a part of this page is not there, or is not the file that this page names by its hash");
+    },
+);
 
 // ---- what is shown
-
-function named(id) {
-    const names = streets.get(id);
-    return names ? `${id} (${names})` : `${id}`;
-}
-
-function ends({ ask, from, end }) {
-    return ask === "route" ? [from, end] : [from];
-}
-
-function ofKey() {
-    return { "Owner's key": shortName(key), "Chain of keys": checker.links ? counted(checker.links, "link") : "" };
-}
-
-function inTime(took) {
-    return took === undefined ? "" : `${took < 10 ? took.toFixed(1) : Math.round(took)} ms`;
-}
 
 function showLeast() {
     part("least").textContent = least.version;
 }
 
-function showAccepted(one) {
+/** What is shown as proved is of another question than the form holds now. */
+async function changed() {
+    if (sayBefore()) (await showing).picture.showBefore();
+}
+
+async function showAccepted(one, mine) {
+    const result = await showing;
     least.accept(one.found.version);
     showLeast();
-    const parts = partsOf(one.octets);
-    accepted = { ...one, parts };
-    const places = new Map(parts.leaves.map((leaf) => [leaf.id, leaf]));
-    const nodes = one.found.nodes ?? ends(one.asked).map((id) => places.get(id));
-    picture.showProved(parts, one.found.nodes ?? [], ends(one.asked));
-    say("accepted", "Proved:", sentenceOf(one, named, owner.lengths));
-    part("picture").setAttribute("aria-label", `A drawing of what was proved: ${counted(nodes.length, "node")} of the answer, ${counted(parts.leaves.length, "signed node")} of the proof.`);
-    tell({ ...ofKey(), ...factsOf(accepted), "Check": inTime(one.took) });
-    listAll(one.found.nodes ?? [], streets, owner.lengths);
-    offer(accepted, one.octets, { nodes, streets, unit: owner.unit, attribution: owner.attribution });
-    for (const line of document.querySelectorAll("#legend [data-for]")) line.hidden = !line.dataset.for.split(" ").includes(parts.head.method);
+    const whole = await result.accepted(one);
+    if (mine !== turn) return;
+    accepted = whole;
+    result.show(whole);
     part("lie").hidden = false;
-    if (publications.length > 0 && publications[0].version < one.found.version) behind.map().catch(() => {});
+    if (publications.length > 0 && publications[0].version < one.found.version) showPublications().catch(() => {});
 }
 
-/** Nothing of what is not accepted is drawn, and only what is accepted is lied about. */
-function showNothing(error, isLie) {
-    picture.showNothing();
+/** Only what is accepted is lied about. */
+async function showNothing(error, isLie) {
     part("lie").hidden = !isLie;
-    part("picture").setAttribute("aria-label", "Nothing is proved.");
-    listAll([], streets);
-    offer(null, error.octets, {});
-    const isRefused = error.name === "Refused";
-    if (isRefused) say("refused", isLie ? "The lie is refused:" : "Refused:", error.sentence, error.line || error.kind);
-    else say("failed", "There is no verdict:", `${error.message}.`);
-    tell({ ...ofKey(), "Reply": isRefused && error.octets ? `${error.octets.length.toLocaleString("en")} octets` : "", "Check": inTime(error.took) });
+    try {
+        (await showing).nothing(error, isLie);
+    } catch (lack) {
+        say("failed", "There is no verdict:", `${lack.message}.`);
+    }
 }
 
-/** Does what the user asked for, and shows how it ends, unless the user went on to something else. */
+/** Does what the user asked for, and shows how it ends, unless the user went on to something else. Gives the verdict's state. */
 async function doing(words, work, isLie = false) {
-    const mine = ++turn;
-    part("verdict").setAttribute("aria-busy", "true");
-    say("waiting", "", words);
+    const [mine, verdict] = [++turn, part("verdict")];
+    verdict.setAttribute("aria-busy", "true");
+    if (!isLie) await changed();
+    if (!["accepted", "before"].includes(verdict.dataset.state)) say("waiting", "", words);
+    hint(words);
     try {
         const one = await work();
-        if (mine === turn) showAccepted(one);
+        if (mine === turn) await showAccepted(one, mine);
     } catch (error) {
-        if (mine === turn) showNothing(error, isLie);
+        if (mine === turn) await showNothing(error, isLie);
     }
-    if (mine === turn) part("verdict").setAttribute("aria-busy", "false");
+    if (mine !== turn) return "left";
+    hint("");
+    verdict.setAttribute("aria-busy", "false");
+    return verdict.dataset.state;
 }
 
 // ---- questions
 
-/** The node that a text names: by its id, or by the streets that meet there. */
-function nodeOf(text) {
-    if (/^\d{1,10}$/.test(text.trim()) && Number(text) < 2 ** 32) return Number(text);
-    const [id] = streets.nodesAt(text);
-    if (id === undefined) throw new NoAnswer(`“${text}” is neither a node's id nor streets of the owner's table that meet`);
-    return id;
+function asking() {
+    return doing("The server is asked, and its reply is checked.", async () => {
+        const asked = ends.asked();
+        history.replaceState(null, "", ends.link);
+        return asker.answered(asked, question.map.value || undefined);
+    });
 }
 
-function questionAsked() {
-    const from = nodeOf(question.from.value);
-    if (question.ask.value === "route") return { ask: "route", from, end: nodeOf(question.to.value) };
-    const radius = BigInt(question.radius.value);
-    return { ask: "reach", from, end: radius };
-}
-
-part("question").addEventListener("submit", (event) => {
+form.addEventListener("submit", (event) => {
     event.preventDefault();
-    doing("The server is asked, and its reply is checked.", () => answered(questionAsked(), question.map.value || undefined));
+    asking();
 });
 
-part("question").addEventListener("change", () => {
-    for (const label of part("question").querySelectorAll("[data-for]")) {
+/** Shows the fields of a route, or those of a radius. */
+function showFields() {
+    for (const label of form.querySelectorAll("[data-for]")) {
         label.hidden = label.dataset.for !== question.ask.value;
         label.querySelector("input").disabled = label.hidden;
     }
+}
+
+form.addEventListener("change", ({ target }) => {
+    showFields();
+    if (target.name) changed();
 });
 
-part("question").addEventListener("input", ({ target }) => {
+form.addEventListener("input", ({ target }) => {
+    changed();
     if (target.list) part("offers").replaceChildren(...streets.offers(target.value).map((text) => new Option(text, text)));
 });
 
-let next = "from";
-part("picture").addEventListener("click", ({ clientX, clientY }) => {
-    const id = picture.nearest(clientX, clientY);
-    if (id === null) return;
-    const isRoute = question.ask.value === "route";
-    question[isRoute ? next : "from"].value = id;
-    next = isRoute && next === "from" ? "to" : "from";
-    if (next === "from") part("question").requestSubmit();
-    else say("waiting", "", `From node ${named(id)}: tap the node to go to.`);
-});
-
-for (const button of document.querySelectorAll("[data-widen]")) button.addEventListener("click", () => picture.widen(Number(button.dataset.widen)));
+/** A tap chooses a node of the map that the server shows: the verdict names both ends as they are proved. */
+async function tapped(node) {
+    const [isWhole, result] = [ends.tap(node), await showing];
+    await changed();
+    result.picture.showAsked(ends.places);
+    if (isWhole) form.requestSubmit();
+    else hint(`From ${result.named(node.id)}. Now tap the place to go to.`);
+}
 
 part("forget").addEventListener("click", () => {
     least.forget();
     showLeast();
-    say("waiting", "", `Maps from version ${least.version} on are taken again.`);
+    hint(`Maps from version ${least.version} on are taken again.`);
+});
+
+part("print").addEventListener("click", () => print());
+
+addEventListener("beforeprint", async () => {
+    const { sheet } = await import("./handed.mjs");
+    sheet();
+});
+
+addEventListener("hashchange", () => {
+    if (ends.fill(location.hash)) showFields();
 });
 
 // ---- lies
@@ -206,60 +158,80 @@ async function older({ asked, found }) {
 
 async function lied(one, name) {
     const { LIES } = await import("./lies.mjs");
-    const id = shortName(one.parts.head.text, one.parts.head.signature);
-    const octets = await LIES[name][1]({ ...one, id, server, older: () => older(one) });
-    if (!octets) throw new NoAnswer("this reply gives no room for that lie: try another one");
+    const octets = await LIES[name][1]({ ...one, server, older: () => older(one) });
+    if (!octets) throw new NoAnswer("this reply gives no room for that lie, or is too large for this page to look for it: try another one");
     try {
-        return { ...one, octets, ...(await checked(one.asked, octets, one.found.version)) };
+        return { ...one, octets, ...(await asker.checked(one.asked, octets, one.found.version)) };
     } catch (error) {
         throw Object.assign(error, { octets });
     }
 }
 
+function lieing() {
+    return doing("The server lies, and its reply is checked.", () => lied(accepted, lying.lie.value), true);
+}
+
 part("lie").addEventListener("submit", (event) => {
     event.preventDefault();
-    doing("The server lies, and its reply is checked.", () => lied(accepted, lying.lie.value), true);
+    lieing();
 });
 
 // ---- the beginning
 
-/** What the page works without: the lies, the owner's table, what the server has, and its map. */
-const behind = {
-    async lies() {
+/** What the server says that it has: the maps to choose from, and the newest one behind. */
+async function showPublications() {
+    publications = await server.publications();
+    const { map } = question;
+    const chosen = map.value;
+    map.replaceChildren(map.options[0], ...publications.map(({ id, version, method }) => new Option(`version ${version}, ${method}`, id)));
+    map.value = publications.some(({ id }) => id === chosen) ? chosen : "";
+    if (!accepted && publications.length > 0) await (await showing).behind.show(publications[0].id);
+}
+
+/** What the page works without: the lies, the owner's tables, what the server has with its map, and the owner's walk. */
+const behind = [
+    async () => {
         const { LIES } = await import("./lies.mjs");
         lying.lie.replaceChildren(...Object.entries(LIES).map(([name, [words]]) => new Option(words, name)));
     },
-    async streets() {
-        if (owner.streets) streets.read(new TextDecoder().decode(await taken(owner.streets)));
-    },
-    async map() {
-        publications = await server.publications();
-        const { map } = question;
-        const chosen = map.value;
-        map.replaceChildren(map.options[0], ...publications.map(({ id, version, method }) => new Option(`version ${version}, ${method}`, id)));
-        map.value = publications.some(({ id }) => id === chosen) ? chosen : "";
-        picture.showMap(mapOf(await server.publication(publications[0]?.id)));
-    },
-};
+    showStreets,
+    async () => owner.shapes && (await showing).showShapes(new TextDecoder().decode(await taken(owner.shapes))),
+    showPublications,
+    showWalk,
+];
+
+/** A table that does not come, or is another one, leaves the nodes without names. */
+async function showStreets() {
+    if (owner.streets) streets.read(new TextDecoder().decode(await taken(owner.streets)));
+}
+
+async function showWalk() {
+    if (!owner.walk) return;
+    const { walk } = await import("./walk.mjs");
+    await showStreets().catch(() => {});
+    walk(owner.walk, { question, lying, ends, streets, asking, lieing, showFields, publications: () => publications });
+}
 
 async function begin() {
     part("insecure").hidden = isSecureContext;
     part("key").textContent = owner.key;
     part("attribution").textContent = owner.attribution;
-    part("lengths").textContent = owner.lengths ? `, in ${owner.lengths}` : "";
+    part("lengths").textContent = lengths.typed.name ? `, in ${lengths.typed.name}` : "";
+    ends.fill(location.hash);
     showLeast();
-    tell(ofKey());
-    part("question").dispatchEvent(new Event("change"));
+    showFields();
     say("waiting", "", "The client is loading.");
     const mine = turn;
     try {
         await checker.ready();
         performance.mark("ready");
-        if (mine === turn) say("waiting", "", "Ask for a route: tap two nodes, or name them.");
+        if (mine === turn) say("waiting", "", "Nothing is asked yet. Tap two places of the map, or name them.");
+        hint(FIRST);
+        await showing;
     } catch (error) {
         return showNothing(error, false);
     }
-    return Promise.allSettled(Object.values(behind).map((fetched) => fetched()));
+    return Promise.allSettled(behind.map((fetched) => fetched()));
 }
 
 begin();

@@ -1,188 +1,207 @@
 /**
- * Draws on a canvas: in grey what a server shows and nobody proved, in colours what an accepted reply brought. What
- * is proved sets the scale as soon as there is any. Nobody trusts this file for a verdict: it shows one.
+ * Draws on a canvas: in grey what a server shows and nobody proved, in colours what an accepted reply brought, the
+ * proof below and the answer last. What is proved sets what is shown as soon as there is any. Nobody trusts this file
+ * for a verdict: it shows one.
  */
-const EDGE = 22;
+import { cells, cross, diamonds, mark, pathOf, points, seen, squares, stroke } from "./paint.mjs";
+
 const TAP = 40;
-const COLOURS = ["grey", "route", "leaf", "pair", "cell", "start", "end", "paper"];
+const FAINT = 0.3;
+const COLOURS = ["grey", "route", "leaf", "pair", "cell", "start", "end", "paper", "outline", "band1", "band2", "band3", "band4", "band5"];
+const LETTERS = "AB";
+const NOWHERE = { x: 0, y: 0 };
 
 export class Picture {
     #canvas;
-    #map = { nodes: [], roads: [] };
+    #view;
+    #shapes;
+    #map = null;
     #proved = null;
-    #wider = 1;
-    #degree;
+    #asked = [];
+    #isBefore = false;
+    #hasProof = true;
+    #isDue = false;
+    #paths = {};
 
-    /** `degree` is how many of a coordinate make a degree, or nothing where the map is of a plane. */
-    constructor(canvas, degree) {
-        this.#canvas = canvas;
-        this.#degree = degree;
-        new ResizeObserver(() => this.#draw()).observe(canvas);
-        matchMedia("(prefers-color-scheme: dark)").addEventListener("change", () => this.#draw());
+    constructor(canvas, view, shapes) {
+        [this.#canvas, this.#view, this.#shapes] = [canvas, view, shapes];
+        new ResizeObserver(() => this.draw()).observe(canvas);
+        for (const media of ["(prefers-color-scheme: dark)", "print"]) matchMedia(media).addEventListener("change", () => this.draw());
+        for (const event of ["focus", "blur"]) canvas.addEventListener(event, () => this.draw());
     }
 
-    /** The map as a server shows it. */
+    /** The map as a server shows it, or none. */
     showMap(map) {
         this.#map = map;
-        this.#draw();
+        this.#paths.map = null;
+        if (map && !this.#proved) this.#view.fit(map.nodes);
+        this.draw();
     }
 
-    /** What was proved: the parts of an accepted reply, the nodes of its verdict, and the ends that were asked for. */
-    showProved(parts, nodes, ends) {
-        this.#proved = { parts, nodes, ends };
-        this.#wider = 1;
-        this.#draw();
+    /** The owner's file of shapes has come. */
+    showShapes() {
+        this.#paths = {};
+        this.draw();
+    }
+
+    /**
+     * What was proved: the parts of an accepted reply, the nodes of its verdict, and the ends that were asked for. A
+     * radius has `bands`, the pieces of roads in each.
+     */
+    showProved({ parts, nodes, ends, bands = [] }) {
+        const places = new Map(parts.leaves.map((leaf) => [leaf.id, leaf]));
+        const answer = nodes.length > 0 ? nodes : parts.leaves;
+        this.#proved = { parts, nodes, ends: ends.map((id) => places.get(id)), bands, places };
+        [this.#asked, this.#isBefore, this.#paths] = [[], false, { map: this.#paths.map }];
+        this.#view.fit(answer);
+        this.draw();
+    }
+
+    /** What is drawn as proved is of another question than the one that is asked now. */
+    showBefore() {
+        this.#isBefore = this.#proved !== null;
+        this.draw();
     }
 
     showNothing() {
-        this.#proved = null;
-        this.#draw();
+        [this.#proved, this.#asked, this.#isBefore] = [null, [], false];
+        this.draw();
     }
 
-    /** Shows so many times as much around what is proved; at least that itself, at most 16 times. */
-    widen(times) {
-        this.#wider = Math.min(16, Math.max(1, this.#wider * times));
-        this.#draw();
+    /** Marks the ends that somebody asks for: for each a place, or nothing. */
+    showAsked(ends) {
+        this.#asked = ends;
+        this.draw();
     }
 
-    /** The id of the drawn node that is nearest to a place of the page, or null where none is near. */
-    nearest(clientX, clientY) {
-        const box = this.#canvas.getBoundingClientRect();
-        const at = this.#scale(box.width, box.height);
+    /** Whether what proves the answer is drawn below it. */
+    showProof(isShown) {
+        this.#hasProof = isShown;
+        this.draw();
+    }
+
+    /** The drawn node that is nearest to a place of the drawing, or nothing where none is near. */
+    nearest([left, above]) {
         let [best, least] = [null, TAP];
-        for (const node of [...(this.#proved?.parts.leaves ?? []), ...this.#map.nodes]) {
-            const [x, y] = at(node);
-            const far = Math.hypot(x - clientX + box.left, y - clientY + box.top);
-            if (far < least) [best, least] = [node.id, far];
+        for (const node of [...(this.#proved?.parts.leaves ?? []), ...(this.#map?.nodes ?? [])]) {
+            const [x, y] = this.#view.at(node);
+            const far = Math.hypot(x - left, y - above);
+            if (far < least) [best, least] = [node, far];
         }
         return best;
     }
 
-    /** From a node's place to one on the canvas: y grows upwards on a map, and a degree of longitude is shorter than one
-     * of latitude by the cosine of the middle latitude. The map sets the scale only where nothing is proved. */
-    #scale(width, height) {
-        const shown = this.#proved ? this.#proved.parts.leaves : this.#map.nodes;
-        let [left, right, bottom, top] = [Infinity, -Infinity, Infinity, -Infinity];
-        for (const { x, y } of shown) {
-            [left, right] = [Math.min(left, x), Math.max(right, x)];
-            [bottom, top] = [Math.min(bottom, y), Math.max(top, y)];
-        }
-        const [middleX, middleY] = [(left + right) / 2, (bottom + top) / 2];
-        const narrow = this.#degree ? Math.max(0.01, Math.cos((middleY / this.#degree / 180) * Math.PI)) : 1;
-        const fits = Math.min((width - 2 * EDGE) / Math.max(1, (right - left) * narrow), (height - 2 * EDGE) / Math.max(1, top - bottom));
-        const scale = fits / this.#wider;
-        return ({ x, y }) => [width / 2 + (x - middleX) * narrow * scale, height / 2 - (y - middleY) * scale];
+    /** Draws before the next picture of the screen. */
+    soon() {
+        if (this.#isDue) return;
+        this.#isDue = true;
+        requestAnimationFrame(() => {
+            this.#isDue = false;
+            this.draw();
+        });
     }
 
-    #draw() {
+    draw() {
         const { clientWidth: width, clientHeight: height } = this.#canvas;
         if (width === 0 || height === 0) return;
-        const dense = devicePixelRatio;
-        this.#canvas.width = Math.round(width * dense);
-        this.#canvas.height = Math.round(height * dense);
-        const pen = this.#canvas.getContext("2d");
-        pen.setTransform(dense, 0, 0, dense, 0, 0);
-        pen.lineCap = pen.lineJoin = "round";
+        this.#view.resize(width, height);
+        const pen = this.#penOn(this.#canvas);
         const style = getComputedStyle(this.#canvas);
         const colour = Object.fromEntries(COLOURS.map((name) => [name, style.getPropertyValue(`--${name}`).trim()]));
-        const at = this.#scale(width, height);
-        this.#drawMap(pen, at, colour);
-        if (this.#proved) this.#drawProved(pen, at, colour);
+        const over = this.#isBefore ? this.#penOn(document.createElement("canvas")) : pen;
+        if (this.#proved) this.#drawBands(over, colour);
+        if (this.#map) this.#drawMap(pen, colour);
+        if (this.#proved) this.#drawProved(over, colour);
+        if (this.#isBefore) laidOver(pen, over.canvas, width, height);
+        this.#drawAsked(pen, colour);
+        if (this.#canvas.matches(":focus-visible")) cross(pen, this.#view.centre, colour.route);
     }
 
-    #drawMap(pen, at, { grey }) {
-        const places = new Map(this.#map.nodes.map((node) => [node.id, at(node)]));
-        lines(pen, this.#map.roads.map(({ a, b }) => [places.get(a), places.get(b)]), grey, 0.7);
-        if (places.size < 5_000) points(pen, [...places.values()], grey, 1.2);
+    /** A pen on an empty canvas as large as the drawing, in pixels of the page. */
+    #penOn(canvas) {
+        const dense = Math.max(devicePixelRatio, matchMedia("print").matches ? 2 : 1);
+        canvas.width = Math.round(this.#canvas.clientWidth * dense);
+        canvas.height = Math.round(this.#canvas.clientHeight * dense);
+        const pen = canvas.getContext("2d");
+        pen.setTransform(dense, 0, 0, dense, 0, 0);
+        pen.lineCap = pen.lineJoin = "round";
+        return pen;
     }
 
-    #drawProved(pen, at, colour) {
-        const { parts, nodes, ends } = this.#proved;
-        const places = new Map(parts.leaves.map((leaf) => [leaf.id, at(leaf)]));
-        const [find, small] = [(id) => places.get(id), places.size > 3_000 ? 1.2 : 2.6];
-        const roads = parts.leaves.flatMap(({ id, arcs }) => arcs.filter(({ to }) => id < to && places.has(to)).map(({ to }) => [find(id), find(to)]));
-        const way = nodes.map(at);
-        if (parts.head.method === "HYP") cells(pen, parts.leaves, at, colour.cell);
-        lines(pen, parts.pairs.map(({ a, b }) => [find(a), find(b)]), colour.pair, parts.pairs.length > 60 ? 0.6 : parts.pairs.length > 8 ? 1.2 : 2);
-        lines(pen, roads, colour.leaf, 1);
-        lines(pen, parts.leaves.map(({ id, served }) => [find(id), find(served)]), colour.cell, 2.5);
-        if (parts.kind !== "within") lines(pen, way.slice(1).map((place, hop) => [way[hop], place]), colour.route, 6);
-        points(pen, [...places.values()], colour.leaf, small);
-        squares(pen, parts.leaves.filter(({ isBorder }) => isBorder).map(({ id }) => find(id)), colour.leaf, small);
-        diamonds(pen, parts.leaves.filter(({ landmark }) => landmark > 0).map(({ id }) => find(id)), colour.cell);
-        if (parts.kind === "within") points(pen, way, colour.route, small + 1);
-        ends.forEach((id, place) => marked(pen, find(id), "AB"[place], place === 0 ? colour.start : colour.end, colour.paper));
+    /** A path by its name, made where it is not made yet. What a server shows has another origin than what is proved. */
+    #path(name, lines) {
+        const origin = name === "map" ? this.#map.nodes[0] ?? NOWHERE : this.#proved.parts.leaves[0];
+        this.#paths[name] ??= pathOf(lines(), origin);
+        return seen(this.#paths[name], this.#view, origin);
+    }
+
+    #drawMap(pen, { grey }) {
+        const { nodes, roads } = this.#map;
+        const lines = () => {
+            const places = new Map(nodes.map((node) => [node.id, node]));
+            return roads.filter(({ a, b }) => places.has(a) && places.has(b)).map(({ a, b, length }) => this.#shapes.line(places.get(a), places.get(b), length));
+        };
+        stroke(pen, this.#path("map", lines), grey, 1.4);
+    }
+
+    /** A radius as a filled outline around the roads that are reached, the band of the least cost last. */
+    #drawBands(pen, colour) {
+        const { bands, nodes } = this.#proved;
+        if (bands.length === 0) return;
+        const width = this.#bandWidth(nodes.length);
+        const paths = bands.map((pieces, band) => this.#path(`band ${band}`, () => pieces));
+        for (const path of paths) stroke(pen, path, colour.outline, width + 3);
+        paths.toReversed().forEach((path, at) => stroke(pen, path, colour[`band${paths.length - at}`], width));
+    }
+
+    /** About as wide as a block between streets, where the nodes that are reached are spread evenly. */
+    #bandWidth(count) {
+        const [first, ...rest] = this.#proved.nodes.map((node) => this.#view.at(node));
+        const box = rest.reduce(([a, b, c, d], [x, y]) => [Math.min(a, x), Math.min(b, y), Math.max(c, x), Math.max(d, y)], [...first, ...first]);
+        return Math.min(70, Math.max(12, 0.9 * Math.sqrt(((box[2] - box[0]) * (box[3] - box[1])) / count)));
+    }
+
+    #drawProved(pen, colour) {
+        const { parts, nodes, ends, places } = this.#proved;
+        if (this.#hasProof) this.#drawProof(pen, colour);
+        if (parts.kind === "route") {
+            const way = this.#path("route", () => nodes.slice(1).map((node, hop) => this.#road(nodes[hop].id, node.id, places)));
+            stroke(pen, way, colour.paper, 10);
+            stroke(pen, way, colour.route, 6);
+        }
+        ends.forEach((end, at) => end && mark(pen, this.#view.at(end), LETTERS[at], { colour: at === 0 ? colour.start : colour.end, paper: colour.paper, isProved: true }));
+    }
+
+    /** The line of a signed road between two leaves. */
+    #road(from, to, places) {
+        const length = places.get(from).arcs.find((arc) => arc.to === to)?.length ?? 0;
+        return this.#shapes.line(places.get(from), places.get(to), length);
+    }
+
+    /** The signed nodes, roads and distances that prove the answer. */
+    #drawProof(pen, colour) {
+        const { parts: { head, leaves, pairs }, places } = this.#proved;
+        const at = (node) => this.#view.at(node);
+        const small = leaves.length > 3_000 ? 1.2 : 2.8;
+        const straight = (items) => () => items.filter(([a, b]) => places.has(a) && places.has(b)).map(([a, b]) => [places.get(a), places.get(b)]);
+        const roads = () => leaves.flatMap(({ id, arcs }) => arcs.filter(({ to }) => id < to && places.has(to)).map(({ to }) => this.#road(id, to, places)));
+        if (head.method === "HYP") cells(pen, leaves, at, colour.cell);
+        stroke(pen, this.#path("pairs", straight(pairs.map(({ a, b }) => [a, b]))), colour.pair, pairs.length > 60 ? 0.6 : pairs.length > 8 ? 1.2 : 2);
+        stroke(pen, this.#path("roads", roads), colour.leaf, 1.2);
+        stroke(pen, this.#path("served", straight(leaves.map(({ id, served }) => [id, served]))), colour.cell, 2.5);
+        points(pen, leaves.map(at), colour.leaf, small);
+        squares(pen, leaves.filter(({ isBorder }) => isBorder).map(at), colour.leaf, small);
+        diamonds(pen, leaves.filter(({ landmark }) => landmark > 0).map(at), colour.cell);
+    }
+
+    #drawAsked(pen, colour) {
+        this.#asked.forEach((end, at) => end && mark(pen, this.#view.at(end), LETTERS[at], { colour: at === 0 ? colour.start : colour.end, paper: colour.paper, isProved: false }));
     }
 }
 
-function lines(pen, pairs, colour, width) {
-    pen.beginPath();
-    for (const [from, to] of pairs) {
-        if (!from || !to) continue;
-        pen.moveTo(...from);
-        pen.lineTo(...to);
-    }
-    pen.strokeStyle = colour;
-    pen.lineWidth = width;
-    pen.stroke();
-}
-
-/** Fills one shape at each place that is there. */
-function shapes(pen, places, colour, shape) {
-    pen.beginPath();
-    for (const place of places.filter(Boolean)) shape(...place);
-    pen.fillStyle = colour;
-    pen.fill();
-}
-
-function points(pen, places, colour, radius) {
-    shapes(pen, places, colour, (x, y) => {
-        pen.moveTo(x + radius, y);
-        pen.arc(x, y, radius, 0, 2 * Math.PI);
-    });
-}
-
-function squares(pen, places, colour, radius) {
-    shapes(pen, places, colour, (x, y) => pen.rect(x - 1.6 * radius, y - 1.6 * radius, 3.2 * radius, 3.2 * radius));
-}
-
-function diamonds(pen, places, colour) {
-    shapes(pen, places, colour, (x, y) => {
-        pen.moveTo(x, y - 8);
-        for (const [right, down] of [[8, 0], [0, 8], [-8, 0]]) pen.lineTo(x + right, y + down);
-        pen.closePath();
-    });
-}
-
-/** A frame and the number for each cell, around the signed nodes that say that they are in it. */
-function cells(pen, leaves, at, colour) {
-    const boxes = new Map();
-    for (const leaf of leaves) {
-        const [x, y] = at(leaf);
-        const box = boxes.get(leaf.cell) ?? [x, y, x, y];
-        boxes.set(leaf.cell, [Math.min(box[0], x), Math.min(box[1], y), Math.max(box[2], x), Math.max(box[3], y)]);
-    }
-    pen.strokeStyle = pen.fillStyle = colour;
-    pen.lineWidth = 1;
-    pen.setLineDash([4, 4]);
-    pen.font = "12px system-ui, sans-serif";
-    for (const [cell, [left, top, right, bottom]] of boxes) {
-        pen.strokeRect(left - 5, top - 5, right - left + 10, bottom - top + 10);
-        pen.fillText(`cell ${cell}`, left - 4, top - 8);
-    }
-    pen.setLineDash([]);
-}
-
-/** An end, with its letter. */
-function marked(pen, place, letter, colour, paper) {
-    if (!place) return;
-    points(pen, [place], paper, 10);
-    points(pen, [place], colour, 9);
-    pen.fillStyle = paper;
-    pen.font = "bold 12px system-ui, sans-serif";
-    pen.textAlign = "center";
-    pen.textBaseline = "middle";
-    pen.fillText(letter, place[0], place[1] + 0.5);
-    pen.textAlign = "start";
-    pen.textBaseline = "alphabetic";
+/** Lays what was proved before faintly over a drawing. */
+function laidOver(pen, drawn, width, height) {
+    pen.globalAlpha = FAINT;
+    pen.drawImage(drawn, 0, 0, width, height);
+    pen.globalAlpha = 1;
 }

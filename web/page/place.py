@@ -11,7 +11,7 @@ import pathlib
 import sys
 
 TYPES = {".html": "text/html; charset=utf-8", ".css": "text/css; charset=utf-8", ".mjs": "text/javascript; charset=utf-8",
-         ".wasm": "application/wasm", ".tsv": "text/tab-separated-values; charset=utf-8", ".key": "text/plain; charset=utf-8"}
+         ".wasm": "application/wasm", ".tsv": "text/tab-separated-values; charset=utf-8", ".json": "application/json", ".key": "text/plain; charset=utf-8"}
 
 
 def files_of(folder):

@@ -1,4 +1,5 @@
-"""An owner with a made town, a gateway, and the owner's place with the page, for web/demo and the page's test.
+"""An owner with a made map, a gateway, and the owner's place with the page: a town under the four methods for the page's
+test, and a town in the mountains with a walk for web/demo.
 
 Nobody trusts this file: the page's client checks what it serves."""
 
@@ -18,6 +19,7 @@ TOP = HERE.parents[1]
 sys.path.insert(0, str(HERE))
 from place import Place  # noqa: E402
 
+TOOLS = TOP / "tools"
 PYTHON = "/usr/bin/python3"  # Debian's, which has h11
 PROGRAM = TOP / "crates/road_proof/out/road_proof"
 ATTRIBUTION = "A made town, which stands nowhere"
@@ -25,16 +27,12 @@ METHODS = {"dij": "hilbert 0 2 0 0 0", "full": "kd 0 2 0 0 0", "ldm": "hilbert 0
 
 
 class Owner:
-    """A folder with a desk, the town's road file, the table of its streets, and publications."""
+    """A folder with a desk, road files, the table of streets, and publications."""
 
     def __init__(self, program, secret):
         self.program = str(pathlib.Path(program).resolve())
         self.held = tempfile.TemporaryDirectory(prefix="gogbetiku_page.")
         self.folder = pathlib.Path(self.held.name)
-        tools = TOP / "tools"
-        self.keep("town.osm", subprocess.run([tools / "town.py"], stdout=subprocess.PIPE, check=True).stdout)
-        words = [tools / "osm_roads.py", "town.osm", "--ids", "town.ids"]
-        self.keep("town.roads", subprocess.run(words, cwd=self.folder, capture_output=True, check=True).stdout)
         self.keep("secret.hex", secret.hex().encode())
         self.keep("owner.key", self.run("key secret.hex h5"))
         (self.folder / "secret.hex").unlink()
@@ -55,9 +53,19 @@ class Owner:
             sys.exit(f"road_proof {words}: status {done.returncode}")
         return done.stdout
 
-    def publish(self, version, method):
+    def publish(self, version, method, roads="town.roads"):
         """The octets of a publication."""
-        return self.run(f"publish town.roads {method} {version} {METHODS[method]}")
+        return self.run(f"publish {roads} {method} {version} {METHODS[method]}")
+
+    def lay_town(self):
+        """The town of docs/MAPS.md."""
+        self.keep("town.osm", subprocess.run([TOOLS / "town.py"], stdout=subprocess.PIPE, check=True).stdout)
+        words = [TOOLS / "osm_roads.py", "town.osm", "--ids", "town.ids"]
+        self.keep("town.roads", subprocess.run(words, cwd=self.folder, capture_output=True, check=True).stdout)
+
+    def lay_mountain(self):
+        """The town in the mountains, in summer and in winter."""
+        subprocess.run([TOOLS / "mountain.py", "."], cwd=self.folder, check=True)
 
     def succeed(self, secret):
         """Goes on to the owner's next key."""
@@ -74,7 +82,7 @@ class Gateway:
         self.owner, self.origin = owner, f"http://127.0.0.1:{port}"
         words = [PYTHON, HERE.parent / "gateway.py", owner.program, "map.pub", "owner.key", "owner.chain", "--listen", f"127.0.0.1:{port}"]
         with open(owner.folder / "gateway.log", "ab") as log:
-            self.process = subprocess.Popen([*words, "--keep", "4", "--attribution", ATTRIBUTION, *more], cwd=owner.folder, stderr=log)
+            self.process = subprocess.Popen([*words, "--attribution", ATTRIBUTION, *more], cwd=owner.folder, stderr=log)
 
     def versions(self):
         """The versions that it serves, the newest first."""
@@ -106,10 +114,9 @@ class Gateway:
 class Page:
     """The owner's place, with the page for a gateway."""
 
-    def __init__(self, owner, gateway, port=0):
-        folder = owner.folder / "page"
-        words = [HERE / "build", folder, "owner.key", gateway, "--streets", "town.ids", "--attribution", ATTRIBUTION]
-        subprocess.run(words, cwd=owner.folder, check=True)
+    def __init__(self, owner, gateway, port=0, more=("--streets", "town.ids")):
+        folder = owner.folder / f"page{len(list(owner.folder.glob('page*')))}"
+        subprocess.run([HERE / "build", folder, "owner.key", gateway, "--attribution", ATTRIBUTION, *more], cwd=owner.folder, check=True)
         self.folder = folder
         self.place = Place(folder, port=port)
         self.port = self.place.server_address[1]
@@ -122,27 +129,42 @@ class Page:
 
 
 class Scene:
-    """All of it, with the town published under the four methods, versions 1 to 4; `end` ends what was started."""
+    """An owner with a gateway that serves some maps, and the page; `end` ends what was started."""
 
     def __init__(self, program, secret=None, ports=(0, 0)):
-        self.owner = Owner(program, secret or os.urandom(48))
-        self.published = {method: self.owner.publish(version, method) for version, method in enumerate(METHODS, 1)}
-        self.owner.keep("map.pub", self.published["dij"])
-        self.gateway = Gateway(self.owner, ports[0] or free_port())
-        self.page = None
+        self.owner, self.gateway, self.page = Owner(program, secret or os.urandom(48)), None, None
         try:
-            for octets in self.published.values():
+            self.lay()
+            self.owner.keep("map.pub", next(iter(self.published)))
+            self.gateway = Gateway(self.owner, ports[0] or free_port(), "--keep", str(len(self.published)))
+            for octets in self.published:
                 self.gateway.serve(octets)
-            self.page = Page(self.owner, self.gateway.origin, ports[1])
+            self.page = Page(self.owner, self.gateway.origin, ports[1], self.more)
         except BaseException:
             self.end()
             raise
 
+    def lay(self):
+        """The town under the four methods, versions 1 to 4."""
+        self.owner.lay_town()
+        self.published = [self.owner.publish(version, method) for version, method in enumerate(METHODS, 1)]
+        self.more = ["--streets", "town.ids"]
+
     def end(self):
-        if self.page:
-            self.page.end()
-        self.gateway.end()
+        for part in (self.page, self.gateway):
+            if part:
+                part.end()
         self.owner.held.cleanup()
+
+
+class Mountain(Scene):
+    """The town in the mountains: version 1 is the map of last summer, versions 2 to 5 that of this winter."""
+
+    def lay(self):
+        self.owner.lay_mountain()
+        maps = [("ldm", "summer.roads"), *((method, "winter.roads") for method in ("dij", "full", "hyp", "ldm"))]
+        self.published = [self.owner.publish(version, *one) for version, one in enumerate(maps, 1)]
+        self.more = ["--streets", "town.ids", "--shapes", "town.shapes", "--walk", "walk.json"]
 
 
 def free_port():

@@ -5,6 +5,9 @@
 const SECONDS = 30;
 const MOST_OCTETS = 64 << 20;
 const MOST_PUBLICATIONS = 16;
+/** By these and `Retry-After` a server asks the page to wait; then it is asked once more, after so many seconds at most. */
+const WAIT = [429, 503];
+const MOST_WAIT = 3;
 
 /** The server gave no answer; `status` is its own, where it gave one. */
 export class NoAnswer extends Error {
@@ -40,28 +43,36 @@ export class Server {
         return this.#fetched("/v1/chain", "reload");
     }
 
-    /** The publications that the server says it has, the newest first. */
+    /** The publications that the server says it has, the newest first, but for those that it has not announced yet. */
     async publications() {
         const text = new TextDecoder().decode(await this.#fetched("/v1/info", "no-cache"));
-        const known = JSON.parse(text).publications.slice(0, MOST_PUBLICATIONS).filter(({ id }) => /^[0-9a-f]{16}$/.test(id));
+        const known = JSON.parse(text).publications.slice(0, MOST_PUBLICATIONS).filter(({ id, announced }) => /^[0-9a-f]{16}$/.test(id) && announced !== false);
         return known.map(({ id, version, method }) => ({ id, version: BigInt(version), method: `${method}`.slice(0, 8).toUpperCase() }));
     }
 
     async #fetched(path, cache) {
-        let found;
-        try {
-            found = await fetch(this.#place + path, { cache, credentials: "omit", referrerPolicy: "no-referrer", signal: AbortSignal.timeout(1000 * SECONDS) });
-        } catch {
-            throw new NoAnswer("the server does not answer");
+        let found = await this.#response(path, cache);
+        const wait = WAIT.includes(found.status) ? found.headers.get("Retry-After") : null;
+        if (/^\d{1,9}$/.test(wait ?? "")) {
+            await new Promise((goOn) => setTimeout(goOn, 1000 * Math.min(MOST_WAIT, Number(wait))));
+            found = await this.#response(path, cache);
         }
         if (!found.ok) throw new NoAnswer(await saidBy(found), found.status);
         return bounded(found.body);
+    }
+
+    async #response(path, cache) {
+        try {
+            return await fetch(this.#place + path, { cache, credentials: "omit", referrerPolicy: "no-referrer", signal: AbortSignal.timeout(1000 * SECONDS) });
+        } catch {
+            throw new NoAnswer("the server does not answer");
+        }
     }
 }
 
 /** What the server says of a request that it does not answer. */
 async function saidBy(found) {
-    if (found.status === 429 || found.status === 503) return `the server asks to wait (status ${found.status})`;
+    if (WAIT.includes(found.status)) return `the server asks to wait (status ${found.status})`;
     try {
         const { detail } = JSON.parse(new TextDecoder().decode(await bounded(found.body)));
         return `the server answers with status ${found.status}: “${String(detail).slice(0, 200)}”`;

@@ -69,3 +69,8 @@ export function joined(...parts) {
 export function hexOf(octets) {
     return Array.from(octets, (octet) => octet.toString(16).padStart(2, "0")).join("");
 }
+
+/** A key's or a publication's name in short: the front of its SHA-256, in hex. */
+export function shortName(...octets) {
+    return hexOf(sha256(...octets)).slice(0, 16);
+}

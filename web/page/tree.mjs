@@ -9,25 +9,35 @@ export class Tree {
     /** How many places each level has, from the leaves up. */
     #counts;
     #digests = new Map();
+    #pauses;
 
-    constructor(leaves, fan) {
+    constructor(leaves, fan, pauses) {
         this.#fan = fan;
+        this.#pauses = pauses;
         this.#counts = [leaves];
         while (this.#counts.at(-1) > 1) this.#counts.push(Math.ceil(this.#counts.at(-1) / fan));
     }
 
     /** Takes over what the items and the cover of a reply say of the tree. */
-    learn(items, cover) {
-        const left = [...cover];
+    async learn(items, cover) {
+        let next = 0;
         for (const { level, place, isChosen } of this.#spots(items)) {
-            if (!isChosen) this.#digests.set(`${level} ${place}`, left.shift());
+            if (this.#pauses.isDue) await this.#pauses.pause();
+            if (!isChosen) this.#digests.set(`${level} ${place}`, cover[next++]);
         }
-        for (const { index, text } of items) this.#digests.set(`0 ${index}`, sha256([0], text));
+        for (const { index, text } of items) {
+            if (this.#pauses.isDue) await this.#pauses.pause();
+            this.#digests.set(`0 ${index}`, sha256([0], text));
+        }
     }
 
     /** The cover of some items among those that it learnt of; a tree without items has an empty one. */
-    cover(items) {
-        return [...this.#spots(items)].filter(({ isChosen }) => !isChosen).map(({ level, place }) => this.#digest(level, place));
+    async cover(items) {
+        const digests = [];
+        for (const { level, place, isChosen } of this.#spots(items)) {
+            if (!isChosen) digests.push(await this.#digest(level, place));
+        }
+        return digests;
     }
 
     /** From the top, each place that a fold of these items comes to, and whether an item is at or below it. */
@@ -50,10 +60,12 @@ export class Tree {
         return Array.from({ length: end - place * this.#fan }, (_, child) => [level - 1, place * this.#fan + child]);
     }
 
-    #digest(level, place) {
+    async #digest(level, place) {
         const known = this.#digests.get(`${level} ${place}`);
         if (known) return known;
-        const below = this.#below(level, place).map((child) => this.#digest(...child));
+        if (this.#pauses.isDue) await this.#pauses.pause();
+        const below = [];
+        for (const child of this.#below(level, place)) below.push(await this.#digest(...child));
         if (below.length === 0) throw new Error("a leaf that no reply brought");
         const made = sha256([1], joined(...below));
         this.#digests.set(`${level} ${place}`, made);

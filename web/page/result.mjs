@@ -1,0 +1,204 @@
+/**
+ * Shows what was accepted: the verdict in words, the drawing, the streets, and what is handed on. Nobody trusts this
+ * file for a verdict: it shows what the proved client said.
+ */
+import { Behind } from "./behind.mjs";
+import { piecesOf } from "./bands.mjs";
+import { apartSaid, placeSaid } from "./earth.mjs";
+import { UNITS } from "./files.mjs";
+import { partsOf } from "./formats.mjs";
+import { Gestures } from "./gestures.mjs";
+import { offer } from "./handed.mjs";
+import { Picture } from "./picture.mjs";
+import { shortName } from "./sha256.mjs";
+import { Shapes } from "./shapes.mjs";
+import { counted, element, part, say, tell, warn } from "./shown.mjs";
+import { View } from "./view.mjs";
+import { waysOf } from "./ways.mjs";
+
+const LETTERS = "AB";
+
+export class Result {
+    #owner;
+    #streets;
+    #lengths;
+    #checker;
+    #degree;
+    #listed = "";
+
+    /** `tapped` is told each node that somebody taps. */
+    constructor({ owner, streets, lengths, server, checker, tapped }) {
+        [this.#owner, this.#streets, this.#lengths, this.#checker] = [owner, streets, lengths, checker];
+        this.#degree = UNITS[owner.unit];
+        this.shapes = new Shapes(this.#degree, lengths.perMetre);
+        const view = new View(this.#degree);
+        this.picture = new Picture(part("picture"), view, this.shapes);
+        this.behind = new Behind(server, this.picture);
+        const tap = (at) => {
+            const node = this.picture.nearest(at);
+            if (node) tapped(node);
+        };
+        new Gestures(part("picture"), view, { moved: () => this.picture.soon(), tapped: tap });
+        for (const button of document.querySelectorAll("[data-zoom]")) {
+            button.addEventListener("click", () => {
+                if (button.dataset.zoom) view.zoom(Number(button.dataset.zoom));
+                else view.fit();
+                this.picture.draw();
+            });
+        }
+        part("proof").addEventListener("change", ({ target }) => this.#showProof(target.checked));
+        part("all").addEventListener("toggle", () => this.#list());
+    }
+
+    /** A node in words: its streets, or its id where the owner's table has none. */
+    named(id) {
+        return this.#streets.get(id) || `node ${id}`;
+    }
+
+    /** Where somebody relies on bends of roads that nobody signs, the legend says so. */
+    showShapes(text) {
+        this.shapes.read(text);
+        part("bends").hidden = this.shapes.isEmpty;
+        this.picture.showShapes();
+    }
+
+    /** Shows an accepted reply. Gives it with its parts. */
+    async accepted(one) {
+        const accepted = { ...one, parts: partsOf(one.octets) };
+        const { head, leaves } = accepted.parts;
+        const id = shortName(head.text, head.signature);
+        const isHere = this.behind.has(id);
+        const coming = this.behind.showBeside(id, leaves);
+        const warnings = isHere ? dropped(await coming) : [];
+        return { ...accepted, id, warnings, coming: isHere ? Promise.resolve("") : coming };
+    }
+
+    show(accepted) {
+        const { asked, found, parts, id, warnings, coming } = accepted;
+        const places = new Map(parts.leaves.map((leaf) => [leaf.id, leaf]));
+        const ends = asked.ask === "route" ? [asked.from, asked.end] : [asked.from];
+        const nodes = found.nodes ?? ends.map((end) => places.get(end));
+        const bounds = found.kind === "within" ? this.#lengths.bands(asked.end) : [];
+        const bands = bounds.length > 0 ? piecesOf(found.nodes, parts.leaves, bounds, this.shapes) : [];
+        this.picture.showProved({ parts, nodes: found.nodes ?? [], ends, bands });
+        say("accepted", "Proved:", this.#sentence(accepted), { warnings });
+        coming.then((said) => part("verdict").dataset.of === id && dropped(said).forEach(warn));
+        part("verdict").dataset.of = id;
+        this.#showEnds(accepted, places);
+        this.#showWays(accepted);
+        this.#showLegend(accepted, bounds);
+        this.#listed = this.#nodesSaid(found.nodes ?? []);
+        part("all").hidden = !this.#listed;
+        this.#list();
+        tell({ ...this.ofKey(), ...this.#facts(accepted) });
+        offer(accepted, accepted.octets, { nodes, streets: this.#streets, owner: this.#owner, chain: this.#checker.chain });
+        part("picture").setAttribute("aria-label", `Map. Drawn is what was proved: ${this.#sentence(accepted)}`);
+    }
+
+    /** Nothing of what is not accepted is drawn. */
+    nothing(error, isLie) {
+        this.picture.showNothing();
+        part("verdict").dataset.of = "";
+        part("picture").setAttribute("aria-label", "Map. Nothing is proved.");
+        for (const name of ["ends", "ways", "all", "bands"]) part(name).hidden = true;
+        const isRefused = error.name === "Refused";
+        if (isRefused) say("refused", isLie ? "The lie is refused:" : "Refused:", error.sentence, { line: error.line || error.kind });
+        else say("failed", "There is no verdict:", `${error.message}.`);
+        tell({ ...this.ofKey(), "Reply": isRefused && error.octets ? octetsSaid(error.octets) : "", "Check": timeSaid(error.took) });
+        offer(null, error.octets, { owner: this.#owner, chain: this.#checker.chain });
+    }
+
+    ofKey() {
+        const key = Uint8Array.from(this.#owner.key.match(/../g), (digits) => parseInt(digits, 16));
+        return { "Owner's key": shortName(key), "Chain of keys": this.#checker.links ? counted(this.#checker.links, "link") : "" };
+    }
+
+    #sentence({ asked, found }) {
+        const map = `in version ${found.version} of the owner's map`;
+        const [from, to] = [this.named(asked.from), this.named(asked.end)];
+        if (found.kind === "no route") return `no road leads from ${from} to ${to}, ${map}.`;
+        if (found.kind === "within") return `${counted(found.nodes.length, "node")}, and no other, within ${this.#lengths.said(asked.end)} of ${from}, ${map}.`;
+        return `a shortest route from ${from} to ${to}, ${this.#lengths.said(found.length)} long, ${map}.`;
+    }
+
+    /** Both ends: as they were asked for, and as they are proved. */
+    #showEnds({ asked }, places) {
+        const rows = asked.by.map(({ how, text, id, place }, at) => {
+            const leaf = places.get(id);
+            const isApart = place && (place.x !== leaf.x || place.y !== leaf.y);
+            const said = place ? `tapped at ${placeSaid(place, this.#degree)}` : `asked for as ${text}`;
+            const row = element("li", "", { className: isApart ? "apart" : how });
+            row.append(
+                element("b", LETTERS[at], { className: at === 0 ? "start" : "end" }), element("span", this.named(id)), element("small", said),
+                element("small", `proved at ${placeSaid(leaf, this.#degree)}`),
+                ...(isApart ? [element("strong", `${apartSaid(place, leaf, this.#degree)} from where you tapped`)] : []),
+            );
+            return row;
+        });
+        part("ends").replaceChildren(...rows);
+        part("ends").hidden = false;
+    }
+
+    /** The streets of a route, in order. */
+    #showWays({ found, parts }) {
+        const ways = found.kind === "route" ? waysOf(found.nodes.map(({ id }) => id), parts.leaves, this.#streets) : [];
+        const rows = ways.map(({ name, length }) => {
+            const row = element("li", "");
+            row.append(element("span", name || "a road without a name"), element("small", this.#lengths.said(length)));
+            return row;
+        });
+        part("ways").querySelector("ol").replaceChildren(...rows);
+        part("ways").hidden = rows.length === 0;
+    }
+
+    #showLegend({ found, parts }, bounds) {
+        for (const line of document.querySelectorAll("#legend [data-for]")) {
+            line.hidden = !line.dataset.for.split(" ").some((word) => word === parts.head.method || word === found.kind);
+        }
+        const within = (bound) => found.nodes.filter(({ distance }) => Number(distance) <= bound).length;
+        const rows = bounds.map((bound, at) => element("li", `within ${this.#lengths.said(bound)}: ${counted(within(bound), "node")}`, { className: `band${at + 1}` }));
+        part("bands").replaceChildren(...rows);
+        part("bands").hidden = rows.length === 0;
+    }
+
+    #showProof(isShown) {
+        this.picture.showProof(isShown);
+        for (const line of document.querySelectorAll("#legend .proof")) line.classList.toggle("off", !isShown);
+    }
+
+    /** All nodes of a verdict, each with its streets and its distance, once somebody opens the fold. */
+    #list() {
+        part("nodes").textContent = part("all").open ? this.#listed : "";
+    }
+
+    #nodesSaid(nodes) {
+        const far = ({ distance }) => (distance === undefined ? "" : `at ${this.#lengths.exact(distance)}`);
+        return nodes.map((node) => [node.id, this.#streets.get(node.id), far(node)].filter(Boolean).join(", ")).join("\n");
+    }
+
+    /** What is known of an accepted reply beside its verdict. */
+    #facts({ parts: { head, leaves, pairs, nodeCover, pairCover }, octets, found, took, id }) {
+        const over = { LDM: `${counted(head.second, "landmark")}, `, HYP: `${head.first} by ${head.second} cells, ` }[head.method] ?? "";
+        return {
+            "Length": found.kind === "route" ? this.#lengths.exact(found.length) : "",
+            "Version": `${found.version}`,
+            "Publication": id,
+            "Method": `${head.method}, ${over}${counted(head.nodes, "node")}, leaves ${head.order}`,
+            "Proof": `${counted(leaves.length, "node")}, ${counted(pairs.length, "distance")}, ${counted(nodeCover.length + pairCover.length, "digest")}`,
+            "Reply": octetsSaid(octets),
+            "Check": timeSaid(took),
+        };
+    }
+}
+
+function dropped(said) {
+    return said ? [`The server's map is dropped, since what is proved is not as it shows it: ${said}. Who tapped it may have meant other places: compare both ends.`] : [];
+}
+
+function octetsSaid(octets) {
+    return counted(octets.length, "octet");
+}
+
+function timeSaid(took) {
+    return took === undefined ? "" : `${took < 10 ? took.toFixed(1) : Math.round(took)} ms`;
+}

@@ -1,9 +1,9 @@
 #!/usr/bin/env python3
 """Turns single bits of an owner's desk, and lets the program loose on it: checks/owner/bits.py PROGRAM [--bits N] [--seed N]
 
-Desks of one key, and of two behind a link, have signed a few maps. One bit of one is turned, and each of `key` (with the
-first key's own secret, and `publish` behind it), `publish`, `succeed` (with a new secret, and `links` behind it) and
-`links` runs over a copy of it. No one-time key makes a signature on another text than it had signed before. A signature
+Desks of one key, and of two behind a link, of which the second has signed or has not, have signed a few maps. One bit of
+one is turned, and each of `key` (with the first key's own secret, and `publish` behind it), `publish`, `succeed` (with a
+new secret, and `links` behind it, where a spent slot has another text then) and `links` runs over a copy of it. No one-time key makes a signature on another text than it had signed before. A signature
 shows its one-time key by its randomiser, which is made of identifier, seed and number alone. What is refused writes
 nothing and leaves the desk as it was. The bits of each gate, length and key block that count most are always taken, the
 others are drawn. Each bit that fails is told. Nobody trusts this script.
@@ -102,6 +102,8 @@ def faults_of(owner: Owner, image: bytes, public: bytes | None, known: dict[byte
                 yield f"{command}: a one-time key has signed two texts"
         if status not in (0, 12):
             yield f"{command}: status {status}"
+        if status == 0 and command == SUCCEED and all(signed.get(key, text) == text for key, text in texts_of(owner.desk()).items()):
+            return
         if status != 0:
             # what is signed under another key than owner.key's is found behind the signing
             is_signed = public is not None and command.startswith("publish") and "not signed by the key" in said
@@ -132,15 +134,16 @@ def drawn(image: bytes, count: int, rng: random.Random) -> list[Bit]:
 
 
 def desks(owner: Owner) -> tuple[dict[str, bytes], bytes]:
-    """A desk of one key, and one of two behind a link, which have signed, and the first public key."""
+    """A desk of one key, and two of two behind a link, whose keys have signed maps or not, and the first public key."""
     public = owner.done(KEY)
     for version in (1, 2, 3):
         owner.done(PUBLISH.format(version))
     one = owner.desk()
     owner.done("succeed secret-1 h5")
+    two = owner.desk()
     for version in (4, 5):
         owner.done(PUBLISH.format(version))
-    return {"one key": one, "two keys": owner.desk()}, public
+    return {"one key": one, "two keys, the second new": two, "two keys": owner.desk()}, public
 
 
 def look(program: str, name: str, image: bytes, public: bytes, bits: list[Bit]) -> list[str]:
@@ -169,7 +172,8 @@ def main() -> int:
         images, public = desks(Owner(program, folder))
     parts: list[tuple[str, str, bytes, bytes, list[Bit]]] = []
     for name, image in images.items():
-        bits = drawn(image, given.bits // len(images), rng)
+        # half of them in the desk of one key
+        bits = drawn(image, given.bits // 2 if name == "one key" else given.bits // 4, rng)
         parts += [(program, name, image, public, bits[part :: 2 * PROCESSORS]) for part in range(2 * PROCESSORS)]
     with ThreadPoolExecutor(PROCESSORS) as pool:
         faults = list(itertools.chain(*pool.map(lambda part: look(*part), parts)))

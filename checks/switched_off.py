@@ -35,8 +35,12 @@ PROCESSES, SECONDS = 4, 5
 OTHERS = {"__init__", "__main__", "faults", "hashing", "commands", "codes"}
 # calls that no octets reach: what is built is always within their bounds
 MOVED = {ast.Lt: ast.LtE, ast.LtE: ast.Lt, ast.Gt: ast.GtE, ast.GtE: ast.Gt}
+READ_BEFORE = "words of commands and fields of headers have their ranges tested when they are read"
 # where no vector can show that a test is left out
-UNSEEN: dict[str, str] = {}
+UNSEEN = {
+    **{f'left out, books.py: raise Fault("Settings", {number})': READ_BEFORE for number in range(3)},
+    'left out, maps.py: raise Fault("TooMany")': "each reader of a file refuses as many parts before they make a map",
+}
 Fields = dict[str, Any]
 
 
@@ -150,6 +154,12 @@ FIRST: dict[str, list[str]] = {
     "cells": ["publications"],
 }
 
+# no client stands on these
+NO_CLIENT = {
+    *("servers", "frames", "books", "orders", "cells", "desks", "audits", "reductions", "publications"),
+    *("road_files", "dimacs", "maps", "draws", "surveys"),
+}
+
 
 def in_order(way: Way) -> Iterator[tuple[str, Fields]]:
     """The vector that caught the way last, then those of the families that show most of its module, then all."""
@@ -157,7 +167,8 @@ def in_order(way: Way) -> Iterator[tuple[str, Fields]]:
         yield BY_ID[HINTS[way.name]]
     first = FIRST.get(way.module, ["client", "client_radius"])
     for name, cases in sorted(CASES, key=lambda named: first.index(named[0]) if named[0] in first else len(first)):
-        yield from ((name, case) for case in cases)
+        if way.module not in NO_CLIENT or not name.startswith("client"):
+            yield from ((name, case) for case in cases)
 
 
 def too_long(_signal: int, _frame: FrameType | None) -> None:
@@ -197,7 +208,7 @@ def search(number: int) -> tuple[int, str | None]:
 
 
 def calm() -> None:
-    os.nice(10)
+    os.nice(max(0, 10 - os.nice(0)))
     signal.signal(signal.SIGVTALRM, too_long)
 
 

@@ -8,6 +8,8 @@ takes alone is wrapped: a leaf or a header stands in a reply, a fold in a signed
 are played at some of their places, with --all at each, and with it the case whose key takes a minute. Nothing here is
 proved, and no client trusts it. Ends with status 1 where anything comes out otherwise.
 """
+import hashlib
+import multiprocessing
 import pathlib
 import re
 import subprocess
@@ -29,14 +31,15 @@ from gogbetiku_reference.trees import root_of  # noqa: E402
 from gogbetiku_vectors import files, formats, owners, signing  # noqa: E402
 from gogbetiku_vectors import asking, client as clients  # noqa: E402
 from gogbetiku_vectors.asking import turned  # noqa: E402
-from gogbetiku_vectors.families import Fields, octets  # noqa: E402
+from gogbetiku_vectors.families import Fields, octets, octets_again  # noqa: E402
 from gogbetiku_vectors.scenes import ZEROS, owner  # noqa: E402
 
 # ranges are played at each of so many places
 BITS, LENGTHS, SIGNED_BITS = 97, 89, 997
+PROCESSES = 4
 # where it stands, the program's syncs of its disk take no time
 IN_MEMORY = "/dev/shm" if pathlib.Path("/dev/shm").is_dir() else None
-FAULTY, REFUSED, NO_NODE, USED_WRONG = 3, 1, 11, 12
+FAULTY, REFUSED, NO_NODE, USED_WRONG, TOO_MANY_FRAMES = 3, 1, 11, 12, 13
 # what a message of the program says of a fault that has numbers: the numbers, in their order
 NUMBERLESS = {"Settings", "RepeatedNode", "UnknownEnd", "SelfRoad", "Crowded", "Count", "TooMany", "NoProblem"}
 
@@ -113,7 +116,7 @@ def spent_below(slot: int, secret: bytes) -> bytes:
 
 
 def road_file(program: Program, given: Fields, result: Fields) -> None:
-    ended = program.run("root", "map.roads", 2, **{"map.roads": octets(given["text"])})
+    ended = program.run("root", "map.roads", 2, **{"map.roads": octets_again(given, "text")})
     if "fault" in result or "map_fault" in result:
         return faulty("root", ended, result.get("fault", result.get("map_fault")))
     same("root", ended[:2], (0, f"{len(result['nodes'])} {result['root']}\n".encode()))
@@ -314,8 +317,11 @@ def route(program: Program, given: Fields, result: Fields) -> None:
 
 
 def service(program: Program, given: Fields, result: Fields) -> None:
-    ended = program.run("serve", "pub", pub=octets(given["publication"]), source=octets(given["input"]))
-    same("serve", ended[:2], (0 if result["end"] == "End" else FAULTY, octets(result["output"])))
+    ended = program.run("serve", "pub", pub=octets(given["publication"]), source=octets_again(given, "input"))
+    status = {"End": 0, "TooManyFrames": TOO_MANY_FRAMES}.get(result["end"], FAULTY)
+    if "digest" in result:
+        return same("serve", (ended[0], hashlib.sha256(ended[1]).hexdigest()), (status, result["digest"]))
+    same("serve", ended[:2], (status, octets(result["output"])))
 
 
 def guarded(program: Program, given: Fields, result: Fields) -> None:
@@ -411,6 +417,19 @@ def desk_change(program: Program, given: Fields, result: Fields) -> None:
     same("owner.desk", owners.image_fields(program.disk()), result["image"])
 
 
+def signing_by(program: Program, given: Fields, result: Fields) -> None:
+    image = owners.image_in(given["image"])
+    words = ["publish", "map.roads", "dij", given["version"], "id", 0, 2, 0, 0, 0]
+    ended = program.run(*words, disk=image, **{"map.roads": octets(given["roads"])})
+    if is_guarded(program, ended, image):
+        return
+    if "fault" in result:
+        same("owner.desk", program.disk(), image)
+        return same("publish", ended[:2], (result["status"], b""))
+    same("publish", ended[:2], (0, octets(result["publication"])))
+    same("owner.desk", owners.image_fields(program.disk()), result["image"])
+
+
 def ended_as(what: str, ended: tuple[int, bytes, str], result: Fields) -> None:
     if "fault" in result:
         return faulty(what, ended, result["fault"], result["status"])
@@ -482,6 +501,7 @@ PLAYS: dict[str, Callable[[Program, Fields, Fields], None]] = {
     "turned": turned_reply,
     "desks": desk,
     "desk_changes": desk_change,
+    "signings": signing_by,
     "audits": audit,
     "reductions": reduction,
 }
@@ -565,32 +585,64 @@ def reference_plays(family, case: Fields, everything: bool) -> None:
         same("reference", family.run(case["given"]), case["result"])
 
 
-def play(words: list[str], everything: bool, folder: pathlib.Path) -> tuple[Counter, list[str]]:
-    program = Program(words[0], folder) if words else None
-    library = by_library(words[1]) if len(words) > 1 else None
+class Player:
+    """Plays cases in a folder of its own."""
+
+    def __init__(self, words: list[str], everything: bool):
+        self.folder = tempfile.TemporaryDirectory(dir=IN_MEMORY)
+        self.program = Program(words[0], pathlib.Path(self.folder.name)) if words else None
+        self.library = by_library(words[1]) if len(words) > 1 else None
+        self.everything = everything
+
+    def play(self, family, case: Fields) -> tuple[Counter, str | None]:
+        """How many runs and checks a case took, and what differs."""
+        counts, before = Counter(cases=1), self.program.runs if self.program else 0
+        try:
+            if self.program is None or self.everything:
+                reference_plays(family, case, self.everything)
+            if self.program is not None:
+                PLAYS[family.name](self.program, case["given"], case["result"])
+            if self.library is not None:
+                strides = (1, 1) if self.everything else (BITS, LENGTHS)
+                counts["library"] = library_plays(self.library, family.name, case["given"], case["result"], strides)
+        except Differs as fault:
+            return counts, f"{case['id']} ({case['why']}): {fault}"
+        finally:
+            counts["program"] = self.program.runs - before if self.program else 0
+        return counts, None
+
+
+# what a process has: who plays, and all cases
+PLAYERS: list[Player] = []
+CASES: list[tuple] = []
+
+
+def begin(words: list[str], everything: bool) -> None:
+    PLAYERS.append(Player(words, everything))
+
+
+def play_one(number: int) -> tuple[Counter, str | None]:
+    return PLAYERS[0].play(*CASES[number])
+
+
+def play(words: list[str], everything: bool) -> tuple[Counter, list[str]]:
+    """Plays all cases, by four processes."""
     counts, faults = Counter(), []
     for family in files.FAMILIES:
-        for case in files.read_family(TOP / "vectors", family) if everything or not family.slow else []:
-            counts["cases"] += 1
-            try:
-                if program is None or everything:
-                    reference_plays(family, case, everything)
-                if program is not None:
-                    PLAYS[family.name](program, case["given"], case["result"])
-                if library is not None:
-                    counts["library"] += library_plays(
-                        library, family.name, case["given"], case["result"], (1, 1) if everything else (BITS, LENGTHS)
-                    )
-            except Differs as fault:
-                faults.append(f"{case['id']} ({case['why']}): {fault}")
-    counts["program"] = program.runs if program else 0
+        if everything or not family.slow:
+            CASES.extend((family, case) for case in files.read_family(TOP / "vectors", family))
+    with multiprocessing.get_context("fork").Pool(PROCESSES, begin, (words, everything)) as pool:
+        for one, fault in pool.imap(play_one, range(len(CASES)), chunksize=8):
+            counts.update(one)
+            faults += [fault] if fault else []
+        pool.close()
+        pool.join()
     return counts, faults
 
 
 def main() -> int:
     words = [word for word in sys.argv[1:] if not word.startswith("--")]
-    with tempfile.TemporaryDirectory(dir=IN_MEMORY) as folder:
-        counts, faults = play(words, "--all" in sys.argv, pathlib.Path(folder))
+    counts, faults = play(words, "--all" in sys.argv)
     for fault in faults:
         print(fault)
     print(

@@ -99,6 +99,16 @@ def octets(digits: str) -> bytes:
     return bytes.fromhex(digits)
 
 
+# octets that follow so many times
+AGAIN = row(HEX, NUMBER)
+
+
+def octets_again(given: Fields, name: str) -> bytes:
+    """Octets, with those of `again` behind them as often as it says."""
+    piece, times = given.get("again", ["", 0])
+    return octets(given[name]) + octets(piece) * int(times) + octets(given.get("then", ""))
+
+
 def answered(run: Callable[[Fields], Fields], cases: list[tuple[str, Fields]]) -> Iterator[Case]:
     """Cases whose results are what the reference answers."""
     for why, given in cases:

@@ -34,6 +34,7 @@ from gogbetiku_reference.trees import root_of
 
 from .asking import GREATEST, books, good_chain, honest, put
 from .families import (
+    AGAIN,
     DIGEST,
     HEX,
     NUMBER,
@@ -47,6 +48,7 @@ from .families import (
     answered,
     listed,
     octets,
+    octets_again,
     one_of,
     record,
     row,
@@ -70,7 +72,7 @@ def root_by_id(chart: Map) -> str:
 
 def run_roads(given: Fields) -> Fields:
     try:
-        parts = read_roads(octets(given["text"]))
+        parts = read_roads(octets_again(given, "text"))
     except Fault as fault:
         return {"fault": str(fault)}
     result = {**parts_fields(parts), "printed": print_roads(parts).hex()}
@@ -167,14 +169,29 @@ def make_roads() -> Iterator[Case]:
         ("one node", b"roads 1\nnode 7 -1 2\n"),
         ("all nodes at one place", b"roads 1\nnode 1 3 3\nnode 0 3 3\nroad 0 1 1\n"),
     ]
-    return answered(run_roads, [(why, {"text": text.hex()}) for why, text in texts])
+    yield from answered(run_roads, [(why, {"text": text.hex()}) for why, text in texts])
+    node, road = b"node 1 0 0\n", b"road 1 2 3\n"
+    most = [
+        ("65,537 nodes: the last line is one too many", node, 65_537, b""),
+        ("65,536 nodes are read, and the line behind them", node, 65_536, b"node x\n"),
+        ("262,145 roads: the last line is one too many", road, 262_145, b""),
+        ("262,144 roads are read, and the line behind them", road, 262_144, b"road x\n"),
+        ("a node too many that is no number: the number is told", node, 65_536, b"node 1 0 x\n"),
+    ]
+    yield from answered(
+        run_roads,
+        [
+            (why, {"text": b"roads 1\n".hex(), "again": [piece.hex(), times], "then": then.hex()})
+            for why, piece, times, then in most
+        ],
+    )
 
 
 ROADS = Family(
     "road_files",
     "What a road file says: the parts in their order, their printed file, and the root of fan-out 2 over the "
     "plain leaves by id, or the first fault of the file or of its map.",
-    record({"text": HEX}),
+    record({"text": HEX}, {"again": AGAIN, "then": HEX}),
     record({}, {**PARTS, **FAULT, "printed": HEX, "root": DIGEST, "map_fault": TEXT}),
     run_roads,
     make_roads,

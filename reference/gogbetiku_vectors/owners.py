@@ -12,6 +12,7 @@ from gogbetiku_reference.commands import World
 from gogbetiku_reference.faults import Fault
 from gogbetiku_reference.lms import KINDS, Key, digits_of, key_of
 from gogbetiku_reference.octets import u8, u32
+from gogbetiku_reference.road_files import print_roads
 from gogbetiku_reference.servers import Held, answer, answer_near, near_reply
 
 from .asking import link, put, turned
@@ -23,7 +24,7 @@ IMAGE = record(
     {"length": NUMBER, "pieces": listed({"type": "array", "items": [NUMBER, HEX], "minItems": 2, "maxItems": 2})}
 )
 FAULT = {"fault": TEXT}
-ONES, TWOS = b"\x01" * 48, b"\x02" * 48
+ONES, TWOS, NINES = b"\x01" * 48, b"\x02" * 48, b"\x09" * 48
 
 
 def image_fields(image: bytes) -> Fields:
@@ -125,7 +126,21 @@ def images() -> Iterator[tuple[str, bytes]]:
         ("a link text, and nothing behind the area", with_slot(good, 31, strange)),
         ("eight areas", eight),
         ("eight areas, of which the last has a link text", with_slot(eight, 31, strange, 7 * at)),
+        ("a ninth area, which the eighth has linked", with_slot(eight, 31, link_text(key_of(5, NINES).public), 7 * at) + desks.blank_area(5, NINES, 0)),
+        ("the second area has the first one's name, and another seed", same_name(good)),
+        ("the third area has the first one's name", third_of_the_first(two)),
+        ("a disk whose last octet is its area's", good[: desks.area_octets(5)]),
     ]
+
+
+def same_name(good: bytes) -> bytes:
+    secret = ZEROS[:16] + ONES[:32]
+    return with_slot(good, 31, link_text(key_of(5, secret).public)) + desks.blank_area(5, secret, 0)
+
+
+def third_of_the_first(two: bytes) -> bytes:
+    secret = ZEROS[:16] + TWOS[:32]
+    return with_slot(two, 31, link_text(key_of(5, secret).public), len(two) // 2) + desks.blank_area(5, secret, 0)
 
 
 def make_desks() -> Iterator[Case]:
@@ -190,6 +205,44 @@ CHANGES = Family(
     record({}, {"public": HEX, "image": IMAGE, **FAULT}),
     run_change,
     make_changes,
+)
+
+def run_signing(given: Fields) -> Fields:
+    words = ["publish", "roads", "dij", given["version"], "id", "0", "2", "0", "0", "0"]
+    ended = commands.run(words, World({"roads": octets(given["roads"])}.__getitem__, image_in(given["image"])))
+    if ended.fault is not None:
+        return {"status": ended.status, "fault": str(ended.fault)}
+    return {"status": 0, "publication": ended.output.hex(), "image": image_fields(ended.disk)}
+
+
+def make_signings() -> Iterator[Case]:
+    roads = print_roads(STREETS).hex()
+    good, two = fresh(), second_area()
+    full = used(good, *(b"text %d" % number for number in range(31)))
+    second_full = used(two, *(b"text %d" % number for number in range(31)))
+    rows = [
+        ("the first slot", good),
+        ("the second slot", used(good, b"a text")),
+        ("the last slot that signs headers", used(good, *(b"text %d" % number for number in range(30)))),
+        ("all slots are spent but that of the next key", full),
+        ("all slots are spent", with_slot(full, 31, b"RPF1")),
+        ("the current key of two", two),
+        ("the second slot of the current key of two", used(two, b"a text")),
+        ("all slots of the current key of two are spent", second_full),
+        ("no key", b""),
+        ("a disk that can't be used", put(good, 1, u32(9))),
+        ("a longer disk, which stays as long", good + b"\x07" * 100),
+    ]
+    return answered(run_signing, [(why, {"image": image_fields(image), "roads": roads, "version": "7"}) for why, image in rows])
+
+
+SIGNINGS = Family(
+    "signings",
+    "What `publish` writes and the image of the owner's disk that it leaves, under DIJ by id with fan-out 2, or why it does not; with the status of the command.",
+    record({"image": IMAGE, "roads": HEX, "version": WIDE}),
+    record({"status": NUMBER}, {"publication": HEX, "image": IMAGE, **FAULT}),
+    run_signing,
+    make_signings,
 )
 
 AUDIT = {"image": IMAGE, "public": HEX, "chain": HEX, "publication": HEX, "reply": HEX, "from": NUMBER}
@@ -447,4 +500,4 @@ REDUCTIONS = Family(
     make_reductions,
 )
 
-FAMILIES = [DESKS, CHANGES, AUDITS, REDUCTIONS]
+FAMILIES = [DESKS, CHANGES, SIGNINGS, AUDITS, REDUCTIONS]

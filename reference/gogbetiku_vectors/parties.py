@@ -2,6 +2,7 @@
 
 Tested, not proved; no client trusts it.
 """
+import hashlib
 from collections.abc import Iterator
 from dataclasses import replace
 
@@ -23,7 +24,7 @@ from gogbetiku_reference.servers import Held, install
 from gogbetiku_reference.surveys import survey
 
 from .asking import GREATEST, books, put, turned
-from .families import HEX, NUMBER, TEXT, WIDE, Case, Family, Fields, answered, listed, octets, one_of, record
+from .families import AGAIN, DIGEST, HEX, NUMBER, TEXT, WIDE, Case, Family, Fields, answered, listed, octets, octets_again, one_of, record
 from .formats import PARTS, parts_fields
 from .scenes import LINE, LINE_LDM, PARAMETERS, SEED, SIX, STREETS, ZEROS, owner, published, settings_of
 
@@ -52,6 +53,12 @@ WIDE_MAP = Parts(
         if node + step < 29 and (step == 7 or node % 7 != 6) and not 14 <= node < 21 <= node + step
     ),
 )
+
+
+def zigzag(borders: int, more: int = 0) -> Parts:
+    """Nodes in a row to and fro between two cells, and some that have no road."""
+    nodes = tuple((node, node % 2, 0) for node in range(borders + more))
+    return Parts(nodes, tuple((node, node + 1, 1) for node in range(borders - 1)))
 
 
 def run_order(given: Fields) -> Fields:
@@ -226,6 +233,8 @@ def make_publications() -> Iterator[Case]:
             settings_of("dij", parameters=(1, 0, 0)),
         ),
         ("1,025 nodes under FULL", Parts(tuple((node, 0, 0) for node in range(1025)), ()), settings_of("full")),
+        ("2,049 borders under HYP", zigzag(2049), settings_of("hyp", parameters=(2, 1, 0))),
+        ("2,051 borders under HYP, and 3 nodes more", zigzag(2051, 3), settings_of("hyp", parameters=(2, 1, 0))),
     ]
     return answered(
         run_publication,
@@ -569,11 +578,11 @@ ROUTES = Family(
 
 def run_service(given: Fields) -> Fields:
     service = Service(held_in(given))
-    bodies, fault = bodies_of(octets(given["input"]))
-    return {
-        "output": b"".join(framed(service.step(body)) for body in bodies).hex(),
-        "end": "End" if fault is None else fault.name,
-    }
+    bodies, fault = bodies_of(octets_again(given, "input"))
+    output, end = b"".join(framed(service.step(body)) for body in bodies), "End" if fault is None else fault.name
+    if "again" in given:
+        return {"digest": hashlib.sha256(output).hexdigest(), "end": end}
+    return {"output": output.hex(), "end": end}
 
 
 def make_services() -> Iterator[Case]:
@@ -641,18 +650,31 @@ def make_services() -> Iterator[Case]:
         ("a length above the most", good + u32(4_194_305) + b"\x01"),
         ("the greatest length", u32(2**32 - 1)),
         ("the most octets announced, and none there", u32(4_194_304)),
+        ("the input ends within a length that would be too great", good + b"\xff\xff\xff"),
+        ("a length above the most, with all of its octets cut", good + u32(4_194_305)),
     ]
-    return answered(
+    publication = first.publication.octets().hex()
+    yield from answered(run_service, [(why, {"publication": publication, "input": text.hex()}) for why, text in rows])
+    long = [
+        ("a body of the most octets, of no form", u32(4_194_304) + b"\x09", "00", 4_194_303, begin(0)),
+        ("a body of one octet more", u32(4_194_305) + b"\x09", "00", 4_194_304, begin(0)),
+        ("1,000,000 frames, the last one begins", b"", "00000000", 999_999, begin(0)),
+        ("a frame more than 1,000,000", b"", "00000000", 1_000_000, begin(0)),
+    ]
+    yield from answered(
         run_service,
-        [(why, {"publication": first.publication.octets().hex(), "input": text.hex()}) for why, text in rows],
+        [
+            (why, {"publication": publication, "input": front.hex(), "again": [piece, times], "then": framed(then).hex()})
+            for why, front, piece, times, then in long
+        ],
     )
 
 
 SERVICES = Family(
     "services",
-    "What the service writes over frames of an input, from a first publication, and how the input ends.",
-    record({"publication": HEX, "input": HEX}),
-    record({"output": HEX, "end": one_of("End", "TruncatedFrame", "FrameTooLong")}),
+    "What the service writes over frames of an input, from a first publication, and how the input ends; where octets come again, the SHA-256 of what it writes.",
+    record({"publication": HEX, "input": HEX}, {"again": AGAIN, "then": HEX}),
+    record({"end": one_of("End", "TruncatedFrame", "FrameTooLong", "TooManyFrames")}, {"output": HEX, "digest": DIGEST}),
     run_service,
     make_services,
 )

@@ -16,14 +16,15 @@ use crate::order::nodes_by_id;
 use crate::parts::{Node, Parts, Road};
 use crate::placing::placed_roads;
 use crate::rising_ids::RisingIds;
-use octet_text::{NoMemory, collected};
+use octet_text::{NoMemory, collected, shared};
 use std::alloc::Global;
+use std::rc::Rc;
 
 /// What a map is made of beside its parts.
 #[derive(Drop)]
 pub struct Chart {
     pub order: Vec<Node>,
-    pub ids: RisingIds,
+    pub ids: Rc<RisingIds>,
     pub arcs: Net,
     pub net: Net,
 }
@@ -66,16 +67,17 @@ fn steps_of(
 pub fn chart_of(alloc: Global, parts: &Parts) -> Result<Chart, MapError>
     requires { IsSized parts.now }
     ensures chart { IfOk result (λ made.
-        IsBuilt parts.now made.order.items made.ids made.arcs made.net) }
+        IsBuilt parts.now made.order.items made.ids.value made.arcs made.net) }
     ensures fault { IfErr result (Fault parts.now) }
 {
     let order = nodes_by_id(alloc, parts.nodes.as_slice())?;
     let ids = rising_ids_of(alloc, order.as_slice())?;
     let net = steps_of(alloc, order.as_slice(), &ids, parts.roads.as_slice())?;
     let arcs = net.named(alloc, order.as_slice())?;
+    let held = shared(alloc, ids)?;
     Ok(Chart {
         order,
-        ids,
+        ids: held,
         arcs,
         net,
     })

@@ -3,7 +3,9 @@ use Rattle.std.proofs.Common.{◌≡◌, ℕ, nat_eq, cond, Bool, true, false, O
 use Rattle.road_map.specs.Places.{AreRising, place_in}
 use Rattle.road_map.proofs.RisingLaws.{differ, same, is_same, one_id}
 use Rattle.road_search.specs.declared.marks.Mark.{Mark}
-use Rattle.road_search.specs.Marking.{mark_at, marked}
+use Rattle.road_search.specs.Marking.{mark_at}
+use Rattle.road_search.specs.MarkLists.{MarkList}
+use Rattle.road_search.specs.Pages.{paged}
 use Rattle.road_search.specs.Listing.{mark_by, Listing, listed_by, listed, IsListing}
 
 -- the mark of an id with a place changes
@@ -51,12 +53,12 @@ by_place_none ids by_place id none = by_kind (place_in ids id)
     by_kind None = refl
     by_kind (Some p) = none p
 
-pub none_marked : (l : Listing) (marks : List (Option Mark)) → l.others ≡ [] → l.marks ≡ marks → ((p : ℕ) → marked marks p ≡ None) → (id : ℕ) → listed l id ≡ None
+pub none_marked : (l : Listing) (marks : List MarkList) → l.others ≡ [] → l.marks ≡ marks → ((p : ℕ) → paged marks p ≡ None) → (id : ℕ) → listed l id ≡ None
 none_marked l marks alone there none id = by_kind (place_in l.ids id)
   where
-    by_kind : (o : Option ℕ) → mark_by (marked l.marks) (mark_at l.others id) o ≡ None
+    by_kind : (o : Option ℕ) → mark_by (paged l.marks) (mark_at l.others id) o ≡ None
     by_kind None = ap (λ es. mark_at es id) alone
-    by_kind (Some p) = ap (λ ms. marked ms p) there ∙ none p
+    by_kind (Some p) = ap (λ ms. paged ms p) there ∙ none p
 
 -- which mark that is
 pub with_place : (ids : List ℕ) (by_place : ℕ → Option Mark) (others : List (ℕ × Mark)) (id k : ℕ) → place_in ids id ≡ Some k → by_place k ≡ listed_by ids by_place others id

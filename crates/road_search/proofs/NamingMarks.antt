@@ -1,7 +1,6 @@
 -- Marks of positions, named one by one and put by the ids of their nodes.
-use Rattle.std.proofs.Common.{◌≡◌, ℕ, Option, None, Some, List, [], map, slice_get, refl, ap, ◌∙◌}
-use Rattle.std.specs.Option.{option_map, unwrap_or}
-use Rattle.std.proofs.lemmas.Option.{slice_get-map}
+use Rattle.std.proofs.Common.{◌≡◌, ℕ, Option, None, List, [], ap, ◌∙◌}
+use Rattle.std.specs.Option.{option_map}
 use Rattle.road_map.specs.declared.parts.Node.{Node}
 use Rattle.road_map.specs.Places.{StandsAt, AreRising}
 use Rattle.road_map.specs.Nets.{IsPlace}
@@ -10,21 +9,12 @@ use Rattle.road_map.proofs.Among.{place_map, map_place}
 use Rattle.road_search.specs.declared.marks.Mark.{Mark}
 use Rattle.road_search.specs.Listing.{mark_by, listed_by}
 use Rattle.road_search.specs.Nets.{named, AreNamed}
-use Rattle.road_search.specs.Marking.{marked}
 use Rattle.road_map.proofs.RisingLaws.{found, missing}
 
--- the mark at a place, named
-at_named : (order : List Node) (o : Option (Option Mark)) → unwrap_or (option_map (option_map (named order)) o) None ≡ option_map (named order) (unwrap_or o None)
-at_named order None = refl
-at_named order (Some m) = refl
-
-pub marked_named : (order : List Node) (marks : List (Option Mark)) (p : ℕ) → marked (map (option_map (named order)) marks) p ≡ option_map (named order) (marked marks p)
-marked_named order marks p = ap (λ o. unwrap_or o None) (slice_get-map (option_map (named order)) marks p) ∙ at_named order (slice_get marks p)
-
-pub are_named : (order : List Node) (marks after : List (Option Mark)) (g : ℕ → Option Mark) → AreRising (ids order) → after ≡ map (option_map (named order)) marks → ((id : ℕ) → g id ≡ listed_by (ids order) (marked after) [] id) → AreNamed order (marked marks) g
+pub are_named : (order : List Node) (marks after g : ℕ → Option Mark) → AreRising (ids order) → ((p : ℕ) → after p ≡ option_map (named order) (marks p)) → ((id : ℕ) → g id ≡ listed_by (ids order) after [] id) → AreNamed order marks g
 are_named order marks after g rise all is = record {
-  each = λ id p at. is id ∙ (ap (mark_by (marked after) None) (found (ids order) id p rise (at.0.id, place_map (λ (n : Node). n.id) order p at.0 at.1, at.2)) ∙ (ap (λ ms. marked ms p) all ∙ marked_named order marks p));
-  others = λ id none. is id ∙ ap (mark_by (marked after) None) (missing (ids order) id (λ k at. nowhere id none k at));
+  each = λ id p at. is id ∙ (ap (mark_by after None) (found (ids order) id p rise (at.0.id, place_map (λ (n : Node). n.id) order p at.0 at.1, at.2)) ∙ all p);
+  others = λ id none. is id ∙ ap (mark_by after None) (missing (ids order) id (λ k at. nowhere id none k at));
 }
   where
     nowhere : (id : ℕ) → ((p : ℕ) → IsPlace order id p → ⊥) → (k : ℕ) → StandsAt (λ i. i) (ids order) id k → ⊥

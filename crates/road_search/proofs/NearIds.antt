@@ -1,22 +1,19 @@
 -- Ids that pass a test, among those that may have a mark.
-use Rattle.std.proofs.Common.{◌≡◌, ℕ, ◌+◌, ◌<◌, nat_eq, Bool, true, false, cond, Option, None, Some, IsSome, is_some, List, [], ◌∷◌, ◌++◌, inl, inr, map, length, get_or, take, refl, arith, ap, sym, ◌∙◌, subst}
-use Rattle.std.specs.Cmp.{nat_eq_equiv}
+use Rattle.std.proofs.Common.{◌≡◌, ℕ, zero, suc, ◌+◌, ◌<◌, ◌≤◌, nat_eq, Bool, true, false, cond, Option, None, Some, IsSome, is_some, List, [], ◌∷◌, ◌++◌, inl, inr, map, length, get_or, take, refl, arith, ap, sym, ◌∙◌, subst}
 use Rattle.std.specs.List.{filter, IsDistinct, Contains, AllByRecursion}
 use Rattle.std.specs.Map.{keys_of}
 use Rattle.std.specs.Option.{option_map}
-use Rattle.std.proofs.lemmas.List.{map-append, append-nil}
+use Rattle.std.proofs.lemmas.Bool.{cases_lt}
+use Rattle.std.proofs.lemmas.List.{map-append, append-nil, take_all}
 use Rattle.std.proofs.Common.{append_assoc}
-use Rattle.std.proofs.lemmas.List.Elements.{filter_more, Contains-append_left, Contains-append_right, Contains-append_cases}
+use Rattle.std.proofs.lemmas.List.Elements.{filter_more, Contains-append_cases}
 use Rattle.std.proofs.lemmas.Map.Keys.{IsDistinct-cons, IsDistinct-head, IsDistinct-tail}
-use Rattle.std.proofs.lemmas.Map.Views.{Contains-keys_from_lookup, IsSome-lookup_from_Contains}
-use Rattle.road_map.proofs.Among.{Contains-none, Contains-here, Contains-there, Contains-cases, contains_at, place_at}
+use Rattle.std.proofs.lemmas.Map.Views.{Contains-keys_from_lookup}
+use Rattle.road_map.proofs.Among.{Contains-none, Contains-here, Contains-there, Contains-cases}
 use Rattle.road_search.specs.declared.label.Label.{Label}
 use Rattle.road_search.specs.declared.marks.Mark.{Mark}
 use Rattle.road_search.specs.Marking.{mark_at}
-use Rattle.road_map.specs.Places.{place_in}
-use Rattle.road_search.specs.Listing.{mark_by, listed_by, IsListing}
 use Rattle.road_search.specs.Nearness.{is_within}
-use Rattle.road_map.proofs.RisingLaws.{rise_apart, stands, found}
 
 same_number : (x y : ℕ) → nat_eq x y ≡ true → x ≡ y
 same_number x y h = grind (arith, h)
@@ -41,7 +38,7 @@ differ : (x y : ℕ) → (x ≡ y → ⊥) → nat_eq x y ≡ false
 differ x y ne = grind (arith, ne)
 
 -- lists that share no id
-distinct_both : (xs ys : List ℕ) → IsDistinct nat_eq xs → IsDistinct nat_eq ys → ((x : ℕ) → Contains xs x → Contains ys x → ⊥) → IsDistinct nat_eq (xs ++ ys)
+pub distinct_both : (xs ys : List ℕ) → IsDistinct nat_eq xs → IsDistinct nat_eq ys → ((x : ℕ) → Contains xs x → Contains ys x → ⊥) → IsDistinct nat_eq (xs ++ ys)
 distinct_both [] ys dx dy none = dy
 distinct_both (x ∷ xs) ys dx dy none =
     IsDistinct-cons nat_eq x (xs ++ ys) (all_from (λ y. nat_eq x y ≡ false) (xs ++ ys) (λ y c. elim (Contains-append_cases xs ys y c) [
@@ -49,25 +46,12 @@ distinct_both (x ∷ xs) ys dx dy none =
       | inr d ↦ differ x y (λ e. none x (Contains-here x xs) (subst (Contains ys) (sym e) d))
     ])) (distinct_both xs ys (IsDistinct-tail nat_eq x xs dx) dy (λ y c d. none y (Contains-there x y xs c) d))
 
--- the ids with a place, and the others
-pub all_distinct : (ids : List ℕ) (others : List (ℕ × Mark)) → IsListing ids others → IsDistinct nat_eq (keys_of others) → IsDistinct nat_eq (ids ++ keys_of others)
-all_distinct ids others l apart = distinct_both ids (keys_of others) (rise_apart ids l.rise) apart (λ x c d.
-    let p = place_at ids x c in
-    let there : place_in ids x ≡ Some p.0 = found ids x p.0 l.rise (x, p.1, refl) in
-    let nowhere : place_in ids x ≡ None = l.apart x (IsSome-lookup_from_Contains nat_eq_equiv x others d) in
-    let bad : Some p.0 ≡ None = sym there ∙ nowhere in
-    cc)
-
-pub all_marked : (ids : List ℕ) (by_place : ℕ → Option Mark) (others : List (ℕ × Mark)) (id : ℕ) → IsSome (listed_by ids by_place others id) → Contains (ids ++ keys_of others) id
-all_marked ids by_place others id there = by_place_of (place_in ids id) refl there
-  where
-    by_place_of : (o : Option ℕ) → place_in ids id ≡ o → IsSome (mark_by by_place (mark_at others id) o) → Contains (ids ++ keys_of others) id
-    by_place_of None e t = Contains-append_right ids (keys_of others) id (Contains-keys_from_lookup same_number id others t)
-    by_place_of (Some k) e t = (let at = stands ids id k e in subst (Contains (ids ++ keys_of others)) at.2 (Contains-append_left ids (keys_of others) at.0 (contains_at ids k at.0 at.1)))
+pub keys_marked : (others : List (ℕ × Mark)) (id : ℕ) → IsSome (mark_at others id) → Contains (keys_of others) id
+keys_marked others id there = Contains-keys_from_lookup same_number id others there
 
 -- ---- those that pass a test
 
-among : (p : ℕ → Bool) (xs : List ℕ) (x : ℕ) → Contains (filter p xs) x → Contains xs x
+pub among : (p : ℕ → Bool) (xs : List ℕ) (x : ℕ) → Contains (filter p xs) x → Contains xs x
 among p [] x c = c
 among p (y ∷ ys) x c = by_test (p y) c (among p ys x)
   where
@@ -117,3 +101,13 @@ failing_more p xs before i lt so_far t = so_far ∙ (sym (append-nil (filter p (
 pub near_some : (most : ℕ) (o : Option Mark) → is_within most (option_map (λ (l : Label). l.length) (option_map (λ (m : Mark). m.label) o)) ≡ true → is_some o ≡ true
 near_some most None h = h
 near_some most (Some m) h = refl
+
+-- ids that don't pass
+pub skipped : (p : ℕ → Bool) (xs : List ℕ) (i n : ℕ) → ((k : ℕ) → i ≤ k → k < i + n → k < length xs → p (get_or xs k 0) ≡ false) → filter p (take i xs) ≡ filter p (take (i + n) xs)
+skipped p xs i zero none = ap (λ k. filter p (take k xs)) (omega arith)
+skipped p xs i (suc n) none =
+    let so_far : filter p (take i xs) ≡ filter p (take (i + n) xs) = skipped p xs i n (λ k le lt within. none k le (omega (arith, lt)) within) in
+    elim (cases_lt (i + n) (length xs)) [
+      | inl lt ↦ ap (λ k. filter p (take k xs)) (omega arith) ∙ failing_more p xs (filter p (take i xs)) (i + n) lt so_far (none (i + n) (omega arith) (omega arith) lt) ∙ ap (λ k. filter p (take k xs)) (omega arith)
+      | inr ge ↦ so_far ∙ (ap (filter p) (take_all (i + n) xs (omega (arith, ge)) ∙ sym (take_all (i + suc n) xs (omega (arith, ge)))))
+    ]

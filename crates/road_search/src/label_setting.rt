@@ -11,7 +11,6 @@ ghost use Rattle.road_search.specs.Nearness.{below};
 ghost use Rattle.road_search.specs.Queue.{IsFront};
 ghost use Rattle.road_search.specs.Labelling.{IsBegun, IsOffered, passable, length_at, length_in, route_at, route_in, IsWay};
 
-use crate::few::{Few, Unmarked};
 use crate::front::{Queue, offer, settle_least};
 use crate::ground::Ground;
 use crate::label::Label;
@@ -246,29 +245,9 @@ fn search_listed<G: Ground>(
     Ok(Labels::new(marks, lacking))
 }
 
-/// The same search, while it labels no more than a few.
-fn search_few<G: Ground>(
-    alloc: Global,
-    ground: &G,
-    from: u32,
-    limit: u64,
-) -> Result<Labels, Unmarked>
-    ensures lengths { IfOk result (λ found. (v : ℕ) →
-        IsLeastPassing (G.ways ground.now) from limit v (length_at found v)) }
-    ensures routes { IfOk result (λ found. (v : ℕ) →
-        IfSome (route_at found v) (IsWay (G.ways ground.now) from limit v (length_at found v))) }
-    ensures missing { IfOk result (λ found.
-        IsLeast (λ v. IsSome (length_at found v) × ((G.ways ground.now).arcs v ≡ None))
-        found.missing) }
-{
-    let mut marks = Few::none(alloc)?;
-    let lacking = search_in(alloc, ground, &mut marks, from, limit)?;
-    Ok(Labels::new(marks.into_listed(), lacking))
-}
-
 /// The least length below the limit of a passing walk from an id to each id, and such a walk.
 ///
-/// It costs what it labels, while that is little, and else a look at each of the ground's ids too.
+/// It costs what it labels, and takes memory as it does.
 pub fn search<G: Ground>(
     alloc: Global,
     ground: &G,
@@ -283,10 +262,7 @@ pub fn search<G: Ground>(
         IsLeast (λ v. IsSome (length_at found v) × ((G.ways ground.now).arcs v ≡ None))
         found.missing) }
 {
-    if let Ok(found) = search_few(alloc, ground, from, limit) {
-        return Ok(found);
-    }
     let ids = ground.ids(alloc)?;
-    let marks = Listed::new(alloc, ids)?;
+    let marks = Listed::new(alloc, ids);
     search_listed(alloc, ground, marks, from, limit)
 }

@@ -10,8 +10,9 @@ ghost use Rattle.road_search.specs.Nearness.{is_within};
 ghost use Rattle.road_search.specs.Labelling.{length_in};
 
 use crate::marks::{Mark, Marks};
-use crate::numbered::Numbered;
-use octet_text::{NoMemory, copied, insert, push, shared};
+use crate::nearby::{is_near, near_ids};
+use crate::paged::Paged;
+use octet_text::{NoMemory, extend, insert, push, shared};
 use road_map::RisingIds;
 use std::alloc::Global;
 use std::collections::BTreeMap;
@@ -23,7 +24,7 @@ use std::rc::Rc;
 #[derive(Drop)]
 pub struct Listed {
     ids: Rc<RisingIds>,
-    marks: Numbered,
+    marks: Paged,
     others: BTreeMap<u32, Mark>,
 }
 
@@ -34,7 +35,7 @@ impl Model for Listed {
 
     ghost view = { λ s. record {
       ids = s.ids.value;
-      marks = s.marks.marks.items;
+      marks = s.marks.pages;
       others = s.others.entries;
     } };
 
@@ -47,28 +48,22 @@ impl Listed {
         ensures { IfOk result (λ found. (id : ℕ) → listed found id ≡ None) }
     {
         let ids = shared(alloc, RisingIds::none(alloc))?;
-        Ok(Listed::of(alloc, ids, Numbered::new(alloc)))
+        Ok(Listed::of(alloc, ids, Paged::new(alloc)))
     }
 
-    /// How many ids have a mark and stand in no list.
-    pub(crate) fn others(&self) -> usize {
-        self.others.len()
-    }
-
-    /// No mark, and room by place for these ids.
-    pub fn new(alloc: Global, ids: Rc<RisingIds>) -> Result<Listed, NoMemory>
+    /// No mark, and places for these ids.
+    pub fn new(alloc: Global, ids: Rc<RisingIds>) -> Listed
         requires { AreRising ids.value }
-        ensures { IfOk result (λ found. (id : ℕ) → listed found id ≡ None) }
+        ensures { (id : ℕ) → listed result id ≡ None }
     {
-        let marks = Numbered::for_ids(alloc, ids.as_slice())?;
-        Ok(Listed::of(alloc, ids, marks))
+        Listed::of(alloc, ids, Paged::new(alloc))
     }
 
     /// The marks of these ids, by place.
-    pub fn of(alloc: Global, ids: Rc<RisingIds>, marks: Numbered) -> Listed
+    pub fn of(alloc: Global, ids: Rc<RisingIds>, marks: Paged) -> Listed
         requires { AreRising ids.value }
         ensures ids { result.ids ≡ ids.value }
-        ensures marks { result.marks ≡ marks.marks.items }
+        ensures marks { result.marks ≡ marks.pages }
         ensures others { result.others ≡ [] }
     {
         Listed {
@@ -78,17 +73,34 @@ impl Listed {
         }
     }
 
-    /// All ids that may have a mark, each once.
-    fn all(&self, alloc: Global) -> Result<Vec<u32>, NoMemory>
+    /// The ids that stand in no list and have a mark, each once.
+    fn others(&self, alloc: Global) -> Result<Vec<u32>, NoMemory>
         ensures distinct { IfOk result (λ ids. IsDistinct nat_eq ids.items) }
-        ensures all { IfOk result (λ ids. (id : ℕ) → IsSome (listed self.now id) →
+        ensures all { IfOk result (λ ids. (id : ℕ) → IsSome (mark_at self.now.others id) →
             Contains ids.items id) }
     {
-        let mut all = copied(alloc, self.ids.as_slice())?;
+        let mut all = Vec::new(alloc);
         for (id, _mark) in self.others.iter() {
             push(&mut all, *id)?;
         }
         Ok(all)
+    }
+
+    /// Those of them whose labels are at most this long, each once.
+    fn others_near(&self, alloc: Global, most: u64) -> Result<Vec<u32>, NoMemory>
+        ensures distinct { IfOk result (λ ids. IsDistinct nat_eq ids.items) }
+        ensures same { IfOk result
+            (λ ids. (id : ℕ) → Contains ids.items id ↔
+            IsTrue (is_within most (length_in (mark_at self.now.others) id))) }
+    {
+        let all = self.others(alloc)?;
+        let mut near = Vec::new(alloc);
+        for id in &all {
+            if is_near(other_mark(&self.others, *id), most) {
+                push(&mut near, *id)?;
+            }
+        }
+        Ok(near)
     }
 
     /// The ids whose labels are at most this long, each once, in no order.
@@ -98,13 +110,9 @@ impl Listed {
             (λ ids. (id : ℕ) → Contains ids.items id ↔
             IsTrue (is_within most (length_in (listed self.now) id))) }
     {
-        let all = self.all(alloc)?;
-        let mut near = Vec::new(alloc);
-        for id in &all {
-            if is_near(self.get(*id), most) {
-                push(&mut near, *id)?;
-            }
-        }
+        let others = self.others_near(alloc, most)?;
+        let mut near = near_ids(alloc, self.ids.as_slice(), &self.marks, most)?;
+        extend(&mut near, others.as_slice())?;
         Ok(near)
     }
 }
@@ -125,16 +133,6 @@ fn set_other(others: &mut BTreeMap<u32, Mark>, id: u32, new: Mark) -> Result<(),
 {
     insert(others, id, new)?;
     Ok(())
-}
-
-/// Whether a mark is there and its label at most this long.
-fn is_near(mark: Option<Mark>, most: u64) -> bool
-    ensures { result ≡ is_within most (option_map (λ l. l.length) (option_map (λ m. m.label) mark)) }
-{
-    match mark {
-        None => false,
-        Some(mark) => mark.label.length <= most,
-    }
 }
 
 impl Marks for Listed {
@@ -158,7 +156,6 @@ impl Marks for Listed {
                 Ok(())
             }
             Some(place) => {
-                let _ids = self.ids.as_slice();
                 self.marks.put(place, new)?;
                 Ok(())
             }

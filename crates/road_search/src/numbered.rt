@@ -24,15 +24,6 @@ impl Numbered {
         }
     }
 
-    /// No mark, and room for as many as there are ids.
-    pub(crate) fn for_ids(alloc: Global, ids: &[u32]) -> Result<Numbered, NoMemory>
-        ensures { IfOk result (λ marks. (id : ℕ) →
-            ⟦<Numbered as Marks>⟧.mark marks id ≡ None) }
-    {
-        let marks = Slots::for_ids(alloc, ids)?;
-        Ok(Numbered { marks })
-    }
-
     /// Takes all marks away, and keeps the room.
     pub fn clear(&mut self)
         ensures { (id : ℕ) → ⟦<Numbered as Marks>⟧.mark self.new id ≡ None }

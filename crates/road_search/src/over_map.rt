@@ -7,13 +7,12 @@ ghost use Rattle.road_search.specs.Labelling.{length_at, route_at};
 ghost use Rattle.road_search.specs.Listing.{listed};
 ghost use Rattle.road_search.specs.OverMap.{map_ways, IsShortestWay, MeasuresTo};
 
-use crate::few::{Few, Unmarked};
 use crate::ground::Ground;
 use crate::label_setting::search_to;
 use crate::labels::Labels;
 use crate::listed::Listed;
 use crate::naming::by_ids;
-use crate::numbered::Numbered;
+use crate::paged::Paged;
 use crate::places::placed_ids;
 use octet_text::NoMemory;
 use road_map::{Arc, Map, RisingIds, map_laws};
@@ -65,25 +64,7 @@ fn no_labels(alloc: Global) -> Result<Labels, NoMemory>
     Ok(Labels::new(marks, None))
 }
 
-/// The distances from a node to one end and to all that is as near, while the labels are few.
-pub(crate) fn few_distances(
-    alloc: Global,
-    map: &Map,
-    from: u32,
-    to: u32,
-) -> Result<Labels, Unmarked>
-    requires { Knows map.now.parts from }
-    ensures { IfOk result (MeasuresTo map.now.parts from to) }
-{
-    map_laws();
-    let _parts = map.parts();
-    let whole = WholeMap { map };
-    let mut marks = Few::none(alloc)?;
-    let _bound = search_to(alloc, &whole, &mut marks, from, to, u64::MAX)?;
-    Ok(Labels::new(marks.into_listed(), None))
-}
-
-/// The same by position, and then named by ids.
+/// The distances from a node to one end and to all that is as near, by position, and then named by ids.
 fn distances_by_position(alloc: Global, map: &Map, from: u32, to: u32) -> Result<Labels, NoMemory>
     requires { Knows map.now.parts from }
     ensures { IfOk result (MeasuresTo map.now.parts from to) }
@@ -95,7 +76,7 @@ fn distances_by_position(alloc: Global, map: &Map, from: u32, to: u32) -> Result
         let none = no_labels(alloc)?;
         return Ok(none);
     };
-    let mut marks = Numbered::new(alloc);
+    let mut marks = Paged::new(alloc);
     let net = map.net();
     let _bound = search_to(alloc, net, &mut marks, start, end, u64::MAX)?;
     let found = by_ids(alloc, map, &marks)?;
@@ -104,8 +85,7 @@ fn distances_by_position(alloc: Global, map: &Map, from: u32, to: u32) -> Result
 
 /// The distances from a node to one end and to all that is as near, and a shortest route to that end.
 ///
-/// It costs what is as near as the end, or all that a walk leads to where none leads to the end, and
-/// where that is much a look at each node too. A length beyond that of the end says nothing.
+/// It costs what is as near as the end, or all that a walk leads to where none leads to the end. A length beyond that of the end says nothing.
 pub fn distances_to(alloc: Global, map: &Map, from: u32, to: u32) -> Result<Labels, NoMemory>
     requires { Knows map.now.parts from }
     ensures end { IfOk result (λ found. length_at found to ≡ distance map.now.parts from to) }
@@ -115,8 +95,5 @@ pub fn distances_to(alloc: Global, map: &Map, from: u32, to: u32) -> Result<Labe
         d ≤ most → (length_at found v ≡ Some d) ↔ (distance map.now.parts from v ≡ Some d)) }
     ensures missing { IfOk result (λ found. found.missing ≡ None) }
 {
-    match few_distances(alloc, map, from, to) {
-        Ok(found) => Ok(found),
-        Err(_) => distances_by_position(alloc, map, from, to),
-    }
+    distances_by_position(alloc, map, from, to)
 }

@@ -4,7 +4,7 @@ ghost use Rattle.std.specs.Prelude.{◌≡◌, IfOk};
 ghost use Rattle.road_map.specs.Places.{AreRising};
 ghost use Rattle.road_map.specs.Walks.{ids};
 
-use octet_text::{NoMemory, shared};
+use octet_text::NoMemory;
 use road_map::{Map, RisingIds};
 use std::alloc::Global;
 use std::rc::Rc;
@@ -19,12 +19,12 @@ pub fn rising_ids(alloc: Global, map: &Map) -> Result<Vec<u32>, NoMemory>
     Ok(found.into_vec())
 }
 
-/// The same, parted for look-ups.
-pub fn placed_ids(alloc: Global, map: &Map) -> Result<Rc<RisingIds>, NoMemory>
+/// The same, in which an id is found quickly, as the map keeps them.
+pub fn placed_ids(_alloc: Global, map: &Map) -> Result<Rc<RisingIds>, NoMemory>
     ensures ids { IfOk result (λ found. found.value ≡ ids map.now.order) }
     ensures rise { IfOk result (λ found. AreRising found.value) }
 {
-    let found = rising_ids(alloc, map)?;
-    let placed = RisingIds::new(alloc, found)?;
-    shared(alloc, placed)
+    let _parts = map.parts();
+    let found = map.rising_ids()?;
+    Ok(found)
 }

@@ -9,7 +9,7 @@ ghost use Rattle.road_search.specs.Nets.{id_at};
 use crate::label_setting::search_to;
 use crate::labels::way_back;
 use crate::naming::id_at;
-use crate::numbered::Numbered;
+use crate::paged::Paged;
 use crate::path::Path;
 use octet_text::{NoMemory, push, room_for};
 use road_map::{Ids, Map, map_laws};
@@ -45,7 +45,7 @@ pub fn shortest_by_position(
     let Some(end) = map.position(to) else {
         return Ok(None);
     };
-    let mut marks = Numbered::new(alloc);
+    let mut marks = Paged::new(alloc);
     let net = map.net();
     let _bound = search_to(alloc, net, &mut marks, start, end, u64::MAX)?;
     let Some(mark) = marks.at(end as usize) else {

@@ -129,14 +129,6 @@ impl Slots {
         }
     }
 
-    /// No mark, and room for as many as there are ids.
-    pub fn for_ids(alloc: Global, ids: &[u32]) -> Result<Slots, NoMemory>
-        ensures { IfOk result (λ slots. slots.items ≡ []) }
-    {
-        let slots = room_for(alloc, ids)?;
-        Ok(Slots { slots })
-    }
-
     /// No mark, and room for as many as others have.
     pub fn as_many_as(alloc: Global, others: &Slots) -> Result<Slots, NoMemory>
         ensures { IfOk result (λ slots. slots.items ≡ []) }
@@ -160,6 +152,14 @@ impl Slots {
             None => None,
             Some(slot) => mark_in(slot),
         }
+    }
+
+    /// Room for this many numbers, where there was less.
+    pub fn widen(&mut self, count: usize) -> Result<(), NoMemory>
+        ensures { OnOk result ((v : ℕ) → marked self.new.items v ≡ marked self.old.items v) }
+    {
+        fill_up(&mut self.slots, count, FREE)?;
+        Ok(())
     }
 
     /// Gives a number this mark.

@@ -36,8 +36,8 @@ returns-in_err-net-clause-fault c =
 pub returns-clause-chart : goal.returns-clause-chart
 returns-clause-chart c =
     let o = ordered c.args.parts.now c.as_slice.result.now c.in_ok-order.order.items c.as_slice.ensures c.requires c.in_ok-order.ensures.distinct c.in_ok-order.ensures.same c.in_ok-order.ensures.by_id in
-    built c.args.parts.now c.in_ok-order.order.items o c.in_ok-ids.ids c.in_ok-arcs.arcs c.in_ok-net.net
+    rw c.in_ok-held.ensures.ok (built c.args.parts.now c.in_ok-order.order.items o c.in_ok-ids.ids c.in_ok-arcs.arcs c.in_ok-net.net
     (c.in_ok-ids.ensures ∙ ap ids c.as_slice-2.ensures.value)
     (c.in_ok-arcs.ensures ∙ ap (λ (order : List Node). map (map (named_arc order)) c.in_ok-net.net) c.as_slice-5.ensures.value)
     (subst (λ (order : List Node). AreSteps order c.args.parts.now.roads c.in_ok-net.net) c.as_slice-3.ensures.value
-    (subst (λ (roads : List Road). AreSteps c.as_slice-3.result.now roads c.in_ok-net.net) c.as_slice-4.ensures c.in_ok-net.ensures.steps))
+    (subst (λ (roads : List Road). AreSteps c.as_slice-3.result.now roads c.in_ok-net.net) c.as_slice-4.ensures c.in_ok-net.ensures.steps)))

@@ -6,7 +6,7 @@ use Rattle.road_search.specs.OverMap.{IsShortestWay}
 use Rattle.road_search.specs.Listing.{listed}
 use Rattle.road_search.specs.Labelling.{length_at, route_at, label_at, way_to}
 use Rattle.road_search.specs.Nearness.{below}
-use Rattle.road_search.specs.Marking.{marked}
+use Rattle.road_search.specs.Pages.{paged}
 use Rattle.road_search.proofs.WholeMapLaws.{end_same, end_ways, near_same, below_is}
 use Rattle.road_search.proofs.NamedSearch.{named_lengths, named_route, named_end, named_whole, no_end, no_length, place_known}
 use Rattle.road_search.proofs.over_map.distances_by_position.Goals as goal
@@ -29,11 +29,11 @@ returns-in_default c =
 
 pub returns : goal.returns
 returns c = record {
-  end = end_same c.args.map.now.parts c.parts-parts.ensures.is_map (c.map_laws.ensures.distances c.args.map.now.parts c.parts-parts.ensures.is_map) c.args.from c.in_ok-_bound._bound 18446744073709551615 c.args.to (length_at c.new.result c.args.to) c.requires (lit≤ tt) c.in_ok-_bound.ensures.least (rw c.new.ensures.labels (named_whole c.args.map.now.parts c.args.map.now.order c.net-net.result.now c.parts-parts.ensures.is_map c.parts-parts.ensures.by_id c.net-net.ensures (marked c.search_to.new.marks.marks.items) (listed c.in_ok-found.found) c.in_ok-found.ensures c.args.from c.args.to c.place-start.result c.in-Some.end c.in_ok-_bound._bound c.place-start.ensures.place c.in-Some.ensures.found 18446744073709551615 c.in_ok-_bound.ensures.whole)) (rw c.new.ensures.labels ((named_lengths c.args.map.now.parts c.args.map.now.order c.net-net.result.now c.parts-parts.ensures.is_map c.parts-parts.ensures.by_id c.net-net.ensures (marked c.search_to.new.marks.marks.items) (listed c.in_ok-found.found) c.in_ok-found.ensures c.args.from c.args.to c.place-start.result c.in-Some.end c.in_ok-_bound._bound c.place-start.ensures.place c.in-Some.ensures.found c.in_ok-_bound.ensures.lengths) c.args.to)) (rw c.new.ensures.labels (named_end c.args.map.now.parts c.args.map.now.order c.net-net.result.now c.parts-parts.ensures.is_map c.parts-parts.ensures.by_id c.net-net.ensures (marked c.search_to.new.marks.marks.items) (listed c.in_ok-found.found) c.in_ok-found.ensures c.args.from c.args.to c.place-start.result c.in-Some.end c.in_ok-_bound._bound c.place-start.ensures.place c.in-Some.ensures.found c.in_ok-_bound.ensures.end));
-  route = end_ways c.args.map.now.parts c.parts-parts.ensures.is_map c.args.from c.in_ok-_bound._bound 18446744073709551615 c.args.to (length_at c.new.result c.args.to) (route_at c.new.result c.args.to) c.requires (lit≤ tt) c.in_ok-_bound.ensures.least (rw c.new.ensures.labels (named_whole c.args.map.now.parts c.args.map.now.order c.net-net.result.now c.parts-parts.ensures.is_map c.parts-parts.ensures.by_id c.net-net.ensures (marked c.search_to.new.marks.marks.items) (listed c.in_ok-found.found) c.in_ok-found.ensures c.args.from c.args.to c.place-start.result c.in-Some.end c.in_ok-_bound._bound c.place-start.ensures.place c.in-Some.ensures.found 18446744073709551615 c.in_ok-_bound.ensures.whole)) (rw c.new.ensures.labels ((named_lengths c.args.map.now.parts c.args.map.now.order c.net-net.result.now c.parts-parts.ensures.is_map c.parts-parts.ensures.by_id c.net-net.ensures (marked c.search_to.new.marks.marks.items) (listed c.in_ok-found.found) c.in_ok-found.ensures c.args.from c.args.to c.place-start.result c.in-Some.end c.in_ok-_bound._bound c.place-start.ensures.place c.in-Some.ensures.found c.in_ok-_bound.ensures.lengths) c.args.to)) (rw c.new.ensures.labels (named_end c.args.map.now.parts c.args.map.now.order c.net-net.result.now c.parts-parts.ensures.is_map c.parts-parts.ensures.by_id c.net-net.ensures (marked c.search_to.new.marks.marks.items) (listed c.in_ok-found.found) c.in_ok-found.ensures c.args.from c.args.to c.place-start.result c.in-Some.end c.in_ok-_bound._bound c.place-start.ensures.place c.in-Some.ensures.found c.in_ok-_bound.ensures.end)) (rw c.new.ensures.labels (named_route c.args.map.now.parts c.args.map.now.order c.net-net.result.now c.parts-parts.ensures.is_map c.parts-parts.ensures.by_id c.net-net.ensures (marked c.search_to.new.marks.marks.items) (listed c.in_ok-found.found) c.in_ok-found.ensures c.args.from c.args.to c.place-start.result c.in-Some.end c.in_ok-_bound._bound c.place-start.ensures.place c.in-Some.ensures.found c.in_ok-_bound.ensures.route));
+  end = end_same c.args.map.now.parts c.parts-parts.ensures.is_map (c.map_laws.ensures.distances c.args.map.now.parts c.parts-parts.ensures.is_map) c.args.from c.in_ok-_bound._bound 18446744073709551615 c.args.to (length_at c.new.result c.args.to) c.requires (lit≤ tt) c.in_ok-_bound.ensures.least (rw c.new.ensures.labels (named_whole c.args.map.now.parts c.args.map.now.order c.net-net.result.now c.parts-parts.ensures.is_map c.parts-parts.ensures.by_id c.net-net.ensures (paged c.search_to.new.marks.pages) (listed c.in_ok-found.found) c.in_ok-found.ensures c.args.from c.args.to c.place-start.result c.in-Some.end c.in_ok-_bound._bound c.place-start.ensures.place c.in-Some.ensures.found 18446744073709551615 c.in_ok-_bound.ensures.whole)) (rw c.new.ensures.labels ((named_lengths c.args.map.now.parts c.args.map.now.order c.net-net.result.now c.parts-parts.ensures.is_map c.parts-parts.ensures.by_id c.net-net.ensures (paged c.search_to.new.marks.pages) (listed c.in_ok-found.found) c.in_ok-found.ensures c.args.from c.args.to c.place-start.result c.in-Some.end c.in_ok-_bound._bound c.place-start.ensures.place c.in-Some.ensures.found c.in_ok-_bound.ensures.lengths) c.args.to)) (rw c.new.ensures.labels (named_end c.args.map.now.parts c.args.map.now.order c.net-net.result.now c.parts-parts.ensures.is_map c.parts-parts.ensures.by_id c.net-net.ensures (paged c.search_to.new.marks.pages) (listed c.in_ok-found.found) c.in_ok-found.ensures c.args.from c.args.to c.place-start.result c.in-Some.end c.in_ok-_bound._bound c.place-start.ensures.place c.in-Some.ensures.found c.in_ok-_bound.ensures.end));
+  route = end_ways c.args.map.now.parts c.parts-parts.ensures.is_map c.args.from c.in_ok-_bound._bound 18446744073709551615 c.args.to (length_at c.new.result c.args.to) (route_at c.new.result c.args.to) c.requires (lit≤ tt) c.in_ok-_bound.ensures.least (rw c.new.ensures.labels (named_whole c.args.map.now.parts c.args.map.now.order c.net-net.result.now c.parts-parts.ensures.is_map c.parts-parts.ensures.by_id c.net-net.ensures (paged c.search_to.new.marks.pages) (listed c.in_ok-found.found) c.in_ok-found.ensures c.args.from c.args.to c.place-start.result c.in-Some.end c.in_ok-_bound._bound c.place-start.ensures.place c.in-Some.ensures.found 18446744073709551615 c.in_ok-_bound.ensures.whole)) (rw c.new.ensures.labels ((named_lengths c.args.map.now.parts c.args.map.now.order c.net-net.result.now c.parts-parts.ensures.is_map c.parts-parts.ensures.by_id c.net-net.ensures (paged c.search_to.new.marks.pages) (listed c.in_ok-found.found) c.in_ok-found.ensures c.args.from c.args.to c.place-start.result c.in-Some.end c.in_ok-_bound._bound c.place-start.ensures.place c.in-Some.ensures.found c.in_ok-_bound.ensures.lengths) c.args.to)) (rw c.new.ensures.labels (named_end c.args.map.now.parts c.args.map.now.order c.net-net.result.now c.parts-parts.ensures.is_map c.parts-parts.ensures.by_id c.net-net.ensures (paged c.search_to.new.marks.pages) (listed c.in_ok-found.found) c.in_ok-found.ensures c.args.from c.args.to c.place-start.result c.in-Some.end c.in_ok-_bound._bound c.place-start.ensures.place c.in-Some.ensures.found c.in_ok-_bound.ensures.end)) (rw c.new.ensures.labels (named_route c.args.map.now.parts c.args.map.now.order c.net-net.result.now c.parts-parts.ensures.is_map c.parts-parts.ensures.by_id c.net-net.ensures (paged c.search_to.new.marks.pages) (listed c.in_ok-found.found) c.in_ok-found.ensures c.args.from c.args.to c.place-start.result c.in-Some.end c.in_ok-_bound._bound c.place-start.ensures.place c.in-Some.ensures.found c.in_ok-_bound.ensures.route));
   near = λ v d most is le.
-      let same : below c.in_ok-_bound._bound (length_at c.new.result c.args.to) ≡ length_at c.new.result c.args.to = rw c.new.ensures.labels (named_end c.args.map.now.parts c.args.map.now.order c.net-net.result.now c.parts-parts.ensures.is_map c.parts-parts.ensures.by_id c.net-net.ensures (marked c.search_to.new.marks.marks.items) (listed c.in_ok-found.found) c.in_ok-found.ensures c.args.from c.args.to c.place-start.result c.in-Some.end c.in_ok-_bound._bound c.place-start.ensures.place c.in-Some.ensures.found c.in_ok-_bound.ensures.end) in
+      let same : below c.in_ok-_bound._bound (length_at c.new.result c.args.to) ≡ length_at c.new.result c.args.to = rw c.new.ensures.labels (named_end c.args.map.now.parts c.args.map.now.order c.net-net.result.now c.parts-parts.ensures.is_map c.parts-parts.ensures.by_id c.net-net.ensures (paged c.search_to.new.marks.pages) (listed c.in_ok-found.found) c.in_ok-found.ensures c.args.from c.args.to c.place-start.result c.in-Some.end c.in_ok-_bound._bound c.place-start.ensures.place c.in-Some.ensures.found c.in_ok-_bound.ensures.end) in
       let short : most < c.in_ok-_bound._bound = (below_is c.in_ok-_bound._bound (length_at c.new.result c.args.to) most (same ∙ is)).1 in
-      near_same c.args.map.now.parts c.parts-parts.ensures.is_map (c.map_laws.ensures.distances c.args.map.now.parts c.parts-parts.ensures.is_map) c.args.from c.in_ok-_bound._bound 18446744073709551615 v d (length_at c.new.result v) c.requires (lit≤ tt) c.in_ok-_bound.ensures.least (omega (arith, le, short)) (rw c.new.ensures.labels ((named_lengths c.args.map.now.parts c.args.map.now.order c.net-net.result.now c.parts-parts.ensures.is_map c.parts-parts.ensures.by_id c.net-net.ensures (marked c.search_to.new.marks.marks.items) (listed c.in_ok-found.found) c.in_ok-found.ensures c.args.from c.args.to c.place-start.result c.in-Some.end c.in_ok-_bound._bound c.place-start.ensures.place c.in-Some.ensures.found c.in_ok-_bound.ensures.lengths) v));
+      near_same c.args.map.now.parts c.parts-parts.ensures.is_map (c.map_laws.ensures.distances c.args.map.now.parts c.parts-parts.ensures.is_map) c.args.from c.in_ok-_bound._bound 18446744073709551615 v d (length_at c.new.result v) c.requires (lit≤ tt) c.in_ok-_bound.ensures.least (omega (arith, le, short)) (rw c.new.ensures.labels ((named_lengths c.args.map.now.parts c.args.map.now.order c.net-net.result.now c.parts-parts.ensures.is_map c.parts-parts.ensures.by_id c.net-net.ensures (paged c.search_to.new.marks.pages) (listed c.in_ok-found.found) c.in_ok-found.ensures c.args.from c.args.to c.place-start.result c.in-Some.end c.in_ok-_bound._bound c.place-start.ensures.place c.in-Some.ensures.found c.in_ok-_bound.ensures.lengths) v));
   missing = c.new.ensures.missing;
 }

@@ -1,30 +1,27 @@
-use Rattle.std.proofs.Common.{Bool, get_or, ◌≡◌, ℕ, take, nat_eq, sym, ◌∙◌, ap, subst, arith}
+use Rattle.std.proofs.Common.{◌≡◌, ℕ, List, ◌++◌, nat_eq, true, sym, ◌∙◌, ap, subst}
 use Rattle.std.specs.List.{IsDistinct, Contains, filter}
-use Rattle.std.proofs.lemmas.List.{take_all}
+use Rattle.std.specs.Option.{option_map}
+use Rattle.road_search.specs.declared.label.Label.{Label}
+use Rattle.road_search.specs.declared.marks.Mark.{Mark}
+use Rattle.road_search.specs.Listing.{Listing, listed, listed_by, is_near_at}
+use Rattle.road_search.specs.Marking.{mark_at}
 use Rattle.road_search.specs.Nearness.{is_within}
-use Rattle.road_search.specs.Labelling.{length_in}
-use Rattle.road_search.specs.Listing.{listed}
-use Rattle.road_search.proofs.NearIds.{passing_more, failing_more, filter_distinct, passes, keeps, near_some}
+use Rattle.road_search.specs.Pages.{paged}
+use Rattle.road_search.proofs.NearBoth.{both_distinct, both_same}
 use Rattle.road_search.proofs.listed.Listed.near.Goals as goal
-use Rattle.road_search.proofs.listed.Listed.near.Goals.{then-is_near+in_ok-push, else-is_near}
-
-pub loop-id-preserved : goal.loop-id-preserved
-loop-id-preserved c =
-    let p : ℕ → Bool = λ v. is_within c.args.most (length_in (listed c.args.self.now) v) in
-    let short : c.is_near.result ≡ p (get_or c.deref-id-items.result.now c.loop-id.id-index 0) = cc in
-    elim c.if-is_near.branch [
-      | then-is_near+in_ok-push w ↦ passing_more p c.deref-id-items.result.now c.loop-id.near.items c.if-is_near.near.items c.loop-id.id-index c.loop-id-test.true c.loop-id.invariant (sym short ∙ w.if-is_near.true) (ap (λ v. v.items) w.near-is ∙ w.in_ok-push.ensures.items)
-      | else-is_near w ↦ ap (λ v. v.items) w.near-is ∙ failing_more p c.deref-id-items.result.now c.loop-id.near.items c.loop-id.id-index c.loop-id-test.true c.loop-id.invariant (sym short ∙ w.if-is_near.false)
-    ]
 
 pub returns-clause-distinct : goal.returns-clause-distinct
 returns-clause-distinct c =
-    let whole : c.loop-id.near.items ≡ filter (λ v. is_within c.args.most (length_in (listed c.args.self.now) v)) c.in_ok-all.all.items = c.loop-id.invariant ∙ ap (filter (λ v. is_within c.args.most (length_in (listed c.args.self.now) v))) (ap (take c.loop-id.id-index) c.deref-id-items.ensures.value ∙ take_all c.loop-id.id-index c.in_ok-all.all.items (omega arith)) in
-    subst (IsDistinct nat_eq) (sym whole) (filter_distinct (λ v. is_within c.args.most (length_in (listed c.args.self.now) v)) c.in_ok-all.all.items c.in_ok-all.ensures.distinct)
+    let ids : List ℕ = c.self.inside.ids.value in
+    let placed : c.in_ok-near.near.items ≡ filter (is_near_at ids (paged c.self.inside.marks.pages) c.args.most) ids = c.in_ok-near.ensures ∙ ap (λ xs. filter (is_near_at xs (paged c.self.inside.marks.pages) c.args.most) xs) (c.as_slice.ensures ∙ c.deref.ensures) in
+    let whole : c.extend.new.list.items ≡ filter (is_near_at ids (paged c.self.inside.marks.pages) c.args.most) ids ++ c.in_ok-others.others.items = c.in_ok-extend.ensures.items ∙ (ap (λ xs. xs ++ c.as_slice-2.result.now) placed ∙ ap (λ ys. filter (is_near_at ids (paged c.self.inside.marks.pages) c.args.most) ids ++ ys) c.as_slice-2.ensures.value) in
+    subst (IsDistinct nat_eq) (sym whole) (both_distinct ids (paged c.self.inside.marks.pages) c.self.inside.others.entries c.args.most c.in_ok-others.others.items c.self.invariant (subst (λ (l : Listing). (id : ℕ) → (Contains c.in_ok-others.others.items id → is_within c.args.most (option_map (λ (m : Label). m.length) (option_map (λ (m : Mark). m.label) (mark_at l.others id))) ≡ true) × (is_within c.args.most (option_map (λ (m : Label). m.length) (option_map (λ (m : Mark). m.label) (mark_at l.others id))) ≡ true → Contains c.in_ok-others.others.items id)) (sym c.self.view_is) c.in_ok-others.ensures.same) c.in_ok-others.ensures.distinct)
 
 pub returns-clause-same : goal.returns-clause-same
-returns-clause-same c = λ id.
-    let whole : c.loop-id.near.items ≡ filter (λ v. is_within c.args.most (length_in (listed c.args.self.now) v)) c.in_ok-all.all.items = c.loop-id.invariant ∙ ap (filter (λ v. is_within c.args.most (length_in (listed c.args.self.now) v))) (ap (take c.loop-id.id-index) c.deref-id-items.ensures.value ∙ take_all c.loop-id.id-index c.in_ok-all.all.items (omega arith)) in (
-      λ there. passes (λ v. is_within c.args.most (length_in (listed c.args.self.now) v)) c.in_ok-all.all.items id (subst (λ xs. Contains xs id) whole there),
-      λ short. subst (λ xs. Contains xs id) (sym whole) (keeps (λ v. is_within c.args.most (length_in (listed c.args.self.now) v)) c.in_ok-all.all.items id (c.in_ok-all.ensures.all id (near_some c.args.most (listed c.args.self.now id) short)) short),
-    )
+returns-clause-same c =
+    let ids : List ℕ = c.self.inside.ids.value in
+    let placed : c.in_ok-near.near.items ≡ filter (is_near_at ids (paged c.self.inside.marks.pages) c.args.most) ids = c.in_ok-near.ensures ∙ ap (λ xs. filter (is_near_at xs (paged c.self.inside.marks.pages) c.args.most) xs) (c.as_slice.ensures ∙ c.deref.ensures) in
+    let whole : c.extend.new.list.items ≡ filter (is_near_at ids (paged c.self.inside.marks.pages) c.args.most) ids ++ c.in_ok-others.others.items = c.in_ok-extend.ensures.items ∙ (ap (λ xs. xs ++ c.as_slice-2.result.now) placed ∙ ap (λ ys. filter (is_near_at ids (paged c.self.inside.marks.pages) c.args.most) ids ++ ys) c.as_slice-2.ensures.value) in
+    subst (λ (l : Listing). (id : ℕ) → (Contains c.extend.new.list.items id → is_within c.args.most (option_map (λ (m : Label). m.length) (option_map (λ (m : Mark). m.label) (listed l id))) ≡ true) × (is_within c.args.most (option_map (λ (m : Label). m.length) (option_map (λ (m : Mark). m.label) (listed l id))) ≡ true → Contains c.extend.new.list.items id)) c.self.view_is
+    (subst (λ xs. (id : ℕ) → (Contains xs id → is_within c.args.most (option_map (λ (m : Label). m.length) (option_map (λ (m : Mark). m.label) (listed_by ids (paged c.self.inside.marks.pages) c.self.inside.others.entries id))) ≡ true) × (is_within c.args.most (option_map (λ (m : Label). m.length) (option_map (λ (m : Mark). m.label) (listed_by ids (paged c.self.inside.marks.pages) c.self.inside.others.entries id))) ≡ true → Contains xs id)) (sym whole)
+    (both_same ids (paged c.self.inside.marks.pages) c.self.inside.others.entries c.args.most c.in_ok-others.others.items c.self.invariant (subst (λ (l : Listing). (id : ℕ) → (Contains c.in_ok-others.others.items id → is_within c.args.most (option_map (λ (m : Label). m.length) (option_map (λ (m : Mark). m.label) (mark_at l.others id))) ≡ true) × (is_within c.args.most (option_map (λ (m : Label). m.length) (option_map (λ (m : Mark). m.label) (mark_at l.others id))) ≡ true → Contains c.in_ok-others.others.items id)) (sym c.self.view_is) c.in_ok-others.ensures.same)))

@@ -1,5 +1,7 @@
+use Rattle.std.proofs.Common.{ap}
+use Rattle.road_search.specs.Pages.{paged}
 use Rattle.road_search.proofs.ListingLaws.{none_marked}
 use Rattle.road_search.proofs.listed.Listed.new.Goals as goal
 
 pub returns : goal.returns
-returns c = none_marked c.of.result c.in_ok-marks.marks.marks.items c.of.ensures.others c.of.ensures.marks c.in_ok-marks.ensures
+returns c = none_marked c.of.result c.new.result.pages c.of.ensures.others c.of.ensures.marks (λ p. ap (λ pages. paged pages p) c.new.ensures)

@@ -1,8 +1,0 @@
-use Rattle.std.proofs.Common.{◌≡◌, ◌++◌, map}
-use Rattle.std.specs.Map.{keys_of}
-use Rattle.std.specs.Map.Iter.{deref_pair}
-use Rattle.road_search.proofs.listed.Listed.all.Given as goal
-
--- the ids with a place, and the others so far
-abbrev pub invariant-loop-id : goal.invariant-loop-id
-invariant-loop-id l = l.all.items ≡ l.self.ids ++ keys_of (map deref_pair l.yielded)

@@ -30,7 +30,7 @@ same_number : (x y : ℕ) → nat_eq x y ≡ true → x ≡ y
 same_number x y h = grind (arith, h)
 
 -- an id has a position, or none
-place_or_not : (parts : Parts) (order : List Node) → IsById parts.nodes order → (id : ℕ) → ((p : ℕ) × IsPlace order id p) ⊎ ((Knows parts id → ⊥) × ((p : ℕ) → IsPlace order id p → ⊥))
+pub place_or_not : (parts : Parts) (order : List Node) → IsById parts.nodes order → (id : ℕ) → ((p : ℕ) × IsPlace order id p) ⊎ ((Knows parts id → ⊥) × ((p : ℕ) → IsPlace order id p → ⊥))
 place_or_not parts order by id = by_any (list_any (nat_eq id) (ids parts.nodes)) refl
   where
     by_any : (b : Bool) → list_any (nat_eq id) (ids parts.nodes) ≡ b → ((p : ℕ) × IsPlace order id p) ⊎ ((Knows parts id → ⊥) × ((p : ℕ) → IsPlace order id p → ⊥))

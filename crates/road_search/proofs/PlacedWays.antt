@@ -1,5 +1,6 @@
 -- A search from position to position of a map, for one end.
-use Rattle.std.proofs.Common.{◌≡◌, ℕ, ◌≤◌, ◌⊎◌, Option, None, Some, IfSome, IsSome, List, map, lit≤, ap, sym, ◌∙◌, subst}
+use Rattle.std.proofs.Common.{◌≡◌, ℕ, nat_eq, ◌≤◌, ◌⊎◌, Option, None, Some, IfSome, IsSome, List, map, lit≤, ap, sym, ◌∙◌, subst}
+use Rattle.std.specs.List.{IsDistinct}
 use Rattle.std.specs.Option.{option_map}
 use Rattle.road_map.specs.declared.arc.Arc.{Arc}
 use Rattle.road_map.specs.declared.parts.Node.{Node}
@@ -42,3 +43,11 @@ module _ (parts : Parts) (order : List Node) (rows : List (List Arc)) (m : IsMap
       let long : Some shortest.d ≡ Some mark.label.length = sym shortest.long ∙ length_is in
       let equal : shortest.d ≡ mark.label.length = cc in
       subst (IsShortest parts s t (map (id_at order) (way_to (label_in f) mark.label.hops end))) equal shortest.shortest
+
+  -- no id stands twice on it
+  pub way_placed_is_distinct : (mark : Mark) → Some mark ≡ f end → IfSome (route_in f end) (IsWay (net_ways rows) start bound end (length_in f end)) → IsDistinct nat_eq (map (id_at order) (way_to (label_in f) mark.label.hops end))
+  way_placed_is_distinct mark is way =
+      let way_is : route_in f end ≡ Some (way_to (label_in f) mark.label.hops end) = ap (λ o. option_map (λ (l : Label). way_to (label_in f) l.hops end) (option_map (λ (m : Mark). m.label) o)) (sym is) in
+      let found : IfSome (option_map (map (id_at order)) (route_in f end)) (IsShortestWay parts s t (length_in f end)) = end_ways parts m s bound 18446744073709551615 t (length_in f end) (option_map (map (id_at order)) (route_in f end)) known (lit≤ tt) low whole least same (by_route (route_in f end) way) in
+      let shortest : IsShortestWay parts s t (length_in f end) (map (id_at order) (way_to (label_in f) mark.label.hops end)) = subst (λ r. IfSome (option_map (map (id_at order)) r) (IsShortestWay parts s t (length_in f end))) way_is found in
+      shortest.distinct

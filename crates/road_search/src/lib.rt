@@ -11,6 +11,7 @@
 //! ```
 #![tactic(auto)]
 
+pub use ball::{Ball, ball_to};
 pub use ground::Ground;
 pub use label_setting::{search, search_in};
 pub use labels::Labels;
@@ -22,6 +23,7 @@ pub use path::{Path, knows, shortest};
 pub use places::{placed_ids, rising_ids};
 pub use survey::Survey;
 
+mod ball;
 mod front;
 mod ground;
 mod label;

@@ -16,7 +16,7 @@ use road_map::{Ids, Map, map_laws};
 use std::alloc::Global;
 
 /// The ids of the nodes at positions.
-fn ids_at(alloc: Global, map: &Map, positions: &[u32]) -> Result<Vec<u32>, NoMemory>
+pub(crate) fn ids_at(alloc: Global, map: &Map, positions: &[u32]) -> Result<Vec<u32>, NoMemory>
     ensures { IfOk result (λ ids. ids.items ≡ every (id_at map.now.order) positions.now) }
 {
     let mut ids = room_for(alloc, positions)?;

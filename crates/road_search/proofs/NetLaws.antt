@@ -15,7 +15,7 @@ use Rattle.road_map.specs.Laws.{DistanceLaws}
 use Rattle.road_map.specs.Maps.{IsMap, IsById}
 use Rattle.road_map.specs.Routes.{last_stop, walk_length, stops}
 use Rattle.road_map.proofs.Among.{Contains-none, Contains-here, Contains-there, Contains-cases, contains_at, place_map}
-use Rattle.road_search.specs.Passing.{Passes, Reaches, IsLeastPassing}
+use Rattle.road_search.specs.Passing.{Leaves, Passes, Reaches, IsLeastPassing}
 use Rattle.road_search.specs.OverMap.{map_ways}
 use Rattle.road_map.specs.Nets.{IsPlace, Placed, IsNet}
 use Rattle.road_search.specs.Nets.{net_ways, id_at}
@@ -107,6 +107,10 @@ module _ (parts : Parts) (order : List Node) (rows : List (List Arc)) (m : IsMap
       let rest = to_net a.to pair.0.to (len + pair.0.length) walk pair.1.leads (subst (λ k. Passes (map_ways parts) a.to (len + k) walk) (sym pair.1.long) h.2) in
       (pair.0 ∷ rest.0, longer u p len row.0 a pair.0 walk rest.0 (known u p at) row.1 pair.1 rest.1)
 
+  -- an arc leads to the position of a node
+  pub next_place : (u p : ℕ) (b : Arc) → IsPlace order u p → Leaves (net_ways rows) p b → (v : ℕ) × IsPlace order v b.to
+  next_place u p b at h = let pair = in_row order (arcs_out parts.roads u) h.out (placed_row u p h.out at h.entry) b h.among in (pair.0.to, pair.1.leads)
+
   -- a position has one id, and an id one position
   one_id : (s t q : ℕ) → IsPlace order s q → IsPlace order t q → s ≡ t
   one_id s t q x y = let same : Some x.0 ≡ Some y.0 = sym x.1 ∙ y.1 in let node : x.0 ≡ y.0 = cc in sym x.2 ∙ (ap (λ (n : Node). n.id) node ∙ y.2)
@@ -127,13 +131,13 @@ module _ (parts : Parts) (order : List Node) (rows : List (List Arc)) (m : IsMap
     | inr (inr lt) ↦ absurd (apart t q p y x lt)
   ]
 
-  reach_map : (s t p q limit d : ℕ) → IsPlace order s p → IsPlace order t q → Reaches (net_ways rows) p limit q d → Reaches (map_ways parts) s limit t d
+  pub reach_map : (s t p q limit d : ℕ) → IsPlace order s p → IsPlace order t q → Reaches (net_ways rows) p limit q d → Reaches (map_ways parts) s limit t d
   reach_map s t p q limit d from to r =
       let w = to_map s p 0 r.1.walk from r.1.passes in
       let end : IsPlace order (last_stop s w.0) q = subst (IsPlace order (last_stop s w.0)) r.1.ends w.1.ends in
       (stops s w.0, record { walk = w.0; passes = w.1.in_map; visits = refl; ends = one_id (last_stop s w.0) t q end to; sums = sym w.1.long ∙ r.1.sums; below = r.1.below })
 
-  reach_net : (s t p q limit d : ℕ) → IsPlace order s p → IsPlace order t q → Reaches (map_ways parts) s limit t d → Reaches (net_ways rows) p limit q d
+  pub reach_net : (s t p q limit d : ℕ) → IsPlace order s p → IsPlace order t q → Reaches (map_ways parts) s limit t d → Reaches (net_ways rows) p limit q d
   reach_net s t p q limit d from to r =
       let w = to_net s p 0 r.1.walk from r.1.passes in
       let end : IsPlace order t (last_stop p w.0) = subst (λ i. IsPlace order i (last_stop p w.0)) r.1.ends w.1.ends in

@@ -21,9 +21,9 @@ use Rattle.road_search.specs.Passing.{IsLeastPassing}
 use Rattle.road_search.proofs.NetLaws.{least_map, way_map}
 use Rattle.road_search.proofs.WholeMapLaws.{end_same, end_ways}
 
-module _ (parts : Parts) (order : List Node) (rows : List (List Arc)) (m : IsMap parts) (by : IsById parts.nodes order) (net : IsNet parts order rows) (laws : DistanceLaws parts) (f : ℕ → Option Mark) (s t start end bound : ℕ) (known : Knows parts s) (from : IsPlace order s start) (to : IsPlace order t end) (low : bound ≤ 18446744073709551615) (whole : (bound ≡ 18446744073709551615) ⊎ IsSome (length_in f end)) (lengths : (q : ℕ) → IsLeastPassing (net_ways rows) start bound q (below bound (length_in f q))) (same : below bound (length_in f end) ≡ length_in f end) where
+module _ (parts : Parts) (order : List Node) (rows : List (List Arc)) (m : IsMap parts) (by : IsById parts.nodes order) (net : IsNet parts order rows) (laws : DistanceLaws parts) (f : ℕ → Option Mark) (s t start end bound : ℕ) (known : Knows parts s) (from : IsPlace order s start) (to : IsPlace order t end) (low : bound ≤ 18446744073709551615) (whole : (bound ≡ 18446744073709551615) ⊎ IsSome (length_in f end)) (here : IsLeastPassing (net_ways rows) start bound end (below bound (length_in f end))) (same : below bound (length_in f end) ≡ length_in f end) where
   least : IsLeastPassing (map_ways parts) s bound t (below bound (length_in f end))
-  least = least_map parts order rows m by net s t start end bound (below bound (length_in f end)) from to (lengths end)
+  least = least_map parts order rows m by net s t start end bound (below bound (length_in f end)) from to here
 
   -- the length of the end is its distance
   pub length_placed : length_in f end ≡ distance parts s t

@@ -12,6 +12,7 @@
 #![tactic(auto)]
 
 pub use ball::{Ball, ball_to};
+pub use bounded::{Bound, headed};
 pub use ground::Ground;
 pub use label_setting::{search, search_in};
 pub use labels::Labels;
@@ -24,6 +25,7 @@ pub use places::{placed_ids, rising_ids};
 pub use survey::Survey;
 
 mod ball;
+mod bounded;
 mod front;
 mod ground;
 mod label;

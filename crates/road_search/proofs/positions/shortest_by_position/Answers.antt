@@ -19,7 +19,7 @@ returns-in_default-at-clause-length c =
     let map = c.args.map.now in
     let found = c.in_ok-_bound.ensures in
     ap (λ o. option_map (λ (l : Label). l.length) (option_map (λ (m : Mark). m.label) o)) c.in_default-at.ensures
-    ∙ length_placed map.parts map.order c.net-net.result.now c.parts-parts.ensures.is_map c.parts-parts.ensures.by_id c.net-net.ensures (c.map_laws.ensures.distances map.parts c.parts-parts.ensures.is_map) (paged c.search_to.new.marks.pages) c.args.from c.args.to c.place-start.result c.in-Some.end c.in_ok-_bound._bound c.requires c.place-start.ensures.place c.in-Some.ensures.found found.least found.whole found.lengths found.end
+    ∙ length_placed map.parts map.order c.net-net.result.now c.parts-parts.ensures.is_map c.parts-parts.ensures.by_id c.net-net.ensures (c.map_laws.ensures.distances map.parts c.parts-parts.ensures.is_map) (paged c.search_to.new.marks.pages) c.args.from c.args.to c.place-start.result c.in-Some.end c.in_ok-_bound._bound c.requires c.place-start.ensures.place c.in-Some.ensures.found found.least found.whole (found.lengths c.in-Some.end) found.end
 
 -- an end to which one leads
 pub returns-clause-length : goal.returns-clause-length
@@ -27,11 +27,11 @@ returns-clause-length c =
     let map = c.args.map.now in
     let found = c.in_ok-_bound.ensures in
     ap (λ o. option_map (λ (l : Label). l.length) (option_map (λ (m : Mark). m.label) o)) c.in-Some-at.ensures
-    ∙ length_placed map.parts map.order c.net-net.result.now c.parts-parts.ensures.is_map c.parts-parts.ensures.by_id c.net-net.ensures (c.map_laws.ensures.distances map.parts c.parts-parts.ensures.is_map) (paged c.search_to.new.marks.pages) c.args.from c.args.to c.place-start.result c.in-Some.end c.in_ok-_bound._bound c.requires c.place-start.ensures.place c.in-Some.ensures.found found.least found.whole found.lengths found.end
+    ∙ length_placed map.parts map.order c.net-net.result.now c.parts-parts.ensures.is_map c.parts-parts.ensures.by_id c.net-net.ensures (c.map_laws.ensures.distances map.parts c.parts-parts.ensures.is_map) (paged c.search_to.new.marks.pages) c.args.from c.args.to c.place-start.result c.in-Some.end c.in_ok-_bound._bound c.requires c.place-start.ensures.place c.in-Some.ensures.found found.least found.whole (found.lengths c.in-Some.end) found.end
 
 pub returns-clause-route : goal.returns-clause-route
 returns-clause-route c =
     let map = c.args.map.now in
     let found = c.in_ok-_bound.ensures in
     rw (c.from_vec.ensures, c.in_ok-ids_at.ensures, c.as_slice.ensures.value, c.in_ok-way.ensures)
-    (way_placed_is_shortest map.parts map.order c.net-net.result.now c.parts-parts.ensures.is_map c.parts-parts.ensures.by_id c.net-net.ensures (c.map_laws.ensures.distances map.parts c.parts-parts.ensures.is_map) (paged c.search_to.new.marks.pages) c.args.from c.args.to c.place-start.result c.in-Some.end c.in_ok-_bound._bound c.requires c.place-start.ensures.place c.in-Some.ensures.found found.least found.whole found.lengths found.end c.in-Some-at.mark c.in-Some-at.ensures found.route)
+    (way_placed_is_shortest map.parts map.order c.net-net.result.now c.parts-parts.ensures.is_map c.parts-parts.ensures.by_id c.net-net.ensures (c.map_laws.ensures.distances map.parts c.parts-parts.ensures.is_map) (paged c.search_to.new.marks.pages) c.args.from c.args.to c.place-start.result c.in-Some.end c.in_ok-_bound._bound c.requires c.place-start.ensures.place c.in-Some.ensures.found found.least found.whole (found.lengths c.in-Some.end) found.end c.in-Some-at.mark c.in-Some-at.ensures found.route)

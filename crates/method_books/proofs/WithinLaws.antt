@@ -128,3 +128,18 @@ found_apart_dij parts q f un no_route nodes none = record {
   nodes = nodes;
   pairs = subst (Lists (IsPairAt (WantedPairApart Dij (plain_book parts []) q) (plain_book parts []))) (sym none) (record { rising = tt; same = λ n. (λ c. absurd (Contains-none n c), λ w. absurd w.wanted) });
 }
+
+-- the items of three lists, by what the second and the third list
+pub any_of_three : (xs ys zs all : List ℕ) (Q R : ℕ → Type 0) → all ≡ (xs ++ ys) ++ zs → ((n : ℕ) → (Contains ys n → Q n) × (Q n → Contains ys n)) → ((n : ℕ) → (Contains zs n → R n) × (R n → Contains zs n)) → (n : ℕ) → (Contains all n → Contains xs n ⊎ Q n ⊎ R n) × (Contains xs n ⊎ Q n ⊎ R n → Contains all n)
+any_of_three xs ys zs all Q R is second third n = (λ c. forth (subst (λ ls. Contains ls n) is c), λ h. subst (λ ls. Contains ls n) (sym is) (back h))
+  where
+    forth : Contains ((xs ++ ys) ++ zs) n → Contains xs n ⊎ Q n ⊎ R n
+    forth c = elim (Contains-append_cases (xs ++ ys) zs n c) [
+      | inl d ↦ elim (Contains-append_cases xs ys n d) [ inl e ↦ inl e | inr f ↦ inr (inl ((second n).0 f)) ]
+      | inr d ↦ inr (inr ((third n).0 d))
+    ]
+
+    back : Contains xs n ⊎ Q n ⊎ R n → Contains ((xs ++ ys) ++ zs) n
+    back (inl c) = Contains-append_left (xs ++ ys) zs n (Contains-append_left xs ys n c)
+    back (inr (inl q)) = Contains-append_left (xs ++ ys) zs n (Contains-append_right xs ys n ((second n).1 q))
+    back (inr (inr r)) = Contains-append_right (xs ++ ys) zs n ((third n).1 r)

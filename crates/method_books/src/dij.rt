@@ -1,16 +1,22 @@
 //! The book of DIJ.
 
-ghost use Rattle.std.specs.Prelude.{◌≡◌, ℕ, IfOk, IfErr};
+ghost use Rattle.std.specs.Prelude.{◌≡◌, ℕ, IsTrue, Err, IfOk, IfErr, nat_eq};
+ghost use Rattle.std.specs.List.{IsDistinct};
 ghost use Rattle.road_map.specs.declared.parts.Parts.{Parts};
+ghost use Rattle.road_map.specs.Routes.{IsShortest};
+ghost use Rattle.road_map.specs.Walks.{distance};
+ghost use Rattle.road_search.specs.Nearness.{is_within};
+ghost use Rattle.proof_method.specs.Gathering.{IsFirstUnknown, Lists, WhyNone};
 ghost use Rattle.book_model.specs.Books.{Dij as ByDij, own_tests, first_failed};
 
 use crate::parameters::first_failed;
-use crate::within::{component, near};
+use crate::within::component;
 use book_model::{Numbers, Places, PlanError, Query, Settings};
 use octet_text::NoMemory;
-use proof_method::{Found, GatherError, MethodBook, leaf_adding, reach};
+use proof_method::{Found, GatherError, MethodBook, leaf_adding};
 use road_leaf::{Extra, NodeLeaf, PairLeaf};
-use road_map::{Ids, Map};
+use road_map::{Ids, Map, map_laws};
+use road_search::{Ball, ball_to, knows};
 use std::alloc::Global;
 
 /// A map, whose leaves say nothing beside places and arcs. It brings the leaves of all nodes that
@@ -76,11 +82,10 @@ impl MethodBook for DijBook {
     #[tactic(auto, using(proof_method::proofs::EndLaws::none_first))]
     fn gather(&self, alloc: Global, query: Query) -> Result<Found, GatherError> {
         let _parts = self.map.parts();
-        let reached = reach(alloc, &self.map, query)?;
-        let nodes = near(alloc, &reached.labels, reached.length)?;
+        let reached = reach_all(alloc, &self.map, query)?;
         Ok(Found {
             route: reached.route,
-            nodes,
+            nodes: reached.nodes,
             pairs: Places::from_vec(Vec::new(alloc)),
         })
     }
@@ -92,6 +97,36 @@ impl MethodBook for DijBook {
             nodes,
             pairs: Places::from_vec(Vec::new(alloc)),
         })
+    }
+}
+
+/// Searches a map for a shortest route and for all nodes that are no farther than its end.
+///
+/// `UnknownNode` has the start where no node has that id, or else the end; `NoRoute` says that both
+/// are known and that no walk joins them. An end that is not known is told whatever memory there is.
+#[tactic(auto, using(proof_method::proofs::EndLaws::none_unknown))]
+fn reach_all(alloc: Global, map: &Map, query: Query) -> Result<Ball, GatherError>
+    ensures route { IfOk result (λ ball.
+        IsShortest map.now.parts query.from query.to ball.route ball.length) }
+    ensures distinct { IfOk result (λ ball. IsDistinct nat_eq ball.route) }
+    ensures nodes { IfOk result (λ ball. Lists
+        (λ id. IsTrue (is_within ball.length (distance map.now.parts query.from id))) ball.nodes) }
+    ensures refused { IfErr result (WhyNone map.now.parts query) }
+    ensures unknown { (id : ℕ) → IsFirstUnknown map.now.parts query id
+        → result ≡ Err (GatherError.UnknownNode id) }
+{
+    map_laws();
+    let _parts = map.parts();
+    if !knows(map, query.from) {
+        return Err(GatherError::UnknownNode(query.from));
+    }
+    if !knows(map, query.to) {
+        return Err(GatherError::UnknownNode(query.to));
+    }
+    let found = ball_to(alloc, map, query.from, query.to)?;
+    match found {
+        None => Err(GatherError::NoRoute),
+        Some(ball) => Ok(ball),
     }
 }
 

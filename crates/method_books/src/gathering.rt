@@ -11,38 +11,14 @@ ghost use Rattle.proof_method.specs.Gathering.{Lists};
 ghost use Rattle.method_books.specs.HypBooks.{with_length, StandsAt, IsPairAt, Adds, AddsAll, HasPairs, IsInRow, IsWantedPlace};
 
 use book_model::Places;
-use octet_text::{NoMemory, collected, insert_key, push};
+use octet_text::{NoMemory, collected, copied, extend, insert_key, push};
 use pair_dist::place_of_pair;
+use proof_method::rising;
 use road_leaf::PairLeaf;
 use road_map::Ids;
 use road_search::Labels;
 use std::alloc::Global;
 use std::collections::BTreeSet;
-
-/// Adds some ids.
-fn add_ids(set: &mut BTreeSet<u32>, ids: &[u32]) -> Result<(), NoMemory>
-    ensures { OnOk result (Adds (Contains ids.now) set.old set.new) }
-{
-    for id in ids {
-        insert_key(set, *id)?;
-    }
-    Ok(())
-}
-
-/// Adds the ids to which a search gives a length up to this one.
-fn add_near(
-    alloc: Global,
-    set: &mut BTreeSet<u32>,
-    labels: &Labels,
-    most: u64,
-) -> Result<(), NoMemory>
-    ensures { OnOk result (Adds (λ id. IsTrue (is_within most (length_at labels.now id)))
-        set.old set.new) }
-{
-    let near = labels.near(alloc, most)?;
-    add_ids(set, near.as_slice())?;
-    Ok(())
-}
 
 /// The ids on a route, and those to which one of two searches gives a length up to this one, by
 /// ascending id.
@@ -57,11 +33,12 @@ pub fn wanted_nodes(
         IsTrue (is_within most (length_at near.now id)) ⊎
         IsTrue (is_within most (length_at far.now id)))) }
 {
-    let mut ids = BTreeSet::new(alloc);
-    add_ids(&mut ids, route.as_slice())?;
-    add_near(alloc, &mut ids, near, most)?;
-    add_near(alloc, &mut ids, far, most)?;
-    Ok(Ids::from_vec(in_order(alloc, ids)?))
+    let mut ids = copied(alloc, route.as_slice())?;
+    let close = near.near(alloc, most)?;
+    extend(&mut ids, close.as_slice())?;
+    let distant = far.near(alloc, most)?;
+    extend(&mut ids, distant.as_slice())?;
+    Ok(rising(ids))
 }
 
 /// The borders that inner walks lead to, by ascending id, each with its least length.

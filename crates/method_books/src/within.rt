@@ -1,8 +1,6 @@
-//! Nodes that are within a length, and nodes that a walk leads to.
+//! Nodes that a walk leads to.
 
-ghost use Rattle.std.specs.Prelude.{[], ◌⊎◌, IsTrue, IfOk};
-ghost use Rattle.road_search.specs.Labelling.{length_at};
-ghost use Rattle.road_search.specs.Nearness.{is_within};
+ghost use Rattle.std.specs.Prelude.{[], ◌⊎◌, IfOk};
 ghost use Rattle.book_model.specs.Books.{Dij as ByDij};
 ghost use Rattle.proof_method.specs.Gathering.{AreUnjoined, Lists};
 ghost use Rattle.proof_method.specs.Apart.{IsEnd, WantedApart};
@@ -12,17 +10,8 @@ use book_model::Query;
 use octet_text::{NoMemory, push};
 use proof_method::rising;
 use road_map::{Ids, Map, map_laws};
-use road_search::{Labels, WholeMap, search};
+use road_search::{WholeMap, search};
 use std::alloc::Global;
-
-/// The ids to which a walk of at most this length leads, by ascending id.
-pub fn near(alloc: Global, labels: &Labels, most: u64) -> Result<Ids, NoMemory>
-    ensures { IfOk result (Lists (λ id. IsTrue (is_within most (length_at labels.now id)))) }
-{
-    let mut ids = labels.near(alloc, most)?;
-    ids.sort_unstable();
-    Ok(Ids::from_vec(ids))
-}
 
 /// The ids to which a walk leads from the start, and the end, to which none does, by ascending id.
 pub fn component(alloc: Global, map: &Map, query: Query) -> Result<Ids, NoMemory>

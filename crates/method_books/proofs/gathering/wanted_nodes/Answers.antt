@@ -1,16 +1,13 @@
-use Rattle.std.proofs.Common.{◌∙◌, IsTrue, subst}
-use Rattle.std.specs.List.{Contains}
+use Rattle.std.proofs.Common.{◌≡◌, ℕ, ◌++◌, IsTrue, List, ◌∙◌, ap}
 use Rattle.road_search.specs.Labelling.{length_at}
 use Rattle.road_search.specs.Nearness.{is_within}
-use Rattle.method_books.specs.HypBooks.{Adds}
-use Rattle.method_books.proofs.HypFound.{ids_listed}
+use Rattle.method_books.proofs.WithinLaws.{lists_same, any_of_three}
 use Rattle.method_books.proofs.gathering.wanted_nodes.Goals as goal
 
 pub returns : goal.returns
 returns c =
-    let near = length_at c.args.near.now in
-    let far = length_at c.args.far.now in
-    let most = c.args.most in
-    ids_listed (Contains c.args.route.now) (λ id. IsTrue (is_within most (near id))) (λ id. IsTrue (is_within most (far id))) c.new-ids.result c.add_ids.new.set c.add_near.new.set c.add_near-2.new.set c.from_vec.result
-    c.new-ids.ensures.empty (c.from_vec.ensures ∙ c.in_ok-in_order.ensures.keys) c.in_order.ensures.ordered
-    (subst (λ xs. Adds (Contains xs) c.new-ids.result c.add_ids.new.set) c.as_slice.ensures c.in_ok-add_ids.ensures) c.in_ok-add_near.ensures c.in_ok-add_near-2.ensures
+    let near : ℕ → Type 0 = λ id. IsTrue (is_within c.args.most (length_at c.args.near.now id)) in
+    let far : ℕ → Type 0 = λ id. IsTrue (is_within c.args.most (length_at c.args.far.now id)) in
+    let first : c.extend.new.list.items ≡ c.args.route.now ++ c.in_ok-close.close.items = c.in_ok-extend.ensures.items ∙ (ap (λ (xs : List ℕ). xs ++ c.as_slice-2.result.now) (c.in_ok-ids.ensures.items ∙ c.as_slice.ensures) ∙ ap (λ (ys : List ℕ). c.args.route.now ++ ys) c.as_slice-2.ensures.value) in
+    let all : c.extend-2.new.list.items ≡ (c.args.route.now ++ c.in_ok-close.close.items) ++ c.in_ok-distant.distant.items = c.in_ok-extend-2.ensures.items ∙ (ap (λ (xs : List ℕ). xs ++ c.as_slice-3.result.now) first ∙ ap (λ (ys : List ℕ). (c.args.route.now ++ c.in_ok-close.close.items) ++ ys) c.as_slice-3.ensures.value) in
+    lists_same c.rising.result (any_of_three c.args.route.now c.in_ok-close.close.items c.in_ok-distant.distant.items c.extend-2.new.list.items near far all c.in_ok-close.ensures.same c.in_ok-distant.ensures.same) c.rising.ensures

@@ -11,3 +11,5 @@ mod reducing;
 mod signatures;
 #[cfg(test)]
 mod standard;
+#[cfg(test)]
+mod turned;

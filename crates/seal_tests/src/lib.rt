@@ -11,5 +11,3 @@ mod reducing;
 mod signatures;
 #[cfg(test)]
 mod standard;
-#[cfg(test)]
-mod turned;

@@ -1,8 +1,7 @@
 //! What a signing is told by.
 
 use crate::doubt::{Doubt, doubt_of};
-use crate::sight::Sight;
-use crate::slots::Signed;
+use desk_sight::{Sight, Signed};
 use std::fmt::{self, Display, Formatter};
 
 /// What one signing has used and signed, by the desk before it and by the publication that was written.

@@ -1,7 +1,8 @@
 //! Desks that are looked at before they sign.
 
 use crate::same::{assert_printed, assert_row, assert_same};
-use desk_guard::{Sight, Signed, SignedSink, Signing, Strange, has_few_octets, sight_of};
+use desk_guard::{SignedSink, Signing, has_few_octets};
+use desk_sight::{Sight, Signed, Strange, sight_of};
 use mem_io::MemSink;
 use road_io::{Failed, Sink};
 use std::alloc::{AllocError, Global};
@@ -55,6 +56,8 @@ const FIVE: Sight = Sight {
     }),
     greatest: Some(5),
     waiting: None,
+    link: None,
+    is_followed: false,
 };
 
 #[test]

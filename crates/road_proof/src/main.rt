@@ -12,8 +12,9 @@ mod owner_words;
 mod seen_desk;
 mod serve_hint;
 
-use command_files::Ended;
+use command_files::{Ended, Fault};
 use desk_guard::{DeskFiles, SignedSink};
+use desk_sight::{Seen, Unfit};
 use long_work::{is_for_eyes, tell_long_work};
 use mirror_files::{labels_of, sync_mirrors, tell_lost, told_mirrors};
 use owner_words::{is_safe, tell_folder, tell_secret, tell_signing, unfollowed};
@@ -23,7 +24,7 @@ use road_run::run_on_files;
 use road_tell::{
     Asked, Content, Facts, ShortName, asked_of, key_of, message_on, most_kept, subject_of,
 };
-use seen_desk::{Seen, Unfit, seen_desk};
+use seen_desk::{named_key, seen_desk};
 use serve_hint::tell_of_serve;
 use std::alloc::Global;
 use std::env;
@@ -145,9 +146,9 @@ fn left_after(words: &Words, seen: Option<Seen>) -> Option<u32> {
 
 /// The key under which a publication is to be signed: that of the file `owner.key`, where the desk publishes by its first
 /// key.
-fn awaited(words: &Words, seen: Option<Seen>) -> Option<[u8; 56]> {
+fn awaited(words: &Words, seen: Option<Seen>, public: Option<[u8; 56]>) -> Option<[u8; 56]> {
     match (command_of(words), seen) {
-        (Some(Command::Publish { .. }), Some(seen)) if seen.sight.key <= 1 => seen.public,
+        (Some(Command::Publish { .. }), Some(seen)) if seen.sight.key <= 1 => public,
         _ => None,
     }
 }
@@ -168,7 +169,9 @@ fn tell_unfit(
     desk_error: Option<io::Error>,
 ) -> ExitCode {
     let ended = match unfit {
-        Unfit::Fault(fault) => Ended::of(Err(fault)),
+        Unfit::Disk => Ended::of(Err(Fault::Disk)),
+        Unfit::Memory(none) => Ended::of(Err(Fault::Memory(none))),
+        Unfit::BadBlock => Ended::of(Err(Fault::BadBlock)),
         Unfit::Strange(strange) => {
             let _ = eprintln!(rt; "road_proof: owner.desk: {strange}");
             return ExitCode::from(12);
@@ -213,11 +216,12 @@ fn run_words(rt: HostRuntime, alloc: Global, words: &Words, begun: Option<Instan
     let mut library = KeptLibrary::new(alloc, FileLibrary::new(rt), most_kept(words));
     let mut source = StdSource::new(&rt);
     let mut disk = FileDisk::new(DeskFiles::new(rt, unfollowed(words)), "owner.desk");
-    let seen = match seen_desk(rt, alloc, words, &mut disk) {
+    let public = named_key(rt, alloc);
+    let seen = match seen_desk(rt, alloc, words, public, &mut disk) {
         Ok(seen) => seen,
         Err(unfit) => return tell_unfit(rt, words, unfit, disk.last_error()),
     };
-    let mut sink = KeptSink::new(SignedSink::new(StdSink::new(rt), awaited(words, seen)));
+    let mut sink = KeptSink::new(SignedSink::new(StdSink::new(rt), awaited(words, seen, public)));
     let ended = run_on_files(
         alloc,
         words,

@@ -1,10 +1,10 @@
 //! What an owner is told of the files that a command of hers uses, before it begins and after it.
 
-use crate::seen_desk::Seen;
 use command_files::{Ended, Fault};
 use desk_guard::{
     Signing, Unsafe, folder_fault, has_few_octets, is_open_to_others, unsafe_desk, unsafe_folder,
 };
+use desk_sight::Seen;
 use road_command::{Command, Words, command_of};
 use road_tell::zero_roads;
 

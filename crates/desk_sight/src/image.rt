@@ -1,7 +1,10 @@
 //! All octets of a disk.
-ghost use Rattle.std.specs.Prelude.{◌≤◌};
-ghost use Rattle.road_io.specs.Disk.{Stays};
+ghost use Rattle.std.specs.Prelude.{◌≡◌, ◌≢◌, ◌≤◌, Err, IfOk, IsErrOf};
+ghost use Rattle.std.specs.Option.{ForSome};
+ghost use Rattle.road_io.specs.Causes.{Rose};
+ghost use Rattle.road_io.specs.Disk.{Narrows, Stays};
 ghost use Rattle.road_io.specs.Moments.{AtEachMoment};
+ghost use Rattle.desk_sight.specs.Images.{seen_of};
 
 use octet_text::{NoMemory, filled};
 use road_io::Disk;
@@ -21,7 +24,13 @@ pub enum Unseen {
 
 /// The octets of a disk, as many as eight keys take at most. It changes no image.
 pub fn image_of<D: Disk>(alloc: Global, disk: &mut D) -> Result<Vec<u8>, Unseen>
+    ensures image { IfOk result
+        (λ image. ForSome (D.content disk.new) (λ c. image.items ≡ seen_of c)) }
+    ensures content { Narrows (D.content disk.old) (D.content disk.new) }
     ensures moments { AtEachMoment D.Disk disk.old disk.new Stays }
+    ensures faults { D.faults disk.old ≤ D.faults disk.new }
+    ensures fault { IsErrOf result Unseen.Failed → Rose (D.faults disk.old) (D.faults disk.new) }
+    ensures kept { result ≢ Err Unseen.Failed → D.faults disk.new ≡ D.faults disk.old }
 {
     let Ok(length) = disk.len() else {
         return Err(Unseen::Failed);

@@ -13,8 +13,10 @@ pub enum Strange {
     Block { key: u32 },
     /// The octets that are always zero, after the text of the one-time key, are not.
     Tail { key: u32, slot: u32 },
-    /// The key after this one has signed, and the link to it counts as unsigned.
+    /// The key after this one has signed or is whole, and the link to it counts as unsigned and is not whole.
     Link { key: u32 },
+    /// The first key's gate is closed, and its block, and slots of it or another key, stand behind it.
+    Shut,
 }
 
 impl Display for Strange {
@@ -39,6 +41,9 @@ impl Display for Strange {
             Strange::Link { key } => write!(
                 f,
                 "The key behind key {key} has signed, and the link to it counts as unsigned."
+            )?,
+            Strange::Shut => f.write_str(
+                "A desk stands here whose first octet is zero, so that its key counts as none.",
             )?,
         }
         f.write_str(

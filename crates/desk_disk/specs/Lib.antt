@@ -1,0 +1,3 @@
+pub mod Looks
+pub mod Systems
+pub mod States

@@ -1,0 +1,82 @@
+-- What a file system answered of a desk's file, the latest answer first, and when it was seen to be
+-- safe.
+use Rattle.std.specs.Prelude.{ℕ, List, [], ◌∷◌, ◌==◌, ◌&&◌, ◌||◌, not, Bool, true, false, slice_index, bit_and}
+use Rattle.std.specs.declared.option.Option.{Option}
+use Rattle.std.specs.declared.option.Option.TheVariants.{None, Some}
+use Rattle.std.specs.Str.{bytes_eq}
+use Rattle.road_io.specs.Shelves.{Note}
+use Rattle.desk_disk.specs.declared.look.Look.{Look}
+
+-- a look at a file as it is noted, under a code: what it is (1: a regular file), whose it is, how many names it
+-- has, its mode, its device and its number there
+abbrev pub seen_as : ℕ → Look → List ℕ
+seen_as code look = code ∷ look.kind ∷ look.owner ∷ look.names ∷ look.mode ∷ look.device ∷ look.inode ∷ []
+
+abbrev pub part : ℕ → Note → ℕ
+part k note = slice_index note.0 k
+
+-- ---- one look
+
+-- a regular file, of this user, with one name
+abbrev pub is_own : ℕ → Look → Bool
+is_own user look = look.kind == 1 && look.owner == user && look.names == 1
+
+-- and others may neither read nor write it
+abbrev pub is_closed : Look → Bool
+is_closed look = bit_and look.mode 0x3f == 0
+
+-- or may only read it
+abbrev pub is_unwritable : Look → Bool
+is_unwritable look = bit_and look.mode 0x12 == 0
+
+-- of the user, where the system tells who that is
+abbrev pub is_safe : Option ℕ → Look → Bool
+is_safe None look = false
+is_safe (Some user) look = is_own user look && is_closed look
+
+abbrev pub is_safe_but_read : Option ℕ → Look → Bool
+is_safe_but_read None look = false
+is_safe_but_read (Some user) look = is_own user look && is_unwritable look
+
+-- what stands under a name is no link but the file of the handle
+abbrev pub is_under : Look → Look → Bool
+is_under named held = named.kind == 1 && named.device == held.device && named.inode == held.inode
+
+-- ---- the answers: the user of the process (0), a look at what stands under a name, which is not followed (1),
+-- a look at the file of the handle (2), and that others were shut out of that file, through the handle (3)
+
+-- a look as it is noted
+abbrev pub shown : Note → Look
+shown note = record {
+  kind = part 1 note;
+  owner = part 2 note;
+  names = part 3 note;
+  mode = part 4 note;
+  device = part 5 note;
+  inode = part 6 note;
+}
+
+-- the last three answers are the user, a look at this name, and one at the handle
+abbrev pub are_looks : List ℕ → Note → Note → Note → Bool
+are_looks name user named held = part 0 user == 0 && part 0 named == 1 && part 0 held == 2 &&
+    bytes_eq named.1 name
+
+-- and what they show is safe
+abbrev pub is_seen : List ℕ → List Note → Bool
+is_seen name (held ∷ named ∷ user ∷ before) = are_looks name user named held &&
+    is_under (shown named) (shown held) && is_own (part 1 user) (shown held) &&
+    is_closed (shown held)
+is_seen name answers = false
+
+-- or safe but that others may read it
+abbrev pub is_seen_readable : List ℕ → List Note → Bool
+is_seen_readable name (held ∷ named ∷ user ∷ before) = are_looks name user named held &&
+    is_under (shown named) (shown held) && is_own (part 1 user) (shown held) &&
+    is_unwritable (shown held)
+is_seen_readable name answers = false
+
+-- others were shut out of a file only right behind looks that show it safe but for their reading it
+abbrev pub shuts_well : List ℕ → List Note → Bool
+shuts_well name [] = true
+shuts_well name (answer ∷ before) = (not (part 0 answer == 3) || is_seen_readable name before) &&
+    shuts_well name before

@@ -1,0 +1,139 @@
+//! A handle on the desk's file, and what was seen of it before it is used.
+ghost use Rattle.std.specs.Prelude.{◌≡◌, [], ◌∷◌, Ok, Some, None, true, IfOk};
+ghost use Rattle.desk_disk.specs.Looks.{is_seen, is_seen_readable, seen_as, shuts_well};
+ghost use Rattle.desk_disk.specs.declared.look.TheConstants.{DESK};
+
+use crate::look::{DESK, Look, look_of};
+use crate::unsafe_desk::{Unsafe, fault_of, fault_of_opened};
+use road_io::Record;
+use std::fs::{self, File, OpenFile, Permissions};
+use std::io;
+use std::os::unix::fs::{MetadataExt, PermissionsExt};
+use std::rt::Files;
+
+/// The user whose process this is, where the system tells it.
+pub fn user<R: Files>(rt: &R) -> Option<u64> {
+    match fs::metadata(rt, "/proc/self") {
+        Ok(process) => Some(u64::from(process.uid())),
+        Err(_) => None,
+    }
+}
+
+/// Why the desk's file, if there is one, is not safe. Its name is not followed.
+pub fn unsafe_desk<R: Files>(rt: &R) -> Option<Unsafe> {
+    match rt.symlink_metadata(DESK) {
+        Ok(named) => fault_of(look_of(&named), user(rt)),
+        Err(_) => None,
+    }
+}
+
+/// Looks at a name, which is not followed, and at a file that was opened by it, and answers why that is not safe as a
+/// desk. Each answer of the system is noted.
+pub fn looked<R: Files, F: OpenFile>(
+    rt: &R,
+    name: &str,
+    file: &F,
+    answers: &mut Record,
+) -> io::Result<Option<Unsafe>>
+    ensures seen { result ≡ Ok None → is_seen name.now answers.new.events ≡ true }
+    ensures readable { result ≡ Ok (Some Unsafe.Readable) →
+        is_seen_readable name.now answers.new.events ≡ true }
+    ensures shuts { shuts_well name.now answers.old.events ≡ true →
+        shuts_well name.now answers.new.events ≡ true }
+{
+    let user = user(rt);
+    answers.note(&[0, user.unwrap_or(0)], &[]);
+    let named = look_of(&rt.symlink_metadata(name)?);
+    note_look(answers, 1, named, name.as_bytes());
+    let held = look_of(&file.metadata()?);
+    note_look(answers, 2, held, &[]);
+    Ok(fault_of_opened(named, held, user))
+}
+
+/// Notes a look under a code.
+fn note_look(answers: &mut Record, code: u64, look: Look, name: &[u8])
+    ensures { answers.new.events ≡ (seen_as code look, name.now) ∷ answers.old.events }
+{
+    let Look {
+        kind,
+        owner,
+        names,
+        mode,
+        device,
+        inode,
+    } = look;
+    answers.note(&[code, kind, owner, names, mode, device, inode], name);
+}
+
+/// Shuts others out of a file through its handle.
+fn shut<F: OpenFile>(file: &F, answers: &mut Record) -> io::Result<()>
+    ensures { answers.new.events ≡ (3 ∷ [], []) ∷ answers.old.events }
+{
+    answers.note(&[3], &[]);
+    file.set_permissions(Permissions::from_mode(0o600))
+}
+
+/// Looks at a file that was opened by a name, and answers why it is not safe as a desk, and whether others might read it until
+/// now. Where that alone was wrong, they are shut out of it, and it is looked at again.
+fn settled<R: Files, F: OpenFile>(
+    rt: &R,
+    name: &str,
+    file: &F,
+    answers: &mut Record,
+) -> io::Result<(Option<Unsafe>, bool)>
+    ensures seen { IfOk result (λ found. found.0 ≡ None →
+        is_seen name.now answers.new.events ≡ true) }
+    ensures shuts { shuts_well name.now answers.old.events ≡ true →
+        shuts_well name.now answers.new.events ≡ true }
+{
+    match looked(rt, name, file, answers)? {
+        Some(Unsafe::Readable) => {
+            shut(file, answers)?;
+            Ok((looked(rt, name, file, answers)?, true))
+        }
+        fault => Ok((fault, false)),
+    }
+}
+
+/// A handle on the desk's file that was seen to be safe, and what the system answered of it.
+///
+/// The desk is read and written by such a handle alone, where a command writes to it.
+#[derive(Drop)]
+pub struct SeenFile {
+    file: File,
+    answers: Record,
+    was_readable: bool,
+    pub ghost seen: { is_seen DESK.now answers.events ≡ true },
+}
+
+impl SeenFile {
+    /// The file that was opened by the desk's name, where it is safe, after others were shut out of it where they might read
+    /// it. Nothing was read or written before.
+    pub fn of<R: Files>(rt: &R, file: File) -> io::Result<Result<SeenFile, Unsafe>> {
+        let mut answers = Record::new();
+        let (fault, was_readable) = settled(rt, DESK, &file, &mut answers)?;
+        match fault {
+            None => Ok(Ok(SeenFile {
+                file,
+                answers,
+                was_readable,
+            })),
+            Some(why) => Ok(Err(why)),
+        }
+    }
+
+    /// Whether others could read the file until it was opened.
+    pub fn was_readable(&self) -> bool {
+        self.was_readable
+    }
+
+    /// The file.
+    pub fn file(&self) -> &File {
+        &self.file
+    }
+
+    /// The file, to be read or written.
+    pub fn file_mut(&mut self) -> &mut File {
+        &mut self.file
+    }
+}

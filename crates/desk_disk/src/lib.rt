@@ -1,0 +1,13 @@
+//! The owner's desk as a disk: a file that is looked at behind its opening, before it is read or written.
+#![tactic(auto)]
+
+pub use desk_disk::DeskDisk;
+pub use laws::opening_laws;
+pub use unsafe_desk::Unsafe;
+
+mod desk_disk;
+mod handle;
+mod laws;
+mod look;
+mod state;
+mod unsafe_desk;

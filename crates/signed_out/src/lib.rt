@@ -1,0 +1,8 @@
+//! A sink that takes a publication only where the awaited key has signed it.
+#![tactic(auto)]
+
+pub use signed_front::is_signed_under;
+pub use waiting::SignedSink;
+
+mod signed_front;
+mod waiting;

@@ -22,6 +22,7 @@ import dataclasses
 import hashlib
 import json
 import os
+import pathlib
 import random
 import re
 import shutil
@@ -459,6 +460,16 @@ async def hour(bench: Bench) -> None:
 # ---- speed
 
 
+def spent(numbers: list[int]) -> float:
+    """Seconds of processor time that processes have taken."""
+    total = 0.0
+    for number in numbers:
+        with contextlib.suppress(OSError):
+            words = pathlib.Path(f"/proc/{number}/stat").read_text().rpartition(")")[2].split()
+            total += (int(words[11]) + int(words[12])) / os.sysconf("SC_CLK_TCK")
+    return total
+
+
 def wrk(bench: Bench, address: str, name: str, packed: bool, pairs: int, seconds: float) -> tuple[float, float, float, int]:
     """Answers a second, the median and the 99th of a hundred in milliseconds, and how many were none."""
     script = bench.owner.path("drawn.lua")
@@ -482,8 +493,11 @@ async def speed(bench: Bench) -> None:
     for serves in ("1", "2", "auto"):
         gateway = Gateway(bench.owner, bench.name, "--serves", serves)
         for packed in (False, True):
+            one, many_of = [gateway.process.pid], gateway.serves()
+            before = spent(one), spent(many_of)
             rate, median, late, none = await asyncio.to_thread(wrk, bench, gateway.address, name, packed, 0, seconds)
-            print(f" uncached, --serves {serves}, {'gzip' if packed else 'plain'}: {rate:.0f} a second, median {median:.1f} ms, 99th of 100 {late:.1f} ms, {none} not answered", flush=True)
+            own, theirs = (1000 * (now - then) / (rate * seconds) for now, then in zip((spent(one), spent(many_of)), before))
+            print(f" uncached, --serves {serves}, {'gzip' if packed else 'plain'}: {rate:.0f} a second, median {median:.1f} ms, 99th of 100 {late:.1f} ms, {none} not answered; processor time of an answer: gateway {own:.2f} ms, serve {theirs:.2f} ms", flush=True)
             if serves == "auto" and not bench.given.short:
                 holds("answers a second that are missing to 1,500", max(0, 1500 - rate), 0)
                 holds("99th of a hundred, ms", late, 60, bench.room)

@@ -85,8 +85,8 @@ def ask(document, place, draw, ids, near, versions):
     query = query_of(document, operation, draw, near, versions)
     target = path.replace("{id}", draw.choice(ids)) + (f"?{query}" if query or draw.random() < 0.02 else "")
     headers = {"Accept-Encoding": draw.choice(["", "gzip", "gzip;q=0", "br, gzip", "*"])}
-    if draw.random() < 0.3:
-        headers["If-None-Match"] = draw.choice(["*", "*", '"x"', 'W/"y", *', place.tag])
+    if draw.random() < 0.4:
+        headers["If-None-Match"] = draw.choice(["*", "*", "*", '"x"', 'W/"y", *', place.tag])
     status, given, octets = place.ask(target, method, **{name.replace("-", "_"): value for name, value in headers.items()})
     place.tag = given.get("ETag", place.tag)
     listed = item["get"]["responses"] if method in NOT_ALLOWED else operation["responses"]

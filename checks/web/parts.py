@@ -490,7 +490,8 @@ class Wire(Served):
         for path in ("/v1/ready", "/v1/health", "/metrics"):
             began = time.monotonic()
             self.assertIn(b"200 OK", await self.said(self.line(path, "Connection: close")))
-            self.assertLess(time.monotonic() - began, 0.5)
+            self.assertLess(time.monotonic() - began, 2)
+            self.assertFalse(all(it.done() for it in asks))
         statuses = [(await it)[9:12] for it in asks]
         self.assertEqual((statuses.count(b"200"), statuses.count(b"429")), (20, 80))
 

@@ -28,12 +28,16 @@ class Ended(Exception):
     """`serve` has ended, or does not answer in time, or answers what it never should."""
 
 
+# what is called with the reply to a body, or with why there is none
+Heard = Callable[[bytes | Ended], None]
+
+
 class Child(asyncio.SubprocessProtocol):
     """One `serve PUB PUBKEY CHAIN`. It answers frames in the order in which they came."""
 
     def __init__(self, lost: "Callable[[Child], None] | None" = None) -> None:
-        self.lost, self.frames, self.why = lost, 0, ""
-        self.back, self.waiting = bytearray(), collections.deque[tuple[asyncio.Future[bytes], float]]()
+        self.lost, self.frames, self.why, self.is_retired = lost, 0, "", False
+        self.back, self.waiting = bytearray(), collections.deque[tuple[Heard, float]]()
         self.timer: asyncio.TimerHandle | None = None
         self.loop = asyncio.get_running_loop()
         self.gone: asyncio.Future[int] = self.loop.create_future()
@@ -80,10 +84,11 @@ class Child(asyncio.SubprocessProtocol):
             if not self.waiting:
                 self._end(f"serve answers what nobody asked: {body[:16].hex()}")
                 return
-            answer, _ = self.waiting.popleft()
+            heard, _ = self.waiting.popleft()
             self._wind()
-            if not answer.done():
-                answer.set_result(body)
+            heard(body)
+        if self.is_retired and not self.waiting:
+            self.end()
 
     def pipe_connection_lost(self, fd: int, exc: Exception | None) -> None:
         said = f", and said {bytes(self.back)!r}" if 0 < len(self.back) <= 200 else ""
@@ -98,19 +103,26 @@ class Child(asyncio.SubprocessProtocol):
 
     # ---- for those who ask
 
-    def told(self, body: bytes, seconds: float) -> "asyncio.Future[bytes]":
-        """The reply to a body, within so many seconds from when it is the first to be answered."""
-        answer: asyncio.Future[bytes] = self.loop.create_future()
+    def tell(self, body: bytes, seconds: float, heard: Heard) -> None:
+        """Has a body answered, within so many seconds from when it is the first to be answered."""
         pipe = self.transport.get_pipe_transport(0)
         if self.why or pipe is None:
-            answer.set_exception(Ended(self.why or "serve has ended"))
-            return answer
+            heard(Ended(self.why or "serve has ended"))
+            return
         self.frames += 1
-        self.waiting.append((answer, seconds))
+        self.waiting.append((heard, seconds))
         cast(asyncio.WriteTransport, pipe).write(struct.pack(">I", len(body)) + body)
         if len(self.waiting) == 1:
             self._wind()
-        return answer
+
+    async def told(self, body: bytes, seconds: float) -> bytes:
+        """The reply to a body."""
+        answer: asyncio.Future[bytes | Ended] = self.loop.create_future()
+        self.tell(body, seconds, lambda reply: None if answer.done() else answer.set_result(reply))
+        reply = await answer
+        if isinstance(reply, Ended):
+            raise reply
+        return reply
 
     def _wind(self) -> None:
         """Begins the time of the first that waits."""
@@ -132,9 +144,8 @@ class Child(asyncio.SubprocessProtocol):
         if self.lost is not None:
             self.lost(self)
         while self.waiting:
-            answer, _ = self.waiting.popleft()
-            if not answer.done():
-                answer.set_exception(Ended(why))
+            heard, _ = self.waiting.popleft()
+            heard(Ended(why))
 
     def fail(self, why: str) -> None:
         """Ends it, since it answers what it never should."""
@@ -144,6 +155,13 @@ class Child(asyncio.SubprocessProtocol):
         """Ends it; that is no loss."""
         self.lost = None
         self._end("serve was ended")
+
+    def is_alive(self) -> bool:
+        """Whether its process runs, although nothing has come from its pipes yet."""
+        try:
+            return os.waitid(os.P_PID, self.transport.get_pid(), os.WEXITED | os.WNOHANG | os.WNOWAIT) is None
+        except ChildProcessError:
+            return False
 
     async def status(self) -> str:
         """With which status it ended."""
@@ -177,10 +195,18 @@ def not_installed(publication: Publication, reply: bytes) -> str:
 class Ask:
     """A query that waits or is being answered, and all who wait for it."""
 
-    def __init__(self, body: bytes, address: str, answer: "asyncio.Future[bytes]") -> None:
-        self.body, self.address, self.answer = body, address, answer
-        self.trials, self.waiters = 0, 0
-        answer.add_done_callback(lambda it: it.cancelled() or it.exception())  # it may be that nobody waits for it
+    def __init__(self, body: bytes, address: str) -> None:
+        self.body, self.address, self.trials = body, address, 0
+        self.waiters: list[asyncio.Future[bytes]] = []
+
+    def answered(self, reply: bytes | Ended) -> None:
+        for waiter in self.waiters:
+            if waiter.done():
+                continue
+            if isinstance(reply, Ended):
+                waiter.set_exception(reply)
+            else:
+                waiter.set_result(reply)
 
 
 class Crew:
@@ -231,11 +257,9 @@ class Crew:
     def retire(self, child: Child) -> None:
         """Takes a child out; what it is at is still answered."""
         self.children.remove(child)
+        child.lost, child.is_retired = None, True
         if not child.waiting:
             child.end()
-            return
-        child.lost = None
-        child.waiting[-1][0].add_done_callback(lambda _: child.end())
 
     def _lost(self, child: Child) -> None:
         if child in self.children:
@@ -252,25 +276,29 @@ class Crew:
         self._feed()
 
     def end(self) -> None:
-        for child in self.children:
+        """Ends the children, and what is still asked."""
+        children, self.children = self.children, []
+        for child in children:
             child.end()
-        self.children.clear()
+        for ask in list(self.under_way.values()):
+            ask.answered(Ended("serve was ended"))
+        self.under_way.clear()
 
     # ---- asks
 
     async def ask(self, publication: str, code: int, words: bytes, address: str) -> bytes:
         """The reply to a query. Whoever asks the same while it is under way gets the same octets, or the same end."""
         body = bytes([code, self.sessions[publication]]) + words
+        waiter: asyncio.Future[bytes] = asyncio.get_running_loop().create_future()
         ask = self.under_way.get(body)
         if ask is None:
-            ask = self.under_way[body] = Ask(body, address, asyncio.get_running_loop().create_future())
+            ask = self.under_way[body] = Ask(body, address)
+            ask.waiters.append(waiter)
             self.turns.add(address, ask)
-        ask.waiters += 1
-        self._feed()
-        try:
-            return await asyncio.shield(ask.answer)
-        finally:
-            ask.waiters -= 1
+            self._feed()
+        else:
+            ask.waiters.append(waiter)
+        return await waiter
 
     def _feed(self) -> None:
         """Gives children what is next."""
@@ -279,30 +307,27 @@ class Crew:
             if len(child.waiting) >= ASKS_AT_ONCE:
                 return
             ask = self.turns.take()
-            if not ask.waiters:
+            if all(it.done() for it in ask.waiters):
+                # nobody waits for it any more
                 self.under_way.pop(ask.body, None)
-                ask.answer.cancel()
                 continue
-            child.told(ask.body, self.ask_seconds).add_done_callback(functools.partial(self._answered, ask, child))
+            if ask.trials and not child.is_alive():
+                # several may have died at once, and no more than the first is known yet
+                self.turns.add_first(ask.address, ask)
+                child.fail("serve has ended")
+                continue
+            child.tell(ask.body, self.ask_seconds, functools.partial(self._answered, ask, child))
         if self.is_leaving and not self.under_way:
             self.end()
 
-    def _answered(self, ask: Ask, child: Child, told: "asyncio.Future[bytes]") -> None:
-        error, reply = told.exception(), b""
-        if error is None:
-            reply = told.result()
-            if reply[:2] != bytes([0x80 + ask.body[0], ask.body[1]]):
-                error = Ended(f"serve says {reply[:16].hex()}")
-                child.fail(str(error))
-        if error is not None and ask.trials == 0:
+    def _answered(self, ask: Ask, child: Child, reply: bytes | Ended) -> None:
+        if not isinstance(reply, Ended) and reply[:2] != bytes([0x80 + ask.body[0], ask.body[1]]):
+            reply = Ended(f"serve says {reply[:16].hex()}")
+            child.fail(str(reply))
+        if isinstance(reply, Ended) and ask.trials == 0:
             ask.trials = 1
             self.turns.add_first(ask.address, ask)
         else:
             self.under_way.pop(ask.body, None)
-            if ask.answer.done():
-                pass
-            elif error is None:
-                ask.answer.set_result(reply[2:])
-            else:
-                ask.answer.set_exception(error)
+            ask.answered(reply if isinstance(reply, Ended) else reply[2:])
         self._feed()

@@ -168,10 +168,10 @@ class Keeper:
     async def _take(self, is_next_there: bool) -> None:
         """Takes what the files hold now; what is refused changes nothing."""
         try:
-            octets = await self._on_disk(lambda: read_file(self.options.publication, MOST_PUBLICATION))
+            fresh = await self._read(self.options.publication)
             file = self.options.chain or ""
             chain = await self._on_disk(lambda: read_file(file, MOST_CHAIN)) if file else b""
-            announced = self._announced_of(octets)
+            announced = self._announced_of(fresh)
         except (Refused, OSError) as error:
             self._refused(error)
             return
@@ -185,21 +185,29 @@ class Keeper:
             except Refused as error:
                 self._refused(error)
 
-    def _announced_of(self, octets: bytes) -> Publication:
-        """What is the newest publication where the file holds these octets."""
-        known = next((it for it in self.publications if it.octets == octets), None)
-        fresh = known or Publication(octets)
+    async def _read(self, file: str) -> Publication:
+        """The publication that a file holds: the one that is held already, where it has the same octets."""
+        held = list(self.publications)
+
+        def read() -> Publication:
+            octets = read_file(file, MOST_PUBLICATION)
+            known = [it for it in held if it.octets == octets]
+            return known[0] if known else Publication(octets)
+
+        return await self._on_disk(read)
+
+    def _announced_of(self, fresh: Publication) -> Publication:
+        """What is the newest publication where the file holds this one."""
         if self.announced is None or fresh.version > self.announced.version:
             return fresh
-        if known is None:
+        if fresh not in self.publications:
             raise Refused(f"version {fresh.version} is not above {self.announced.version}")
         return self.announced
 
     async def _following(self, announced: Publication) -> Publication | None:
         """What is taken in before it is announced."""
         try:
-            octets = await self._on_disk(lambda: read_file(f"{self.options.publication}.next", MOST_PUBLICATION))
-            found = next((it for it in self.publications if it.octets == octets), None) or Publication(octets)
+            found = await self._read(f"{self.options.publication}.next")
             if found.version > announced.version:
                 return found
         except FileNotFoundError:

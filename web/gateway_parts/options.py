@@ -171,6 +171,8 @@ def options_of(words: list[str], about: str) -> Options:
         file_of(given.chain, "the owner's chain, or an empty file", "gateway", MOST_CHAIN)
     if given.page and not os.path.isdir(given.page):
         wrong(f"gateway: {given.page} is no folder: web/page/build makes the page's")
+    if not re.fullmatch("[!-~]{0,100}", given.name):
+        wrong("gateway: --name goes into a header: name the replica in letters and digits, as replica-0")
     given.memory = given.memory or stated_memory()
     given.proxies = frozenset(given.proxy)
     given.log_requests |= given.log_asks

@@ -57,8 +57,9 @@ class Connection(asyncio.BufferedProtocol):
         self.task: asyncio.Task[None] | None = None
         self.left, self.is_sending, self.is_lingering, self.is_paused = memoryview(b""), False, False, False
         self.until, self.peer, self.began = 0.0, "", 0.0
+        # whether another request may follow, and whether the client has ended its side
+        self.keeps, self.is_ended = True, False
         self.transport: asyncio.Transport
-        self.parser = h11.Connection(h11.SERVER, max_incomplete_event_size=MOST_HEAD)
 
     # ---- what asyncio calls
 
@@ -82,13 +83,18 @@ class Connection(asyncio.BufferedProtocol):
     def buffer_updated(self, nbytes: int) -> None:
         if self.is_lingering:
             return
-        if not self.head:
+        if not self.is_idle():
+            # what follows waits until this answer is out, and what follows that waits at the client
+            self.transport.pause_reading()
+        elif not self.head:
             self.until = time.monotonic() + self.server.options.request_seconds
         self.head += memoryview(self.buffer)[:nbytes]
         self._next()
 
     def eof_received(self) -> bool:
-        return False
+        """Ends its side too, behind the answer that is under way."""
+        self.is_ended = True
+        return not self.is_idle()
 
     def pause_writing(self) -> None:
         self.is_paused = True
@@ -121,15 +127,15 @@ class Connection(asyncio.BufferedProtocol):
         elif len(whole) > MOST_HEAD:
             self._refuse(Problem(431, f"The request's head has more than {MOST_HEAD} octets."))
         elif end >= 0:
-            self.transport.pause_reading()
             del self.head[: end + 4]
             self.began = time.monotonic()
             self._take(whole)
 
     def _take(self, whole: bytes) -> None:
+        parser = h11.Connection(h11.SERVER, max_incomplete_event_size=MOST_HEAD)
         try:
-            self.parser.receive_data(whole)
-            event = self.parser.next_event()
+            parser.receive_data(whole)
+            event = parser.next_event()
             assert isinstance(event, h11.Request)
             headers: dict[bytes, bytes] = {}
             for name, value in event.headers:
@@ -142,11 +148,11 @@ class Connection(asyncio.BufferedProtocol):
         except (AssertionError, ValueError):
             self._refuse(Problem(400, "The request is not understood."))
             return
+        self.keeps = event.http_version == b"1.1" and b"close" not in headers.get(b"connection", b"").lower()
         if has_body:
             status = 400 if request.method in ("GET", "HEAD", "OPTIONS") else 405
             self._refuse(Problem(status, "A request with a body is not answered." if status == 400 else "GET, HEAD and OPTIONS are answered."))
             return
-        self.parser.next_event()
         path, _, query = AUTHORITY.sub("", request.target, count=1).partition("?")
         answer = self.server.answers.at_once(request, path, query)
         if answer is not None:
@@ -173,21 +179,15 @@ class Connection(asyncio.BufferedProtocol):
         status, headers, octets = self.server.answers.finished(request, answer)
         self.server.answers.told(request, "", answer, status, 0.0)
         self.head.clear()
-        self.transport.pause_reading()
-        if self.parser.our_state not in (h11.IDLE, h11.SEND_RESPONSE):
-            self.transport.abort()
-            return
-        self._send(status, [*headers, ("Connection", "close")], octets)
+        self.keeps = False
+        self._send(status, headers, octets)
 
     def _send(self, status: int, headers: Headers, octets: bytes) -> None:
         if self.transport.is_closing():
             return
-        headers = [*headers, ("Date", date_of(int(time.time())))]
-        response = h11.Response(status_code=status, headers=headers, reason=REASONS[status].encode())
-        head = self.parser.send(response) or b""
-        if octets:
-            self.parser.send_with_data_passthrough(h11.Data(data=octets))
-        self.parser.send(h11.EndOfMessage())
+        lines = [f"HTTP/1.1 {status} {REASONS[status]}", *(f"{name}: {value}" for name, value in headers), f"Date: {date_of(int(time.time()))}"]
+        lines += ["Connection: close"] * (not self.keeps) + ["", ""]
+        head = "\r\n".join(lines).encode("latin-1")
         self.is_sending = True
         self.until = time.monotonic() + self.server.options.reply_seconds
         if len(octets) <= PIECE:
@@ -207,15 +207,12 @@ class Connection(asyncio.BufferedProtocol):
             self.server.hold(self)
             return
         self.is_sending = False
-        if self.parser.our_state is h11.DONE and self.parser.their_state is h11.DONE:
-            self.parser.start_next_cycle()
-            self._wait_for_head()
-            if self.head:
-                asyncio.get_running_loop().call_soon(self._read_on)
-            else:
-                self._read_on()
-        else:
+        if not self.keeps:
             self._linger()
+            return
+        self._wait_for_head()
+        if self.head or self.is_ended or self.server.is_stopping:
+            asyncio.get_running_loop().call_soon(self._read_on)
 
     def _sent_so_far(self, left: int) -> None:
         self.server.waiting -= len(self.left) - left
@@ -226,20 +223,25 @@ class Connection(asyncio.BufferedProtocol):
         return len(self.left) + self.transport.get_write_buffer_size()
 
     def _read_on(self) -> None:
-        if self.server.is_stopping and not self.head:
-            self.transport.close()
-        elif not self.transport.is_closing():
-            if self.head:
-                self._next()
-            if self.is_idle():
+        """Goes on with what has come behind a request."""
+        if self.transport.is_closing() or not self.is_idle():
+            return
+        self._next()
+        if self.is_idle():
+            if self.is_ended or self.server.is_stopping:
+                self.transport.close()
+            else:
                 self.transport.resume_reading()
 
     def _linger(self) -> None:
         """Ends its side, and lets what still comes run out for a while, so that the answer is not lost to a reset."""
         self.is_lingering = True
         self.until = time.monotonic() + LINGER_SECONDS
-        if self.transport.can_write_eof():
-            self.transport.write_eof()
+        self.head.clear()
+        if self.is_ended:
+            self.transport.close()
+            return
+        self.transport.write_eof()
         self.transport.resume_reading()
 
 

@@ -1,7 +1,10 @@
 -- What the words of released values say at some steps, so that a changed word is seen.
-use Rattle.std.proofs.Common.{◌≡◌, ℕ, ◌+◌, List, slice_index, Some, None, arith, refl}
+use Rattle.std.proofs.Common.{◌≡◌, ℕ, ◌+◌, ◌<◌, ◌≤◌, List, slice_index, Some, None, arith, refl}
+use Rattle.sha2.specs.Sha256.{sha256}
+use Rattle.octet_text.specs.Collisions.{AreCollision}
 use Rattle.lms_ots.specs.Chains.{chain_of, secret_of, digits_of, randomiser_of}
 use Rattle.lms_tree.specs.Signatures.{KeyOf}
+use Rattle.lms_reduce.specs.Meetings.{own_step, shown_step, MeetInChain}
 use Rattle.lms_reduce.specs.Released.{signed_digits, own_value, IsUnreleased}
 
 -- what a slot shows of a chain is released
@@ -22,3 +25,7 @@ digits_are key slot text = refl
 
 value_is : (key : KeyOf) (slot at step : ℕ) → own_value key slot at step ≡ chain_of key.i slot at 0 step (secret_of key.i slot key.seed at)
 value_is key slot at step = refl
+
+-- no step between the digit and the one where two texts meet has two of one digest, the one just before it neither
+first_of_a_chain : (i : List ℕ) (q : ℕ) (seed digits ots left right : List ℕ) (m : MeetInChain i q seed digits ots left right) (b : ℕ) → slice_index digits m.at ≤ b → b + 1 ≡ m.number → AreCollision sha256 (own_step i q seed m.at b) (shown_step i q digits ots m.at b) → ⊥
+first_of_a_chain i q seed digits ots left right m b later is = m.first b later (omega (arith, is))

@@ -19,6 +19,9 @@ module _ {M : Type 0} (octets : M → Option (List ℕ)) (label handed puts room
   same_label : (old new : M) → Took octets label handed puts room count text old new → label new ≡ label old
   same_label old new h = h.same
 
+  handed_each_piece : (old new : M) → Took octets label handed puts room count text old new → handed new ≡ handed old + count
+  handed_each_piece old new h = h.called
+
   puts_left : (old new : M) → Took octets label handed puts room count text old new → puts old ≤ puts new + count
   puts_left old new h = h.puts_left
 

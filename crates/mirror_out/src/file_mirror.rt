@@ -1,5 +1,5 @@
 //! A mirror in a file: an adapter over the real thing, which tells what it was answered to have taken.
-ghost use Rattle.std.specs.Prelude.{◌≡◌, length};
+ghost use Rattle.std.specs.Prelude.{◌≡◌, [], length};
 ghost use Rattle.std.specs.declared.option.Option.TheVariants.{Some};
 
 use crate::Mirror;
@@ -24,7 +24,10 @@ impl FileMirror {
 
     /// A mirror with a label in a file, which stands where the first piece goes.
     pub fn new(label: u32, file: File) -> FileMirror
-        ensures { label_of result ≡ label }
+        ensures label { label_of result ≡ label }
+        ensures taken { result.history.events ≡ [] }
+        ensures handed { result.handed.events ≡ [] }
+        ensures faults { result.faults ≡ 0 }
     {
         FileMirror {
             label,
@@ -37,7 +40,10 @@ impl FileMirror {
 
     /// A mirror with a label whose file could not be opened. Each put fails.
     pub fn lost(label: u32) -> FileMirror
-        ensures { label_of result ≡ label }
+        ensures label { label_of result ≡ label }
+        ensures taken { result.history.events ≡ [] }
+        ensures handed { result.handed.events ≡ [] }
+        ensures faults { result.faults ≡ 0 }
     {
         FileMirror {
             label,

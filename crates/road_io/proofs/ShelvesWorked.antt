@@ -52,3 +52,14 @@ untold = refl
 
 told_whole : told world whole ≡ Some (shelf world)
 told_whole = refl
+
+-- that a name was opened says nothing of its octets, which a folder lacks too
+opened_alone : agrees (shelf world) ((0 ∷ [], 99 ∷ []) ∷ []) ≡ true
+opened_alone = refl
+
+-- but no octet and no end is read of a file that is not there
+read_of_none : agrees (shelf world) ((2 ∷ [], 7 ∷ []) ∷ (0 ∷ [], 99 ∷ []) ∷ []) ≡ false
+read_of_none = refl
+
+end_of_none : agrees (shelf world) ((3 ∷ [], []) ∷ (0 ∷ [], 99 ∷ []) ∷ []) ≡ false
+end_of_none = refl

@@ -49,7 +49,9 @@ pub struct KeptLibrary<L: Library + Drop> {
 
 impl<L: Library + Drop> KeptLibrary<L> {
     /// A library over this one, which keeps at most so many octets of each file.
-    pub fn new(alloc: Global, inner: L, most: usize) -> KeptLibrary<L> {
+    pub fn new(alloc: Global, inner: L, most: usize) -> KeptLibrary<L>
+        ensures { result.inner ≡ inner }
+    {
         KeptLibrary {
             inner,
             kept: Vec::new(alloc),

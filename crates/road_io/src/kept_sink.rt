@@ -17,7 +17,9 @@ pub struct KeptSink<K: Sink + Drop> {
 
 impl<K: Sink + Drop> KeptSink<K> {
     /// A sink over this one.
-    pub fn new(inner: K) -> KeptSink<K> {
+    pub fn new(inner: K) -> KeptSink<K>
+        ensures { result.inner ≡ inner }
+    {
         KeptSink {
             inner,
             front: [0; MOST],

@@ -1,6 +1,6 @@
 //! Standard input: an adapter over the real thing, which tells what it gave, and nothing of what it has
 //! left.
-ghost use Rattle.std.specs.Prelude.{◌≤◌, length, IfOk};
+ghost use Rattle.std.specs.Prelude.{◌≡◌, ◌≤◌, [], length, IfOk};
 ghost use Rattle.std.specs.declared.option.Option.TheVariants.{None};
 
 use crate::record::Record;
@@ -17,8 +17,11 @@ pub struct StdSource<R: Input> {
 }
 
 impl<R: Input> StdSource<R> {
-    /// The runtime's standard input.
-    pub fn new(rt: &R) -> StdSource<R> {
+    /// The runtime's standard input, which has given nothing.
+    pub fn new(rt: &R) -> StdSource<R>
+        ensures history { result.history.events ≡ [] }
+        ensures faults { result.faults ≡ 0 }
+    {
         StdSource {
             reader: rt.reader(),
             faults: 0,

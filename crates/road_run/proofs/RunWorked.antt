@@ -1,5 +1,5 @@
 -- What the arguments of a run's promises say of small cases.
-use Rattle.std.proofs.Common.{◌≡◌, ℕ, Bool, true, false, List, [], ◌∷◌, if◌then◌else◌, refl, sym, subst}
+use Rattle.std.proofs.Common.{◌≡◌, ℕ, Bool, true, false, List, [], ◌∷◌, ◌++◌, if◌then◌else◌, refl, sym, subst}
 use Rattle.std.specs.declared.option.Option.{Option}
 use Rattle.std.specs.declared.option.Option.TheVariants.{None, Some}
 use Rattle.std.specs.declared.result.Result.{Result}
@@ -14,18 +14,20 @@ use Rattle.owner_commands.specs.ChainLine.{EndsLinks}
 use Rattle.owner_commands.specs.OwnerDesk.{EndsDesk}
 use Rattle.route_survey.specs.Surveying.{EndsSurvey}
 use Rattle.book_model.specs.declared.items.Query.{Query}
+use Rattle.proof_octets.specs.declared.query.NearQuery.{NearQuery}
 use Rattle.proof_octets.specs.declared.publication.Publication.{Publication}
 use Rattle.route_service.specs.Machine.{State, after, MayReply}
 use Rattle.route_service.specs.Isolation.{is_form_of, form_in, is_kept, IsIsolated}
 use Rattle.road_command.specs.Requests.{Route, Key, Links, Desk, Serve, Survey}
 use Rattle.command_files.specs.declared.fault.Fault.{Fault}
-use Rattle.command_files.specs.declared.fault.Fault.TheVariants.{Source, UnknownNode}
+use Rattle.command_files.specs.declared.fault.Fault.TheVariants.{Source, UnknownNode, TruncatedFrame, Sink}
 use Rattle.command_files.specs.declared.ended.Conclusion.{Conclusion}
-use Rattle.command_files.specs.declared.ended.Conclusion.TheVariants.{Done}
-use Rattle.road_run.specs.Accepting.{IsTaken, IsNoAnswer, WritesReply}
+use Rattle.command_files.specs.declared.ended.Conclusion.TheVariants.{Done, Refused, Evidence}
+use Rattle.road_run.specs.Accepting.{IsTaken, IsNoAnswer, IsNearTaken, WritesReply, WritesNearReply, WritesAccepted}
 use Rattle.road_run.specs.Commands.{LeavesAll, LeavesUnused, IsTold, RunPromises}
 use Rattle.road_run.specs.Complete.{PromisedEnough}
-use Rattle.road_run.specs.Sources.{RunTakes}
+use Rattle.road_run.specs.Sources.{RunTakes, HasEnded}
+use Rattle.server_commands.specs.Guarding.{ServeFiles, guarded, unguarded}
 
 -- ---- arguments that ask for nothing
 
@@ -121,3 +123,44 @@ links_ask_for_the_disk told = told refl
 
 key_asks_for_the_disk : (secret : List ℕ) (kind : ℕ) → IsTold (Key secret kind) None → ⊥
 key_asks_for_the_disk secret kind told = told refl
+
+-- ---- what is accepted
+
+-- an honest reply of which another end is told was not accepted, nor one that was refused
+refused_is_not_accepted : (IsLine : List ℕ → Type 0) (old new : Option (List ℕ)) → WritesAccepted IsLine old new (Ok Refused) → ⊥
+refused_is_not_accepted IsLine old new h = h
+
+evidence_is_not_accepted : (IsLine : List ℕ → Type 0) (old new : Option (List ℕ)) → WritesAccepted IsLine old new (Ok Evidence) → ⊥
+evidence_is_not_accepted IsLine old new h = h
+
+unknown_is_not_accepted : (IsLine : List ℕ → Type 0) (old new : Option (List ℕ)) (id : ℕ) → WritesAccepted IsLine old new (Err (UnknownNode id)) → ⊥
+unknown_is_not_accepted IsLine old new id h = h
+
+-- the line stands behind what was written before
+line_is_written : (IsLine : List ℕ → Type 0) (before now : List ℕ) → WritesAccepted IsLine (Some before) (Some now) (Ok Done) → (text : List ℕ) × IsLine text × (now ≡ before ++ text)
+line_is_written IsLine before now h = h
+
+-- a reply to a range query that was written with status 0 is what clients take
+reach_is_taken : (p : Publication) (q : NearQuery) (octets : List ℕ) → WritesNearReply p q (Some []) (Some octets) (Ok Done) → IsNearTaken p q octets
+reach_is_taken p q octets h = subst (IsNearTaken p q) (sym h.2) h.1
+
+-- ---- the end of the source
+
+-- `serve` with status 0 found its end, guarded or not
+done_at_the_end : (named : ServeFiles) (Ended : Type 0) → HasEnded named (Ok Done) Ended → Ended
+done_at_the_end named Ended h = h
+
+-- so did one that found a frame cut short
+cut_at_the_end : (named : ServeFiles) (Ended : Type 0) → HasEnded named (Err TruncatedFrame) Ended → Ended
+cut_at_the_end named Ended h = h
+
+-- a refusal of what is not signed needs none, and without a guard there is none
+refused_by_the_guard : (publication key : List ℕ) (Ended : Type 0) → HasEnded (guarded publication key None) (Ok Refused) Ended
+refused_by_the_guard publication key Ended = tt
+
+refused_without_a_guard : (publication : List ℕ) (Ended : Type 0) → HasEnded (unguarded publication) (Ok Refused) Ended → Ended
+refused_without_a_guard publication Ended h = h
+
+-- one whose sink failed says nothing of its end
+sink_says_nothing : (named : ServeFiles) (Ended : Type 0) → HasEnded named (Err Sink) Ended
+sink_says_nothing named Ended = tt

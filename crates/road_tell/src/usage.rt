@@ -6,7 +6,7 @@ use std::fmt::{self, Display, Formatter};
 pub const VERSION: &str = "0.1.0";
 
 /// The toolchain and the logic that the program is proved with.
-pub const KIT: &str = "rattle-kit-13b logic dac8208d650f15bf";
+pub const KIT: &str = "rattle-kit-13f logic dac8208d650f15bf";
 
 /// A command: its name and its arguments as they are typed, and what it does.
 #[derive(Clone, Copy)]

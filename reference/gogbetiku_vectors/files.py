@@ -12,6 +12,7 @@ from collections.abc import Iterator
 
 from . import client, formats, owners, parties, signing
 from .families import Family, Fields
+from .imported import IMPORTED
 
 FAMILIES: list[Family] = [*formats.FAMILIES, *signing.FAMILIES, *parties.FAMILIES, *client.FAMILIES, *owners.FAMILIES]
 
@@ -47,6 +48,9 @@ def texts(slow: bool) -> Iterator[tuple[str, str]]:
         yield f"{family.name}.schema.json", json.dumps(family.schema(), indent=1) + "\n"
         if slow or not family.slow:
             yield f"{family.name}.json", case_lines(family.made())
+    for file in IMPORTED:
+        yield f"{file.name}.schema.json", json.dumps(file.schema(), indent=1) + "\n"
+        yield f"{file.name}.json", file.text()
 
 
 def write_all(folder: pathlib.Path) -> None:
@@ -56,7 +60,7 @@ def write_all(folder: pathlib.Path) -> None:
 
 def differences(folder: pathlib.Path) -> list[str]:
     """What is not as the reference makes it."""
-    found, named = [], {f"{family.name}{end}" for family in FAMILIES for end in (".json", ".schema.json")}
+    found, named = [], {f"{file.name}{end}" for file in (*FAMILIES, *IMPORTED) for end in (".json", ".schema.json")}
     for name, text in texts(slow=False):
         if not (folder / name).exists() or (folder / name).read_text(encoding="ascii") != text:
             found.append(f"{name} is not what the reference makes")

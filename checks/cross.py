@@ -1,5 +1,5 @@
 #!/usr/bin/env python3
-"""The program beside the reference, over made maps: checks/cross.py PROGRAM [--seed N] [--seconds S] [--steps N]
+"""The program beside the reference, over made maps: checks/cross.py PROGRAM [--seed N] [--seconds S] [--steps N] [--library]
 
 A step is one command of both. Maps, settings, queries and disks are drawn; so are road files, graphs, publications, replies,
 chains, disks and frames that are broken, cut, longer, spliced or lied about, with covers that fit the lie; and words that fit
@@ -7,7 +7,8 @@ no command. Both must end with the same status and output, and leave the same `o
 program may take any: what it writes is then looked at by the reference as an honest reply or a shortest route. What a client
 accepts is also compared with distances over the map that was signed. Ends after STEPS steps or SECONDS seconds (20), with
 status 1 at the first difference, whose files then stand in the folder that it names, and says how long the slowest run of the
-program took. Nothing here is proved, and no client trusts it.
+program took. With --library PROGRAM is libgogbetiku.so.0, and lies alone are drawn, in this process (checks/lies.py).
+Nothing here is proved, and no client trusts it.
 """
 import argparse
 import pathlib
@@ -23,7 +24,7 @@ from collections.abc import Callable
 from dataclasses import replace
 
 TOP = pathlib.Path(__file__).resolve().parent.parent
-sys.path.insert(0, str(TOP / "reference"))
+sys.path[:0] = [str(TOP / "reference"), str(TOP / "checks"), str(TOP / "bindings/python")]
 
 from gogbetiku_reference import commands, desks, servers  # noqa: E402
 from gogbetiku_reference.books import book_of  # noqa: E402
@@ -40,6 +41,8 @@ from gogbetiku_reference.publications import Publication, Settings, read_publica
 from gogbetiku_reference.replies import APART, ROUTE, Answer, NearReply, read_near_reply, read_reply  # noqa: E402
 from gogbetiku_reference.road_files import print_roads, read_roads  # noqa: E402
 from gogbetiku_reference.servers import Held  # noqa: E402
+from gogbetiku_vectors.asking import run_near, run_route  # noqa: E402
+from lies import Asked, Liar  # noqa: E402
 
 GREATEST = 2**64 - 1
 WORLDS_STEPS = 400
@@ -220,8 +223,10 @@ class Steps:
         self.routes = [servers.answer(held, scene.end(), scene.end()) for held in scene.held for _ in range(3)]
         self.radii = [servers.near_reply(held, [scene.rng.choice(scene.ids)]).octets() for held in scene.held]
         self.publications = [held.publication.octets() for held in scene.held]
+        self.liar = Liar(self.rng, scene.held, scene.chain)
         self.kinds: list[tuple[int, Callable[[], Step]]] = [
             (30, self.check),
+            (30, self.lie),
             (12, self.check_reach),
             (10, self.audit),
             (5, self.audit_reach),
@@ -298,6 +303,13 @@ class Steps:
         words, chain = self.chain_words()
         least = self.rng.choice((0, 0, held.publication.header.version, 3, GREATEST))
         return self.step(["check", "key", "reply", *query, least, *words], {**files, **chain})
+
+    def lie(self) -> Step:
+        """A reply whose covers mostly fit, and that says what the signed map does not."""
+        asked = self.liar.draw()
+        files = {"key": self.scene.public.hex().encode(), "reply": asked.octets, "chain": write_chain(asked.chain)}
+        words = ["check-reach" if asked.is_near else "check", "key", "reply", asked.start, asked.end, asked.least, "chain"]
+        return self.step(words, files)
 
     def check_reach(self) -> Step:
         query, files, _ = self.near_query()
@@ -645,14 +657,48 @@ class Both:
         )
 
 
+def fields_of(scene: Scene, asked: Asked) -> dict[str, object]:
+    """A lie as the vectors give it."""
+    given = {"public": scene.public.hex(), "chain": write_chain(asked.chain).hex(), "reply": asked.octets.hex()}
+    ends = {"radius": str(asked.end)} if asked.is_near else {"to": asked.end}
+    return {**given, "from": asked.start, **ends, "least": str(asked.least)}
+
+
+def by_library(library: str, seed: int, cases: int, seconds: float) -> int:
+    """Lies alone, in this process, by the library and by the reference."""
+    from vectors import by_library as runner
+
+    rng, begun, counts = random.Random(seed), time.monotonic(), Counter()
+    secrets, run = [rng.randbytes(48) for _ in range(3)], runner(library)
+    while counts["cases"] < cases and time.monotonic() - begun < seconds:
+        if counts["cases"] % WORLDS_STEPS == 0:
+            scene = Scene(rng, secrets)
+            liar = Liar(rng, scene.held, scene.chain)
+        asked = liar.draw()
+        given = fields_of(scene, asked)
+        seen, wanted = run(given), (run_near if asked.is_near else run_route)(given)
+        counts["cases"] += 1
+        counts[wanted["line"].split()[min(1, wanted["code"] - 1 if wanted["code"] > 2 else 0)]] += 1
+        words = ["check-reach" if asked.is_near else "check", "key", "reply", str(asked.start), str(asked.end)]
+        if seen != wanted or wanted["code"] in (1, 2) and not is_true(scene, words, {"reply": asked.octets}, seen["line"]):
+            print(f"cross, lies, seed {seed}, case {counts['cases']}: the library {seen}, the reference {wanted}, given {given}")
+            return 1
+    count = counts.pop("cases")
+    print(f"cross, lies, seed {seed}: {count} by the library without a difference ({', '.join(f'{name} {number}' for name, number in sorted(counts.items()))})")
+    return 0
+
+
 def main() -> int:
     parser = argparse.ArgumentParser(description=__doc__.split("\n", maxsplit=1)[0])
     parser.add_argument("program")
     parser.add_argument("--seed", type=int, default=1)
     parser.add_argument("--seconds", type=float, default=None)
     parser.add_argument("--steps", type=int, default=None)
+    parser.add_argument("--library", action="store_true", help="PROGRAM is libgogbetiku.so.0, which is given lies alone")
     asked = parser.parse_args()
     seconds = asked.seconds or (20 if asked.steps is None else 10**9)
+    if asked.library:
+        return by_library(asked.program, asked.seed, asked.steps or 10**9, seconds)
     rng, begun = random.Random(asked.seed), time.monotonic()
     secrets = [rng.randbytes(48) for _ in range(3)]
     folder = pathlib.Path(tempfile.mkdtemp(prefix="cross-", dir=IN_MEMORY))

@@ -50,31 +50,57 @@ from .client_widths import distances, high_ids, radii, steps, versions
 
 
 @lru_cache(maxsize=1)
-def both() -> tuple[list[Case], list[Case]]:
-    """The cases of each test under each method, of widths, limits and orders: those of routes, and those of radii."""
-    made = [*every(KINDS), *turned_kinds(), *versions(KINDS), *distances(), *radii(), *steps(), *high_ids()]
-    made += [*limits(), *causes()]
-    return [case for case in made if "to" in case.given], [case for case in made if "radius" in case.given]
+def both() -> tuple[list[Case], list[Case], dict[str, list[Case]]]:
+    """The cases of each test under each method, of widths, limits and orders: those of routes, those of radii, and all by
+    what they show."""
+    shown = {
+        "EveryTest": [*every(KINDS), *turned_kinds()],
+        "Width": [*versions(KINDS), *distances(), *radii(), *steps(), *high_ids()],
+        "Limit": list(limits()),
+        "Order": list(causes()),
+    }
+    made = [case for cases in shown.values() for case in cases]
+    return [case for case in made if "to" in case.given], [case for case in made if "radius" in case.given], shown
+
+
+@lru_cache(maxsize=1)
+def client_cases() -> tuple[Case, ...]:
+    return tuple(made_client())
+
+
+@lru_cache(maxsize=1)
+def near_cases() -> tuple[Case, ...]:
+    return tuple(made_near())
 
 
 def make_client() -> Iterator[Case]:
-    yield from kinds()
-    yield from header_fields()
-    yield from list_fields()
-    yield from versions_and_chains()
-    yield from signatures()
-    yield from covers()
-    yield from repeated()
-    yield from routes()
-    yield from judged_dij()
-    yield from judged_full()
-    yield from judged_ldm()
-    yield from judged_hyp()
-    yield from judged_apart()
-    yield from both()[0]
+    return iter(client_cases())
 
 
 def make_near() -> Iterator[Case]:
+    return iter(near_cases())
+
+
+@lru_cache(maxsize=1)
+def by_test() -> dict[str, list[Case]]:
+    """The cases of routes, for each test and field one that fails there, by what they show."""
+    return {
+        "Form": [*kinds(), *header_fields(), *list_fields()],
+        "Seal": [*versions_and_chains(), *signatures()],
+        "Cover": [*covers(), *repeated()],
+        "Judgement": [
+            *(*routes(), *judged_dij(), *judged_full(), *judged_ldm(), *judged_hyp(), *judged_apart()),
+        ],
+    }
+
+
+def made_client() -> Iterator[Case]:
+    for cases in by_test().values():
+        yield from cases
+    yield from both()[0]
+
+
+def made_near() -> Iterator[Case]:
     held = books()["dij"]
     good = near_reply(held, [1, 2, 4])
     text = good.octets()

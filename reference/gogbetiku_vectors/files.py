@@ -5,6 +5,7 @@ A signature that stands more than once in a file has a name there, and `{name}` 
 Tested, not proved; no client trusts it.
 """
 import json
+import multiprocessing
 import pathlib
 import re
 from collections import Counter
@@ -12,6 +13,7 @@ from collections.abc import Iterator
 
 from . import client, formats, owners, parties, signing
 from .families import Family, Fields
+from .imported import IMPORTED
 
 FAMILIES: list[Family] = [*formats.FAMILIES, *signing.FAMILIES, *parties.FAMILIES, *client.FAMILIES, *owners.FAMILIES]
 
@@ -41,12 +43,31 @@ def case_lines(made: Fields) -> str:
     )
 
 
+FILES = {file.name: file for file in (*FAMILIES, *IMPORTED)}
+# what takes longest is made first, that of the client twice by one process
+TOGETHER = [["client", "client_radius", "client_verify"], ["turned"], ["services"], ["lms_verify", "signatures"]]
+
+
+def texts_of(names: list[str]) -> list[tuple[str, str]]:
+    """The names and texts of some files, and of their schemas."""
+    found = []
+    for name in names:
+        file = FILES[name]
+        found.append((f"{name}.schema.json", json.dumps(file.schema(), indent=1) + "\n"))
+        found.append((f"{name}.json", case_lines(file.made()) if isinstance(file, Family) else file.text()))
+    return found
+
+
 def texts(slow: bool) -> Iterator[tuple[str, str]]:
-    """The names and texts of all files; with `slow` also those that take a minute."""
-    for family in FAMILIES:
-        yield f"{family.name}.schema.json", json.dumps(family.schema(), indent=1) + "\n"
-        if slow or not family.slow:
-            yield f"{family.name}.json", case_lines(family.made())
+    """The names and texts of all files, made by four processes; with `slow` also those that take a minute."""
+    left = [name for name in FILES if name not in sum(TOGETHER, []) and (slow or name not in SLOW)]
+    yield from ((f"{name}.schema.json", json.dumps(FILES[name].schema(), indent=1) + "\n") for name in SLOW)
+    with multiprocessing.get_context("fork").Pool(4) as pool:
+        for found in pool.imap_unordered(texts_of, [*TOGETHER, *([name] for name in left)]):
+            yield from found
+
+
+SLOW = {family.name for family in FAMILIES if family.slow}
 
 
 def write_all(folder: pathlib.Path) -> None:
@@ -56,7 +77,7 @@ def write_all(folder: pathlib.Path) -> None:
 
 def differences(folder: pathlib.Path) -> list[str]:
     """What is not as the reference makes it."""
-    found, named = [], {f"{family.name}{end}" for family in FAMILIES for end in (".json", ".schema.json")}
+    found, named = [], {f"{name}{end}" for name in FILES for end in (".json", ".schema.json")}
     for name, text in texts(slow=False):
         if not (folder / name).exists() or (folder / name).read_text(encoding="ascii") != text:
             found.append(f"{name} is not what the reference makes")

@@ -3,14 +3,16 @@
 
 Takes the module that web/module made, and LIBRARY, libgogbetiku.so.0 of bindings/build, which bindings/play.py compares
 with PROGRAM. Compares what both say of the vectors, and of honest and changed replies to questions over the five-node
-map, or over ROADS: 2,000 changed ones, with --long 100,000. Under Node, turns bits, limits memory, and lets eight workers
-check at once. Packs the package with npm, installs it into an empty folder without a network, and checks a reply by its
-name. In Chromium, where it is there, compares the cases again. Says what is left out where something is not installed.
+map, or over ROADS: 2,000 changed ones, with --long 100,000. Under Node, turns bits, limits memory, lets eight workers
+check at once, and hands the calls what they do not take (web/play_calls.mjs). Packs the package with npm, installs it
+into an empty folder without a network, checks a reply by its name, and has TypeScript find its types by each way of
+finding a module. In Chromium, where it is there, compares the cases again. Says what is left out where something is not installed.
 Ends with status 1 where anything differs. Nobody trusts this file."""
 
 import functools
 import http.server
 import pathlib
+import re
 import shutil
 import subprocess
 import sys
@@ -43,6 +45,18 @@ console.log(found.map(({ nodes }) => nodes.map(({ id }) => id).join(" ")).join("
 """
 
 
+# a program in TypeScript that uses both entries
+TYPED = """import { Client, load, type Octets } from "gogbetiku";
+import { WorkerClient } from "gogbetiku/worker";
+export async function ask(key: string, reply: Octets): Promise<bigint[]> {
+    const module = await load(undefined, { integrity: "sha256-AAAAAAAAAAAAAAAAAAAAAAAAAAAAAAAAAAAAAAAAAAA=" });
+    const worker = await WorkerClient.start(key, { module, seconds: 5, memory: 2n ** 30n });
+    const [here, there] = [new Client(key, { mostOctets: 9 }).checkReach(reply, 1n, 4, 0n), await worker.checkRoute(reply, 1, 3, 1)];
+    return [here.version, there.kind === "route" ? there.length : there.version];
+}
+"""
+
+
 def has(name, what):
     if shutil.which(name):
         return True
@@ -61,10 +75,28 @@ def by_name(folder):
     (room / "by_name.mjs").write_text(BY_NAME)
     shutil.copy(folder / "cases.json", room)
     said = subprocess.run(["node", "by_name.mjs"], cwd=room, capture_output=True, text=True, check=False)
-    if said.stdout == "1 2 3, 1 2 3 function\n":
-        return 0
-    print(f"the packed module: {said.stdout}{said.stderr}")
-    return 1
+    if said.stdout != "1 2 3, 1 2 3 function\n":
+        print(f"the packed module: {said.stdout}{said.stderr}")
+        return 1
+    return by_types(room) if has("tsc", "the types of the package") else 0
+
+
+def by_types(room):
+    """A program finds the types of both entries, by each way that this compiler has; a wrong one is told."""
+    ways = re.search(r"moduleResolution.*?one of: (.*?)\n\n", subprocess.run(["tsc", "--all"], capture_output=True, text=True, check=False).stdout, re.S)
+    known = set(re.findall(r"\w+", ways[1])) if ways else {"node", "node16", "nodenext"}
+    status = 0
+    for way, kind in (("node", "es2022"), ("node10", "es2022"), ("node16", "node16"), ("nodenext", "nodenext"), ("bundler", "es2022")):
+        if way not in known:
+            continue
+        for text, wanted in ((TYPED, 0), (TYPED.replace("checkRoute(reply, 1, 3, 1)", 'checkRoute(reply, 1, 3, "1")'), 2)):
+            (room / "typed.ts").write_text(text)
+            words = ["tsc", "--noEmit", "--strict", "--target", "es2022", "--module", kind, "--moduleResolution", way, "typed.ts"]
+            said = subprocess.run(words, cwd=room, capture_output=True, text=True, check=False)
+            if said.returncode != wanted:
+                print(f"tsc, moduleResolution {way}: status {said.returncode}, and not {wanted}: {said.stdout}")
+                status = 1
+    return status
 
 
 def in_chromium(folder):
@@ -97,9 +129,11 @@ def main(program, library, long="", roads=HERE.parent / "crates/road_proof/data/
         subprocess.run([HERE / "build", folder], check=True)
         codes = write_cases(Party(program, library, folder / "party", roads), folder, 100_000 if long else 2_000)
         shutil.rmtree(folder / "party")
-        shutil.copy(HERE / "play_cases.mjs", folder)
+        for script in ("play_cases.mjs", "play_calls.mjs", "page/server.mjs"):
+            shutil.copy(HERE / script, folder)
         print(f"web: cases of each code {dict(sorted(codes.items()))}")
         status |= subprocess.run(["node", folder / "play_cases.mjs", folder, *([long] if long else [])], check=False).returncode
+        status |= subprocess.run(["node", folder / "play_calls.mjs", folder], check=False).returncode
         if has("npm", "the package for npm"):
             status |= by_name(folder)
         if has("chromium", "the module in a browser"):
@@ -109,4 +143,7 @@ def main(program, library, long="", roads=HERE.parent / "crates/road_proof/data/
 
 
 if __name__ == "__main__":
+    if len(sys.argv) < 3:
+        print("web/play.py: name the program and the library: web/play.py PROGRAM LIBRARY [--long [ROADS]]", file=sys.stderr)
+        sys.exit(2)
     sys.exit(main(*sys.argv[1:]))

@@ -33,6 +33,7 @@ export interface Within {
 }
 
 export type Octets = ArrayBuffer | ArrayBufferView;
+/** A whole number: a BigInt or a safe integer. Another value is a TypeError, one out of its range a RangeError. */
 export type Whole = number | bigint;
 
 /** The reply is not accepted. */
@@ -50,25 +51,29 @@ export declare class Refused extends Error {
     readonly line: string;
 }
 
-/** Compiles the module: the one beside this file, one at another place, or one of these octets. */
+/**
+ * Compiles the module: the one beside this file, one at another place, or one of these octets. `integrity` is the
+ * SHA-256 that they have, wherever they come from, as "sha256-" and base64: else nothing is loaded. Another form of it
+ * is a TypeError.
+ */
 export declare function load(from?: string | URL | Octets, options?: { integrity?: string }): Promise<WebAssembly.Module>;
 
 export interface ClientOptions {
     /** The octets of a chain file that leads to the owner's later keys. */
     chain?: Octets;
-    /** The octets that a check may take. */
-    memory?: number;
-    /** The octets of the longest reply that is looked at. */
-    mostOctets?: number;
+    /** The octets that a check may take: 0 to 2^32, and 2^30 where nothing is said. */
+    memory?: Whole;
+    /** The octets of the longest reply that is looked at: 0 to 2^32 - 1, and 75,000,000 where nothing is said. */
+    mostOctets?: Whole;
     module?: WebAssembly.Module;
 }
 
 export declare class Client {
     /** The key has 56 octets, or 112 hex digits. */
     constructor(key: Octets | string, options?: ClientOptions);
+    /** Throws `Refused`. Ids have 32 bits, `least` has 64. */
+    checkRoute(reply: Octets, from: Whole, to: Whole, least: Whole, options?: { simple?: boolean }): Route | NoRoute;
     /** Throws `Refused`. */
-    checkRoute(reply: Octets, from: number, to: number, least: Whole, options?: { simple?: boolean }): Route | NoRoute;
-    /** Throws `Refused`. */
-    checkReach(reply: Octets, from: number, radius: Whole, least: Whole): Within;
+    checkReach(reply: Octets, from: Whole, radius: Whole, least: Whole): Within;
     readonly libraryVersion: string;
 }

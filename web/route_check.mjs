@@ -22,6 +22,10 @@ const MOST_NODES = 65_536;
 const MOST_OCTETS = 75_000_000;
 const KEY_OCTETS = 56;
 const PAGE = 65_536;
+/** The greatest numbers of 32 and of 64 bits, and the octets that a memory of 32 bits has at most. */
+const U32 = 2n ** 32n - 1n;
+const U64 = 2n ** 64n - 1n;
+const MOST_MEMORY = 2n ** 32n;
 /** Octets of a verdict, of its line, of a route's node and of a node within a radius, as gogbetiku.h lays them out. */
 const VERDICT = 184;
 const LINE = 56;
@@ -51,23 +55,48 @@ export class Refused extends Error {
 let loaded;
 
 /** The octets at a place: a file's under Node, which fetches no file, or what is fetched. */
-async function octetsAt(place, integrity) {
+async function octetsAt(place) {
     if (place.protocol === "file:" && globalThis.process?.versions?.node) {
         const { readFile } = await import("node:fs/promises");
-        return readFile(place);
+        return readFile(place).catch((cause) => { throw new Error(`${place} can't be read`, { cause }); });
     }
-    const found = await fetch(place, integrity ? { integrity } : {});
-    if (!found.ok) throw new Error(`${place}: ${found.status}`);
-    return found.arrayBuffer();
+    const found = await fetch(place).catch((cause) => { throw new Error(`${place} is not answered`, { cause }); });
+    if (!found.ok) throw new Error(`${place} is answered with status ${found.status}`);
+    return found.arrayBuffer().catch((cause) => { throw new Error(`the octets of ${place} stop midway`, { cause }); });
+}
+
+/** The SHA-256 that `integrity` names, as 64 hex digits: one alone, as "sha256-" and 44 digits in base64. */
+function digestOf(integrity) {
+    const digits = /^sha256-([A-Za-z0-9+/]{43}=)$/.exec(typeof integrity === "string" ? integrity : "")?.[1];
+    if (!digits) throw new TypeError("integrity is one SHA-256, as \"sha256-\" and its 32 octets in base64");
+    return hexOf(Uint8Array.from(atob(digits), (octet) => octet.charCodeAt(0)));
+}
+
+function hexOf(octets) {
+    return Array.from(octets, (octet) => octet.toString(16).padStart(2, "0")).join("");
+}
+
+/** The SHA-256 of octets. A page has it over a secure connection alone: elsewhere nothing is loaded. */
+async function sha256Of(octets) {
+    const engine = globalThis.crypto ?? (globalThis.process?.versions?.node && (await import("node:crypto")).webcrypto);
+    if (!engine?.subtle) throw new Error("integrity can't be compared here: a page hashes over a secure connection alone");
+    return hexOf(new Uint8Array(await engine.subtle.digest("SHA-256", octets)));
 }
 
 /**
  * Compiles the module, once, and gives it: the one beside this file, one at another place, or one of these
- * octets. `integrity`, as "sha256-..", is what fetched octets must hash to: who serves them is then not trusted.
+ * octets. `integrity`, as "sha256-..", is what they hash to, wherever they come from: who keeps or serves them is
+ * then not trusted. Throws a TypeError where it is no such hash, and an Error where the octets have another one.
  */
-export async function load(from = new URL("route_check.wasm", import.meta.url), { integrity = "" } = {}) {
+export async function load(from = new URL("route_check.wasm", import.meta.url), { integrity } = {}) {
+    const wanted = integrity === undefined ? undefined : digestOf(integrity);
     const isOctets = from instanceof ArrayBuffer || ArrayBuffer.isView(from);
-    loaded = await WebAssembly.compile(isOctets ? from : await octetsAt(new URL(from, import.meta.url), integrity));
+    // a copy of its own: nobody else writes it between the hash and the compiler
+    const octets = octetsOf("from", isOctets ? from : await octetsAt(new URL(from, import.meta.url))).slice();
+    if (wanted !== undefined && (await sha256Of(octets)) !== wanted) {
+        throw new Error(`${isOctets ? "the octets of the module" : from} have another SHA-256 than integrity names`);
+    }
+    loaded = await WebAssembly.compile(octets);
     return loaded;
 }
 
@@ -138,8 +167,11 @@ function hasGrown(memory, end) {
 
 /**
  * Checks replies under a public key of 56 octets or 112 hex digits; `chain` has the octets of a chain file to
- * the owner's later keys. A check that needs more than `memory` octets is refused as NoMemory, and a reply of
- * more than `mostOctets` as TooLong before it is copied.
+ * the owner's later keys. A check that needs more than `memory` octets (0 to 2^32; 2^30) is refused as NoMemory, and a
+ * reply of more than `mostOctets` (0 to 2^32 - 1; 75,000,000) as TooLong before it is copied.
+ *
+ * Each number is a BigInt or a safe integer: another value is a TypeError, and one out of its range a RangeError, which
+ * name the argument. Ids have 32 bits; `least` and `radius` have 64.
  */
 export class Client {
     #module;
@@ -153,9 +185,9 @@ export class Client {
         if (!module) throw new Error("the module is not loaded: await load() first");
         this.#module = module;
         this.#key = keyOf(key);
-        this.#chain = octetsOf(chain).slice();
-        this.#mostOctets = mostOctets;
-        this.#blocks = new Blocks(memory);
+        this.#chain = octetsOf("chain", chain).slice();
+        this.#mostOctets = Number(whole("mostOctets", mostOctets, U32));
+        this.#blocks = new Blocks(Number(whole("memory", memory, MOST_MEMORY)));
     }
 
     /**
@@ -163,7 +195,8 @@ export class Client {
      * `{ kind: "no route", version }`. Throws `Refused`, with `simple` also where a route passes a node twice.
      */
     checkRoute(reply, from, to, least, { simple = false } = {}) {
-        const words = [id(from), id(to), number(least), simple ? 1 : 0];
+        if (typeof simple !== "boolean") throw new TypeError("simple is true or false");
+        const words = [id("from", from), id("to", to), whole("least", least, U64), simple ? 1 : 0];
         return this.#checked("gog_check_route", reply, words, NODE, (verdict, view) => {
             if (verdict.code === NO_ROUTE) return { kind: "no route", version: verdict.version };
             const nodes = Array.from({ length: verdict.count }, (_, at) => nodeAt(view, at * NODE));
@@ -173,7 +206,7 @@ export class Client {
 
     /** The nodes that a reply proves to lie within a radius: `{ kind: "within", nodes, version }`. Throws `Refused`. */
     checkReach(reply, from, radius, least) {
-        const words = [id(from), number(radius), number(least)];
+        const words = [id("from", from), whole("radius", radius, U64), whole("least", least, U64)];
         return this.#checked("gog_check_reach", reply, words, REACHED, (verdict, view) => {
             const nodes = Array.from({ length: verdict.count }, (_, at) => ({
                 ...nodeAt(view, at * REACHED),
@@ -189,7 +222,7 @@ export class Client {
     }
 
     #checked(call, reply, words, size, found) {
-        const octets = octetsOf(reply);
+        const octets = octetsOf("reply", reply);
         if (octets.length > this.#mostOctets) {
             throw new Refused(TOO_LONG, 0n, 0n, `A reply of more than ${this.#mostOctets} octets is not looked at.`);
         }
@@ -261,28 +294,31 @@ function textAt(memory, at, most) {
     return String.fromCharCode(...octets.subarray(0, octets.indexOf(0)));
 }
 
-function octetsOf(value) {
-    if (value instanceof ArrayBuffer) return new Uint8Array(value);
+/** The octets of a buffer or of a view, as long as they are now. */
+function octetsOf(name, value) {
+    if (value instanceof ArrayBuffer) return new Uint8Array(value, 0, value.byteLength);
     if (ArrayBuffer.isView(value)) return new Uint8Array(value.buffer, value.byteOffset, value.byteLength);
-    throw new TypeError("octets are an ArrayBuffer or a view of one");
+    throw new TypeError(`${name} is an ArrayBuffer or a view of one`);
 }
 
 function keyOf(value) {
     if (typeof value === "string" && /^[0-9a-fA-F]{112}\s*$/.test(value)) {
         return Uint8Array.from(value.trim().match(/../g), (digits) => parseInt(digits, 16));
     }
-    const octets = typeof value === "string" ? new Uint8Array() : octetsOf(value).slice();
-    if (octets.length !== KEY_OCTETS) throw new RangeError("a public key has 56 octets, or 112 hex digits");
+    const octets = typeof value === "string" ? new Uint8Array() : octetsOf("key", value).slice();
+    if (octets.length !== KEY_OCTETS) throw new RangeError("key has 56 octets, or 112 hex digits");
     return octets;
 }
 
-function id(value) {
-    if (!Number.isInteger(value) || value < 0 || value >= 2 ** 32) throw new RangeError(`${value} is no id`);
-    return value;
+function id(name, value) {
+    return Number(whole(name, value, U32));
 }
 
-function number(value) {
-    const whole = BigInt(value);
-    if (whole < 0n || whole >= 1n << 64n) throw new RangeError(`${value} is no unsigned number of 64 bits`);
-    return whole;
+/** A whole number from 0 to `most`, as a BigInt. */
+function whole(name, value, most) {
+    if (typeof value !== "bigint" && typeof value !== "number") throw new TypeError(`${name} is a BigInt or a safe integer`);
+    if (typeof value === "number" && !Number.isSafeInteger(value)) throw new RangeError(`${name} is ${value}, which is no safe integer`);
+    const number = BigInt(value);
+    if (number < 0n || number > most) throw new RangeError(`${name} is ${value}, which is not from 0 to ${most}`);
+    return number;
 }

@@ -13,21 +13,36 @@ import { Client, Refused, load } from "./route_check.mjs";
 
 const THREADS = globalThis.process?.versions?.node ? await import("node:worker_threads") : undefined;
 
+/** The errors of a wrong argument keep their class on the way out of the worker. */
+const ERRORS = new Map([RangeError, TypeError].map((error) => [error.name, error]));
+
 export class WorkerClient {
     #worker;
     #seconds;
     #asked = new Map();
     #count = 0;
+    /** Why no more is asked of the worker. */
+    #ended;
 
     /** `options` are those of `Client`, `seconds` and `place`. */
     static async start(key, { seconds = 30, place = new URL(import.meta.url), ...options } = {}) {
+        if (typeof seconds !== "number") throw new TypeError("seconds is a number");
+        if (!(seconds > 0 && seconds <= 2_000_000)) throw new RangeError(`seconds is ${seconds}, which is not above 0 and up to 2000000`);
         const client = new WorkerClient();
         client.#seconds = seconds;
         client.#worker = THREADS ? new THREADS.Worker(place) : new Worker(place, { type: "module" });
-        const take = (event) => client.#take(THREADS ? event : event.data);
-        THREADS ? client.#worker.on("message", take) : client.#worker.addEventListener("message", take);
-        THREADS ? client.#worker.on("error", (error) => client.#fail(error)) : client.#worker.addEventListener("error", (event) => client.#fail(new Error(event.message)));
-        await client.#ask("start", [key, options]);
+        client.#listen({
+            message: (said) => client.#take(said),
+            messageerror: () => client.#finish(new Error("the worker's answer can't be read")),
+            error: (error) => client.#finish(new Error(error?.message || "the worker ended by an error")),
+            exit: () => client.#finish(new Error("the worker has ended")),
+        });
+        try {
+            await client.#ask("start", [key, options]);
+        } catch (error) {
+            client.end();
+            throw error;
+        }
         return client;
     }
 
@@ -39,17 +54,25 @@ export class WorkerClient {
         return this.#ask("checkReach", words);
     }
 
+    /** Ends the worker. What was asked and is not answered, and whatever is asked from here on, is an error. */
     end() {
-        this.#worker.terminate();
-        this.#fail(new Error("the worker was ended"));
+        this.#finish(new Error("the worker was ended"));
+    }
+
+    #listen(events) {
+        for (const [name, take] of Object.entries(events)) {
+            if (THREADS) this.#worker.on(name, take);
+            else this.#worker.addEventListener(name, (event) => take(name === "message" ? event.data : event));
+        }
     }
 
     #ask(call, words) {
+        if (this.#ended) return Promise.reject(new Error(this.#ended.message));
         return new Promise((right, wrong) => {
             const number = this.#count++;
-            const clock = setTimeout(() => this.end(), 1000 * this.#seconds);
-            this.#asked.set(number, { right, wrong, clock });
             this.#worker.postMessage({ number, call, words });
+            const late = () => this.#finish(new Error(`the check takes longer than ${this.#seconds} seconds`));
+            this.#asked.set(number, { right, wrong, clock: setTimeout(late, 1000 * this.#seconds) });
         });
     }
 
@@ -58,12 +81,14 @@ export class WorkerClient {
         if (!asked) return;
         this.#asked.delete(number);
         clearTimeout(asked.clock);
-        if (refused) asked.wrong(new Refused(...refused));
-        else if (failed) asked.wrong(new Error(failed));
+        if (refused !== undefined) asked.wrong(new Refused(...refused));
+        else if (failed !== undefined) asked.wrong(new (ERRORS.get(failed.name) ?? Error)(failed.message));
         else asked.right(found);
     }
 
-    #fail(error) {
+    #finish(error) {
+        this.#ended ??= error;
+        this.#worker.terminate();
         for (const { wrong, clock } of this.#asked.values()) {
             clearTimeout(clock);
             wrong(error);
@@ -84,7 +109,7 @@ function answering(post) {
             }
             return post({ number, found: client[call](...words) });
         } catch (error) {
-            if (!(error instanceof Refused)) return post({ number, failed: `${error.message}` });
+            if (!(error instanceof Refused)) return post({ number, failed: { name: `${error?.name}`, message: `${error?.message ?? error}` } });
             return post({ number, refused: [error.code, error.first, error.second, error.sentence, error.line] });
         }
     };

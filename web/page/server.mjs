@@ -86,7 +86,8 @@ async function bounded(stream) {
     const pieces = [];
     let length = 0;
     const reader = stream.getReader();
-    for (let piece = await reader.read(); !piece.done; piece = await reader.read()) {
+    const next = () => reader.read().catch(() => { throw new NoAnswer("the server's answer stops midway"); });
+    for (let piece = await next(); !piece.done; piece = await next()) {
         length += piece.value.length;
         pieces.push(piece.value);
         if (length > MOST_OCTETS) {

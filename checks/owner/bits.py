@@ -24,7 +24,7 @@ MAP = "roads 1\nnode 1 0 0\nnode 2 10 0\nnode 3 20 0\nroad 1 2 4\nroad 2 3 5\n"
 SECRETS = [bytes(range(first, first + 48)) for first in (0, 50, 100)]
 BLOCK, SLOT, SLOTS, TEXT, SIGNATURE = 64, 128, 32, 2, 1292
 AREA = BLOCK + SLOT * SLOTS
-PUBLISH, SECONDS, PROCESSORS = "publish map.roads dij {} id 0 2 0 0 0", 60, 4
+PUBLISH, SECONDS, PROCESSORS = "publish map.roads dij {} id 0 2 0 0 0", 600, 4
 KEY, SUCCEED = "key secret-0 h5", "succeed secret-2 h5"
 # an octet of a desk, a bit of it, and whether the file owner.key lies beside the desk
 Bit = tuple[int, int, bool]

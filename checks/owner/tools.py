@@ -22,7 +22,7 @@ TOP = pathlib.Path(__file__).resolve().parents[2]
 TOOLS, STOP_AT = TOP / "tools", TOP / "checks/owner/stop_at.py"
 FIVE = "roads 1\nnode 1 0 0\nnode 2 10 0\nnode 3 20 0\nnode 4 10 10\nnode 5 50 50\nroad 1 2 4\nroad 2 3 5\nroad 1 4 3\nroad 4 3 7\n"
 SECRET, NEXT = bytes(range(48)), bytes(range(100, 148))
-SECONDS, SIGNED = 60, 1402
+SECONDS, SIGNED = 600, 1402
 BLOCK, SLOT, LAST = 64, 128, 31
 Ended = tuple[int, bytes, str]
 played = 0
@@ -327,7 +327,7 @@ def of_stopped_programs(program: str, base: str) -> None:
             stopped = stand_in(f"{program} \"$@\" | head -c {count}; kill -9 $PPID; exit 9", program)
             same(f"a stop behind {count} octets", day(stopped, 8)[0], -9)
             stood(f"a stop behind {count} octets")
-            says("the same day again", day(program, 8), 1, "One-time key 1 has signed version 8, and nothing of it was let out.", "not above version 8")
+            says("the same day again", day(program, 8), 1, "One-time key 1 has signed version 8, and the log has nothing of it.", "not above version 8")
             same("what is there", (version_in("m.pub"), there("m.pub.new"), spent()), (7, [], 2))
             says("the next version", day(program, 9), 0, "One-time keys left: 28.")
     with Folder(base):

@@ -22,6 +22,7 @@ before its frames end, and after any death. One event loop works on all of it, a
 
 import asyncio
 import errno
+import logging
 import os
 import signal
 import sys
@@ -36,7 +37,7 @@ except ModuleNotFoundError:
 from gateway_parts.answers import Answers  # noqa: E402
 from gateway_parts.counts import Counts  # noqa: E402
 from gateway_parts.keeper import Keeper  # noqa: E402
-from gateway_parts.log import tell  # noqa: E402
+from gateway_parts.log import Lines, tell  # noqa: E402
 from gateway_parts.options import Options, options_of, wrong  # noqa: E402
 from gateway_parts.wire import Server  # noqa: E402
 
@@ -74,6 +75,7 @@ async def serve(options: Options) -> None:
 
 def main(words: list[str]) -> int:
     options = options_of(words, (__doc__ or "").splitlines()[0])
+    logging.basicConfig(handlers=[Lines()], level=logging.WARNING)
     if sys.version_info < (3, 12):
         asyncio.set_child_watcher(asyncio.PidfdChildWatcher())
     asyncio.run(serve(options))

@@ -5,7 +5,7 @@ Takes the commands behind `$ ` and the outputs under them out of README.md, docs
 docs/BEFORE_YOU_SIGN.md and docs/OPERATING.md, or the documents that are named, types each document's commands into one
 shell in a fresh folder, and compares. A command's output is what stands under it, standard output and standard error together; its status is 0, or
 what an `echo $?` right behind it shows. The fresh folder has what a clone has behind its first build (`out`, `crates/road_proof`
-with `data` and `out`, `tools`, `bindings` and the archive of the client). `./build` is stood in for by what it does there,
+with `data` and `out`, `tools`, `bindings`, `web` and the archive of the client). `./build` is stood in for by what it does there,
 nothing, and `rt run --` and `rt try --` by the built program, since a proof takes its time. Everything else is run as typed.
 
 A block one of whose commands names a tool that this machine lacks is skipped with the rest of its
@@ -24,7 +24,9 @@ ARCHIVE = "crates/route_check_c/out/libroute_check_c.a"
 PROMPT = "$ "
 SECONDS = 120
 # words of the shell's own, and the two programs that this script puts on the path
-KNOWN = {"cd", "echo", "export", "printf", "umask", "exit", "true", "false", "road_proof", "rt", "test"}
+KNOWN = {"cd", "echo", "export", "printf", "umask", "exit", "true", "false", "road_proof", "rt", "test", "until", "do", "done", "kill"}
+# what a script of the repository needs beside itself
+NEEDS = {"web/gateway.py": ["python3-h11"], "web/many": ["python3-h11", "nginx", "haproxy"]}
 STAND_IN = """#!/bin/sh
 # Runs the built program in place of `rt run -- WORDS` and `rt try -- WORDS`; where the kit lies, rt itself says.
 case "$1 $2" in "run --"|"try --") shift 2; exec out/road_proof "$@";; "doc ") exec REAL doc;; esac
@@ -72,7 +74,15 @@ def lacking(command):
         words = [word for word in part.split() if "=" not in word]
         if words and words[0] not in KNOWN and "/" not in words[0] and not shutil.which(words[0]):
             return words[0]
+        for need in NEEDS.get(words[0], []) if words else []:
+            if not (has_h11() if need == "python3-h11" else shutil.which(need)):
+                return need
     return None
+
+
+def has_h11():
+    """Whether Debian's Python has the module."""
+    return subprocess.run(["/usr/bin/python3", "-c", "import h11"], capture_output=True, check=False).returncode == 0
 
 
 def script_of(commands, results):
@@ -99,7 +109,7 @@ def fresh_folder(room, program):
     with open(f"{room}/clone/build", "w", encoding="utf-8") as file:
         file.write("#!/bin/sh\n")
     os.chmod(f"{room}/clone/build", 0o755)
-    for folder in ("tools", "bindings"):
+    for folder in ("tools", "bindings", "web"):
         shutil.copytree(f"{TOP}/{folder}", f"{room}/clone/{folder}", ignore=shutil.ignore_patterns("__pycache__"))
     if os.path.exists(f"{TOP}/{ARCHIVE}"):
         os.makedirs(os.path.dirname(f"{room}/clone/{ARCHIVE}"))

@@ -5,7 +5,7 @@ speed    answers a second, the median and the 99th of a hundred: through the cac
          replicas, over streets of 5,000 nodes and the grid of 65,536, under a skewed mix of asks
 killed   10,000 asks of 50 clients, while a gateway, a `serve` and nginx are killed twenty times each
 old      a replica is left at an older publication
-roll     a publication is rolled through three replicas, one by one, under load
+roll     a publication is rolled through three replicas under load: all take it in before one announces it
 lies     one replica of three lies in one answer of ten, which the cache then keeps
 install  the longest wait of an ask while a publication under HYP over the grid of 65,536 is installed
 full     one gateway whose log lies on a disk without room
@@ -267,10 +267,9 @@ def roll(program, given):
     started, turned, back = Many(owner, names[0], "--replicas", 3, "--haproxy"), threading.Event(), []
 
     def turn():
-        for number in range(3):
-            time.sleep(2)
-            replace(started.replica(number) / "map.pub", owner.path(names[1]).read_bytes())
-        time.sleep(8)
+        time.sleep(2)
+        replace(started.folder / "map.pub", owner.path(names[1]).read_bytes())
+        time.sleep(12)
         turned.set()
 
     def follows():

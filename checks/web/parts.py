@@ -7,6 +7,7 @@ import asyncio
 import contextlib
 import gzip
 import hashlib
+import logging
 import os
 import pathlib
 import random
@@ -60,6 +61,11 @@ class Log(unittest.TestCase):
             self.assertTrue(log.plain(text).isprintable() and log.plain(text).isascii(), text)
         self.assertEqual(log.plain("a\x1bb"), "a\\x1bb")
         self.assertLess(len(log.plain("y" * 9_999)), 2_100)
+
+    def test_what_asyncio_logs_is_such_a_line_too(self) -> None:
+        with words_of_log() as read:
+            log.Lines().emit(logging.LogRecord("asyncio", logging.WARNING, "", 0, "a\n%s", ("b",), None))
+            self.assertEqual(read(), "gateway: a\\nb\n")
 
     def test_a_log_that_stands_still_holds_nobody_up(self) -> None:
         read_end, write_end = os.pipe()

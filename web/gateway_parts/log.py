@@ -1,6 +1,7 @@
 """Lines for whoever operates the gateway. Where they cannot be written at once they are lost, and nothing else is."""
 
 import contextlib
+import logging
 import os
 import select
 
@@ -20,3 +21,10 @@ def tell(text: str) -> None:
         poll.register(2, select.POLLOUT)
         if any(event & select.POLLOUT for _, event in poll.poll(0)):
             os.write(2, f"gateway: {plain(text)}\n".encode("ascii"))
+
+
+class Lines(logging.Handler):
+    """What asyncio logs, as lines like the others."""
+
+    def emit(self, record: logging.LogRecord) -> None:
+        tell(record.getMessage())

@@ -75,6 +75,8 @@ async def serve(options: Options) -> None:
 
 def main(words: list[str]) -> int:
     options = options_of(words, (__doc__ or "").splitlines()[0])
+    # a thread that has packed an answer is not kept from handing it over
+    sys.setswitchinterval(0.0005)
     logging.basicConfig(handlers=[Lines()], level=logging.WARNING)
     if sys.version_info < (3, 12):
         asyncio.set_child_watcher(asyncio.PidfdChildWatcher())

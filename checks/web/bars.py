@@ -223,6 +223,12 @@ class Bench:
         self.name = self.owner.publish(3, "ldm")
         self.ids = self.owner.ids
         self.version = 3
+        # what was started by each sample, for all bars
+        self.started: dict[str, Many] = {}
+
+    def end(self) -> None:
+        for many in self.started.values():
+            many.end()
 
     def seconds(self, long: float, short: float) -> float:
         return short if self.given.short else long
@@ -271,15 +277,14 @@ def by_each_sample(bench: Bench) -> Iterator[tuple[str, Many]]:
         if any(shutil.which(name) is None for name in ["nginx", *["haproxy"] * bool(words)]):
             print(f"skipped: {title}, since this machine lacks it")
             continue
-        many = Many(bench.owner, bench.name, "--replicas", 3, *words)
-        try:
-            yield title, many
-        finally:
-            many.end()
+        if title not in bench.started:
+            bench.started[title] = Many(bench.owner, bench.name, "--replicas", 3, *words)
+        yield title, bench.started[title]
 
 
 async def busy(bench: Bench) -> None:
     for title, many in by_each_sample(bench):
+        before = downs(many)
         for who, sources in (("300 addresses", each), ("one address", same)):
             seen = await load(many.address, bench.ids, 300, after(bench.seconds(20, 4)), sources)
             print(f" {title}, 300 connections from {who}: {seen.told()}")
@@ -290,7 +295,7 @@ async def busy(bench: Bench) -> None:
             else:
                 holds("failed, or neither 2xx nor 429", seen.bad() - seen.statuses[429], 0)
                 holds("a second without a 2xx", 1 if good < bench.seconds(20, 4) else 0, 0)
-        holds("gateways that were taken for dead", downs(many), 0)
+        holds("gateways that were taken for dead", downs(many) - before, 0)
 
 
 async def least(bench: Bench) -> None:
@@ -535,11 +540,14 @@ def main(words: list[str]) -> int:
         print("skipped: checks/web/bars.py, since this machine has no python3-h11")
         return 0
     bench = Bench(given.program, given)
-    for what in given.what or [name for name in BARS if name not in ("speed", "hour")]:
-        began = time.monotonic()
-        print(f"{what}:", flush=True)
-        asyncio.run(BARS[what](bench))
-        print(f" {time.monotonic() - began:.0f} s", flush=True)
+    try:
+        for what in given.what or [name for name in BARS if name not in ("speed", "hour")]:
+            began = time.monotonic()
+            print(f"{what}:", flush=True)
+            asyncio.run(BARS[what](bench))
+            print(f" {time.monotonic() - began:.0f} s", flush=True)
+    finally:
+        bench.end()
     for fault in faults:
         print("DIFFERS", fault)
     print(f"bars: {len(faults)} do not hold" if faults else "bars: all hold")

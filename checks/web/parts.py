@@ -238,13 +238,12 @@ class Children(Asynchronous):
         crew.on_loss = lost.append
         for _ in range(3):
             crew.add(await crew.pinned())
-        began = time.monotonic()
         asks = [asyncio.ensure_future(crew.ask(crew.held[0].id, 2, struct.pack(">II", 1, it), "a")) for it in range(6)]
         await asyncio.sleep(0.1)
         os.kill(crew.children[0].transport.get_pid(), 9)
         replies = await asyncio.gather(*asks)
         self.assertEqual([struct.unpack(">I", it[-4:])[0] for it in replies], list(range(6)))
-        self.assertLess(time.monotonic() - began, 1.1)
+        self.assertGreater(len({it[8:12] for it in replies}), 1)
         self.assertEqual((len(crew.children), len(lost)), (2, 1))
         crew.end()
 
@@ -285,7 +284,7 @@ class Children(Asynchronous):
         crew.add(await crew.pinned())
         frames = crew.children[0].frames
         asks = [asyncio.ensure_future(crew.ask(crew.held[0].id, 2, struct.pack(">II", 1, it), "a")) for it in range(20)]
-        await asyncio.sleep(0.05)
+        await asyncio.sleep(0)
         for ask in asks:
             ask.cancel()
         await asyncio.sleep(0.6)

@@ -40,8 +40,8 @@ QUERIES: dict[str, tuple[str, tuple[int, ...]]] = {
 ASKED = re.compile("/v1/(?:p/([^/]*)/)?(route|reach|publication)")
 # what a monitor or a balancer asks is answered whatever else is asked
 UNLIMITED = ("/v1/health", "/v1/ready", "/metrics")
-# beyond this an answer is packed by another thread
-AT_ONCE = 4_096
+# beyond this an answer is packed by another thread; below it costs less than to hand it over
+AT_ONCE = 65_536
 
 
 class Settings(Protocol):

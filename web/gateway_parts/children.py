@@ -66,7 +66,7 @@ class Child(asyncio.SubprocessProtocol):
         for number in (0, 1):
             pipe = self.transport.get_pipe_transport(number)
             if pipe is not None:
-                with contextlib.suppress(OSError):  # beyond what a user's pipes may hold
+                with contextlib.suppress(OSError, ValueError):  # beyond what a user may hold in pipes, or closed already
                     fcntl.fcntl(pipe.get_extra_info("pipe").fileno(), fcntl.F_SETPIPE_SZ, PIPE_OCTETS)
 
     def pipe_data_received(self, fd: int, data: bytes) -> None:

@@ -5,30 +5,33 @@
 
 /** What of the first such leaf is otherwise, in words, or nothing where each leaf has the map's place and roads. */
 export async function differenceOf(leaves, map, pauses) {
-    const [places, roads] = [new Map(leaves.map(({ id }) => [id, null])), new Map(leaves.map(({ id }) => [id, new Map()]))];
+    const shown = new Map(leaves.map(({ id }) => [id, { place: null, roads: new Map() }]));
     for (const node of map.nodes) {
-        if (places.has(node.id)) places.set(node.id, node);
+        if (pauses.isDue) await pauses.pause();
+        const known = shown.get(node.id);
+        if (known) known.place = node;
     }
-    if (pauses.isDue) await pauses.pause();
-    const add = (here, there, length) => {
-        const known = roads.get(here);
-        if (known && !(known.get(there) <= length)) known.set(there, length);
-    };
     for (const { a, b, length } of map.roads) {
-        add(a, b, length);
-        add(b, a, length);
+        if (pauses.isDue) await pauses.pause();
+        addRoad(shown.get(a)?.roads, b, length);
+        addRoad(shown.get(b)?.roads, a, length);
     }
-    if (pauses.isDue) await pauses.pause();
     for (const leaf of leaves) {
-        const said = differs(leaf, places.get(leaf.id), roads.get(leaf.id));
+        if (pauses.isDue) await pauses.pause();
+        const said = differs(leaf, shown.get(leaf.id));
         if (said) return said;
     }
     return "";
 }
 
-function differs({ id, x, y, arcs }, shown, roads) {
-    if (!shown) return `it has no node ${id}`;
-    if (shown.x !== x || shown.y !== y) return `it has node ${id} at another place`;
+/** Of parallel roads the least length counts. */
+function addRoad(roads, to, length) {
+    if (roads && !(roads.get(to) <= length)) roads.set(to, length);
+}
+
+function differs({ id, x, y, arcs }, { place, roads }) {
+    if (!place) return `it has no node ${id}`;
+    if (place.x !== x || place.y !== y) return `it has node ${id} at another place`;
     const other = arcs.find(({ to, length }) => roads.get(to) !== length);
     if (other) return `it has another road between the nodes ${id} and ${other.to}, or none`;
     return arcs.length === roads.size ? "" : `it has more roads at node ${id}`;

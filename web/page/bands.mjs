@@ -4,15 +4,15 @@
  */
 
 /** For each band the pieces of roads in it, each a list of places. `ends` are the bands' greatest costs, ascending. */
-export function piecesOf(nodes, leaves, ends, shapes) {
+export async function piecesOf(nodes, leaves, ends, shapes, pauses) {
     const costs = new Map(nodes.map(({ id, distance }) => [id, Number(distance)]));
     const places = new Map(leaves.map((leaf) => [leaf.id, leaf]));
     const bands = ends.map(() => []);
     for (const leaf of leaves) {
+        if (pauses.isDue) await pauses.pause();
         for (const { to, length } of leaf.arcs) {
             if (leaf.id >= to || !costs.has(leaf.id) || !costs.has(to)) continue;
-            const line = shapes.line(leaf, places.get(to), length);
-            addRoad(bands, ends, line, { from: costs.get(leaf.id), to: costs.get(to), length });
+            addRoad(bands, ends, shapes.line(leaf, places.get(to), length), { from: costs.get(leaf.id), to: costs.get(to), length });
         }
     }
     return bands;
@@ -21,19 +21,27 @@ export function piecesOf(nodes, leaves, ends, shapes) {
 /** A road costs more and more from both of its ends, up to where the two meet. */
 function addRoad(bands, ends, line, { from, to, length }) {
     const meets = length > 0 ? Math.min(1, Math.max(0, (length + to - from) / (2 * length))) : 1;
-    let before = -1;
-    ends.forEach((end, band) => {
-        for (const [cost, most, isTurned] of [[from, meets, false], [to, 1 - meets, true]]) {
-            const at = (bound) => (length > 0 ? Math.min(most, Math.max(0, (bound - cost) / length)) : bound >= cost ? most : 0);
-            const [begins, stops] = [before < 0 ? 0 : at(before), at(end)];
-            if (stops > begins) bands[band].push(isTurned ? part(line, 1 - stops, 1 - begins) : part(line, begins, stops));
-        }
-        before = end;
-    });
+    for (let band = 0; band < ends.length; band++) {
+        const [least, most] = [band === 0 ? -1 : ends[band - 1], ends[band]];
+        if (Math.min(from, to) > most) continue;
+        if (from + meets * length <= least) break;
+        const [begins, stops] = shareOf(from, meets, length, least, most);
+        if (stops > begins) bands[band].push(part(line, begins, stops));
+        const [first, last] = shareOf(to, 1 - meets, length, least, most);
+        if (last > first) bands[band].push(part(line, 1 - last, 1 - first));
+    }
+}
+
+/** The share of a road, from one of its ends up to another share, that costs more than `least` and at most `most`. */
+function shareOf(cost, end, length, least, most) {
+    const at = (bound) => (length > 0 ? Math.min(end, Math.max(0, (bound - cost) / length)) : bound >= cost ? end : 0);
+    return [least < 0 ? 0 : at(least), at(most)];
 }
 
 /** The part of a line between two shares of it. */
 function part(line, begins, stops) {
+    if (begins === 0 && stops === 1) return line;
+    if (line.length === 2) return [between(...line, begins), between(...line, stops)];
     const longs = line.slice(1).map((point, at) => Math.hypot(point.x - line[at].x, point.y - line[at].y));
     const whole = longs.reduce((sum, one) => sum + one, 0);
     const found = [];

@@ -54,7 +54,7 @@ export class Behind {
     /** A server may have no map to show, or show that of another publication: then none is shown. */
     async #fetched(id) {
         try {
-            const map = mapOf(await this.#server.publication(id));
+            const map = await mapOf(await this.#server.publication(id));
             return shortName(map.head.text, map.head.signature) === id ? map : null;
         } catch {
             return null;

@@ -2,6 +2,7 @@
  * Replies and publications by docs/SPEC.md, for what is drawn and told beside a verdict. Nothing here judges, and
  * nobody trusts this file for a verdict: a reply is read once the proved client has accepted it.
  */
+import { Pauses } from "./pauses.mjs";
 import { joined } from "./sha256.mjs";
 
 const METHODS = ["", "DIJ", "FULL", "LDM", "HYP"];
@@ -51,9 +52,12 @@ class Octets {
     }
 
     /** As many items as the number in front of them says; none is made before its octets are there. */
-    list(item) {
+    async list(item, pauses) {
         const items = [];
-        for (let left = this.u32(); left > 0; left--) items.push(item(this));
+        for (let left = this.u32(); left > 0; left--) {
+            if (pauses.isDue) await pauses.pause();
+            items.push(item(this));
+        }
         return items;
     }
 }
@@ -121,15 +125,15 @@ export function leavesIn(octets) {
 }
 
 /** The parts of an accepted reply. */
-export function partsOf(octets) {
+export async function partsOf(octets, pauses = new Pauses()) {
     const it = new Octets(octets);
     const { isNear, first, head } = frontOf(it);
     const kind = isNear ? "within" : first === ROUTE ? "route" : "no route";
-    const route = kind === "route" ? it.list(() => it.u32()) : [];
-    const leaves = it.list(() => leaf(it, head));
-    if (isNear) return { kind, head, route, leaves, pairs: [], nodeCover: it.list(digest), pairCover: [] };
-    const pairs = it.list(pair);
-    return { kind, head, route, leaves, pairs, nodeCover: it.list(digest), pairCover: it.list(digest) };
+    const route = kind === "route" ? await it.list(() => it.u32(), pauses) : [];
+    const leaves = await it.list(() => leaf(it, head), pauses);
+    if (isNear) return { kind, head, route, leaves, pairs: [], nodeCover: await it.list(digest, pauses), pairCover: [] };
+    const pairs = await it.list(pair, pauses);
+    return { kind, head, route, leaves, pairs, nodeCover: await it.list(digest, pauses), pairCover: await it.list(digest, pauses) };
 }
 
 export function u32(...numbers) {
@@ -139,23 +143,38 @@ export function u32(...numbers) {
 }
 
 /** The octets of a reply that has these parts. */
-export function octetsOf({ kind, head, route, leaves, pairs, nodeCover, pairCover }) {
-    const nodes = leaves.flatMap(({ index, text }) => [u32(index), u32(text.length).subarray(2), text]);
+export async function octetsOf({ kind, head, route, leaves, pairs, nodeCover, pairCover }, pauses = new Pauses()) {
+    const items = await joinedItems(leaves, 6, ({ index, text }) => [u32(index), u32(text.length).subarray(2), text], pauses);
     const begin = kind === "within" ? RADIUS : [kind === "route" ? ROUTE : NO_ROUTE];
-    const front = [begin, head.octets, ...(kind === "route" ? [u32(route.length, ...route)] : []), u32(leaves.length), ...nodes];
-    if (kind === "within") return joined(...front, u32(nodeCover.length), ...nodeCover);
-    const items = pairs.flatMap(({ index, text }) => [u32(index), text]);
-    return joined(...front, u32(pairs.length), ...items, u32(nodeCover.length), ...nodeCover, u32(pairCover.length), ...pairCover);
+    const front = [begin, head.octets, ...(kind === "route" ? [u32(route.length, ...route)] : []), u32(leaves.length), items];
+    const cover = [u32(nodeCover.length), await joinedItems(nodeCover, 0, (one) => [one], pauses)];
+    if (kind === "within") return joined(...front, ...cover);
+    const distances = await joinedItems(pairs, 4, ({ index, text }) => [u32(index), text], pauses);
+    return joined(...front, u32(pairs.length), distances, ...cover, u32(pairCover.length), await joinedItems(pairCover, 0, (one) => [one], pauses));
+}
+
+/** The octets of many items, each with so many in front of its text. */
+async function joinedItems(items, more, partsOfItem, pauses) {
+    const whole = new Uint8Array(items.reduce((sum, item) => sum + more + (item.text ?? item).length, 0));
+    let at = 0;
+    for (const item of items) {
+        if (pauses.isDue) await pauses.pause();
+        for (const part of partsOfItem(item)) {
+            whole.set(part, at);
+            at += part.length;
+        }
+    }
+    return whole;
 }
 
 /** The header, the nodes and the roads of a publication, of which nothing is checked but that there are not too many to be drawn. */
-export function mapOf(octets) {
+export async function mapOf(octets, pauses = new Pauses()) {
     const it = new Octets(octets);
     it.skip(4);
     const head = header(it);
     it.skip(4 * 8);
-    const nodes = it.list(() => ({ id: it.u32(), x: it.i32(), y: it.i32() }));
-    const roads = it.list(() => ({ a: it.u32(), b: it.u32(), length: it.u32() }));
+    const nodes = await it.list(() => ({ id: it.u32(), x: it.i32(), y: it.i32() }), pauses);
+    const roads = await it.list(() => ({ a: it.u32(), b: it.u32(), length: it.u32() }), pauses);
     if (nodes.length > MOST_NODES || roads.length > MOST_ROADS) throw new RangeError("more than a map has");
     return { head, nodes, roads };
 }

@@ -8,11 +8,14 @@ import { element, part } from "./shown.mjs";
 const REPLY = "checked.reply";
 let given = [];
 
-/** A link to a file that the page holds. */
+/** A link to a file that the page makes once somebody wants it. */
 function link(text, name, type, content) {
-    const address = URL.createObjectURL(new Blob([content], { type }));
-    given.push(address);
-    return element("a", text, { href: address, download: name });
+    const made = element("a", text, { href: "#", download: name });
+    made.addEventListener("click", () => {
+        made.href = URL.createObjectURL(new Blob([content()], { type }));
+        given.push(made.href);
+    }, { once: true });
+    return made;
 }
 
 /** The command that checks a saved reply again, by the saved key and chain. */
@@ -27,12 +30,12 @@ export function offer(accepted, octets, { nodes, streets, owner, chain }) {
     given = [];
     const about = { nodes, streets, unit: owner.unit, attribution: owner.attribution };
     const links = accepted && hasPlaces(nodes, owner.unit) ? [
-        link("GeoJSON", "proved.geojson", "application/geo+json", geojsonOf(accepted, about)),
-        link("GPX", "proved.gpx", "application/gpx+xml", gpxOf(accepted, about)),
+        link("GeoJSON", "proved.geojson", "application/geo+json", () => geojsonOf(accepted, about)),
+        link("GPX", "proved.gpx", "application/gpx+xml", () => gpxOf(accepted, about)),
     ] : [];
-    if (octets) links.push(link("the reply's octets", REPLY, "application/octet-stream", octets));
-    if (octets) links.push(link("the owner's key", "owner.key", "text/plain", owner.key));
-    if (octets && chain.length > 0) links.push(link("the chain of keys", "owner.chain", "application/octet-stream", chain));
+    if (octets) links.push(link("the reply's octets", REPLY, "application/octet-stream", () => octets));
+    if (octets) links.push(link("the owner's key", "owner.key", "text/plain", () => owner.key));
+    if (octets && chain.length > 0) links.push(link("the chain of keys", "owner.chain", "application/octet-stream", () => chain));
     part("downloads").replaceChildren(...(links.length > 0 ? ["Save: ", ...links] : []));
     part("again").textContent = accepted ? commandOf(accepted, chain) : "";
     part("checks").hidden = !accepted;

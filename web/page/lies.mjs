@@ -79,7 +79,7 @@ export const LIES = {
         const text = edited(leaf.text, leaf.arcs.find(({ length }) => length > 0).at, "Uint32", (length) => length - 1);
         return octetsOf({ ...parts, leaves: parts.leaves.map((one) => (one === leaf ? { ...one, text } : one)) });
     }],
-    hop: ["lead where no road is", ({ parts, asked }) => {
+    hop: ["lead where no road is", async ({ parts, asked }) => {
         if (parts.kind === "within" || asked.from === asked.end) return null;
         const joins = (a, b) => parts.leaves.find(({ id }) => id === a)?.arcs.some(({ to }) => to === b);
         const at = parts.route.findIndex((id, place) => place > 0 && place + 1 < parts.route.length && !joins(parts.route[place - 1], parts.route[place + 1]));
@@ -95,7 +95,7 @@ export const LIES = {
         if (parts.kind !== "route" || parts.route.length < 2 || parts.leaves.length > MOST_LEAVES) return null;
         const octets = await server.reply({ ask: "reach", from: asked.from, end: 2n * found.length }, { id });
         if (leavesIn(octets) > MOST_LEAVES) return null;
-        const [more, own] = [partsOf(octets), new Set(parts.leaves.map(({ index }) => index))];
+        const [more, own] = [await partsOf(octets), new Set(parts.leaves.map(({ index }) => index))];
         const leaves = [...parts.leaves, ...more.leaves.filter(({ index }) => !own.has(index))].sort((a, b) => a.index - b.index);
         const way = leaves.length > MOST_LEAVES ? null : await detour(parts, leaves);
         return way && octetsOf({ ...(await withItems(parts, { leaves, more: [more] })), route: way });

@@ -11,6 +11,11 @@ const COLOURS = ["grey", "route", "leaf", "pair", "cell", "start", "end", "paper
 const LETTERS = "AB";
 const NOWHERE = { x: 0, y: 0 };
 
+/** Whether cells are of the proof: on a radius no test looks at them. */
+export function hasCells({ head, kind }) {
+    return head.method === "HYP" && kind !== "within";
+}
+
 export class Picture {
     #canvas;
     #view;
@@ -180,12 +185,12 @@ export class Picture {
 
     /** The signed nodes, roads and distances that prove the answer. */
     #drawProof(pen, colour) {
-        const { parts: { head, leaves, pairs }, places } = this.#proved;
+        const { parts: { leaves, pairs }, places } = this.#proved;
         const at = (node) => this.#view.at(node);
         const small = leaves.length > 3_000 ? 1.2 : 2.8;
         const straight = (items) => () => items.filter(([a, b]) => places.has(a) && places.has(b)).map(([a, b]) => [places.get(a), places.get(b)]);
         const roads = () => leaves.flatMap(({ id, arcs }) => arcs.filter(({ to }) => id < to && places.has(to)).map(({ to }) => this.#road(id, to, places)));
-        if (head.method === "HYP") cells(pen, leaves, at, colour.cell);
+        if (hasCells(this.#proved.parts)) cells(pen, leaves, at, colour.cell);
         stroke(pen, this.#path("pairs", straight(pairs.map(({ a, b }) => [a, b]))), colour.pair, pairs.length > 60 ? 0.6 : pairs.length > 8 ? 1.2 : 2);
         stroke(pen, this.#path("roads", roads), colour.leaf, 1.2);
         stroke(pen, this.#path("served", straight(leaves.map(({ id, served }) => [id, served]))), colour.cell, 2.5);

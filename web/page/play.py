@@ -24,6 +24,7 @@ import argparse
 import contextlib
 import importlib.util
 import json
+import os
 import pathlib
 import shutil
 import subprocess
@@ -41,7 +42,8 @@ from play_verdicts import kept, methods, owners, servers  # noqa: E402
 from scene import Page, Scene  # noqa: E402
 
 GRID = 90
-MOST_MILLISECONDS = 250  # of one piece of work, on a machine that has other work
+# of one piece of work, on a machine without other work, and on one that has so much that a piece waits within
+MOST_MILLISECONDS, MOST_BESIDE = 150, 3_000
 
 
 def large(it):
@@ -69,8 +71,10 @@ def large(it):
                 same(f"{what}: the long way round", line.split()[1:2] or ["no room for that lie" in text], ["Shorter"] if room else [True])
         longest = page.driver.execute_script("return window.longest")
         print(f"page: {what}, longest piece of work {longest:.0f} ms, longest lie {max(took.values()):.1f} s")
-        holds(f"{what}: the page stands still", longest < MOST_MILLISECONDS, longest)
-        holds(f"{what}: a lie takes long", max(took.values()) < 20, took)
+        is_busy = os.getloadavg()[0] > os.cpu_count()
+        holds(f"{what}: the page stands still", longest < (MOST_BESIDE if is_busy else MOST_MILLISECONDS), longest)
+        holds(f"{what}: a lie takes long", max(took.values()) < 60, took)
+    page.faults()  # older maps have no such node, which is an error on the console
 
 
 def demo(it):
@@ -110,7 +114,7 @@ def walk(it, origin):
         holds(f"walk, step {at + 1}", seen[0] == state and seen[1].startswith(text) and seen[2].startswith(line), seen)
         holds(f"walk, step {at + 1}: what it means", "otherwise" not in page.rows("#steps li")[at][-1] and page.rows("#steps li")[at][-1], page.rows("#steps li")[at])
         seen = page.coloured()
-        holds(f"walk, step {at + 1}: drawn", (seen["leaf"] > 50) == (state == "accepted") and seen["grey"] > 200, seen)
+        holds(f"walk, step {at + 1}: drawn", (seen["leaf"] > 20) == (state == "accepted") and seen["grey"] > 200, seen)
         it.shot(f"walk-{at + 1}")
     page.shape(1280, 1000)
 

@@ -30,6 +30,8 @@ const [a, b, c] = [{ id: 1, x: 0, y: 0 }, { id: 2, x: 10_000, y: 0 }, { id: 3, x
 shapes.read(JSON.stringify({ shapes: 1, lines: { "1 2": [[0, 0], [5_000, 0], [10_000, 0]], "2 3": [[10_000, 0], [15_000, 9_000], [20_000, 0]], "1 3": [[1, 0], [5_000, 0], [20_000, 0]] } }));
 const leaves = [{ ...a, arcs: [{ to: 2, length: 100 }] }, { ...b, arcs: [{ to: 1, length: 100 }, { to: 3, length: 50 }] }, { ...c, arcs: [{ to: 2, length: 50 }] }];
 const nodes = [{ id: 1, distance: 0n }, { id: 2, distance: 100n }, { id: 3, distance: 150n }];
+const { Pauses } = await import("%(here)s/pauses.mjs");
+const bandsOf = (...given) => piecesOf(...given, straight, new Pauses());
 const flat = (bands) => bands.map((pieces) => pieces.map((piece) => piece.map(({ x }) => x)).sort((one, two) => one[0] - two[0]));
 const straight = new Shapes(null, null);
 console.log(JSON.stringify({
@@ -40,7 +42,7 @@ console.log(JSON.stringify({
     bends: [shapes.line(a, b, 1_114).length, shapes.line(a, b, 1_113).length, shapes.line(b, c, 1_114).length, shapes.line(a, c, 9_999).length], turned: shapes.line(b, a, 1_114).map(({ x }) => x),
     ways: waysOf([1, 2, 3], leaves, new Map([[1, "Low Road"], [2, "High Road; Low Road"], [3, "High Road"]])),
     unnamed: waysOf([1, 2, 3], leaves, new Map()).map(({ name, length }) => [name, length]),
-    pieces: flat(piecesOf(nodes, leaves, [50, 120, 150], straight)), meet: flat(piecesOf([{ id: 1, distance: 0n }, { id: 2, distance: 40n }], leaves.slice(0, 2), [60, 80], straight)),
+    pieces: flat(await bandsOf(nodes, leaves, [50, 120, 150])), meet: flat(await bandsOf([{ id: 1, distance: 0n }, { id: 2, distance: 40n }], leaves.slice(0, 2), [60, 80])),
 }));
 """
 
@@ -112,9 +114,28 @@ def shown(it):
     page.ask("route", START, END)
     holds("a map with another length: it is said", "another road between the nodes" in page.state()[1], page.state())
     same("a map with another length: it is dropped", page.coloured()["grey"], 0)
+    other_map(it)
     front.wrong = None
     page.driver.execute_cdp_cmd("Network.clearBrowserCache", {})
     before(it)
+
+
+def other_map(it):
+    """A map that lies, of a publication over which nothing is asked: the ends tell it."""
+    page, front = it.page, it.front
+
+    def wrong(path, _headers, status, more, octets):
+        if path == "/v1/info":
+            told = json.loads(octets)
+            return status, more, json.dumps({**told, "publications": told["publications"][::-1]}).encode()
+        return (status, more, turned_about(octets)) if path.endswith("/publication") and status == 200 else None
+
+    front.wrong = wrong
+    page.driver.execute_cdp_cmd("Network.clearBrowserCache", {})
+    page.open(it.place.origin)
+    rows = taps(it, (-60, -40), (50, 60))
+    holds("an older map that lies: it is said", page.state()[0] == "accepted" and "What you tapped lies elsewhere than what is proved" in page.state()[1], page.state())
+    same("an older map that lies: both ends", [row[4].endswith(" from where you tapped") for row in rows], [True, True])
 
 
 def ends_of(page):

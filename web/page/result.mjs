@@ -9,7 +9,8 @@ import { UNITS } from "./files.mjs";
 import { partsOf } from "./formats.mjs";
 import { Gestures } from "./gestures.mjs";
 import { offer } from "./handed.mjs";
-import { Picture } from "./picture.mjs";
+import { Pauses } from "./pauses.mjs";
+import { Picture, hasCells } from "./picture.mjs";
 import { shortName } from "./sha256.mjs";
 import { Shapes } from "./shapes.mjs";
 import { counted, element, part, say, tell, warn } from "./shown.mjs";
@@ -17,6 +18,7 @@ import { View } from "./view.mjs";
 import { waysOf } from "./ways.mjs";
 
 const LETTERS = "AB";
+const ELSEWHERE = "What you tapped lies elsewhere than what is proved: compare both ends.";
 
 export class Result {
     #owner;
@@ -24,7 +26,7 @@ export class Result {
     #lengths;
     #checker;
     #degree;
-    #listed = "";
+    #listed = [];
 
     /** `tapped` is told each node that somebody taps. */
     constructor({ owner, streets, lengths, server, checker, tapped }) {
@@ -64,31 +66,33 @@ export class Result {
 
     /** Shows an accepted reply. Gives it with its parts. */
     async accepted(one) {
-        const accepted = { ...one, parts: partsOf(one.octets) };
+        const { asked, found } = one;
+        const accepted = { ...one, parts: await partsOf(one.octets) };
         const { head, leaves } = accepted.parts;
+        const bounds = found.kind === "within" ? this.#lengths.bands(asked.end) : [];
+        const bands = bounds.length > 0 ? await piecesOf(found.nodes, leaves, bounds, this.shapes, new Pauses()) : [];
         const id = shortName(head.text, head.signature);
         const isHere = this.behind.has(id);
         const coming = this.behind.showBeside(id, leaves);
         const warnings = isHere ? dropped(await coming) : [];
-        return { ...accepted, id, warnings, coming: isHere ? Promise.resolve("") : coming };
+        return { ...accepted, id, bounds, bands, warnings, coming: isHere ? Promise.resolve("") : coming };
     }
 
     show(accepted) {
-        const { asked, found, parts, id, warnings, coming } = accepted;
+        const { asked, found, parts, id, bounds, bands, warnings, coming } = accepted;
         const places = new Map(parts.leaves.map((leaf) => [leaf.id, leaf]));
         const ends = asked.ask === "route" ? [asked.from, asked.end] : [asked.from];
         const nodes = found.nodes ?? ends.map((end) => places.get(end));
-        const bounds = found.kind === "within" ? this.#lengths.bands(asked.end) : [];
-        const bands = bounds.length > 0 ? piecesOf(found.nodes, parts.leaves, bounds, this.shapes) : [];
         this.picture.showProved({ parts, nodes: found.nodes ?? [], ends, bands });
-        say("accepted", "Proved:", this.#sentence(accepted), { warnings });
+        const isElsewhere = asked.by.some(({ id, place }) => isApart(place, places.get(id)));
+        say("accepted", "Proved:", this.#sentence(accepted), { warnings: warnings.length === 0 && isElsewhere ? [ELSEWHERE] : warnings });
         coming.then((said) => part("verdict").dataset.of === id && dropped(said).forEach(warn));
         part("verdict").dataset.of = id;
         this.#showEnds(accepted, places);
         this.#showWays(accepted);
         this.#showLegend(accepted, bounds);
-        this.#listed = this.#nodesSaid(found.nodes ?? []);
-        part("all").hidden = !this.#listed;
+        this.#listed = found.nodes ?? [];
+        part("all").hidden = this.#listed.length === 0;
         this.#list();
         tell({ ...this.ofKey(), ...this.#facts(accepted) });
         offer(accepted, accepted.octets, { nodes, streets: this.#streets, owner: this.#owner, chain: this.#checker.chain });
@@ -125,13 +129,12 @@ export class Result {
     #showEnds({ asked }, places) {
         const rows = asked.by.map(({ how, text, id, place }, at) => {
             const leaf = places.get(id);
-            const isApart = place && (place.x !== leaf.x || place.y !== leaf.y);
             const said = place ? `tapped at ${placeSaid(place, this.#degree)}` : `asked for as ${text}`;
-            const row = element("li", "", { className: isApart ? "apart" : how });
+            const row = element("li", "", { className: isApart(place, leaf) ? "apart" : how });
             row.append(
                 element("b", LETTERS[at], { className: at === 0 ? "start" : "end" }), element("span", this.named(id)), element("small", said),
                 element("small", `proved at ${placeSaid(leaf, this.#degree)}`),
-                ...(isApart ? [element("strong", `${apartSaid(place, leaf, this.#degree)} from where you tapped`)] : []),
+                ...(isApart(place, leaf) ? [element("strong", `${apartSaid(place, leaf, this.#degree)} from where you tapped`)] : []),
             );
             return row;
         });
@@ -152,9 +155,8 @@ export class Result {
     }
 
     #showLegend({ found, parts }, bounds) {
-        for (const line of document.querySelectorAll("#legend [data-for]")) {
-            line.hidden = !line.dataset.for.split(" ").some((word) => word === parts.head.method || word === found.kind);
-        }
+        const there = { route: found.kind === "route", pairs: parts.pairs.length > 0, cells: hasCells(parts), landmarks: parts.head.method === "LDM" };
+        for (const line of document.querySelectorAll("#legend [data-for]")) line.hidden = !there[line.dataset.for];
         const within = (bound) => found.nodes.filter(({ distance }) => Number(distance) <= bound).length;
         const rows = bounds.map((bound, at) => element("li", `within ${this.#lengths.said(bound)}: ${counted(within(bound), "node")}`, { className: `band${at + 1}` }));
         part("bands").replaceChildren(...rows);
@@ -168,7 +170,7 @@ export class Result {
 
     /** All nodes of a verdict, each with its streets and its distance, once somebody opens the fold. */
     #list() {
-        part("nodes").textContent = part("all").open ? this.#listed : "";
+        part("nodes").textContent = part("all").open ? this.#nodesSaid(this.#listed) : "";
     }
 
     #nodesSaid(nodes) {
@@ -189,6 +191,11 @@ export class Result {
             "Check": timeSaid(took),
         };
     }
+}
+
+/** Whether a tapped place is not the proved one. */
+function isApart(place, leaf) {
+    return Boolean(place) && (place.x !== leaf.x || place.y !== leaf.y);
 }
 
 function dropped(said) {

@@ -12,8 +12,8 @@ import gzip
 import sys
 from typing import Iterator
 
-from network import largest_of, numbers
-from roads import MOST_NODES, MOST_ROADS, UNITS, Place, Trouble, command_line, end_of, write_table
+from network import numbers, parts_of
+from roads import MOST_LENGTH, MOST_NODES, MOST_ROADS, UNITS, Place, Trouble, command_line, end_of, write_table
 
 TOOL = "dimacs_cut.py"
 Arc = tuple[int, int, int]
@@ -54,6 +54,22 @@ def places_in(path: str, box: tuple[float, ...], scale: int) -> dict[int, Place]
     return {node: (x, y) for _, (node, x, y) in rows_of(path, b"p aux sp co".split(), b"v") if west <= x <= east and south <= y <= north}
 
 
+def arcs_in(path: str, places: dict[int, Place]) -> list[Arc]:
+    """The arcs between these nodes."""
+    arcs = []
+    for line, (a, b, length) in rows_of(path, b"p sp".split(), b"a"):
+        if not 0 <= length <= MOST_LENGTH:
+            raise Trouble(f"{path}: line {line}: {length} is no length that a road file can say")
+        if a in places and b in places:
+            arcs.append((a, b, length))
+    return arcs
+
+
+def few(places: dict[int, Place], arcs: list[Arc], path: str) -> None:
+    if len(places) > MOST_NODES or len(arcs) > 2 * MOST_ROADS:
+        raise Trouble(f"{path}: {len(places):,} nodes and {len(arcs):,} arcs lie in the box, and {MOST_NODES:,} and {2 * MOST_ROADS:,} are the most: take a smaller one")
+
+
 def write_piece(piece: str, places: dict[int, Place], arcs: list[Arc], told: str) -> dict[int, int]:
     """Writes both files. Returns each node's new id by its old one."""
     ids = {node: number for number, node in enumerate(sorted(places), 1)}
@@ -77,20 +93,22 @@ def main() -> None:
     parser.add_argument("--ids", metavar="FILE", help="write a table from the piece's ids to those of the graph")
     asked = parser.parse_args(command_line())
     places = places_in(asked.places, asked.box, UNITS[asked.unit] or 1)
-    arcs = [arc for _, arc in rows_of(asked.graph, b"p sp".split(), b"a") if arc[0] in places and arc[1] in places]
+    if not asked.largest:
+        few(places, [], asked.places)
+    arcs = arcs_in(asked.graph, places)
     if asked.largest:
-        kept = largest_of(places, (arc[:2] for arc in arcs))
+        kept = parts_of(places, (arc[:2] for arc in arcs)).largest()
         places = {node: place for node, place in places.items() if node in kept}
         arcs = [arc for arc in arcs if arc[0] in kept]
     if not places:
         raise Trouble(f"{asked.places}: no node lies in the box")
-    if len(places) > MOST_NODES or len(arcs) > 2 * MOST_ROADS:
-        raise Trouble(f"{asked.graph}: {len(places):,} nodes and {len(arcs):,} arcs lie in the box, and {MOST_NODES:,} and {2 * MOST_ROADS:,} are the most: take a smaller one")
+    few(places, arcs, asked.graph)
     told = "cut to the box %r,%r,%r,%r by tools/dimacs_cut.py: routes are the shortest within it" % asked.box
     ids = write_piece(asked.piece, places, arcs, told)
     if asked.ids:
         write_table(asked.ids, ("node", "graph_node"), ((number, node) for node, number in ids.items()))
-    sys.stderr.write(f"{TOOL}: {len(ids):,} nodes, {len(arcs):,} arcs: routes are the shortest within the box\n")
+    sys.stderr.write(f"{TOOL}: {len(ids):,} nodes, {len(arcs):,} arcs: routes are the shortest within the box\n"
+                     f"{TOOL}: {parts_of(places, (arc[:2] for arc in arcs)).told()}\n")
 
 
 if __name__ == "__main__":

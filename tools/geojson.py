@@ -4,19 +4,27 @@
 The words are those of `road_proof check`, or of `check-reach` with --reach. The proved client checks the reply
 first; a refused one gives its refusal, status 1, and no geometry. Each coordinate is that of a leaf of the accepted
 reply. No client trusts this file: it shows what the client accepted.
+
+With --shapes a road is drawn along its line where both ends are the leaves' places and, where lengths are metres, it is no
+longer than the signed length. Shapes are not proved, nor is where a cycle is pushed; the file says so.
 """
 import argparse
 import json
+import pathlib
 import sys
+from itertools import pairwise
 from xml.sax.saxutils import escape, quoteattr
 
 from proved import Accepted, Question, accepted, add_arguments
-from replies import RADIUS, ROUTE
+from replies import RADIUS, ROUTE, reply_of
 from roads import OSM_LICENCE, UNITS, degrees, end_of, read_table
+from shapes import PER_METRE, line_of, read_pushed, read_shapes
 
 TOOL = "geojson.py"
 OSM_PAGE = "https://www.openstreetmap.org/copyright"
 Place = tuple[float, float]
+# how many of a length make a second
+PER_SECOND = {"milliseconds": 1_000, "seconds": 1}
 
 
 def told(found: Accepted, asked: argparse.Namespace) -> dict[str, object]:
@@ -24,15 +32,38 @@ def told(found: Accepted, asked: argparse.Namespace) -> dict[str, object]:
     said: dict[str, object] = {"from": asked.start, ("radius" if found.kind is RADIUS else "to"): asked.end,
                                "proved": found.kind, "version": found.version}
     if found.kind is ROUTE:
-        said |= {"length": found.length, "nodes": found.nodes}
+        said |= {"length": found.length, "nodes": found.nodes} | in_words("", found.length, asked.lengths)
+        if asked.shapes:
+            pushed = read_pushed(asked.shapes)
+            said |= {"drawn": "along shapes, which are not proved",
+                     "push": [[a, b] for a, b in pairwise(found.nodes) if (min(a, b), max(a, b)) in pushed]}
     return said
 
 
-def of_node(node: int, found: Accepted, streets: dict[int, str]) -> dict[str, object]:
+def in_words(what: str, length: int, lengths: str) -> dict[str, object]:
+    """A length as minutes, where the owner says that lengths are times, or as kilometres."""
+    if lengths in PER_SECOND:
+        return {f"{what}minutes": round(length / PER_SECOND[lengths] / 60, 2)}
+    return {f"{what}kilometres": length / PER_METRE[lengths] / 1_000} if lengths in PER_METRE else {}
+
+
+def along(found: Accepted, places: dict[int, Place], asked: argparse.Namespace) -> list[Place]:
+    """The places of a route's line: those of its nodes, and with --shapes the bends between them."""
+    if not asked.shapes:
+        return [places[node] for node in found.nodes]
+    shapes, arcs = read_shapes(asked.shapes), reply_of(pathlib.Path(asked.reply).read_bytes(), asked.reply).arcs
+    line = [places[found.nodes[0]]]
+    for a, b in pairwise(found.nodes):
+        step = line_of(shapes, (a, b), (found.places[a], found.places[b]), arcs[a][b], asked.unit, asked.lengths)
+        line += [degrees(spot, asked.unit, asked.shapes) for spot in step[1:]]
+    return line
+
+
+def of_node(node: int, found: Accepted, streets: dict[int, str], lengths: str) -> dict[str, object]:
     """What is said of one node; the names of streets are not signed."""
     said: dict[str, object] = {"node": node}
     if found.distances is not None:
-        said["distance"] = found.distances[node]
+        said |= {"distance": found.distances[node]} | in_words("", found.distances[node], lengths)
     return said | ({"streets": streets[node]} if streets.get(node) else {})
 
 
@@ -44,16 +75,16 @@ def geojson_of(found: Accepted, places: dict[int, Place], streets: dict[int, str
     """A feature collection (RFC 7946): a line for a route of two nodes or more, otherwise a point for each node."""
     said = told(found, asked)
     if found.kind is ROUTE and len(found.nodes) > 1:
-        features = [feature("LineString", [places[node] for node in found.nodes], said)]
+        features = [feature("LineString", along(found, places, asked), said)]
     else:
-        features = [feature("Point", places[node], said | of_node(node, found, streets)) for node in found.nodes]
+        features = [feature("Point", places[node], said | of_node(node, found, streets, asked.lengths)) for node in found.nodes]
     head = {"type": "FeatureCollection"} | ({"attribution": asked.licence} if asked.licence else {})
     lines = ",\n".join(json.dumps(one, ensure_ascii=False) for one in features)
     return json.dumps(head, ensure_ascii=False)[:-1] + f', "features": [\n{lines}\n]}}\n'
 
 
-def point(tag: str, node: int, found: Accepted, place: Place, streets: dict[int, str]) -> str:
-    said = " ".join(f"{key} {value}" for key, value in of_node(node, found, streets).items())
+def point(tag: str, node: int, found: Accepted, place: Place, streets: dict[int, str], lengths: str) -> str:
+    said = " ".join(f"{key} {value}" for key, value in of_node(node, found, streets, lengths).items())
     return f'<{tag} lat="{place[1]:.7f}" lon="{place[0]:.7f}"><name>{node}</name><desc>{escape(said)}</desc></{tag}>'
 
 
@@ -61,7 +92,7 @@ def gpx_of(found: Accepted, places: dict[int, Place], streets: dict[int, str], a
     """GPX 1.1: a route, or a waypoint for each node."""
     said = escape(" ".join(f"{key} {value}" for key, value in told(found, asked).items() if key != "nodes"))
     tag = "rtept" if found.kind is ROUTE else "wpt"
-    points = "\n".join(point(tag, node, found, places[node], streets) for node in found.nodes)
+    points = "\n".join(point(tag, node, found, places[node], streets, asked.lengths) for node in found.nodes)
     page = f"<license>{OSM_PAGE}</license>" if asked.licence == OSM_LICENCE else ""
     copyright = f"<copyright author={quoteattr(asked.licence)}>{page}</copyright>" if asked.licence else ""
     inner = f"<rte><desc>{said}</desc>\n{points}\n</rte>" if found.kind is ROUTE else points
@@ -79,6 +110,9 @@ def arguments() -> argparse.Namespace:
     parser.add_argument("chain", metavar="CHAIN", nargs="?", help="the chain file of an owner with later keys")
     parser.add_argument("--gpx", action="store_true", help="GPX 1.1 instead")
     parser.add_argument("--unit", choices=UNITS, default="1e-7", help="what a coordinate of the map is, in degrees (1e-7)")
+    parser.add_argument("--lengths", default="decimetres", metavar="WORD", help="what a length of the map is, by the owner's word with the key (decimetres): "
+                        f"of {', '.join(PER_METRE)} kilometres are told, of {', '.join(PER_SECOND)} minutes")
+    parser.add_argument("--shapes", metavar="FILE", help="the lines of roads and where a cycle is pushed, which nobody signs")
     parser.add_argument("--ids", metavar="FILE", help="the owner's table of ids, for the names of streets, which are not signed")
     parser.add_argument("--licence", default="", metavar="TEXT", help=f"the licence of the map's data, as {OSM_LICENCE!r}")
     add_arguments(parser)

@@ -2,7 +2,7 @@
 """Makes a road file of the LineStrings of a GeoJSON file: tools/geojson_roads.py FILE.geojson > FILE.roads
 
 Lines meet where they have a point in common, to 1e-7 degrees. A line is as long as one of its properties says, in
-metres, or as it is on the ellipsoid; a length that was told is shared out among the pieces of its line as they are
+metres or another unit, or takes so long, or it is as long as it is on the ellipsoid; a length that was told is shared out among the pieces of its line as they are
 long on the ellipsoid. What was dropped, and what was done besides, is told on standard error.
 
 No client trusts it: it makes what an owner then looks at and signs.
@@ -12,11 +12,14 @@ import json
 import math
 from typing import Iterator
 
-from network import Line, Told, add_arguments, comments_of, network_of, write
+from network import COSTS, Line, Told, add_arguments, comments_of, network_of, write
 from osm import place_of
-from roads import Place, Trouble, command_line, end_of, write_table
+from roads import MOST_LENGTH, Place, Trouble, command_line, end_of, write_table
 
 TOOL = "geojson_roads.py"
+# metres of a length that is told, or seconds
+METRES = {"metres": 1.0, "kilometres": 1_000.0, "feet": 0.3048, "miles": 1_609.344}
+SECONDS = {"seconds": 1.0, "minutes": 60.0}
 
 
 class Survey:
@@ -63,10 +66,13 @@ class Survey:
             return None
         try:
             told = float(properties[self.asked.length])
-        except (KeyError, TypeError, ValueError):
+        except (KeyError, TypeError, ValueError, OverflowError):
             raise Trouble(f"{self.path}: {where}: its property {self.asked.length} is no number") from None
         if not 0 <= told < math.inf:
             raise Trouble(f"{self.path}: {where}: {told} is no length")
+        told *= (METRES | SECONDS)[self.asked.length_unit]
+        if told * COSTS[self.asked.cost] > MOST_LENGTH:
+            raise Trouble(f"{self.path}: {where}: {told:.6g} {'seconds' if self.asked.cost == 'seconds' else 'metres'} is longer than a road file can say")
         return told
 
     def key(self, point: list[float], where: str) -> int:
@@ -79,18 +85,23 @@ class Survey:
 def main() -> None:
     parser = argparse.ArgumentParser(description="Makes a road file of the LineStrings of a GeoJSON file, on standard output.")
     parser.add_argument("survey", metavar="FILE", help="a feature collection (RFC 7946)")
-    parser.add_argument("--length", metavar="NAME", help="the property that has a line's length in metres (measured)")
+    parser.add_argument("--length", metavar="NAME", help="the property that has a line's length (measured)")
+    parser.add_argument("--length-unit", choices=METRES | SECONDS, default="metres", help="what that length is (metres); by seconds or minutes a map of seconds is made")
     parser.add_argument("--name", metavar="NAME", default="name", help="the property that has a street's name (name)")
     parser.add_argument("--licence", default="", help="the licence of the data, for the first comment line")
     add_arguments(parser)
     asked = parser.parse_args(command_line())
+    asked.cost = "seconds" if asked.length_unit in SECONDS else "decimetres"
+    if asked.cost == "seconds" and not asked.length:
+        parser.error("--length-unit needs --length")
     told = Told()
     survey = Survey(asked.survey, asked, told)
     network = network_of(asked.survey, list(survey.lines()), survey.places, asked, told)
     network.roads.comments = comments_of("made by tools/geojson_roads.py", asked.licence, asked)
     if asked.ids:
         write_table(asked.ids, ("node", "streets"), ((node, "; ".join(names)) for node, names in sorted(network.streets.items())))
-    write(TOOL, network.roads, told)
+    network.write_shapes(asked.shapes)
+    write(TOOL, network.roads, told, asked.cost)
 
 
 if __name__ == "__main__":

@@ -1,7 +1,8 @@
 #!/usr/bin/env python3
 """The node of a road file that is nearest to a place: tools/nearest.py ROADS LON LAT, or --name STREET --ids FILE
 
-Writes the node's id, and on standard error how far it is. With --name it writes the nodes of a street, and given
+Writes the node's id, and on standard error how far it is; a place more than --within metres from any node is refused, as
+one whose latitude and longitude are changed over may be. With --name it writes the nodes of a street, and given
 twice those where two streets meet, by the owner's table of ids.
 
 No client trusts it: it helps a person to say where a route is to begin.
@@ -14,6 +15,7 @@ import geodesic
 from roads import UNITS, Place, Trouble, degrees, command_line, end_of, read_roads, read_table
 
 TOOL = "nearest.py"
+WITHIN = 5_000.0
 
 
 def distance(place: Place, spot: tuple[float, float], unit: str, what: str) -> float:
@@ -33,16 +35,21 @@ def nearest(asked: argparse.Namespace) -> list[int]:
                     default=(math.inf, None))
     if math.isinf(far):
         raise Trouble(f"{asked.roads}: it has no node near")
-    sys.stderr.write(f"{TOOL}: node {node} is {far:,.1f}{' m' if UNITS[asked.unit] else ''} away\n")
+    is_earth = UNITS[asked.unit] is not None
+    most = asked.within if asked.within is not None else WITHIN if is_earth else math.inf
+    away = f"node {node} is {far:,.1f}{' m' if is_earth else ''} away"
+    if not far <= most:
+        raise Trouble(f"{asked.roads}: {away}, and --within allows {most:,.0f}" + (": is the longitude given first?" if is_earth else ""))
+    sys.stderr.write(f"{TOOL}: {away}\n")
     return [node]
 
 
 def named(asked: argparse.Namespace) -> list[int]:
-    """The nodes at which all of these streets are, by the table of ids."""
+    """The nodes at which all of these streets are, by the table of ids, whatever their letters' case."""
     if not asked.ids:
         raise Trouble("--name: the names are those of a table of ids: --ids FILE")
-    rows = {int(row["node"]): row["streets"].split("; ") for row in read_table(asked.ids)}
-    found = [node for node, streets in sorted(rows.items()) if all(name in streets for name in asked.name)]
+    rows = {int(row["node"]): {street.strip().lower() for street in row["streets"].split(";")} for row in read_table(asked.ids)}
+    found = [node for node, streets in sorted(rows.items()) if all(name.strip().lower() in streets for name in asked.name)]
     if not found:
         raise Trouble(f"{asked.ids}: no node is on {' and '.join(asked.name)}")
     return found
@@ -53,6 +60,7 @@ def main() -> None:
     parser.add_argument("roads", metavar="ROADS", help="a road file")
     parser.add_argument("place", metavar="LON LAT", nargs="*", type=float, help="a place")
     parser.add_argument("--unit", choices=UNITS, default="1e-7", help="what a coordinate of the map is, in degrees (1e-7)")
+    parser.add_argument("--within", type=float, metavar="METRES", help=f"how far the node may be ({WITHIN:,.0f}, or any on a plane)")
     parser.add_argument("--name", metavar="STREET", action="append", help="a street; given twice, where both meet")
     parser.add_argument("--ids", metavar="FILE", help="the owner's table of ids, with --name")
     asked = parser.parse_args(command_line())

@@ -9,23 +9,31 @@ import math
 import sys
 from collections import Counter, defaultdict
 from dataclasses import dataclass, field, replace
-from itertools import pairwise
+from itertools import groupby, pairwise
 from typing import Iterable, Iterator
 
+import bends
 import geodesic
-from roads import MOST_LENGTH, UNITS, Place, Roads, Trouble
+from roads import MOST_LENGTH, MOST_NODES, MOST_ROADS, UNITS, Place, Roads, Trouble, plain
 
 DEGREE = UNITS["1e-7"]
+# how many of a length make a metre, or a second, by what a length is
+COSTS = {"decimetres": 10, "seconds": 1}
+SMALLER = "cut a piece with --box or --around"
 
 
 @dataclass(frozen=True, slots=True)
 class Line:
-    """A line through points. `told` is its length in metres where somebody said it."""
+    """A line through points. `told` is its length in metres, or its seconds, where somebody said it; `speed` says how
+    many metres a second takes, where seconds are wanted; and `push`, that it is taken only where nothing else joins its
+    ends, since one goes against its direction there."""
 
     source: str
     keys: tuple[int, ...]
     name: str = ""
     told: float | None = None
+    speed: float | None = None
+    push: bool = False
 
 
 @dataclass(frozen=True, slots=True)
@@ -110,6 +118,8 @@ def add_arguments(parser: argparse.ArgumentParser) -> None:
     where.add_argument("--around", type=numbers(3), metavar="LON,LAT,METRES", help="keep only what lies within so many metres of a place")
     parser.add_argument("--largest", action="store_true", help="keep only the largest part that hangs together")
     parser.add_argument("--ids", metavar="FILE", help="write a table from node ids to the ids of the source and the names of streets")
+    parser.add_argument("--every-bend", type=numbers(1), metavar="METRES", help="keep as nodes the points that a road needs, so that none of its others is so many metres beside it")
+    parser.add_argument("--shapes", metavar="FILE", help="write the lines of the roads, which nobody signs")
 
 
 def within(lines: Iterable[Line], places: dict[int, Place], cut: Cut, told: Told) -> Iterator[Line]:
@@ -130,15 +140,71 @@ def within(lines: Iterable[Line], places: dict[int, Place], cut: Cut, told: Told
         yield from (replace(line, keys=tuple(run)) for run in kept)
 
 
+class Meetings:
+    """The ends of lines, and the points that lines have in common or pass twice: `met`."""
+
+    def __init__(self) -> None:
+        self.seen: set[int] = set()
+        self.met: set[int] = set()
+
+    def take(self, keys: Iterable[int]) -> None:
+        alone = [key for key, _ in groupby(keys)]
+        if len(alone) < 2:
+            return
+        self.met.update((alone[0], alone[-1]))
+        for key in alone:
+            (self.met if key in self.seen else self.seen).add(key)
+
+
 def meetings(lines: Iterable[Line]) -> set[int]:
-    """The ends of lines, and the points that lines have in common or pass twice."""
-    seen: set[int] = set()
-    met: set[int] = set()
+    found = Meetings()
     for line in lines:
-        met.update((line.keys[0], line.keys[-1]))
-        for key in line.keys:
-            (met if key in seen else seen).add(key)
-    return met
+        found.take(line.keys)
+    return found.met
+
+
+class Parts:
+    """Parts that hang together, by their least keys."""
+
+    def __init__(self, keys: Iterable[int] = ()):
+        self.parent = {key: key for key in keys}
+
+    def top(self, key: int) -> int:
+        parent = self.parent
+        parent.setdefault(key, key)
+        while parent[key] != key:
+            parent[key] = parent[parent[key]]
+            key = parent[key]
+        return key
+
+    def join(self, a: int, b: int) -> bool:
+        """Whether the two hung together only from now on."""
+        a, b = self.top(a), self.top(b)
+        self.parent[max(a, b)] = min(a, b)
+        return a != b
+
+    def sizes(self) -> Counter[int]:
+        return Counter(self.top(key) for key in self.parent)
+
+    def largest(self) -> set[int]:
+        """The keys of the part with the most of them; of two such parts, the one with the least key."""
+        sizes = self.sizes()
+        best = min(sizes, key=lambda key: (-sizes[key], key), default=None)
+        return {key for key in self.parent if self.top(key) == best}
+
+    def told(self) -> str:
+        sizes = self.sizes()
+        share = 100 * max(sizes.values(), default=0) / (len(self.parent) or 1)
+        return f"parts that hang together: {len(sizes):,}, the largest with {math.floor(share * 10) / 10:.1f} percent of the nodes"
+
+
+def steps(line: Line, met: set[int]) -> Iterator[tuple[int, ...]]:
+    """The keys of a line, from each point where lines meet to the next."""
+    begins = 0
+    for at in range(1, len(line.keys)):
+        if line.keys[at] in met:
+            yield line.keys[begins : at + 1]
+            begins = at
 
 
 class Measure:
@@ -162,19 +228,16 @@ class Measure:
     def share(self, line: Line) -> float:
         """What a measured metre of the line counts: where its length was told, it is shared out among its roads."""
         if line.told is None:
-            return 1.0
+            return 1 / line.speed if line.speed else 1.0
         whole = self.of(line.keys, line.source)
         return line.told / whole if whole else 0.0
 
 
 def pieces(line: Line, met: set[int], measure: Measure) -> Iterator[Road]:
     """The line, cut where lines meet, and in two where it comes back to where it began."""
-    share, begins = measure.share(line), 0
-    for at in range(1, len(line.keys)):
-        if line.keys[at] not in met:
-            continue
-        road = measure.road(line.keys[begins : at + 1], line, share)
-        begins = at
+    share = measure.share(line)
+    for keys in steps(line, met):
+        road = measure.road(keys, line, share)
         yield from halves(road, measure, share) if road.keys[0] == road.keys[-1] else (road,)
 
 
@@ -203,50 +266,86 @@ def apart(roads: Iterable[Road], measure: Measure, told: Told) -> list[Road]:
     return kept
 
 
-def largest_of(keys: Iterable[int], pairs: Iterable[tuple[int, int]]) -> set[int]:
-    """The keys of the part with the most of them; of two such parts, the one with the least key."""
-    parent = {key: key for key in keys}
+def parts_of(keys: Iterable[int], pairs: Iterable[tuple[int, int]]) -> Parts:
+    parts = Parts(keys)
+    for a, b in pairs:
+        parts.join(a, b)
+    return parts
 
-    def top(key: int) -> int:
-        while parent[key] != key:
-            parent[key] = parent[parent[key]]
-            key = parent[key]
-        return key
 
-    for pair in pairs:
-        a, b = map(top, pair)
-        parent[max(a, b)] = min(a, b)
-    tops = {key: top(key) for key in parent}
-    sizes = Counter(tops.values())
-    best = min(sizes, key=lambda key: (-sizes[key], key), default=None)
-    return {key for key in tops if tops[key] == best}
+def counted(lines: Iterable[Line], is_largest: bool) -> None:
+    """Refuses more than a road file holds, before anything is measured: there are at least as many nodes as points
+    where lines meet, and roads as pairs of them with a piece of a line between."""
+    lines = list(lines)
+    met = meetings(lines)
+    pairs = {(min(keys[0], keys[-1]), max(keys[0], keys[-1])) for line in lines for keys in steps(line, met)}
+    if is_largest:
+        met = parts_of(met, pairs).largest()
+        pairs = {pair for pair in pairs if pair[0] in met}
+    if len(met) > MOST_NODES or len(pairs) > MOST_ROADS:
+        raise Trouble(f"{len(met):,} nodes and {len(pairs):,} roads at least are more than a road file holds, {MOST_NODES:,} and {MOST_ROADS:,}: {SMALLER}")
+
+
+def joined(lines: list[Line], measure: Measure, told: Told) -> list[Line]:
+    """The lines, and of those to be pushed the pieces without which a part would fall into two, the shortest first."""
+    held: list[Line] = []
+    met, parts = meetings(lines), Parts()
+    for line in lines:
+        for keys in steps(line, met):
+            if line.push:
+                held.append(replace(line, keys=keys))
+            else:
+                parts.join(keys[0], keys[-1])
+    taken = []
+    for line in sorted(held, key=lambda line: (round(measure.of(line.keys, line.source), 5), line.keys)):
+        if parts.join(line.keys[0], line.keys[-1]):
+            taken.append(line)
+            told.add("pieces of one-way ways taken both ways, to be pushed along against their direction", line.source)
+        else:
+            told.add("pieces of one-way ways dropped", line.source)
+    return [line for line in lines if not line.push] + taken
+
+
+def bent(roads: Iterable[Road], measure: Measure, most: float) -> Iterator[Road]:
+    """The roads, cut at the points that each needs, so that none of its others is more than so many metres beside it."""
+    for road in roads:
+        kept = bends.needed([in_degrees(measure.places[key]) for key in road.keys], most)
+        share = road.metres / (measure.of(road.keys, "") or 1.0)
+        yield from (measure.road(road.keys[a : b + 1], road.line, share) for a, b in pairwise(kept))
 
 
 def largest(roads: list[Road], told: Told) -> list[Road]:
     """The roads of the largest part that hangs together."""
-    kept = largest_of({key for road in roads for key in road.ends()}, (road.ends() for road in roads))
+    kept = parts_of((), (road.ends() for road in roads)).largest()
     for road in roads:
         if road.keys[0] not in kept:
             told.add("roads dropped, apart from the largest part", road.line.source)
     return [road for road in roads if road.keys[0] in kept]
 
 
-def decimetres(road: Road, places: dict[int, Place]) -> int:
-    """The length, rounded up (what is less than a micrometre above a decimetre is the arithmetic's), and 0 only
+def length_of(road: Road, places: dict[int, Place], cost: str) -> int:
+    """Decimetres or seconds, rounded up (what is less than a hundred-thousandth above is the arithmetic's), and 0 only
     between two points at one place."""
-    length = math.ceil(round(road.metres * 10, 5))
+    length = math.ceil(round(road.metres * COSTS[cost], 5))
     if length > MOST_LENGTH:
-        raise Trouble(f"{road.line.source}: a road of {road.metres:,.0f} metres is longer than a road file can say")
+        raise Trouble(f"{road.line.source}: a road of {length:,} {cost} is longer than a road file can say")
     return max(length, int(places[road.keys[0]] != places[road.keys[-1]]))
 
 
 @dataclass
 class Network:
-    """A network of roads: what a road file says of it, and the key and the street names of each node."""
+    """A network of roads: what a road file says of it, the key and the street names of each node, the line of each
+    road that bends, and the roads on which a cycle is pushed one way."""
 
     roads: Roads
     keys: dict[int, int]
     streets: dict[int, list[str]]
+    lines: dict[tuple[int, int], list[Place]]
+    pushed: list[tuple[int, int]]
+
+    def write_shapes(self, path: str | None) -> None:
+        if path:
+            bends.write(path, self.lines, self.pushed)
 
 
 def network_of(path: str, lines: Iterable[Line], places: dict[int, Place], asked: argparse.Namespace, told: Told) -> Network:
@@ -258,39 +357,52 @@ def network_of(path: str, lines: Iterable[Line], places: dict[int, Place], asked
     if not network.roads.roads:
         raise Trouble(f"{path}: no road is left of it")
     if network.roads.too_much():
-        raise Trouble(f"{path}: {network.roads.too_much()}: cut a piece with --box or --around")
+        raise Trouble(f"{path}: {network.roads.too_much()}: {SMALLER}" + (", or keep fewer bends" if asked.every_bend else ""))
     return network
 
 
 def _network(lines: Iterable[Line], places: dict[int, Place], asked: argparse.Namespace, told: Told) -> Network:
     cut = Cut(asked.box, asked.around)
     kept = sorted(within(lines, places, cut, told), key=lambda line: (_by_number(line.source), line.keys))
-    met, measure = meetings(kept), Measure(places)
+    measure = Measure(places)
+    counted((line for line in kept if not line.push), asked.largest)
+    if any(line.push for line in kept):
+        kept = sorted(joined(kept, measure, told), key=lambda line: (_by_number(line.source), line.keys))
+    met = meetings(kept)
     found = apart((road for line in kept for road in pieces(line, met, measure)), measure, told)
     if asked.largest:
         found = largest(found, told)
+    if asked.every_bend:
+        found = list(bent(found, measure, asked.every_bend[0]))
     ids = {key: number for number, key in enumerate(sorted({key for road in found for key in road.ends()}), 1)}
     streets = defaultdict(set)
     for road in found:
         for key in road.ends():
             streets[ids[key]].add(road.line.name)
     roads = Roads({number: places[key] for key, number in ids.items()},
-                  sorted((*sorted(ids[key] for key in road.ends()), decimetres(road, places)) for road in found))
-    return Network(roads, {number: key for key, number in ids.items()}, {number: sorted(names - {""}) for number, names in streets.items()})
+                  sorted((*sorted(ids[key] for key in road.ends()), length_of(road, places, asked.cost)) for road in found))
+    lines_of = {}
+    for road in found if asked.shapes else ():
+        keys = road.keys if road.keys[0] < road.keys[-1] else road.keys[::-1]
+        lines_of[ids[keys[0]], ids[keys[-1]]] = [places[key] for key in keys]
+    pushed = sorted((ids[road.ends()[0]], ids[road.ends()[1]]) for road in found if road.line.push)
+    return Network(roads, {number: key for key, number in ids.items()}, {number: sorted(names - {""}) for number, names in streets.items()}, lines_of, pushed)
 
 
 def comments_of(what: str, licence: str, asked: argparse.Namespace) -> list[str]:
     """The comment lines of a road file: its licence, how it was made, and where it was cut."""
     cut = Cut(asked.box, asked.around).told()
-    made = [f"{what}; lengths in decimetres, coordinates in 1e-7 degrees"]
+    made = [f"{what}; lengths in {asked.cost}, coordinates in 1e-7 degrees"]
     return [licence] * bool(licence) + made + ([f"{cut}: its routes are the shortest within the cut"] if cut else [])
 
 
-def write(tool: str, roads: Roads, told: Told) -> None:
+def write(tool: str, roads: Roads, told: Told, cost: str) -> None:
     """Writes the road file, and what was done on standard error."""
     length = sum(road[2] for road in roads.roads)
+    long = f"{length / 3_600:,.1f} hours" if cost == "seconds" else f"{length / 10_000:,.1f} km"
+    parts = parts_of(roads.nodes, (road[:2] for road in roads.roads)).told()
     cut = [comment for comment in roads.comments if comment.startswith("cut ")]
-    lines = [f"{len(roads.nodes):,} nodes, {len(roads.roads):,} roads, {length / 10_000:,.1f} km", *told.lines(), *cut]
-    sys.stderr.writelines(f"{tool}: {line}\n" for line in lines)
+    lines = [f"{len(roads.nodes):,} nodes, {len(roads.roads):,} roads, {long}", parts, *told.lines(), *cut]
+    sys.stderr.writelines(f"{tool}: {plain(line)}\n" for line in lines)
     sys.stdout.reconfigure(encoding="utf-8")
     roads.write(sys.stdout)

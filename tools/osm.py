@@ -16,10 +16,12 @@ TakeWay = Callable[[int, Tags, list[int]], None]
 TakeNode = Callable[[int, Place, Tags], None]
 DEGREE = UNITS["1e-7"]
 PIECE = 1 << 16
+# how many attributes an element may have, and how long a number may be; OpenStreetMap's have at most 9, and 20 characters
+MOST_ATTRIBUTES, MOST_DIGITS = 32, 40
 
 
 def read_ways(path: str, take: TakeWay) -> None:
-    """Gives each way with a `highway` tag: its id, its tags and the ids of its nodes."""
+    """Gives each way with a `highway` tag, and each ferry: its id, its tags and the ids of its nodes."""
     if path.endswith(".pbf"):
         _read_pbf(path, take, None)
     else:
@@ -39,6 +41,24 @@ def place_of(longitude: float, latitude: float, where: str) -> Place:
     if not (-180 <= longitude <= 180 and -90 <= latitude <= 90):
         raise Trouble(f"{where}: longitude {longitude}, latitude {latitude} is no place on earth")
     return round(longitude * DEGREE), round(latitude * DEGREE)
+
+
+def is_way(tags: Tags) -> bool:
+    return "highway" in tags or tags.get("route") == "ferry"
+
+
+def _whole(word: str) -> int:
+    return int(_short(word))
+
+
+def _decimal(word: str) -> float:
+    return float(_short(word))
+
+
+def _short(word: str) -> str:
+    if len(word) > MOST_DIGITS:
+        raise ValueError
+    return word
 
 
 def _opened(path: str) -> BinaryIO:
@@ -71,12 +91,21 @@ class _Document:
             raise self.trouble(f"no OSM extract: its root is <{name}>, and not <osm>")
         self.parser.StartElementHandler = self.begin
 
+    def feed(self, file: BinaryIO) -> None:
+        """Reads it piece by piece. What stays open for more than a piece is longer than any element is, and would be
+        gone through again with each piece."""
+        given = 0
+        while piece := file.read(PIECE):
+            self.parser.Parse(piece, False)
+            given += len(piece)
+            if given - self.parser.CurrentByteIndex > 2 * PIECE:
+                raise self.trouble(f"a mark of more than {PIECE:,} octets")
+        self.parser.Parse(b"", True)
+
     def read(self) -> None:
         try:
             with _opened(self.path) as file:
-                while piece := file.read(PIECE):
-                    self.parser.Parse(piece, False)
-                self.parser.Parse(b"", True)
+                self.feed(file)
             self.end()
         except expat.ExpatError as error:
             raise self.trouble(f"no whole XML: {expat.ErrorString(error.code)}") from None
@@ -89,8 +118,13 @@ class _Document:
         except ValueError:
             raise self.trouble("a number can't be read") from None
 
+    def few(self, attributes: Tags) -> None:
+        if len(attributes) > MOST_ATTRIBUTES:
+            raise self.trouble(f"an element with {len(attributes):,} attributes, and {MOST_ATTRIBUTES} may be")
+
     def outer(self, name: str, attributes: Tags) -> bool:
         """Ends what was open, and says whether an element of this kind begins that is not deleted."""
+        self.few(attributes)
         if name not in ("node", "way", "relation"):
             return False
         self.end()
@@ -114,15 +148,15 @@ class _Ways(_Document):
     def begin(self, name: str, attributes: Tags) -> None:
         if name == "nd":
             if self.way:
-                self.way[2].append(int(attributes["ref"]))
+                self.way[2].append(_whole(attributes["ref"]))
         elif name == "tag":
             if self.way:
                 self.way[1][attributes["k"]] = attributes["v"]
         elif self.outer(name, attributes):
-            self.way = int(attributes["id"]), {}, []
+            self.way = _whole(attributes["id"]), {}, []
 
     def end(self) -> None:
-        if self.way and "highway" in self.way[1]:
+        if self.way and is_way(self.way[1]):
             self.take(*self.way)
         self.way = None
 
@@ -139,8 +173,8 @@ class _Nodes(_Document):
             if self.node:
                 self.node[2][attributes["k"]] = attributes["v"]
         elif name != "nd" and self.outer(name, attributes):
-            longitude, latitude = float(attributes["lon"]), float(attributes["lat"])
-            self.node = int(attributes["id"]), place_of(longitude, latitude, f"{self.path}: node {attributes['id']}"), {}
+            longitude, latitude = _decimal(attributes["lon"]), _decimal(attributes["lat"])
+            self.node = _whole(attributes["id"]), place_of(longitude, latitude, f"{self.path}: node {attributes['id']}"), {}
 
     def end(self) -> None:
         if self.node:
@@ -156,7 +190,7 @@ def _read_pbf(path: str, take_way: TakeWay | None, take_node: TakeNode | None) -
 
     class Ways(osmium.SimpleHandler):
         def way(self, way) -> None:
-            if "highway" in way.tags:
+            if "highway" in way.tags or way.tags.get("route") == "ferry":
                 take_way(way.id, {tag.k: tag.v for tag in way.tags}, [node.ref for node in way.nodes])
 
     class Nodes(osmium.SimpleHandler):

@@ -1,6 +1,7 @@
 """Who may take which way of OpenStreetMap: the one table of its tags. No client trusts it.
 
-The tags are those of https://wiki.openstreetmap.org/wiki/Key:highway, Key:access, Key:barrier and Key:oneway.
+The tags are those of https://wiki.openstreetmap.org/wiki/Key:highway, Key:access, Key:barrier, Key:oneway and
+Tag:route=ferry. docs/MAPS.md says where routino's table differs, and why.
 Change a row here where your map is used otherwise.
 """
 from dataclasses import dataclass
@@ -11,6 +12,10 @@ TRUNKS = frozenset("trunk trunk_link".split())
 MOTORWAYS = frozenset("motorway motorway_link".split())
 # values of an access tag by which a way or a barrier is open, whatever stands in a more general tag
 OPEN = frozenset("yes designated permissive destination customers official".split())
+# values by which only those pass whom somebody let
+RESTRICTED = frozenset("no private agricultural forestry delivery permit residents limited restricted unsuitable military".split())
+# values that leave a way as open as its kind is
+OTHERS = frozenset("dismount discouraged public unknown use_sidepath".split())
 ONE_WAY = frozenset("yes true 1 -1 reverse reversible".split())
 OPPOSITE = frozenset("opposite opposite_lane opposite_track opposite_share_busway".split())
 
@@ -18,8 +23,8 @@ OPPOSITE = frozenset("opposite opposite_lane opposite_track opposite_share_buswa
 @dataclass(frozen=True)
 class Profile:
     """Ways that are taken, those that are taken only where `access[0]` is open, the access tags from the one that
-    decides to the most general, the values that close, barriers that are passed, and whether one-way streets are
-    taken both ways."""
+    decides to the most general, the values that close, barriers that are passed, whether one-way streets are taken
+    both ways, and whether roads for motors alone are taken."""
 
     taken: frozenset[str]
     asked: frozenset[str]
@@ -27,6 +32,7 @@ class Profile:
     closed: frozenset[str]
     passed: frozenset[str]
     both_ways: bool
+    motors: bool = False
 
 
 PROFILES = {
@@ -34,7 +40,7 @@ PROFILES = {
         taken=STREETS | TRUNKS | frozenset("pedestrian footway path steps track cycleway corridor".split()),
         asked=frozenset("bridleway busway".split()),
         access=("foot", "access"),
-        closed=frozenset("no private".split()),
+        closed=RESTRICTED | {"use_sidepath"},
         passed=frozenset("bollard block border_control bump_gate bus_trap cattle_grid chain cycle_barrier entrance full-height_turnstile "
                          "gate height_restrictor hampshire_gate jersey_barrier kerb kissing_gate lift_gate log motorcycle_barrier "
                          "planter rope sally_port stile sump_buster swing_gate toll_booth turnstile".split()),
@@ -44,7 +50,7 @@ PROFILES = {
         taken=STREETS | frozenset("cycleway path track".split()),
         asked=TRUNKS | frozenset("footway pedestrian bridleway busway".split()),
         access=("bicycle", "vehicle", "access"),
-        closed=frozenset("no private use_sidepath".split()),
+        closed=RESTRICTED | {"use_sidepath"},
         passed=frozenset("bollard block border_control bus_trap cattle_grid cycle_barrier entrance gate height_restrictor kerb lift_gate "
                          "motorcycle_barrier planter sally_port sump_buster swing_gate toll_booth".split()),
         both_ways=False,
@@ -56,6 +62,7 @@ PROFILES = {
         closed=frozenset(["no"]),
         passed=frozenset("border_control cattle_grid entrance gate kerb lift_gate sally_port swing_gate toll_booth".split()),
         both_ways=True,
+        motors=True,
     ),
 }
 
@@ -66,9 +73,21 @@ def closing(profile: Profile, tags: dict[str, str]) -> str | None:
     return f"{tag}={tags[tag]}" if tag and tags[tag] in profile.closed else None
 
 
-def is_one_way(tags: dict[str, str]) -> bool:
+def unknown(profile: Profile, tags: dict[str, str]) -> str | None:
+    """The access tag that decides, where this table has not its value."""
+    tag = next((tag for tag in profile.access if tag in tags), None)
+    return f"{tag}={tags[tag]}" if tag and tags[tag] not in OPEN | RESTRICTED | OTHERS else None
+
+
+def is_roundabout(tags: dict[str, str]) -> bool:
+    return tags.get("junction") in ("roundabout", "circular")
+
+
+def is_one_way(profile: Profile, tags: dict[str, str]) -> bool:
     """Also where the kind of way says so, unless `oneway=no` stands there."""
-    implied = tags.get("junction") in ("roundabout", "circular") or tags.get("highway") in ("motorway", "motorway_link")
+    if not profile.both_ways and tags.get("oneway:bicycle") in ONE_WAY:
+        return True
+    implied = is_roundabout(tags) or tags.get("highway") in ("motorway", "motorway_link")
     return tags.get("oneway", "yes" if implied else "no") in ONE_WAY
 
 
@@ -78,18 +97,38 @@ def goes_against(tags: dict[str, str]) -> bool:
     return tags.get("oneway:bicycle") == "no" or any(tags.get(side) in OPPOSITE for side in sides)
 
 
-def refused(profile: Profile, tags: dict[str, str]) -> str | None:
-    """Why a way with a `highway` tag is not taken; None where it is. One-way streets are judged apart."""
+def is_ferry(tags: dict[str, str]) -> bool:
+    return tags.get("route") == "ferry"
+
+
+def refused_ferry(profile: Profile, tags: dict[str, str], ferries: bool) -> str | None:
+    """Why a ferry is not taken: it is taken where it is asked for, and where its access tags say that it takes such people."""
+    if not ferries:
+        return "route=ferry, since --ferries is not asked"
+    deciding = next((tag for tag in profile.access if tag in tags), None)
+    return None if deciding and tags[deciding] in OPEN else f"route=ferry, not said to be open to {profile.access[0]}"
+
+
+def refused(profile: Profile, tags: dict[str, str], ferries: bool = False) -> str | None:
+    """Why a way with a `highway` tag, or a ferry, is not taken; None where it is. One-way streets are judged apart."""
+    if is_ferry(tags):
+        return refused_ferry(profile, tags, ferries)
     kind = tags["highway"]
     opened = tags.get(profile.access[0]) in OPEN
     if kind not in profile.taken and not (kind in profile.asked and opened):
         return f"highway={kind}"
+    if tags.get("motorroad") == "yes" and not (profile.motors or opened):
+        return "motorroad=yes"
     if tags.get("area") == "yes":
         return "area=yes"
     return closing(profile, tags)
 
 
-def blocks(profile: Profile, tags: dict[str, str]) -> bool:
-    """Whether nobody passes a node with a `barrier` tag, or one that access tags close."""
+def blocked(profile: Profile, tags: dict[str, str]) -> str | None:
+    """Why nobody passes a node: its access tag, beside its barrier where it has one, or the barrier alone."""
+    barrier = f"barrier={tags['barrier']}" if "barrier" in tags else None
+    access = closing(profile, tags)
+    if access:
+        return f"{barrier}, {access}" if barrier else access
     opened = any(tags.get(tag) in OPEN for tag in profile.access)
-    return closing(profile, tags) is not None or not (opened or "barrier" not in tags or tags["barrier"] in profile.passed)
+    return None if opened or not barrier or tags["barrier"] in profile.passed else barrier

@@ -17,12 +17,19 @@ MOST_LENGTH = 2**32 - 1
 OSM_LICENCE = "© OpenStreetMap contributors, ODbL"
 # what a coordinate of a road file is: how many of it make a degree, or none where it is of a plane
 UNITS = {"1e-7": 10_000_000, "1e-6": 1_000_000, "plane": None}
+CONTROLS = re.compile("[\x00-\x1f\x7f-\x9f\u2028\u2029\u202a-\u202e\u2066-\u2069\ud800-\udfff]")
 
 Place = tuple[int, int]
 
 
 class Trouble(Exception):
     """What can't be done, as one line: the file, the element where there is one, and the fault."""
+
+
+def plain(text: str) -> str:
+    """A file's words as a terminal may show them: control characters, and those that turn the direction of what
+    follows, are written as Python writes them."""
+    return CONTROLS.sub(lambda found: found[0].encode("unicode_escape").decode(), text)
 
 
 def command_line() -> list[str]:
@@ -37,12 +44,12 @@ def end_of(tool: str, main: Callable[[], None]) -> None:
         main()
         sys.stdout.flush()
     except Trouble as trouble:
-        sys.exit(f"{tool}: {trouble}")
+        sys.exit(f"{tool}: {plain(str(trouble))}")
     except BrokenPipeError:
         os.dup2(os.open(os.devnull, os.O_WRONLY), sys.stdout.fileno())
         sys.exit(1)
     except OSError as error:
-        sys.exit(f"{tool}: {error.filename or 'output'}: {error.strerror or error}")
+        sys.exit(plain(f"{tool}: {error.filename or 'output'}: {error.strerror or error}"))
 
 
 @dataclass
@@ -70,7 +77,7 @@ class Roads:
 
     def write(self, file: TextIO) -> None:
         for comment in self.comments:
-            file.write(f"# {comment}\n")
+            file.write(f"# {plain(comment)}\n")
         file.write("roads 1\n")
         file.writelines("node %d %d %d\n" % (node, *place) for node, place in sorted(self.nodes.items()))
         file.writelines("road %d %d %d\n" % road for road in self.roads)
@@ -85,7 +92,7 @@ def read_roads(path: str) -> Roads:
             if not words:
                 continue
             if words[0].startswith("#"):
-                found.comments.append(line.strip()[1:].strip())
+                found.comments.append(plain(line.strip()[1:].strip()))
             elif not titled:
                 titled = words == ["roads", "1"]
                 if not titled:
@@ -127,13 +134,13 @@ def write_table(path: str, columns: Iterable[str], rows: Iterable[Iterable[objec
     """A table whose columns are parted by tabs, with their names in its first line."""
     with open(path, "w", encoding="utf-8") as file:
         for row in (columns, *rows):
-            file.write("\t".join(" ".join(str(word).split()) for word in row) + "\n")
+            file.write("\t".join(plain(" ".join(str(word).split())) for word in row) + "\n")
 
 
 def read_table(path: str) -> list[dict[str, str]]:
     """The rows of such a table, each by the names of the columns."""
     with open(path, encoding="utf-8", errors="replace") as file:
-        lines = [line.rstrip("\n").split("\t") for line in file]
+        lines = [[plain(word) for word in line.rstrip("\n").split("\t")] for line in file]
     if not lines or any(len(line) != len(lines[0]) for line in lines):
         raise Trouble(f"{path}: no table of named columns parted by tabs")
     return [dict(zip(lines[0], line)) for line in lines[1:]]

@@ -41,6 +41,14 @@ def read_shapes(path: str) -> Shapes:
     return found
 
 
+def read_pushed(path: str) -> set[tuple[int, int]]:
+    """The roads of the file on which a cycle is pushed one way, against a one-way street."""
+    with open(path, encoding="utf-8") as file:
+        names = json.load(file).get("push", [])
+    ends = [NAME.fullmatch(name) for name in names if isinstance(name, str)] if isinstance(names, list) else []
+    return {(int(found[1]), int(found[2])) for found in ends if found}
+
+
 def _is_line(line: object) -> bool:
     if not isinstance(line, list) or len(line) < 2:
         return False

@@ -101,10 +101,11 @@ ODD = {
     "a bridleway for walkers": ("walk", LINE, {1: ([1, 2], {"highway": "bridleway", "foot": "designated"})}, [f"1 2 {dm(1)}"], None),
     "an area": ("walk", LINE, {1: ([1, 2], STREET), 2: ([2, 3, 4, 2], {"highway": "pedestrian", "area": "yes"})}, [f"1 2 {dm(1)}"], "ways dropped, area=yes"),
     "one-way on foot": ("walk", LINE, {1: ([1, 2], {**STREET, "oneway": "yes"})}, [f"1 2 {dm(1)}"], "one-way ways taken both ways: 1 (first way 1)"),
-    "one-way by cycle": ("cycle", LINE, {1: ([1, 2], STREET), 2: ([2, 3], {**STREET, "oneway": "-1"})}, [f"1 2 {dm(1)}"], "ways dropped, one-way: 1 (first way 2)"),
+    "one-way by cycle": ("cycle", LINE, {1: ([1, 2], STREET), 2: ([2, 3], {**STREET, "oneway": "-1"})}, [f"1 2 {dm(1)}", f"2 3 {dm(1)}"], "pieces of one-way ways taken both ways, to be pushed along against their direction: 1 (first way 2)"),
     "oneway:bicycle=no": ("cycle", LINE, {1: ([1, 2], {**STREET, "oneway": "yes", "oneway:bicycle": "no"})}, [f"1 2 {dm(1)}"], "one-way ways taken both ways, opposite for bicycles"),
     "an opposite cycleway": ("cycle", LINE, {1: ([1, 2], {**STREET, "oneway": "yes", "cycleway": "opposite_lane"})}, [f"1 2 {dm(1)}"], "opposite for bicycles: 1"),
-    "a roundabout by cycle": ("cycle", LINE, {1: ([1, 2], STREET), 2: ([2, 3, 4, 2], {**STREET, "junction": "roundabout"})}, [f"1 2 {dm(1)}"], "ways dropped, one-way"),
+    "a roundabout by cycle": ("cycle", LINE, {1: ([1, 2], STREET), 2: ([2, 3, 4, 2], {**STREET, "junction": "roundabout"})},
+                              [f"1 2 {dm(1)}", f"2 3 {dm(1)}", f"2 4 {dm(2)}", f"3 4 {dm(1)}"], "one-way ways taken both ways, roundabouts: 1 (first way 2)"),
     "negative ids come first": ("walk", {-5: 1, -7: 0, 3: 2}, {1: ([3, -5], STREET), -2: ([-5, -7], STREET)}, [f"1 2 {dm(1)}", f"2 3 {dm(1)}"], None),
 }
 
@@ -260,7 +261,8 @@ def play_challenge(program: str, at: pathlib.Path) -> None:
     (at / "all.gr.gz").write_bytes(gzip.compress(graph.encode()))
     (at / "all.co").write_text("c made\np aux sp co 5\n" + "".join(f"v {node} {(node - 3) * 1_000_000} 500000\n" for node in range(1, 6)))
     status, _, told = run("dimacs_cut.py", "all.gr.gz", "all.co", "-1,0,1,1", "piece", "--ids", "piece.ids", at=at)
-    same("a piece", (status, told), (0, "dimacs_cut.py: 3 nodes, 4 arcs: routes are the shortest within the box\n"))
+    same("a piece", (status, told), (0, "dimacs_cut.py: 3 nodes, 4 arcs: routes are the shortest within the box\n"
+                                            "dimacs_cut.py: parts that hang together: 1, the largest with 100.0 percent of the nodes\n"))
     done = subprocess.run([program, "dimacs", "piece.gr", "piece.co"], cwd=at, capture_output=True, text=True, check=False)
     same("`dimacs` takes it", done.stdout, "roads 1\nnode 1 -1000000 500000\nnode 2 0 500000\nnode 3 1000000 500000\nroad 1 2 5\nroad 1 3 6\n")
     same("its ids", (at / "piece.ids").read_text(), "node\tgraph_node\n1\t2\n2\t3\n3\t4\n")
@@ -272,7 +274,7 @@ def play_nearest(at: pathlib.Path) -> None:
     near = roads.Roads({1: (0, 0), 2: (10_000, 0), 3: (0, 20_000)}, [(1, 2, 1), (1, 3, 1)])
     with open(at / "near.roads", "w") as file:
         near.write(file)
-    same("the nearest node", run("nearest.py", "near.roads", "0.0009", "0.0001", at=at), (0, "2\n", "nearest.py: node 2 is 15.7 m away\n"))
+    same("the nearest node", run("nearest.py", "near.roads", "0.0009", "0.0001", "--within", "15.8", at=at), (0, "2\n", "nearest.py: node 2 is 15.7 m away\n"))
     same("the nearest on a plane", run("nearest.py", "near.roads", "3", "19996", "--unit", "plane", at=at), (0, "3\n", "nearest.py: node 3 is 5.0 away\n"))
     table = [line.split("\t") for line in (at / "town.ids").read_text().splitlines()]
     both = [row[0] for row in table if {"Bypass", "Gate Road"} <= set(row[2].split("; "))]

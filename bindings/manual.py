@@ -1,8 +1,9 @@
 #!/usr/bin/env python3
-"""Makes manual pages and completion for bash out of what the program says of itself: bindings/manual.py PROGRAM FOLDER
+"""Makes manual pages and completions out of what the program says of itself: bindings/manual.py PROGRAM FOLDER
 
 Writes man1/road_proof.1, of what `PROGRAM help` writes and the statuses of docs/COMMANDS.md, man3/gogbetiku.3, of the
-comments of bindings/gogbetiku.h, and completions/road_proof, into the folder. Nobody trusts them."""
+comments of bindings/gogbetiku.h, and the completions for bash, completions/road_proof, and for zsh,
+completions/_road_proof, into the folder. Nobody trusts them."""
 
 import pathlib
 import re
@@ -84,17 +85,21 @@ def described(call):
     return f".Fn {re.search(r'(gog_[a-z_]+)[(]', call)[1]}\n.br\n"
 
 
+def places_of(words):
+    """The places of a command's words that can be completed: where each stands, and what stands there, or nothing for a file."""
+    for at, word in enumerate(words[1:], 2):
+        bare = word.strip("[]")
+        if bare in FILES:
+            yield at, None
+        elif bare in WORDS:
+            yield at, WORDS[bare]
+
+
 def completion(commands):
-    """Commands first, then the words of each command, place by place."""
+    """For bash: commands first, then the words of each command, place by place."""
     cases = []
     for words, _ in commands:
-        places = []
-        for at, word in enumerate(words[1:], 2):
-            bare = word.strip("[]")
-            if bare in FILES:
-                places.append(f"            {at}) COMPREPLY=($(compgen -f -- \"$word\")) ;;")
-            elif bare in WORDS:
-                places.append(f"            {at}) COMPREPLY=($(compgen -W '{WORDS[bare]}' -- \"$word\")) ;;")
+        places = [f"            {at}) COMPREPLY=($(compgen {f'-W {known!r}' if known else '-f'} -- \"$word\")) ;;" for at, known in places_of(words)]
         if places:
             cases.append("\n".join([f"        {words[0]}) case $COMP_CWORD in", *places, "            esac ;;"]))
     names = " ".join(words[0] for words, _ in commands)
@@ -104,15 +109,32 @@ def completion(commands):
         "    fi", "    case ${COMP_WORDS[1]} in", *cases, "    esac", "}", "complete -F _road_proof road_proof", ""])
 
 
+def completion_for_zsh(commands):
+    """The same for zsh, where each command has its sentence beside it; the words of a line count from 1."""
+    cases = []
+    for words, _ in commands:
+        places = [f"            {at + 1}) {f'compadd {known}' if known else '_files'} ;;" for at, known in places_of(words)]
+        if places:
+            cases.append("\n".join([f"        {words[0]}) case $CURRENT in", *places, "            esac ;;"]))
+    quoted = [f"{words[0]}:{what}".replace("\\", "\\\\").replace("'", "'\\''") for words, what in [*commands, (["help"], "say all this")]]
+    return "\n".join([
+        "#compdef road_proof", "# completion of road_proof for zsh", "_road_proof() {", "    if (( CURRENT == 2 )); then",
+        "        local -a commands=(", *(f"            '{one}'" for one in quoted), "        )", "        _describe command commands", "        return",
+        "    fi", "    case ${words[2]} in", *cases, "    esac", "}", "# the first call finds the function made, and runs it", "_road_proof \"$@\"", ""])
+
+
 def main(program, folder):
     commands = commands_of(program)
     assert len(commands) > 10 and len(statuses()) > 5
     for name, text in (("man1/road_proof.1", program_page(commands)), ("man3/gogbetiku.3", library_page()),
-                       ("completions/road_proof", completion(commands))):
+                       ("completions/road_proof", completion(commands)), ("completions/_road_proof", completion_for_zsh(commands))):
         path = pathlib.Path(folder) / name
         path.parent.mkdir(parents=True, exist_ok=True)
         path.write_text(text)
 
 
 if __name__ == "__main__":
+    if len(sys.argv) != 3:
+        print("bindings/manual.py: name the program and the folder for the pages: bindings/manual.py PROGRAM FOLDER", file=sys.stderr)
+        sys.exit(2)
     main(*sys.argv[1:])

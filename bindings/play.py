@@ -6,11 +6,15 @@ and a chain, and compares what the examples in C and in Python say with what PRO
 `check-reach` write, and the places of their nodes with the road file. Compares the header's numbers, and those of
 the modules for Python and JavaScript, with the crate's definitions. Shows that a code that the Python module does not
 know is a refusal, that a library in the working folder is not loaded, that null pointers count as nothing, that the
-greatest accepted version is kept, and that a route which passes a node twice is refused where that is asked.
+greatest accepted version is kept, that what another thread writes is not what is checked, that each number has its range,
+and that a route which passes a node twice is refused where that is asked.
 With --long, turns each bit of a reply of each method, and checks from eight threads.
 Ends with status 1 where anything differs. Nobody trusts this file."""
 
+import array
 import ctypes
+import functools
+import mmap
 import pathlib
 import re
 import shutil
@@ -244,10 +248,79 @@ def buffers(played):
     same("too long", refusal_of(played.client(most_octets=99).check_route, reply, 1, 3, 5).kind, "TooLong")
     same("too long as told", refusal_of(Huge(played).check_route, reply, 1, 3, 5).kind, "TooLong")
     for words in ((-1, 3, 5), (1, 2**32, 5), (1, 3, 2**64)):
-        try:
-            faults.append(f"{words} is taken: {client.check_route(reply, *words)}")
-        except ValueError:
-            pass
+        same(f"{words}", error_of(client.check_route, reply, *words), "ValueError")
+
+
+def error_of(call, *words, **options):
+    """The class of the error that a call ends with, or what it gives."""
+    try:
+        return f"gives {call(*words, **options)}"
+    except Refused as refusal:
+        return f"Refused {refusal.kind}"
+    except Exception as error:
+        return type(error).__name__
+
+
+class Writer:
+    """A client, and a thread that writes over a buffer during its call: what the library was told to read stays as it was."""
+
+    def __init__(self, played, octets, write):
+        client = played.client()
+        call = client._calls.gog_check_route
+        kept = bytes(octets)
+
+        def during(*words):
+            write()
+            same("what is read while another thread writes", ctypes.string_at(words[4], words[5]) == kept, True)
+            return call(*words)
+
+        client._calls = type("Calls", (), {"gog_accepted": client._calls.gog_accepted, "gog_check_route": staticmethod(during),
+                                           "gog_sentence": client._calls.gog_sentence})
+        self.check_route = client.check_route
+
+
+def writers(played):
+    """What may be written meanwhile is copied before it is looked at: replies, and a chain and a key too."""
+    reply = played.replies["dij.reply"]
+    for what in ("a bytearray", "a view of one", "a view that is read only", "an array", "a mapped file", "a mapped file that is read only"):
+        if "mapped" in what:
+            (played.folder / "mapped.reply").write_bytes(reply)
+            file = open(played.folder / "mapped.reply", "r+b")
+            shown = mmap.mmap(file.fileno(), 0)
+            octets = shown if what == "a mapped file" else mmap.mmap(file.fileno(), 0, access=mmap.ACCESS_READ)
+        else:
+            shown = array.array("B", reply) if what == "an array" else bytearray(reply)
+            octets = {"a view of one": memoryview(shown), "a view that is read only": memoryview(shown).toreadonly()}.get(what, shown)
+        write = functools.partial(memoryview(shown).__setitem__, slice(0, 200), bytes(200))
+        same(what, Writer(played, octets, write).check_route(octets, 1, 3, 3).ids, [1, 2, 3])
+    lent = Writer(played, reply, lambda: None)
+    same("octets as they lie", lent.check_route(memoryview(b"x" + reply)[1:], 1, 3, 3).ids, [1, 2, 3])
+    with gogbetiku._Lent(reply) as (at, _), gogbetiku._Lent(memoryview(reply)) as (again, _):
+        same("bytes are not copied", at, again)
+    key = bytearray.fromhex((played.folder / "owner.key").read_text())
+    chain = bytearray()
+    client = Client(key, chain, library=played.library)
+    key[:], chain[:] = bytes(56), b"no chain"
+    same("a key and a chain that are written later", client.check_route(reply, 1, 3, 3).ids, [1, 2, 3])
+
+
+def numbers(played):
+    """Each number is a whole one of its range; what is none is an error and no other number."""
+    client, reply = played.client(), played.replies["dij.reply"]
+    calls = {
+        "start": lambda value: client.check_route(reply, value, 3, 0), "end": lambda value: client.check_route(reply, 1, value, 0),
+        "least": lambda value: client.check_route(reply, 1, 3, value), "radius": lambda value: client.check_reach(reply, 1, value, 0),
+        "most_octets": lambda value: played.client(most_octets=value),
+    }
+    for name, call in calls.items():
+        for value in (1.0, "1", None, float("nan"), [], b"1"):
+            same(f"{name} of {value!r}", error_of(call, value), "TypeError")
+        for value in (-1, 2**64, 2**64 + 1, -(2**64)):
+            same(f"{name} of {value}", error_of(call, value), "ValueError")
+    same("a key that is a number", error_of(Client, 56), "TypeError")
+    same("a chain that is a number", error_of(Client, bytes(56), 9), "TypeError")
+    same("a reply that is a number", error_of(client.check_route, 9, 1, 3, 0), "TypeError")
+    same("least of 2^64 - 1", error_of(client.check_route, reply, 1, 3, 2**64 - 1), "Refused Stale")
 
 
 class Huge:
@@ -271,6 +344,26 @@ def floors(played):
     same("below the floor", refusal_of(played.client(floor=floor).check_route, played.replies["full.reply"], 1, 3, 0).kind, "Stale")
     other = Client("11" * 56, library=played.library, floor=floor)
     same("another key", refusal_of(other.check_route, played.replies["full.reply"], 1, 3, 0).kind, "BadSignature")
+    key, ask = (played.folder / "owner.key").read_text().strip(), (played.replies["dij.reply"], 1, 3, 7)
+    for version in (2**64, 2**64 + 3, 2**80, -1, "true", "7.0", '"7"'):
+        floor.write_text(f'{{"{key}": {version}}}')
+        same(f"a floor of {version}", error_of(played.client(floor=floor).check_route, *ask), "ValueError")
+    floor.write_text(f'{{"{key}": {2**64 - 1}}}')
+    same("a floor of 2^64 - 1", error_of(played.client(floor=floor).check_route, *ask), "Refused Stale")
+
+
+def hardened(played):
+    """The library's addresses are bound when it is loaded, and what binds them is read only from then on."""
+    said = subprocess.run(["readelf", "-W", "-d", "-l", played.library], capture_output=True, text=True, check=True).stdout
+    same("bound at once", ("BIND_NOW" in said or "NOW" in said.split(), "GNU_RELRO" in said), (True, True))
+
+
+def not_found(played):
+    """Where there is no library, one sentence says what to install."""
+    ask = f"import sys; sys.path.append({str(HERE / 'python')!r}); import gogbetiku; gogbetiku.Client(bytes(56))"
+    done = subprocess.run([sys.executable, "-c", ask], cwd=played.folder, capture_output=True, text=True, env={})
+    last = done.stderr.strip().splitlines()[-1]
+    same("no library", [word in last for word in ("OSError: ", "libgogbetiku.so.0", "install the wheel", "libgogbetiku0")], [True] * 4)
 
 
 def planted(played):
@@ -341,7 +434,8 @@ def main(program, is_long):
     numbers_of_the_header()
     with tempfile.TemporaryDirectory() as name:
         played = Played(pathlib.Path(program).resolve(), pathlib.Path(name))
-        for part in (routes, places, radii, passes_twice, unknown_codes, names, nulls, sentences, buffers, floors, planted):
+        for part in (routes, places, radii, passes_twice, unknown_codes, names, nulls, sentences, buffers, writers, numbers, floors, hardened,
+                     not_found, planted):
             part(played)
         if is_long:
             long_runs(played)
@@ -353,4 +447,7 @@ def main(program, is_long):
 
 
 if __name__ == "__main__":
+    if len(sys.argv) < 2:
+        print("bindings/play.py: name the program: bindings/play.py PROGRAM [--long]", file=sys.stderr)
+        sys.exit(2)
     sys.exit(main(sys.argv[1], "--long" in sys.argv[2:]))

@@ -51,4 +51,7 @@ def main(program):
 
 
 if __name__ == "__main__":
+    if len(sys.argv) != 2:
+        print("bindings/play_aarch64.py: name the program: bindings/play_aarch64.py PROGRAM", file=sys.stderr)
+        sys.exit(2)
     sys.exit(main(sys.argv[1]))

@@ -1,11 +1,13 @@
 #!/usr/bin/env python3
 """Plays the installed library: bindings/play_install.py PROGRAM
 
-Installs into a staged DESTDIR, builds the example in C by pkg-config alone, static and shared, in a folder outside the
-checkout, and lets it and the installed module for Python check a reply, and what docs/LIBRARY.md shows in C and Python. Looks at the manual pages with mandoc, types a
-command for bash to complete, builds and installs a wheel without a network, checks the types with mypy, compiles the
-header as C++, and undoes the installation, after which no file is left. What a missing program keeps it from is
-`skipped`. Ends with status 1 where anything differs. Nobody trusts this file."""
+Installs into a staged DESTDIR, and elsewhere without one, and looks that the last line says what the loader needs. Builds
+the example in C by pkg-config alone, static and shared, in a folder outside the checkout, and lets it and the installed
+module for Python check a reply, and what docs/LIBRARY.md shows in C and Python. Looks at the manual pages with mandoc,
+types a command for bash and for zsh to complete, builds wheels without a network, with the library and without, installs
+each into a fresh venv, checks the types with mypy, compiles the header as C++, and undoes the installation, after which no
+file is left. What a missing program keeps it from is `skipped`. Ends with status 1 where anything differs. Nobody trusts
+this file."""
 
 import os
 import pathlib
@@ -79,13 +81,22 @@ def shown(stage, folder):
     """What docs/LIBRARY.md shows in C and in Python, as it stands there."""
     text = (TOP / "docs/LIBRARY.md").read_text()
     c, python = (re.search(rf"^```{name}\n(.*?)^```", text, re.M | re.S)[1] for name in ("c", "python"))
-    (folder / "shown.c").write_text(c)
+    (folder / "check.c").write_text(c)
     (folder / "shown.py").write_text(python)
-    (folder / "owner.bin").write_bytes(bytes.fromhex((folder / "owner.key").read_text()))
     prefix = stage / "opt/gog"
-    built = run("cc", "-Wall", "-Wextra", "-Werror", "-I", prefix / "include", "shown.c", prefix / "lib/libgogbetiku.a", "-o", "shown", cwd=folder)
+    built = run("cc", "-Wall", "-Wextra", "-Werror", "-I", prefix / "include", "check.c", prefix / "lib/libgogbetiku.a", "-o", "check", cwd=folder)
     same("what LIBRARY shows in C", built, (0, "", ""))
-    same("what it prints", run("./shown", cwd=folder), (0, "1 at 0, 0\n2 at 10, 0\n3 at 20, 0\n", ""))
+    same("what it prints", run("./check", cwd=folder), (0, "1 at 0, 0\n2 at 10, 0\n3 at 20, 0\n", ""))
+    empty = folder / "empty"
+    empty.mkdir()
+    status, said, why = run(folder / "check", cwd=empty)
+    same("where no file is there", (status, said, why.count("\n"), "owner.key" in why), (2, "", 1, True))
+    shutil.copy(folder / "m1.reply", empty)
+    (empty / "owner.key").write_text("no key\n")
+    status, said, why = run(folder / "check", cwd=empty)
+    same("where the key is none", (status, said, why), (2, "", "owner.key: no public key\n"))
+    (empty / "owner.key").write_text("00" * 56)
+    same("where another signed", run(folder / "check", cwd=empty)[0], 1)
     env = {"PYTHONPATH": str(prefix / "lib/python3/dist-packages"), "LD_LIBRARY_PATH": str(prefix / "lib")}
     same("what LIBRARY shows in Python", run(sys.executable, "shown.py", cwd=folder, env=env), (0, "[(1, 0, 0), (2, 10, 0), (3, 20, 0)]\n", ""))
     same("the floor", "3" in (folder / "owner.floor").read_text(), True)
@@ -99,26 +110,60 @@ def pages(stage):
     script = f'source {stage}/opt/gog/share/bash-completion/completions/road_proof; COMP_WORDS=(road_proof "$@"); COMP_CWORD=$#; _road_proof; echo ${{COMPREPLY[@]}}'
     for typed, wanted in (("ch", "check check-reach"), ("publish m1.roads l", "ldm"), ("key secret.hex h", "h5 h10")):
         same(f"completion of {typed}", run("bash", "-c", script, "bash", *typed.split())[1], wanted + "\n")
-
-
-def wheel(folder, library):
-    """A wheel is built and installed without a network, and the module finds the library beside itself."""
-    python = "/usr/bin/python3"
-    if run(python, "-c", "import setuptools, wheel, pip")[0] != 0:
-        print("skipped: the wheel, since this machine has no python3-pip, python3-setuptools or python3-wheel")
+    if lacks("zsh", "the completion for zsh"):
         return
-    source = folder / "source"
-    shutil.copytree(HERE / "python", source, ignore=shutil.ignore_patterns("__pycache__"))
-    quiet = ["-q", "--no-index", "--no-deps", "--disable-pip-version-check"]
-    built = run(python, "-m", "pip", "wheel", *quiet, "--no-build-isolation", "-w", folder, source)
-    same("the wheel", (built[0], built[1]), (0, ""))
-    made = list(folder.glob("gogbetiku-*.whl"))
-    same("its name", [one.name for one in made], [f"gogbetiku-{(TOP / 'VERSION').read_text().strip()}-py3-none-any.whl"])
-    installed = run(python, "-m", "pip", "install", *quiet, "--target", folder / "site", *made)
-    same("its installation", installed[0], 0)
-    shutil.copy(library, folder / "site/gogbetiku/libgogbetiku.so.0")
+    script = f"""_describe() {{ print -r -- ${{(P)2}} }}; compadd() {{ print -r -- $@ }}; _files() {{ print -r -- files }}
+        words=(road_proof "$@"); CURRENT=${{#words}}; source {stage}/opt/gog/share/zsh/site-functions/_road_proof"""
+    for typed, wanted in (("publish m1.roads l", "dij full ldm hyp"), ("key secret.hex h", "h5 h10"), ("check k", "files"), ("help x", "")):
+        same(f"zsh's completion of {typed}", run("zsh", "-f", "-c", script, "zsh", *typed.split()), (0, wanted + "\n" if wanted else "", ""))
+    status, said, why = run("zsh", "-f", "-c", script, "zsh", "ch")
+    same("zsh's commands", (status, why, "check:" in said, "check-reach:" in said, "help:" in said), (0, "", True, True, True))
+
+
+def told_of_the_loader(folder, program):
+    """The last line of an installation says what the loader needs: here it looks below no such folder, and a folder of its own."""
+    prefix = folder / "prefix"
+    env = {name: text for name, text in os.environ.items() if name not in ("DESTDIR", "LD_LIBRARY_PATH")}
+    status, said, why = run(HERE / "install", prefix, env={**env, "PROGRAM": str(program)})
+    same("bindings/install without DESTDIR", (status, why, said.count("\n"), "LD_LIBRARY_PATH" in said, f"-Wl,-rpath,{prefix}/lib" in said), (0, "", 1, True, True))
+    # the way that it says, as it says it
+    rpath = re.search(r"link with (\S+),", said)[1]
+    words = ["cc", f"-I{prefix}/include", HERE / "example.c", f"-L{prefix}/lib", "-lgogbetiku", rpath, "-o", "by_path"]
+    same("a program with the run path", run(*words, cwd=folder), (0, "", ""))
+    same("what it says", run("./by_path", *ASK, cwd=folder, env={}), ACCEPTED)
+    same("its undoing", run(HERE / "install", prefix, "--undo", env=env), (0, "", ""))
+
+
+def wheels(folder, library):
+    """A wheel with the library needs nothing else in a fresh venv; one without says what to install."""
+    python = "/usr/bin/python3"
+    if run(python, "-c", "import setuptools, wheel, pip, venv, ensurepip")[0] != 0:
+        print("skipped: the wheels, since this machine has no python3-pip, python3-setuptools, python3-wheel or python3-venv")
+        return
+    version = (TOP / "VERSION").read_text().strip()
+    machine = os.uname().machine
+    for words, tag in (([library], f"linux_{machine}"), ([], "any")):
+        made = folder / f"wheel-{tag}"
+        built = run(HERE / "wheel", made, *words)
+        same(f"the wheel for {tag}", (built[0], built[1]), (0, ""))
+        same("its name", [one.name for one in made.glob("*")], [f"gogbetiku-{version}-py3-none-{tag}.whl"])
+        run(HERE / "wheel", made / "again", *words)
+        same("made twice", *((at / f"gogbetiku-{version}-py3-none-{tag}.whl").read_bytes() for at in (made / "again", made)))
     shutil.copy(HERE / "example.py", folder)
-    same("the example over the wheel", run(python, "example.py", *ASK, cwd=folder, env={"PYTHONPATH": str(folder / "site")}), ACCEPTED)
+    for tag in (f"linux_{machine}", "any"):
+        venv = folder / f"venv-{tag}"
+        same("a venv", run(python, "-m", "venv", venv)[0], 0)
+        quiet = ["-q", "--no-index", "--disable-pip-version-check"]
+        same("its installation", run(venv / "bin/pip", "install", *quiet, *(folder / f"wheel-{tag}").glob("*.whl"), env={"PATH": "/usr/bin:/bin"})[0], 0)
+        about = run(venv / "bin/pip", "show", "--disable-pip-version-check", "gogbetiku")[1]
+        seen = run(venv / "bin/python", "example.py", *ASK, cwd=folder, env={})
+        if tag == "any":
+            last = (seen[2].strip().splitlines() or [""])[-1]
+            same("the example over the wheel without", (seen[0], "libgogbetiku0" in last, "wheel for this platform" in last), (1, True, True))
+            same("what it asks for", "libgogbetiku0" in about, True)
+        else:
+            same("the example over the wheel", seen, ACCEPTED)
+            same("the least glibc", bool(re.search(r"Summary: .*for glibc 2\.\d+ and up", about)), True)
 
 
 def types(folder):
@@ -151,13 +196,14 @@ def main(program):
         folder.mkdir()
         env = {**os.environ, "DESTDIR": str(stage), "PROGRAM": str(pathlib.Path(program).resolve())}
         installed = run(HERE / "install", "/opt/gog", env=env)
-        same("bindings/install", installed, (0, "", ""))
+        same("bindings/install", (installed[0], installed[2], installed[1].count("\n"), "ldconfig" in installed[1]), (0, "", 1, True))
         made_reply(stage / "opt/gog/bin/road_proof", folder)
         by_pkg_config(stage, folder)
         by_python(stage, folder)
         shown(stage, folder)
         pages(stage)
-        wheel(folder, stage / "opt/gog/lib/libgogbetiku.so.0")
+        told_of_the_loader(folder, stage / "opt/gog/bin/road_proof")
+        wheels(folder, stage / "opt/gog/lib/libgogbetiku.so.0")
         types(folder)
         header(folder)
         same("its undoing", run(HERE / "install", "/opt/gog", "--undo", env=env), (0, "", ""))
@@ -169,4 +215,7 @@ def main(program):
 
 
 if __name__ == "__main__":
+    if len(sys.argv) != 2:
+        print("bindings/play_install.py: name the program: bindings/play_install.py PROGRAM", file=sys.stderr)
+        sys.exit(2)
     sys.exit(main(sys.argv[1]))

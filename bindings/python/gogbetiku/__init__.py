@@ -13,6 +13,7 @@ import ctypes
 import fcntl
 import hashlib
 import json
+import operator
 import os
 import pathlib
 import re
@@ -190,11 +191,12 @@ class _Buffer(ctypes.Structure):
 
 
 class _Lent:
-    """The octets of an object as they lie, without a copy, for as long as a `with` block lasts."""
+    """Octets that nobody writes, for as long as a `with` block lasts: those of `bytes`, or of a view of `bytes`, as they
+    lie; of any other buffer a copy, since another thread, or another process, may write what it shows."""
 
     def __init__(self, octets: Octets):
         view = memoryview(octets)
-        self._view = view if view.contiguous else memoryview(bytes(view))
+        self._view = view if type(view.obj) is bytes and view.contiguous else memoryview(bytes(view))
         self._buffer = _Buffer()
 
     def __enter__(self) -> tuple[int | None, int]:
@@ -203,6 +205,11 @@ class _Lent:
 
     def __exit__(self, *_: object) -> None:
         ctypes.pythonapi.PyBuffer_Release(ctypes.byref(self._buffer))
+
+
+def _copied(octets: Octets) -> bytes:
+    """A copy of its own. A number is no octets, of which `bytes` would make so many zeros."""
+    return bytes(memoryview(octets))
 
 
 def _found_library(library: FileName | None) -> str:
@@ -219,7 +226,13 @@ def _loaded(library: FileName | None) -> ctypes.CDLL:
     path = os.environ.get("LD_LIBRARY_PATH", "")
     if "/" not in name and path and not all(entry.startswith("/") for entry in re.split("[:;]", path)):
         raise OSError("LD_LIBRARY_PATH has an entry below the working folder: name the library's file")
-    calls = ctypes.CDLL(name)
+    try:
+        calls = ctypes.CDLL(name)
+    except OSError as error:
+        raise OSError(
+            f"{name} is not loaded ({error}): install the wheel for this platform or the package libgogbetiku0, "
+            "or name the library's file as `library`"
+        ) from error
     octets: list[Any] = [ctypes.c_void_p, ctypes.c_size_t]
     room: list[Any] = [ctypes.c_void_p, ctypes.c_size_t, ctypes.POINTER(_Verdict)]
     number, long = ctypes.c_uint32, ctypes.c_uint64
@@ -237,7 +250,7 @@ def _loaded(library: FileName | None) -> ctypes.CDLL:
 def _key_of(key: Octets | str) -> bytes:
     if isinstance(key, str):
         key = bytes.fromhex(key) if len(key.strip()) == 2 * _KEY_OCTETS else b""
-    octets = bytes(key)
+    octets = _copied(key)
     if len(octets) != _KEY_OCTETS:
         raise ValueError("a public key has 56 octets, or 112 hex digits")
     return octets
@@ -248,10 +261,11 @@ def short_name(key: Octets | str) -> str:
     return hashlib.sha256(_key_of(key)).hexdigest()[:8]
 
 
-def _number(value: int, bits: int) -> int:
-    if not 0 <= value < 1 << bits:
-        raise ValueError(f"{value} is no unsigned number of {bits} bits")
-    return value
+def _number(name: str, value: int, bits: int) -> int:
+    number = operator.index(value)
+    if not 0 <= number < 1 << bits:
+        raise ValueError(f"{name} is {number}, which is no unsigned number of {bits} bits")
+    return number
 
 
 class _Floor:
@@ -265,7 +279,7 @@ class _Floor:
             kept = json.loads(self._path.read_text())
         except FileNotFoundError:
             return {}
-        if not isinstance(kept, dict) or not all(type(version) is int for version in kept.values()):
+        if not isinstance(kept, dict) or not all(type(version) is int and 0 <= version < 1 << 64 for version in kept.values()):
             raise ValueError(f"{self._path}: no file of accepted versions")
         return kept
 
@@ -302,7 +316,7 @@ class Client:
         library: FileName | None = None,
         most_octets: int = MOST_OCTETS,
     ):
-        self._key, self._chain, self._most = _key_of(key), bytes(chain), most_octets
+        self._key, self._chain, self._most = _key_of(key), _copied(chain), _number("most_octets", most_octets, 64)
         self._floor = None if floor is None else _Floor(floor, self._key)
         self._calls = _loaded(library)
 
@@ -319,7 +333,7 @@ class Client:
     def check_route(self, reply: Octets, start: int, end: int, least: int, *, simple: bool = False) -> Route | NoRoute:
         """The route that a reply proves to be a shortest one, or that it proves that there is none. Raises `Refused`;
         with `simple` also where the route passes a node twice."""
-        words = (_number(start, 32), _number(end, 32), self._least(least), 1 if simple else 0)
+        words = (_number("start", start, 32), _number("end", end, 32), self._least(least), 1 if simple else 0)
         room, verdict = self._checked(self._calls.gog_check_route, reply, words, _Node)
         if verdict.code == _NO_ROUTE:
             return NoRoute(verdict.version)
@@ -327,13 +341,14 @@ class Client:
 
     def check_reach(self, reply: Octets, start: int, radius: int, least: int) -> Within:
         """The nodes that a reply proves to lie within a radius. Raises `Refused`."""
-        words = (_number(start, 32), _number(radius, 64), self._least(least))
+        words = (_number("start", start, 32), _number("radius", radius, 64), self._least(least))
         room, verdict = self._checked(self._calls.gog_check_reach, reply, words, _ReachedNode)
         return Within([ReachedNode(node.id, node.x, node.y, node.distance) for node in room], verdict.version)
 
     def _least(self, least: int) -> int:
-        _number(least, 64)
-        return least if self._floor is None else self._floor.least(least)
+        """The least version that is taken. Its range is looked at last: C would cut off what is above 64 bits."""
+        number = _number("least", least, 64)
+        return number if self._floor is None else _number("least", self._floor.least(number), 64)
 
     def _checked(
         self, call: Callable[..., int], reply: Octets, words: tuple[int, ...], node: type[Any]

@@ -36,7 +36,8 @@ FAULTS = [
     *[(name, (pattern, "9.9.9"), f"{name}: it says version 9.9.9") for name, pattern in (
         ("crates/road_tell/src/usage.rt", r'(?<=VERSION: &str = ")[^"]*'), ("CHANGELOG.md", r"(?<=^## )\S+"),
         ("bindings/gogbetiku.h", r'(?<=GOG_VERSION ")[^"]*'), ("bindings/python/gogbetiku/__init__.py", r'(?<=__version__ = ")[^"]*'),
-        ("web/route_check.mjs", r'(?<=VERSION = ")[^"]*'), ("web/package.json", r'(?<="version": ")[^"]*'))],
+        ("web/route_check.mjs", r'(?<=VERSION = ")[^"]*'), ("web/package.json", r'(?<="version": ")[^"]*'),
+        ("bindings/rust/Cargo.toml", r'(?<=^version = ")[^"]*'))],
     ("crates/road_tell/src/usage.rt", (r'(?<=KIT: &str = ")[^"]*', "another kit"), "it names another toolchain than SUMS"),
     ("SUMS", (r"^# .*", "# another kit"), "it names another toolchain than SUMS"),
     ("out/planted", "octets", "out/planted: Git tracks a file under out/"),

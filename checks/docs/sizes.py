@@ -3,8 +3,8 @@
 
 Words beside code blocks of README.md and docs/*.md, the six longest told; sentences of more than 40 words, links to files or headings that
 are not there, and names of files that are not there, in these and in the documents apart. It compares the version of
-the file VERSION with the one that the program, the changelog, the C header and the modules for Python and JavaScript
-say, and the toolchain that the program names with that of SUMS, and looks that Git tracks nothing under an out folder.
+the file VERSION with the one that the program, the changelog, the C header, the modules for Python and JavaScript
+and the crate for Rust say, and the toolchain that the program names with that of SUMS, and looks that Git tracks nothing under an out folder.
 Ends with status 1 where one is above its budget, differs or is not there. checks/docs/planted.py plants each fault.
 """
 import glob
@@ -17,7 +17,7 @@ TOP = os.path.dirname(os.path.dirname(os.path.dirname(os.path.abspath(__file__))
 README_WORDS, ALL_WORDS, SENTENCE_WORDS, TOLD = 1_100, 22_000, 40, 6
 VERSIONS = {"crates/road_tell/src/usage.rt": r'VERSION: &str = "([^"]*)"', "CHANGELOG.md": r"^## (\S+)",
             "bindings/gogbetiku.h": r'GOG_VERSION "([^"]*)"', "bindings/python/gogbetiku/__init__.py": r'__version__ = "([^"]*)"',
-            "web/route_check.mjs": r'VERSION = "([^"]*)"', "web/package.json": r'"version": "([^"]*)"'}
+            "web/route_check.mjs": r'VERSION = "([^"]*)"', "web/package.json": r'"version": "([^"]*)"', "bindings/rust/Cargo.toml": r'^version = "([^"]*)"'}
 KIT = r'KIT: &str = "([^"]*)"'
 APART = ["SECURITY.md", "CONTRIBUTING.md", "CHANGELOG.md", "checks/README.md", "vectors/README.md", "web/page/README.md"]
 SECTION = re.compile(r'`((?:docs/)?[A-Z_]+\.md)`(?:\]\([^)]*\))?,? (?:"([^"]+)"|(\d+(?:\.\d+)?)\b)')

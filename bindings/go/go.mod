@@ -1,0 +1,3 @@
+module gogbetiku
+
+go 1.19

@@ -23,7 +23,7 @@ def needed(line: list[Degrees], most: float) -> list[int]:
     while open_pieces:
         first, last = open_pieces.pop()
         far, at = max(((beside(line[at], line[first], line[last]), at) for at in range(first + 1, last)), default=(0.0, 0))
-        if far > most:
+        if last - first > 1 and far > most:
             kept.add(at)
             open_pieces += [(first, at), (at, last)]
     return sorted(kept)

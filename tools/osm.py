@@ -124,7 +124,6 @@ class _Document:
 
     def outer(self, name: str, attributes: Tags) -> bool:
         """Ends what was open, and says whether an element of this kind begins that is not deleted."""
-        self.few(attributes)
         if name not in ("node", "way", "relation"):
             return False
         self.end()
@@ -146,6 +145,7 @@ class _Ways(_Document):
         self.take, self.way = take, None
 
     def begin(self, name: str, attributes: Tags) -> None:
+        self.few(attributes)
         if name == "nd":
             if self.way:
                 self.way[2].append(_whole(attributes["ref"]))
@@ -169,6 +169,7 @@ class _Nodes(_Document):
         self.take, self.node = take, None
 
     def begin(self, name: str, attributes: Tags) -> None:
+        self.few(attributes)
         if name == "tag":
             if self.node:
                 self.node[2][attributes["k"]] = attributes["v"]

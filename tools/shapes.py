@@ -2,6 +2,7 @@
 
     {"shapes": 1, "lines": {"12 15": [[30007715, 540044786], [30007801, 540044790], [30008000, 540045000]], ..}}
 
+`"push": ["12 15", ..]` may stand beside `lines`: the roads that are one-way streets, along which a cycle is pushed one way.
 A line goes from the node of the lower id to that of the higher, both ends and all bends, in the map's coordinates. It
 is drawn only where its ends are the places that somebody else says, and, where lengths are those of metres and places
 are on earth, where it is no longer than the road. No client trusts it, and whoever draws one says so.

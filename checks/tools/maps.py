@@ -7,6 +7,7 @@ checks/tools/play.py plays the tools as programs. Ends with status 1 where anyth
 """
 import argparse
 import contextlib
+import gzip
 import io
 import json
 import pathlib
@@ -170,6 +171,7 @@ def play_bends(at: pathlib.Path) -> None:
     run(osm_roads, at / "bends.osm", "--shapes", at / "bends.shapes")
     line = [[round(x * 10_000), round(y * 10_000)] for x, y in ZIGZAG]
     same("the whole line", (at / "bends.shapes").read_text(), f'{{"shapes": 1, "lines": {{\n"1 2": {json.dumps(line)}\n}}}}\n')
+    same("every point", len(made(run(osm_roads, at / "bends.osm", "--every-bend", "-1")[1])[0]), 5)
     with mock.patch.object(roads, "MOST_NODES", 3):
         told = run(osm_roads, at / "bends.osm", "--every-bend", "5")[2]
     same("more bends than the limits allow", "or keep fewer bends" in told, True)
@@ -246,8 +248,13 @@ def play_strange(at: pathlib.Path) -> None:
     many = " ".join(f"a{number}='1'" for number in range(50_000))
     same("an element of 0.6 MB", refusal(osm_roads, file, f"<osm><node {many} id='1'/></osm>"), "line 1: a mark of more than 65,536 octets")
     few = " ".join(f"a{number}='1'" for number in range(33))
-    same("many attributes", refusal(osm_roads, file, f"<osm>\n<node {few}/></osm>"), "line 2: an element with 33 attributes, and 32 may be")
+    same("many attributes", refusal(osm_roads, file, f"<osm>\n<note {few}/></osm>"), "line 2: an element with 33 attributes, and 32 may be")
     same("a long attribute", refusal(osm_roads, file, f"<osm><way id='1'/><!--{'x' * 400_000}--></osm>"), "line 1, way 1: a mark of more than 65,536 octets")
+    packed = at / "strange.osm.gz"
+    packed.write_bytes(gzip.compress(b"<osm><node a='" + b"x" * 20_000_000 + b"'/></osm>", 1))
+    begun = time.process_time()
+    same("a long attribute, packed", run(osm_roads, packed)[2], f"osm_roads.py: {packed}: line 1: a mark of more than 65,536 octets\n")
+    same("it takes a moment", time.process_time() - begun < 2, True)
     same("a long number", refusal(osm_roads, file, f"<osm><way id='{'1' * 41}'/></osm>"), "line 1, way {}: a number can't be read".format("1" * 41))
     feature = '{{"features": [{{"geometry": {{"type": "LineString", "coordinates": [[0, 0], [1, 0]]}}, "properties": {{"metres": {}}}}}]}}'
     file = at / "strange.geojson"

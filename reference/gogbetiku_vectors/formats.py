@@ -91,6 +91,11 @@ def changed(old: bytes, new: bytes) -> bytes:
     return MAP.replace(old, new)
 
 
+def two_crowds() -> bytes:
+    nodes = b"".join(b"node %d 0 0\n" % node for node in range(258))
+    return b"roads 1\n" + nodes + b"".join(b"road %d %d 1\n" % (end, node) for end in (257, 0) for node in range(1, 257))
+
+
 def make_roads() -> Iterator[Case]:
     crowd = b"".join(b"node %d 0 0\n" % node for node in range(1, 258))
     star = b"".join(b"road 1 %d 1\n" % node for node in range(2, 258))
@@ -113,6 +118,8 @@ def make_roads() -> Iterator[Case]:
         ),
         ("a comment behind spaces", changed(b"node 3 20 0\n", b"node 3 20 0\n  \t# node 9 9 9\n")),
         ("`#` within a word", changed(b"node 3 20 0", b"node 3 20 0#")),
+        ("a word that begins with `#` behind a whole line", changed(b"node 3 20 0", b"node 3 20 0 #x")),
+        ("`#` in place of a number", changed(b"node 3 20 0", b"node 3 20 #0")),
         ("a title that is a comment", b"#roads 1\n" + MAP),
         ("CR LF at each line's end", MAP.replace(b"\n", b"\r\n")),
         ("no line end behind the last line", MAP[:-1]),
@@ -166,6 +173,7 @@ def make_roads() -> Iterator[Case]:
         ("a road of length 0", MAP + b"road 1 5 0\n"),
         ("255 neighbours", b"roads 1\n" + crowd + star[: -len(b"road 1 257 1\n")]),
         ("256 neighbours", b"roads 1\n" + crowd + star),
+        ("two nodes with 256 neighbours: the lesser id is told", two_crowds()),
         ("one node", b"roads 1\nnode 7 -1 2\n"),
         ("all nodes at one place", b"roads 1\nnode 1 3 3\nnode 0 3 3\nroad 0 1 1\n"),
     ]
@@ -262,6 +270,8 @@ def make_dimacs() -> Iterator[Case]:
         ("two equal roads", (b"p sp 2 4\na 2 1 4\na 1 2 4\na 1 2 4\na 2 1 4\n", b"p aux sp co 2\nv 2 0 0\nv 1 0 0\n")),
         ("CR LF, tabs and no last line end", (GRAPH.replace(b"\n", b"\r\n").replace(b" ", b"\t"), PLACES[:-1])),
         ("no node", (b"p sp 0 0\n", b"p aux sp co 0\n")),
+        ("an arc without one back behind one that is dropped, which counts", (b"p sp 2 2\na 1 1 3\na 1 2 4\n", b"p aux sp co 2\nv 1 0 0\nv 2 0 0\n")),
+        ("two nodes placed twice: the lesser id is told", (b"p sp 4 0\n", b"p aux sp co 4\nv 3 0 0\nv 3 0 0\nv 2 0 0\nv 2 0 0\n")),
     ]
     return answered(run_dimacs, [(why, {"graph": two[0].hex(), "places": two[1].hex()}) for why, two in files])
 

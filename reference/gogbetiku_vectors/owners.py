@@ -129,6 +129,7 @@ def images() -> Iterator[tuple[str, bytes]]:
         ("a ninth area, which the eighth has linked", with_slot(eight, 31, link_text(key_of(5, NINES).public), 7 * at) + desks.blank_area(5, NINES, 0)),
         ("the second area has the first one's name, and another seed", same_name(good)),
         ("the third area has the first one's name", third_of_the_first(two)),
+        ("a text of 60 octets that is no link's", with_slot(good, 4, b"RPK2" + strange[4:])),
         ("a disk whose last octet is its area's", good[: desks.area_octets(5)]),
     ]
 
@@ -398,6 +399,12 @@ def along_chains() -> Iterator[tuple[str, Fields]]:
     yield "a broken link", audited(
         disk, two, answer(two, 1, 3), chain=(replace(chain[0], signature=turned(chain[0].signature, 700)),)
     )
+    last = key_of(5, NINES)
+    by_last = published(STREETS, settings_of("dij", version=8), 0, last)
+    past = (link(owner(), strange.public), link(strange, last.public))
+    yield "two links that were signed past the desk: the first is told", audited(
+        disk, by_last, answer(by_last, 1, 3), chain=past
+    )
 
 
 AUDITS = Family(
@@ -482,6 +489,13 @@ def make_reductions() -> Iterator[Case]:
         ),
         ("a disk without a key", reduced(b"", key.public, b"x", key.sign(0, b"x"))),
     ]
+    rows += [
+        (f"another randomiser, on {text.decode()}, which slot {slot} has not signed", reduced(disk, key.public, text, with_randomiser(key, slot, text)))
+        for slot, text in ((0, b"version 9"), (1, b"version 9"), (0, b"version 11"), (1, b"version 12"))
+    ]
+    longest = b"x" * 126
+    image = put(with_slot(fresh(), 3, longest), desks.BLOCK + 3 * desks.SLOT + 1, u8(255))
+    rows.append(("a text of 126 octets, whose length is told as 255", reduced(image, key.public, longest, key.sign(3, longest))))
     yield from answered(run_reduction, rows)
 
 

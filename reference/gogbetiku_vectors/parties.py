@@ -43,6 +43,11 @@ PLAIN = Parts(
 )
 # with two shortest routes from 1 to 3
 TIE = Parts(((1, 0, 0), (2, 1, 1), (3, 2, 0), (4, 1, -1)), ((1, 2, 4), (2, 3, 5), (1, 4, 4), (4, 3, 5)))
+# nodes 2, 3 and 4 are as far from 1, 5 is one farther, and 6 two farther than 2
+EQUAL = Parts(
+    ((1, 0, 0), (2, 9, 0), (3, 0, 9), (4, 9, 9), (5, 18, 0), (6, 20, 0)),
+    ((1, 2, 5), (1, 3, 5), (1, 4, 5), (1, 5, 6), (2, 6, 2), (3, 4, 9)),
+)
 # many nodes to a landmark's code, and two components
 WIDE_MAP = Parts(
     tuple((node, node % 7 * 10 - 30, node // 7 * 10) for node in range(1, 29)),
@@ -59,6 +64,16 @@ def zigzag(borders: int, more: int = 0) -> Parts:
     """Nodes in a row to and fro between two cells, and some that have no road."""
     nodes = tuple((node, node % 2, 0) for node in range(borders + more))
     return Parts(nodes, tuple((node, node + 1, 1) for node in range(borders - 1)))
+
+
+# a row of 70 nodes, and two that lie beside the 7th and the 6th
+CANDIDATES = Parts(
+    tuple((node, node, 0) for node in range(1, 73)),
+    (*((node, node + 1, 1) for node in range(1, 70)), (7, 71, 0), (6, 72, 0)),
+)
+BETWEEN = Parts((*CANDIDATES.nodes, (73, 0, 0)), (*CANDIDATES.roads, (5, 73, 0)))
+# two borders that are 0 apart
+LEVEL_BORDERS = Parts(((1, 0, 0), (2, 1, 0), (3, 10, 0), (4, 11, 0)), ((1, 2, 4), (2, 3, 0), (3, 4, 3)))
 
 
 def run_order(given: Fields) -> Fields:
@@ -85,6 +100,7 @@ def make_orders() -> Iterator[Case]:
                 (),
             ),
         ),
+        ("places that the finest grid alone tells apart", Parts(((9, 0, 0), (1, 1, 0), (4, 1, 1), (5, 65_535, 65_535)), ())),
     ]
     rows = [
         (f"{name}, {order}", parts, order, seed)
@@ -233,6 +249,15 @@ def make_publications() -> Iterator[Case]:
             settings_of("dij", parameters=(1, 0, 0)),
         ),
         ("1,025 nodes under FULL", Parts(tuple((node, 0, 0) for node in range(1025)), ()), settings_of("full")),
+        ("72 nodes under LDM, of which two have the codes of the 64th and of the 65th before them", CANDIDATES, settings_of("ldm", parameters=(1, 16, 0))),
+        ("73 nodes under LDM, of which the last fits two and less well the later one", BETWEEN, settings_of("ldm", parameters=(1, 16, 2))),
+        ("65 landmarks of 72 nodes", CANDIDATES, settings_of("ldm", parameters=(65, 2, 0))),
+        ("64 landmarks of 72 nodes", CANDIDATES, settings_of("ldm", parameters=(64, 2, 0))),
+        (
+            "a node that no landmark reaches, behind one that it reaches, under the greatest threshold",
+            Parts(((1, 9, 9), (2, 0, 0), (3, 1, 1)), ((1, 2, 5),)),
+            settings_of("ldm", "hilbert", parameters=(1, 16, 65_534)),
+        ),
         ("2,049 borders under HYP", zigzag(2049), settings_of("hyp", parameters=(2, 1, 0))),
         ("2,051 borders under HYP, and 3 nodes more", zigzag(2051, 3), settings_of("hyp", parameters=(2, 1, 0))),
     ]
@@ -353,6 +378,11 @@ def make_installs() -> Iterator[Case]:
                 put(held[method].publication.octets(), settings_at + 8 + 8 * place, u64(value)),
             )
         )
+    drawn = published(STREETS, settings_of("dij", "shuffled", seed=GREATEST)).publication.octets()
+    rows += [
+        ("the greatest seed, under an order that is drawn", drawn),
+        ("another seed, whose last 32 bits are the same, under an order that is drawn", put(drawn, settings_at, u64(2**32 - 1))),
+    ]
     yield from answered(run_install, [(why, {"publication": one.hex()}) for why, one in rows])
 
 
@@ -454,6 +484,17 @@ def make_replies() -> Iterator[Case]:
             for start, end in ((9, 1), (1, 9), (9, 9), (0, 2**32 - 1))
         ],
     )
+    level = published(LEVEL_BORDERS, settings_of("hyp", parameters=(2, 1, 0)))
+    yield from answered(run_reply, [("two borders that are 0 apart, hyp, from 1 to 4", query(level, 1, 4))])
+    for method, parameters in (*PARAMETERS.items(), ("hyp", (1, 1, 0))):
+        held = published(EQUAL, settings_of(method, parameters=parameters))
+        yield from answered(
+            run_reply,
+            [
+                (f"nodes as far as the end, and one farther, {method} {parameters[0]}, from {start} to {end}", query(held, start, end))
+                for start, end in ((1, 2), (2, 1), (1, 6), (6, 1), (4, 6))
+            ],
+        )
 
 
 REPLIES = Family(
@@ -493,7 +534,7 @@ def make_radii() -> Iterator[Case]:
     ]
     rows += [
         (f"five nodes, within {radius} of {start}", books()["dij"], start, radius)
-        for start, radius in ((1, 0), (1, 3), (1, 9), (1, GREATEST), (5, GREATEST), (9, 4))
+        for start, radius in ((1, 0), (1, 3), (1, 9), (1, GREATEST), (5, GREATEST), (9, 4), (1, 2**32 + 3), (1, 2**63))
     ]
     plain = published(PLAIN, settings_of("ldm", "kd", fan=3, parameters=(3, 6, 2)))
     rows += [
@@ -617,6 +658,8 @@ def make_services() -> Iterator[Case]:
         ("a finish without a begin", [finish(15)]),
         ("a session that is begun", [begin(3), begin(3)]),
         ("session 16", [begin(16), ask(16, 1, 3), finish(255)]),
+        ("a finished session leaves others", [begin(0), begin(1), finish(0), ask(1, 1, 3), ask(0, 1, 3)]),
+        ("a query on a radius, which an open service has no form for", [begin(0), bytes([5, 0]) + u32(1) + u64(4), ask(0, 1, 3)]),
         ("finished, and begun anew", [begin(3), finish(3), finish(3), begin(3)]),
         (
             "bodies of no form",
@@ -712,7 +755,7 @@ def make_guarded() -> Iterator[Case]:
     turned_one = replace(signed[0], signature=turned(signed[0].signature, 900))
     wrong_header = put(signed[0].octets(), 30, u8(signed[0].octets()[30] ^ 1))
     runs = [
-        ("queries on a radius", [b"\x01\x00", near(0, 1, 0), near(0, 1, 7), near(0, 5, GREATEST), b"\x02\x00" + u32(1) + u32(3)]),
+        ("queries on a radius", [b"\x01\x00", near(0, 1, 0), near(0, 1, 7), near(0, 5, GREATEST), near(0, 1, 2**32 + 1), b"\x02\x00" + u32(1) + u32(3)]),
         ("a start that is no node", [b"\x01\x00", near(0, 9, 7)]),
         ("a query on a radius without a begin, and of session 16", [near(0, 1, 7), near(16, 1, 7)]),
         ("queries on a radius of a wrong length", [b"\x01\x00", b"\x05", b"\x05\x00", near(0, 1, 7)[:-1], near(0, 1, 7) + b"\x00"]),

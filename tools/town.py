@@ -304,7 +304,7 @@ def road_file_of(extract: str, profile: str) -> None:
         path = os.path.join(folder, "town.osm")
         with open(path, "w", encoding="utf-8") as file:
             file.write(extract)
-        asked = argparse.Namespace(box=None, around=None, largest=False, licence=OSM_LICENCE)
+        asked = argparse.Namespace(box=None, around=None, largest=False, licence=OSM_LICENCE, every_bend=None, shapes=None, ferries=False, speeds=None, cost="decimetres")
         network_in(path, profile, asked, Told())[0].roads.write(sys.stdout)
 
 

@@ -5,7 +5,11 @@
 
 /** What of the first such leaf is otherwise, in words, or nothing where each leaf has the map's place and roads. */
 export async function differenceOf(leaves, map, pauses) {
-    const shown = new Map(leaves.map(({ id }) => [id, { place: null, roads: new Map() }]));
+    const shown = new Map();
+    for (const { id } of leaves) {
+        if (pauses.isDue) await pauses.pause();
+        shown.set(id, { place: null, roads: new Map() });
+    }
     for (const node of map.nodes) {
         if (pauses.isDue) await pauses.pause();
         const known = shown.get(node.id);

@@ -5,9 +5,15 @@
 
 /** For each band the pieces of roads in it, each a list of places. `ends` are the bands' greatest costs, ascending. */
 export async function piecesOf(nodes, leaves, ends, shapes, pauses) {
-    const costs = new Map(nodes.map(({ id, distance }) => [id, Number(distance)]));
-    const places = new Map(leaves.map((leaf) => [leaf.id, leaf]));
-    const bands = ends.map(() => []);
+    const [costs, places, bands] = [new Map(), new Map(), ends.map(() => [])];
+    for (const { id, distance } of nodes) {
+        if (pauses.isDue) await pauses.pause();
+        costs.set(id, Number(distance));
+    }
+    for (const leaf of leaves) {
+        if (pauses.isDue) await pauses.pause();
+        places.set(leaf.id, leaf);
+    }
     for (const leaf of leaves) {
         if (pauses.isDue) await pauses.pause();
         for (const { to, length } of leaf.arcs) {

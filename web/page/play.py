@@ -24,7 +24,6 @@ import argparse
 import contextlib
 import importlib.util
 import json
-import os
 import pathlib
 import shutil
 import subprocess
@@ -38,43 +37,9 @@ sys.path.insert(0, str(HERE))
 
 from expected import END, ISLAND, KINDS, RADIUS, SECRETS, START, Town, holds, judge, same  # noqa: E402, F401
 from front import Front  # noqa: E402
+from play_large import large  # noqa: E402
 from play_verdicts import kept, methods, owners, servers  # noqa: E402
 from scene import Page, Scene  # noqa: E402
-
-GRID = 90
-# of one piece of work, on a machine without other work, and on one that has so much that a piece waits within
-MOST_MILLISECONDS, MOST_BESIDE = 150, 3_000
-
-
-def large(it):
-    """All lies over a grid of thousands of nodes: no piece of work keeps the page still."""
-    from driven import LONG
-
-    page, owner = it.page, it.scene.owner
-    nodes = [f"node {row * GRID + column} {column * 10_000} {row * 10_000}" for row in range(GRID) for column in range(GRID)]
-    roads = [f"road {at} {at + step} {1_200 + (at * 7 + step) % 50}" for at in range(GRID * GRID) for step in (1, GRID) if (step == GRID or (at + 1) % GRID) and at + step < GRID * GRID]
-    owner.keep("town.roads", "\n".join(["roads 1", *nodes, *roads, ""]).encode())
-    it.scene.gateway.serve(owner.publish(6, "dij"))
-    script = page.driver.execute_cdp_cmd("Page.addScriptToEvaluateOnNewDocument", {"source": LONG})["identifier"]
-    page.open(it.place.origin)
-    page.driver.execute_cdp_cmd("Page.removeScriptToEvaluateOnNewDocument", {"identifier": script})
-    middle = GRID // 2 * GRID + GRID // 2
-    for what, ask, end, room in (("a radius of all nodes", "reach", "20", False), ("a route over a third of them", "route", middle + 22 * GRID + 9, False), ("a short route", "route", middle + 9 * GRID + 3, True)):
-        same(f"{what}: state", page.ask(ask, middle, end)[0], "accepted")
-        page.driver.execute_script("window.longest = 0")
-        took = {}
-        for name in page.lies():
-            began = time.monotonic()
-            _, text, line = page.lie(name)
-            took[name] = time.monotonic() - began
-            if name == "round" and ask == "route":
-                same(f"{what}: the long way round", line.split()[1:2] or ["no room for that lie" in text], ["Shorter"] if room else [True])
-        longest = page.driver.execute_script("return window.longest")
-        print(f"page: {what}, longest piece of work {longest:.0f} ms, longest lie {max(took.values()):.1f} s")
-        is_busy = os.getloadavg()[0] > os.cpu_count()
-        holds(f"{what}: the page stands still", longest < (MOST_BESIDE if is_busy else MOST_MILLISECONDS), longest)
-        holds(f"{what}: a lie takes long", max(took.values()) < 60, took)
-    page.faults()  # older maps have no such node, which is an error on the console
 
 
 def demo(it):

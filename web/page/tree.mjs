@@ -21,8 +21,7 @@ export class Tree {
     /** Takes over what the items and the cover of a reply say of the tree. */
     async learn(items, cover) {
         let next = 0;
-        for (const { level, place, isChosen } of this.#spots(items)) {
-            if (this.#pauses.isDue) await this.#pauses.pause();
+        for await (const { level, place, isChosen } of this.#spots(items)) {
             if (!isChosen) this.#digests.set(`${level} ${place}`, cover[next++]);
         }
         for (const { index, text } of items) {
@@ -34,24 +33,40 @@ export class Tree {
     /** The cover of some items among those that it learnt of; a tree without items has an empty one. */
     async cover(items) {
         const digests = [];
-        for (const { level, place, isChosen } of this.#spots(items)) {
+        for await (const { level, place, isChosen } of this.#spots(items)) {
             if (!isChosen) digests.push(await this.#digest(level, place));
         }
         return digests;
     }
 
     /** From the top, each place that a fold of these items comes to, and whether an item is at or below it. */
-    *#spots(items) {
+    async *#spots(items) {
         if (items.length === 0) return;
-        const chosen = [new Set(items.map(({ index }) => index))];
-        for (const _ of this.#counts.slice(1)) chosen.push(new Set([...chosen.at(-1)].map((place) => Math.floor(place / this.#fan))));
+        const chosen = await this.#chosen(items);
         const open = [[this.#counts.length - 1, 0]];
         while (open.length > 0) {
+            if (this.#pauses.isDue) await this.#pauses.pause();
             const [level, place] = open.pop();
             const isChosen = chosen[level].has(place);
             yield { level, place, isChosen };
             if (isChosen) open.push(...this.#below(level, place).reverse());
         }
+    }
+
+    /** For each level, from the leaves up, the places at or below which an item is. */
+    async #chosen(items) {
+        const levels = [];
+        let places = items.map(({ index }) => index);
+        for (const _ of this.#counts) {
+            const level = new Set();
+            for (const place of places) {
+                if (this.#pauses.isDue) await this.#pauses.pause();
+                level.add(place);
+            }
+            levels.push(level);
+            places = [...level].map((place) => Math.floor(place / this.#fan));
+        }
+        return levels;
     }
 
     #below(level, place) {

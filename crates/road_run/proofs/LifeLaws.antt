@@ -13,7 +13,8 @@ use Rattle.road_io.proofs.StillTold.{both_told}
 use Rattle.road_io.specs.Contents.{Folder}
 use Rattle.desk_areas.specs.Layout.{IsOpen}
 use Rattle.key_desk.specs.Stands.{SameKeys}
-use Rattle.key_desk.specs.Spending.{SpendsTexted}
+use Rattle.desk_sight.specs.declared.looking.Use.{Use}
+use Rattle.desk_sight.specs.Looks.{Spends}
 use Rattle.road_command.specs.Requests.{Request, Key, Succeed, Links, Publish, Audit, AuditReach, Reduce}
 use Rattle.command_files.specs.declared.fault.Fault.{Fault}
 use Rattle.command_files.specs.declared.fault.Fault.TheVariants.{Sink, MirrorLost}
@@ -67,8 +68,8 @@ module _ {M : Type 0} (octets : M → Option (List ℕ)) (label handed puts room
       given_after d.0 i (r ∷ rest) d.2 (here d.0 d.1) (run.promised.stands.each (map pair_of (r ∷ rest)) (stand_as_pairs g old (r ∷ rest) here) k i from to h)
 
   -- and at each moment of a spending
-  kept_spent : (old new : D) → SpendsTexted g old new → (before : List Release) → EachImage g old (AllStand before) → (k : ℕ) (i : List ℕ) → g.clock old ≤ k → k ≤ g.clock new → g.image_at new k i → AllStand before i
-  kept_spent old new spends before here k i from to h =
+  kept_spent : (what : Use) (old new : D) → Spends g what old new → (before : List Release) → EachImage g old (AllStand before) → (k : ℕ) (i : List ℕ) → g.clock old ≤ k → k ≤ g.clock new → g.image_at new k i → AllStand before i
+  kept_spent what old new spends before here k i from to h =
       let d = spends.keys.each k i from to h in
       given_after d.0 i before d.2 (here d.0 d.1) (spends.stands.each (map pair_of before) (stand_as_pairs g old before here) k i from to h)
 
@@ -114,12 +115,12 @@ module _ {M : Type 0} (octets : M → Option (List ℕ)) (label handed puts room
       subst (λ (all : List Release). EachImage g new (AllStand all)) (sym same) (λ i now. here i (crashed.left i now)),
       subst AllApart (sym same) apart,
     )
-    stepped before after (Spent spends same) here apart = (
-      subst (λ (all : List Release). EachImage g new (AllStand all)) (sym same) (λ i now. kept_spent old new spends before here (g.clock new) i spends.stands.later (omega arith) now),
+    stepped before after (Spent what spends same) here apart = (
+      subst (λ (all : List Release). EachImage g new (AllStand all)) (sym same) (λ i now. kept_spent what old new spends before here (g.clock new) i spends.stands.later (omega arith) now),
       subst AllApart (sym same) apart,
     )
-    stepped before after (SpentCut called spends k from to crashed same) here apart = (
-      subst (λ (all : List Release). EachImage g new (AllStand all)) (sym same) (λ i now. kept_spent old called spends before here k i from to (crashed.left i now)),
+    stepped before after (SpentCut what called spends k from to crashed same) here apart = (
+      subst (λ (all : List Release). EachImage g new (AllStand all)) (sym same) (λ i now. kept_spent what old called spends before here k i from to (crashed.left i now)),
       subst AllApart (sym same) apart,
     )
 
@@ -127,8 +128,8 @@ module _ {M : Type 0} (octets : M → Option (List ℕ)) (label handed puts room
   within old new before after (Ran run more) here = λ k i from to h. kept old new run before here k i from to h
   within old new before after (Cut called run k from to crashed same) here = λ n i past upto h. kept old called run before here n i past upto h
   within old new before after (Broke crashed same) here = λ i now. here i (crashed.left i now)
-  within old new before after (Spent spends same) here = λ k i from to h. kept_spent old new spends before here k i from to h
-  within old new before after (SpentCut called spends k from to crashed same) here = λ n i past upto h. kept_spent old called spends before here n i past upto h
+  within old new before after (Spent what spends same) here = λ k i from to h. kept_spent what old new spends before here k i from to h
+  within old new before after (SpentCut what called spends k from to crashed same) here = λ n i past upto h. kept_spent what old called spends before here n i past upto h
 
   -- a whole life
   pub none_twice : (disk : D) (before : List Release) (states : List (D × List Release)) (life : IsLife octets label handed puts room g disk before states) → EachTells g disk states → EachImage g disk (AllStand before) → AllApart before

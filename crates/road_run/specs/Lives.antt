@@ -1,5 +1,5 @@
--- Whole lives of an owner's disk: runs of the program with any arguments, one after another, calls that
--- spend a one-time key over a text which stands on the disk, and crashes inside or between them.
+-- Whole lives of an owner's disk: runs of the program with any arguments, one after another, looks before
+-- them that spend a one-time key over a text which stands on the disk, and crashes inside or between them.
 use Rattle.std.specs.Prelude.{◌≡◌, ◌≢◌, ℕ, ◌≤◌, List, [], ◌∷◌, ◌++◌, map, IfSome}
 use Rattle.std.specs.List.{range_with_len}
 use Rattle.std.specs.declared.option.Option.{Option}
@@ -10,7 +10,8 @@ use Rattle.road_io.specs.declared.disk.Disk.{Ghosts}
 use Rattle.road_io.specs.Moments.{EachImage}
 use Rattle.road_io.specs.Contents.{Folder}
 use Rattle.key_desk.specs.Runs.{Crashed}
-use Rattle.key_desk.specs.Spending.{SpendsTexted}
+use Rattle.desk_sight.specs.declared.looking.Use.{Use}
+use Rattle.desk_sight.specs.Looks.{Spends}
 use Rattle.road_command.specs.Requests.{Request, Publish, Succeed, Links}
 use Rattle.command_files.specs.declared.fault.Fault.{Fault}
 use Rattle.command_files.specs.declared.fault.Fault.TheVariants.{Sink, MirrorLost}
@@ -90,15 +91,15 @@ module _ {M : Type 0} (octets : M → Option (List ℕ)) (label handed puts room
   -- One step of a life, from what was given out before to what was given out after. A run comes to
   -- its end; or a crash cuts a run at one of its moments, before it gives anything out; or a crash
   -- comes between two runs. A run that is cut off while it writes is one whose sink fails there,
-  -- and then a crash. Between two runs the lowest free slot may be spent over the text that stands
-  -- in it, to the end or until a crash, and nothing goes out.
+  -- and then a crash. Between two runs a look may spend a slot over the text that stands in it, to
+  -- the end or until a crash, and nothing goes out.
   pub data Step (old new : D) (before after : List Release) : Type 0 where
     Ran : (run : Run old new) → after ≡ before ++ given old new run → Step old new before after
     Cut : (called : D) (run : Run old called) (k : ℕ) → g.clock old ≤ k → k ≤ g.clock called →
         Crashed g k called new → after ≡ before → Step old new before after
     Broke : Crashed g (g.clock old) old new → after ≡ before → Step old new before after
-    Spent : SpendsTexted g old new → after ≡ before → Step old new before after
-    SpentCut : (called : D) → SpendsTexted g old called → (k : ℕ) → g.clock old ≤ k →
+    Spent : (what : Use) → Spends g what old new → after ≡ before → Step old new before after
+    SpentCut : (what : Use) (called : D) → Spends g what old called → (k : ℕ) → g.clock old ≤ k →
         k ≤ g.clock called → Crashed g k called new → after ≡ before → Step old new before after
 
   -- these disks, each with what was given out so far, follow one another by steps
@@ -119,8 +120,8 @@ module _ {M : Type 0} (octets : M → Option (List ℕ)) (label handed puts room
   StandWithin old new before after (Cut called run k from to crashed same) =
       StandAlong old called before
   StandWithin old new before after (Broke crashed same) = EachImage g new (AllStand before)
-  StandWithin old new before after (Spent spends same) = StandAlong old new before
-  StandWithin old new before after (SpentCut called spends k from to crashed same) =
+  StandWithin old new before after (Spent what spends same) = StandAlong old new before
+  StandWithin old new before after (SpentCut what called spends k from to crashed same) =
       StandAlong old called before
 
   -- At each moment of a life what was given out before stands in its slots in every image, in areas

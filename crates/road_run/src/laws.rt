@@ -6,7 +6,7 @@ ghost use Rattle.road_run.specs.Lives.{EachTells, IsLife, NoneSignsTwice};
 use mirror_out::Mirror;
 use road_io::Disk;
 
-/// Over every list of runs, each with any arguments, files, sink and mirrors, of calls of `Desk::spend_texted` between
+/// Over every list of runs, each with any arguments, files, sink and mirrors, of what `look` spends between
 /// them, and of crashes inside or between them, where each disk of this life tells what it reads: each text whose
 /// signature went out stands in its slot, in every image at every later moment, in an area of the key that made it, and no
 /// two signatures are by keys of one identifier and one-time keys of one number, unless they are equal octets on one link

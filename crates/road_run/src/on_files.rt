@@ -26,7 +26,7 @@ use std::rt::Files;
 /// them tells what its history of answers says: the sink and the mirrors what they were answered to have
 /// taken, the source what it gave, the library and the disk what they hold, whatever files there were and
 /// whatever failed calls have left. A library or a disk tells it until two of its answers contradict each
-/// other. And over every life that begins with this disk, of such runs, of calls of `Desk::spend_texted` and of
+/// other. And over every life that begins with this disk, of such runs, of what `look` spends and of
 /// crashes, and whose disks tell what they read, no one-time key signs twice.
 pub fn run_on_files<R: Files<File = File> + Print + Input + Drop>(
     alloc: Global,

@@ -43,6 +43,8 @@ LIMITS: dict[tuple[str, str], list[str]] = {
     ("4.3", "64"): ["an area of 63 octets is open"],
     ("4.3", "1"): ["- of the order of device calls, which images do not show"],
     ("4.3", "52"): ["- of the order of device calls, which images do not show"],
+    ("4.3", "106"): ["- of the look before a command that signs, whose bits checks/owner/bits.py turns"],
+    ("4.3", "127"): ["- of the look before a command that signs, whose bits checks/owner/bits.py turns"],
     ("4.4", "1,452"): ["the longest signature is of the lesser height", "a longer signature is taken"],
     ("5.1", "1"): ["no landmark"],
     ("5.1", "5"): ["any order"],

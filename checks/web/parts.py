@@ -359,9 +359,17 @@ class Keeping(Asynchronous):
         self.assertEqual(len(it.crew.children), 3)
         for child in list(it.crew.children):
             os.kill(child.transport.get_pid(), 9)
-        reply = await it.ask(publications.Publication(publication(4)).id, 2, struct.pack(">II", 1, 2), "a")
+        reply = await self.asked(it)
         self.assertEqual(struct.unpack(">Q", reply[:8])[0], 4)
         await self.until(lambda: it.crew is not None and len(it.crew.children) == 3)
+
+    async def asked(self, it: keeper.Keeper) -> bytes:
+        """A reply behind a death, which a client asks for again where it is told to: on a busy machine a start takes seconds."""
+        for _ in range(9):
+            with contextlib.suppress(keeper.Missing):
+                return await it.ask(publications.Publication(publication(4)).id, 2, struct.pack(">II", 1, 2), "a")
+            await asyncio.sleep(0.5)
+        return await it.ask(publications.Publication(publication(4)).id, 2, struct.pack(">II", 1, 2), "a")
 
     async def test_a_child_near_its_last_frame_is_replaced(self) -> None:
         it = await self.kept()

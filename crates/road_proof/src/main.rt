@@ -216,7 +216,7 @@ fn run_words(rt: HostRuntime, alloc: Global, words: &Words, begun: Option<Instan
     let mut library = KeptLibrary::new(alloc, FileLibrary::new(rt), most_kept(words));
     let mut source = StdSource::new(&rt);
     let mut disk = FileDisk::new(DeskFiles::new(rt, unfollowed(words)), "owner.desk");
-    let public = named_key(rt, alloc);
+    let public = named_key(rt, alloc, words);
     let seen = match seen_desk(rt, alloc, words, public, &mut disk) {
         Ok(seen) => seen,
         Err(unfit) => return tell_unfit(rt, words, unfit, disk.last_error()),

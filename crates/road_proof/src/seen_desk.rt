@@ -37,8 +37,12 @@ pub fn seen_desk(
     Ok(seen)
 }
 
-/// The public key of the file `owner.key`, where that is a regular file with one.
-pub fn named_key(rt: HostRuntime, alloc: Global) -> Option<[u8; 56]> {
+/// The public key of the file `owner.key`, where that is a regular file with one and the command signs by the desk.
+pub fn named_key(rt: HostRuntime, alloc: Global, words: &Words) -> Option<[u8; 56]> {
+    match use_of(words) {
+        Some(Use::Publish | Use::Succeed | Use::Links) => {}
+        Some(Use::Key) | None => return None,
+    }
     match fs::metadata(&rt, "owner.key") {
         Ok(file) if file.is_file() => {}
         _ => return None,

@@ -1,5 +1,5 @@
-/* Checks the reply in a file to the query for a shortest route, and prints the route and its places, that there is
- * none, or the refusal. Usage: example KEY REPLY FROM TO LEAST [CHAIN], where KEY has the public key in hex. */
+/* Checks the reply in a file to the query for a shortest route. Prints the route with its coordinates, or that no route
+ * exists, or the refusal. Usage: example KEY REPLY FROM TO LEAST [CHAIN], where KEY has the public key in hex. */
 #include <gogbetiku.h>
 
 #include <inttypes.h>

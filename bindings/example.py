@@ -1,5 +1,5 @@
-"""Checks the reply in a file to the query for a shortest route, and prints the route and its places, that there is
-none, or the refusal.
+"""Checks the reply in a file to the query for a shortest route. Prints the route and its places, or that no route
+exists, or the refusal.
 Usage: example.py KEY REPLY FROM TO LEAST [CHAIN], where KEY has the public key in hex."""
 
 import sys
@@ -8,7 +8,7 @@ from pathlib import Path
 from gogbetiku import Client, NoRoute, Refused
 
 
-def main(words):
+def main(words: list[str]) -> int:
     if len(words) not in (5, 6):
         print(__doc__, file=sys.stderr)
         return 2

@@ -1,4 +1,4 @@
-/* The heap that compiled Rattle calls, over the C library's, for machines that the kit has no object of it for. */
+/* The heap for compiled Rattle, over the C library's heap. It is for machines for which the kit has no object of its own. */
 #include <stdint.h>
 #include <stdlib.h>
 
@@ -11,7 +11,9 @@ static uint64_t nothing;
 
 static struct block block_of(void *at) { return (struct block){at != NULL, at != NULL ? at : &nothing}; }
 
-struct block rattle_alloc(uint64_t size, uint64_t align) { return block_of(malloc(size != 0 ? size : align)); }
+struct block rattle_alloc(uint64_t size, uint64_t align) {
+    return block_of(malloc(size != 0 ? size : align));
+}
 
 struct block rattle_realloc(void *at, uint64_t old, uint64_t size, uint64_t align) {
     (void)old;

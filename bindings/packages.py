@@ -1,9 +1,10 @@
 #!/usr/bin/env python3
 """Makes Debian's packages of an unpacked release: bindings/packages.py TREE FOLDER
 
-TREE is what gogbetiku-VERSION-x86_64-linux.tar.xz has, as bindings/release lays it out. FOLDER gets `gogbetiku` (program,
-gateway, page, tools, units, completions), `libgogbetiku0`, `libgogbetiku-dev` and `python3-gogbetiku`. SOURCE_DATE_EPOCH is
-the time of all files, so two runs give the same octets. bindings/debian has the copyright and the maintainers' scripts.
+TREE is the content of gogbetiku-VERSION-x86_64-linux.tar.xz, in the layout of bindings/release. FOLDER gets `gogbetiku`
+(program, gateway, page, tools, units, completions), `libgogbetiku0`, `libgogbetiku-dev` and `python3-gogbetiku`.
+SOURCE_DATE_EPOCH is the time of all files, so two runs give the same octets. bindings/debian has the copyright and the
+maintainers' scripts.
 Nobody trusts this file."""
 
 from __future__ import annotations
@@ -22,17 +23,27 @@ HERE = pathlib.Path(__file__).resolve().parent
 MAINTAINER = "Gogbetiku maintainers <maintainers@users.noreply.gogbetiku.example>"
 TRIPLE = "usr/lib/x86_64-linux-gnu"
 SHARE = "usr/share/gogbetiku"
-# where the units' folders and programs are in a package
-PLACES = {"/opt/gogbetiku/web/": f"/{SHARE}/web/", "/opt/gogbetiku/bin/": "/usr/bin/", "/srv/gogbetiku": "/var/lib/gogbetiku",
-          "/srv/owner": "/var/lib/gogbetiku-owner", "User=owner": "User=gogbetiku-owner"}
-UNITS = {"web/gateway.service": "gogbetiku-gateway.service", "web/replicas/gateway@.service": "gogbetiku-gateway@.service",
-         "tools/owner@.service": "gogbetiku-owner@.service"}
+# the places of the units' folders and programs in a package
+PLACES = {
+    "/opt/gogbetiku/web/": f"/{SHARE}/web/",
+    "/opt/gogbetiku/bin/": "/usr/bin/",
+    "/srv/gogbetiku": "/var/lib/gogbetiku",
+    "/srv/owner": "/var/lib/gogbetiku-owner",
+    "User=owner": "User=gogbetiku-owner",
+}
+UNITS = {
+    "web/gateway.service": "gogbetiku-gateway.service",
+    "web/replicas/gateway@.service": "gogbetiku-gateway@.service",
+    "tools/owner@.service": "gogbetiku-owner@.service",
+}
 DOCUMENTS = ("CLAIMS", "LIBRARY", "COMMANDS", "OPERATING", "BEFORE_YOU_SIGN", "MAPS")
 
 
 def least_glibc(*files: pathlib.Path) -> str:
-    """The newest version of glibc that one of the files asks for."""
-    said = subprocess.run(["readelf", "-W", "--version-info", *files], capture_output=True, text=True, check=True).stdout
+    """The newest version of glibc that one of the files needs."""
+    said = subprocess.run(
+        ["readelf", "-W", "--version-info", *files], capture_output=True, text=True, check=True
+    ).stdout
     versions: list[str] = re.findall(r"GLIBC_(\d+(?:\.\d+)+)", said)
     return max(versions, key=lambda version: [*map(int, version.split("."))])
 
@@ -42,7 +53,12 @@ class Package:
 
     def __init__(self, room: pathlib.Path, name: str, version: str, time: int, **fields: str):
         self.root, self.name, self.version, self.time = room / name, name, version, time
-        self.fields = {"Package": name, "Version": version, "Maintainer": MAINTAINER, **{key.replace("_", "-"): text for key, text in fields.items()}}
+        self.fields = {
+            "Package": name,
+            "Version": version,
+            "Maintainer": MAINTAINER,
+            **{key.replace("_", "-"): text for key, text in fields.items()},
+        }
         self.put(HERE / "debian/copyright", f"usr/share/doc/{name}/copyright")
         when = email.utils.formatdate(time, usegmt=False)
         log = f"gogbetiku ({version}) unstable; urgency=medium\n\n  * CHANGELOG.md of the release says what changed.\n\n -- {MAINTAINER}  {when}\n"
@@ -55,7 +71,7 @@ class Package:
         path.chmod(mode)
 
     def put(self, source: pathlib.Path, place: str) -> None:
-        """A file, executable where it is; a script is run by Debian's own Python."""
+        """Adds a file with its execute bit. A Python script gets the path of Debian's Python."""
         octets = source.read_bytes().replace(b"#!/usr/bin/env python3\n", b"#!/usr/bin/python3\n", 1)
         self.write(place, octets, 0o755 if os.access(source, os.X_OK) else 0o644)
 
@@ -71,18 +87,36 @@ class Package:
         self.write(f"DEBIAN/{name}", (HERE / f"debian/{self.name}.{name}").read_bytes(), 0o755)
 
     def pack(self, folder: pathlib.Path) -> None:
-        files = sorted(path for path in self.root.rglob("*") if path.is_file() and "DEBIAN" not in path.parts and not path.is_symlink())
-        sums = "".join(f"{hashlib.md5(path.read_bytes()).hexdigest()}  {path.relative_to(self.root)}\n" for path in files)
+        files = sorted(
+            path
+            for path in self.root.rglob("*")
+            if path.is_file() and "DEBIAN" not in path.parts and not path.is_symlink()
+        )
+        sums = "".join(
+            f"{hashlib.md5(path.read_bytes()).hexdigest()}  {path.relative_to(self.root)}\n" for path in files
+        )
         self.write("DEBIAN/md5sums", sums.encode())
         self.fields["Installed-Size"] = str(sum(-(-path.stat().st_size // 1024) for path in files) + 1)
         about = self.fields.pop("Description")
-        self.write("DEBIAN/control", "".join(f"{key}: {text}\n" for key, text in [*self.fields.items(), ("Description", about)]).encode())
+        self.write(
+            "DEBIAN/control",
+            "".join(f"{key}: {text}\n" for key, text in [*self.fields.items(), ("Description", about)]).encode(),
+        )
         for path in [self.root, *self.root.rglob("*")]:
             if path.is_dir():
                 path.chmod(0o755)
             os.utime(path, (self.time, self.time), follow_symlinks=False)
         name = f"{self.name}_{self.version}_{self.fields['Architecture']}.deb"
-        words = ["dpkg-deb", "--root-owner-group", "--uniform-compression", "-Zxz", "--threads-max=1", "--build", str(self.root), str(folder / name)]
+        words = [
+            "dpkg-deb",
+            "--root-owner-group",
+            "--uniform-compression",
+            "-Zxz",
+            "--threads-max=1",
+            "--build",
+            str(self.root),
+            str(folder / name),
+        ]
         subprocess.run(words, check=True, stdout=subprocess.DEVNULL)
 
 
@@ -116,7 +150,7 @@ def program(tree: pathlib.Path, it: Package) -> None:
 def library(tree: pathlib.Path, it: Package) -> None:
     it.put(tree / "lib/libgogbetiku.so.0", f"{TRIPLE}/libgogbetiku.so.0")
     it.write("DEBIAN/shlibs", f"libgogbetiku 0 libgogbetiku0 (>= {it.version})\n".encode())
-    # the loader's cache is made anew behind each change
+    # the loader's cache is rebuilt after each change
     it.write("DEBIAN/triggers", b"activate-noawait ldconfig\n")
 
 
@@ -133,7 +167,7 @@ def headers(tree: pathlib.Path, it: Package) -> None:
 
 
 def python(tree: pathlib.Path, it: Package) -> None:
-    for name in ("__init__.py", "py.typed"):
+    for name in [*sorted(file.name for file in (HERE / "python/gogbetiku").glob("*.py")), "py.typed"]:
         it.put(HERE / "python/gogbetiku" / name, f"usr/lib/python3/dist-packages/gogbetiku/{name}")
     about = f"Metadata-Version: 2.1\nName: gogbetiku\nVersion: {it.version}\nSummary: Checks routes against the public key of the map's owner\n"
     it.write(f"usr/lib/python3/dist-packages/gogbetiku-{it.version}.egg-info", about.encode())
@@ -149,21 +183,70 @@ def main(given: str, into: str) -> int:
     what = "Shortest routes that a server proves under the key of the map's owner."
     with tempfile.TemporaryDirectory() as name:
         room = pathlib.Path(name)
-        it = Package(room, "gogbetiku", version, time, Architecture="amd64", Section="net", **always,
-                     Depends=f"{glibc['bin/road_proof']}, adduser, python3", Recommends="python3-h11",
-                     Description=described("shortest routes that prove themselves", what, "This package has the program, the gateway, the page and the units."))
+        it = Package(
+            room,
+            "gogbetiku",
+            version,
+            time,
+            Architecture="amd64",
+            Section="net",
+            **always,
+            Depends=f"{glibc['bin/road_proof']}, adduser, python3",
+            Recommends="python3-h11",
+            Description=described(
+                "shortest routes that prove themselves",
+                what,
+                "This package has the program, the gateway, the page and the units.",
+            ),
+        )
         program(tree, it)
         it.pack(folder)
-        it = Package(room, "libgogbetiku0", version, time, Architecture="amd64", Section="libs", **always, Multi_Arch="same", Depends=glibc["lib/libgogbetiku.so.0"],
-                     Description=described("client of routes that prove themselves", what, "This package has the library that checks a reply."))
+        it = Package(
+            room,
+            "libgogbetiku0",
+            version,
+            time,
+            Architecture="amd64",
+            Section="libs",
+            **always,
+            Multi_Arch="same",
+            Depends=glibc["lib/libgogbetiku.so.0"],
+            Description=described(
+                "client of routes that prove themselves", what, "This package has the library that checks a reply."
+            ),
+        )
         library(tree, it)
         it.pack(folder)
-        it = Package(room, "libgogbetiku-dev", version, time, Architecture="amd64", Section="libdevel", **always, Depends=f"libgogbetiku0 (= {version})",
-                     Description=described("client of routes that prove themselves, for programs", what, "This package has header, archive, and the sources for Rust and Go."))
+        it = Package(
+            room,
+            "libgogbetiku-dev",
+            version,
+            time,
+            Architecture="amd64",
+            Section="libdevel",
+            **always,
+            Depends=f"libgogbetiku0 (= {version})",
+            Description=described(
+                "client of routes that prove themselves, for programs",
+                what,
+                "This package has header, archive, and the sources for Rust and Go.",
+            ),
+        )
         headers(tree, it)
         it.pack(folder)
-        it = Package(room, "python3-gogbetiku", version, time, Architecture="all", Section="python", **always, Depends=f"python3 (>= 3.9), libgogbetiku0 (>= {version})",
-                     Description=described("client of routes that prove themselves, for Python", what, "This package has the module for Python 3."))
+        it = Package(
+            room,
+            "python3-gogbetiku",
+            version,
+            time,
+            Architecture="all",
+            Section="python",
+            **always,
+            Depends=f"python3 (>= 3.9), libgogbetiku0 (>= {version})",
+            Description=described(
+                "client of routes that prove themselves, for Python", what, "This package has the module for Python 3."
+            ),
+        )
         python(tree, it)
         it.pack(folder)
     return 0
@@ -171,6 +254,9 @@ def main(given: str, into: str) -> int:
 
 if __name__ == "__main__":
     if len(sys.argv) != 3:
-        print("bindings/packages.py: name an unpacked release and the folder for the packages: bindings/packages.py TREE FOLDER", file=sys.stderr)
+        print(
+            "bindings/packages.py: name an unpacked release and the folder for the packages: bindings/packages.py TREE FOLDER",
+            file=sys.stderr,
+        )
         sys.exit(2)
     sys.exit(main(*sys.argv[1:]))

@@ -1,9 +1,9 @@
 #!/usr/bin/env python3
-"""Plays the library for aarch64 beside the program: bindings/play_aarch64.py PROGRAM
+"""Compares the library for aarch64 with the program: bindings/play_aarch64.py PROGRAM
 
-Takes out/aarch64/libroute_check_c.a, which `bindings/archive aarch64-unknown-linux-gnu` made, builds the example in C
-over it, and compares under qemu what it says of replies under the four methods, right and wrong, with PROGRAM's `check`.
-Ends with status 1 where anything differs. Nobody trusts this file."""
+It builds the example in C over out/aarch64/libroute_check_c.a, which `bindings/archive aarch64-unknown-linux-gnu`
+makes. Under qemu it compares the example's verdicts on right and wrong replies, under the four methods, with PROGRAM's
+`check`. Ends with status 1 if anything differs. Nobody trusts this file."""
 
 import pathlib
 import shutil
@@ -15,20 +15,30 @@ HERE = pathlib.Path(__file__).resolve().parent
 METHODS = {"dij": "3 id 0 2 0 0 0", "full": "4 kd 0 2 0 0 0", "ldm": "5 id 0 2 1 2 0", "hyp": "6 hilbert 0 2 3 1 0"}
 
 
-def main(program):
+def main(program: str) -> int:
     program, differ = str(pathlib.Path(program).resolve()), 0
     with tempfile.TemporaryDirectory() as name:
         folder = pathlib.Path(name)
 
-        def run(*words):
+        def run(*words: object) -> tuple[int, bytes]:
             done = subprocess.run([*map(str, words)], cwd=folder, capture_output=True, check=False)
             return done.returncode, done.stdout
 
-        def keep(file, command):
+        def keep(file: str, command: str) -> None:
             (folder / file).write_bytes(run(program, *command.split())[1])
 
         subprocess.run([HERE / "build", folder, "aarch64"], check=True)
-        words = ["-std=c99", "-O2", "-static", "-I", HERE, HERE / "example.c", "libgogbetiku.a", "-o", "example"]
+        words = [
+            "-std=c99",
+            "-O2",
+            "-static",
+            "-I",
+            str(HERE),
+            str(HERE / "example.c"),
+            "libgogbetiku.a",
+            "-o",
+            "example",
+        ]
         subprocess.run(["aarch64-linux-gnu-gcc", *words], cwd=folder, check=True)
         shutil.copy(HERE.parent / "crates/road_proof/data/m1.roads", folder)
         (folder / "secret.hex").write_text("00" * 48)
@@ -46,7 +56,7 @@ def main(program):
                     if by_library != by_program:
                         print(f"{method} {ask}: {by_library}, and not {by_program}")
                         differ += 1
-    print(f"aarch64: {differ} differ" if differ else "aarch64: the library says what the program says")
+    print(f"aarch64: {differ} differ" if differ else "aarch64: the library agrees with the program")
     return 1 if differ else 0
 
 

@@ -1,11 +1,12 @@
 #!/usr/bin/env python3
-"""Plays the crate for Rust and the package for Go beside the library: bindings/play_more.py PROGRAM
+"""Compares the crate for Rust and the package for Go with the library: bindings/play_more.py PROGRAM
 
-Builds the library with bindings/build, and the crate and the package over it, in a folder outside the tree and without a
-network. Runs their own tests, those of the crate's documentation too, and compares what they say of the vectors, and of
-honest and changed replies, with what the vectors and the module for Python say. Counts their lines, and looks that they
-name the codes as the header does. Does the same for aarch64 under qemu, where its archive and the compilers are there.
-What a missing program keeps it from is `skipped`. Ends with status 1 where anything differs. Nobody trusts this file."""
+It builds the library with bindings/build, and the crate and the package over it, in a folder outside the tree and
+without a network. It runs their own tests, including those in the crate's documentation. Their results for the vectors,
+and for honest and changed replies, must agree with the vectors and with the module for Python. It counts their lines,
+and compares their names of the codes with the header's. It does the same for aarch64 under qemu, if its archive and the
+compilers exist. A part that needs a missing program is `skipped`. Ends with status 1 if anything differs. Nobody trusts
+this file."""
 
 from __future__ import annotations
 
@@ -22,14 +23,14 @@ from typing import Any
 
 HERE = pathlib.Path(__file__).resolve().parent
 TOP = HERE.parent
-CHANGED, MOST_LINES = 600, 300
+CHANGED, MOST_LINES, MOST_OF_AGES = 600, 300, 60
 CARGO = "/usr/bin/cargo" if os.path.exists("/usr/bin/cargo") else "cargo"
-# Debian's, unless RUSTC names another: one whose own library for the board lies elsewhere, say
+# Debian's, unless RUSTC names another, such as one that has its library for the board in another folder
 RUSTC = os.environ.get("RUSTC", "/usr/bin/rustc" if CARGO == "/usr/bin/cargo" else "rustc")
 BOARD = "aarch64-unknown-linux-gnu"
 sys.path.insert(0, str(TOP / "web"))
 
-# what stands around the lines that docs/LIBRARY.md shows in Go
+# the program around the lines that docs/LIBRARY.md shows in Go
 AROUND_GO = """package main
 
 import (
@@ -67,27 +68,40 @@ def lacks(name: str, what: str) -> bool:
 
 
 def run(what: str, *words: object, folder: pathlib.Path, **env: str) -> str:
-    done = subprocess.run([*map(str, words)], cwd=folder, capture_output=True, text=True, check=False, env={**os.environ, **env})
+    done = subprocess.run(
+        [*map(str, words)], cwd=folder, capture_output=True, text=True, check=False, env={**os.environ, **env}
+    )
     if done.returncode != 0:
         faults.append(f"{what}: status {done.returncode}\n{(done.stdout + done.stderr)[-2000:]}")
     return done.stdout
 
 
 def written(program: str, library: pathlib.Path, folder: pathlib.Path) -> list[dict[str, Any]]:
-    """Writes cases.txt, a case a line, and gives what is to be said of each."""
-    from cases import Party, write_cases  # type: ignore[import]
+    """Writes cases.txt with a case in each line. Returns the expected result of each."""
+    from cases import Party, write_cases
 
     party = Party(program, library, folder / "party", TOP / "crates/road_proof/data/m1.roads")
     write_cases(party, folder, CHANGED)
     told: list[dict[str, Any]] = json.loads((folder / "cases.json").read_text())["cases"]
     octets = (folder / "cases.bin").read_bytes()
-    # what the lines of docs/LIBRARY.md read
+    # the files that the lines of docs/LIBRARY.md read
     (folder / "owner.key").write_text(party.key.hex() + "\n")
     (folder / "m1.reply").write_bytes(party.run("prove dij.pub 1 3"))
     with open(folder / "cases.txt", "w", encoding="ascii") as file:
         for case in told:
             reply = octets[case["at"] : case["at"] + case["octets"]].hex()
-            line = [case["ask"], case["key"], case["chain"] or "-", case["from"], case["end"], case["least"], int(bool(case["simple"])), reply or "-"]
+            line = [
+                case["ask"],
+                case["key"],
+                case["chain"] or "-",
+                case["from"],
+                case["end"],
+                case["least"],
+                int(bool(case["simple"])),
+                reply or "-",
+            ]
+            if case["ask"] == "nearest":
+                line += [",".join(map(str, case["ids"])) or "-", 65_536 if case["count"] is None else case["count"]]
             file.write(" ".join(map(str, line)) + "\n")
     return told
 
@@ -100,17 +114,18 @@ def shown_in(language: str) -> str:
 
 
 def is_told(said: str, told: dict[str, Any]) -> bool:
-    """Whether a line says all that a case tells: the vectors tell no places, and a line with its end."""
+    """Whether a line has everything that a case gives. The vectors give no places, and a line with its line end."""
     code, rest = said.split(" ", 1)
     if int(code) != int(told["code"]):
         return False
-    if code == "2":
+    if code in ("2", "19"):
         return rest == str(told["version"])
     if code == "1":
         version, length, *nodes = rest.split(" ")
         wanted = [",".join(map(str, node)).rstrip(",") for node in told.get("nodes", [])]
-        is_length = length in ("-", told.get("length", length))
-        return bool(nodes) and version == str(told["version"]) and is_length and nodes == (wanted or nodes)
+        is_length = length in ("-", str(told.get("inside", told.get("length", length))))
+        is_whole = nodes == wanted if "inside" in told else bool(nodes) and nodes == (wanted or nodes)
+        return version == str(told["version"]) and is_length and is_whole
     first, second, texts = rest.split(" ", 2)
     kind, line, sentence = texts.split("|")
     seen = {"first": first, "second": second, "kind": kind, "line": line, "sentence": sentence}
@@ -122,13 +137,19 @@ def compare(what: str, said: str, cases: list[dict[str, Any]]) -> None:
     same(f"{what}: how many cases", len(lines), len(cases))
     differ = [(line, case["said"]) for line, case in zip(lines, cases) if not is_told(line, case["said"])]
     same(f"{what}: cases that differ", differ[:3], [])
-    same(f"{what}: codes", {"1", "2"} <= {line.split()[0] for line in lines}, True)
+    same(f"{what}: codes", {"1", "2", "19"} <= {line.split()[0] for line in lines}, True)
 
 
 def rust(room: pathlib.Path, library: pathlib.Path, cases: list[dict[str, Any]]) -> None:
     if lacks(CARGO, "the crate for Rust"):
         return
-    env = {"CARGO_TARGET_DIR": str(room / "target"), "GOGBETIKU_LIB": str(library), "LD_LIBRARY_PATH": str(library), "CARGO_NET_OFFLINE": "true", "RUSTC": RUSTC}
+    env = {
+        "CARGO_TARGET_DIR": str(room / "target"),
+        "GOGBETIKU_LIB": str(library),
+        "LD_LIBRARY_PATH": str(library),
+        "CARGO_NET_OFFLINE": "true",
+        "RUSTC": RUSTC,
+    }
     if CARGO == "/usr/bin/cargo":
         env["RUSTDOC"] = "/usr/bin/rustdoc"
     crate = room / "rust"
@@ -136,16 +157,33 @@ def rust(room: pathlib.Path, library: pathlib.Path, cases: list[dict[str, Any]])
     shown = f"fn main() -> Result<(), Box<dyn std::error::Error>> {{\n{shown_in('rust')}Ok(())\n}}\n"
     (crate / "examples/shown.rs").write_text(shown)
     tests = run("the crate's tests", CARGO, "test", "--offline", "--release", folder=crate, **env)
-    # the tests of the documentation, and those of tests/
+    # the tests in the documentation and in tests/
     same("the crate's tests", [count != "0" for count in re.findall(r"ok\. (\d+) passed", tests)][-2:], [True, True])
     run("the crate's example", CARGO, "build", "--offline", "--release", "--example", "cases", folder=crate, **env)
     compare("rust", run("rust", room / "target/release/examples/cases", room / "cases.txt", folder=room, **env), cases)
-    said = run("what LIBRARY shows in Rust", CARGO, "run", "-q", "--offline", "--release", "--example", "shown", "--manifest-path", crate / "Cargo.toml", folder=room, **env)
+    said = run(
+        "what LIBRARY shows in Rust",
+        CARGO,
+        "run",
+        "-q",
+        "--offline",
+        "--release",
+        "--example",
+        "shown",
+        "--manifest-path",
+        crate / "Cargo.toml",
+        folder=room,
+        **env,
+    )
     same("what LIBRARY shows in Rust", said, SHOWN_BY_RUST)
     static = {**env, "GOGBETIKU_STATIC": "1"}
     run("the crate, static", CARGO, "build", "--offline", "--release", "--example", "cases", folder=crate, **static)
     del static["LD_LIBRARY_PATH"]
-    compare("rust, static", run("rust, static", room / "target/release/examples/cases", room / "cases.txt", folder=room, **static), cases)
+    compare(
+        "rust, static",
+        run("rust, static", room / "target/release/examples/cases", room / "cases.txt", folder=room, **static),
+        cases,
+    )
 
 
 def go(room: pathlib.Path, library: pathlib.Path, cases: list[dict[str, Any]]) -> None:
@@ -161,18 +199,36 @@ def go(room: pathlib.Path, library: pathlib.Path, cases: list[dict[str, Any]]) -
     run("the package's program", "go", "build", "-o", room / "by_go", "./cases", folder=package, **env)
     (package / "shown").mkdir()
     (package / "shown/main.go").write_text(AROUND_GO % shown_in("go"))
-    same("what LIBRARY shows in Go", run("what LIBRARY shows in Go", "go", "run", "./shown", room / "owner.key", room / "m1.reply", folder=package, **env), SHOWN_BY_GO)
+    same(
+        "what LIBRARY shows in Go",
+        run(
+            "what LIBRARY shows in Go",
+            "go",
+            "run",
+            "./shown",
+            room / "owner.key",
+            room / "m1.reply",
+            folder=package,
+            **env,
+        ),
+        SHOWN_BY_GO,
+    )
     compare("go", run("go", room / "by_go", room / "cases.txt", folder=room, **env), cases)
 
 
 def go_env(room: pathlib.Path, library: pathlib.Path) -> dict[str, str]:
-    # what is compiled of Go's own library is kept where Go keeps it
-    flags = {"CGO_ENABLED": "1", "CGO_CFLAGS": f"-O2 -I{HERE}", "CGO_LDFLAGS": f"-L{library}", "LD_LIBRARY_PATH": str(library)}
+    # Go's own compiled library stays in Go's cache
+    flags = {
+        "CGO_ENABLED": "1",
+        "CGO_CFLAGS": f"-O2 -I{HERE}",
+        "CGO_LDFLAGS": f"-L{library}",
+        "LD_LIBRARY_PATH": str(library),
+    }
     return {**flags, "GOPROXY": "off", "GOFLAGS": "-mod=mod -buildvcs=false", "GO111MODULE": "on"}
 
 
 def board(room: pathlib.Path, cases: list[dict[str, Any]]) -> None:
-    """The same over the library for aarch64, linked into one file, under qemu."""
+    """Tests the same over the library for aarch64, linked statically, under qemu."""
     if not (TOP / "crates/route_check_c/out/aarch64/libroute_check_c.a").exists():
         print("skipped: Rust and Go for aarch64, since bindings/archive has not made its archive")
         return
@@ -185,21 +241,52 @@ def board(room: pathlib.Path, cases: list[dict[str, Any]]) -> None:
     some.write_text("".join(line + "\n" for line in (room / "cases.txt").read_text().splitlines()[::10]))
     if shutil.which("go"):
         env = {**go_env(room, library), "GOARCH": "arm64", "CC": "aarch64-linux-gnu-gcc"}
-        run("go, aarch64", "go", "build", "-ldflags", "-linkmode external -extldflags -static", "-o", room / "by_go_64", "./cases", folder=room / "go", **env)
+        run(
+            "go, aarch64",
+            "go",
+            "build",
+            "-ldflags",
+            "-linkmode external -extldflags -static",
+            "-o",
+            room / "by_go_64",
+            "./cases",
+            folder=room / "go",
+            **env,
+        )
         compare("go, aarch64", run("go, aarch64", "qemu-aarch64", room / "by_go_64", some, folder=room), cases[::10])
     if not is_rust_of(BOARD):
         print(f"skipped: Rust for aarch64, since this machine's rustc has no {BOARD}")
         return
-    env = {"CARGO_TARGET_DIR": str(room / "target"), "GOGBETIKU_LIB": str(library), "GOGBETIKU_STATIC": "1", "CARGO_NET_OFFLINE": "true",
-           "RUSTC": RUSTC, "CARGO_TARGET_AARCH64_UNKNOWN_LINUX_GNU_LINKER": "aarch64-linux-gnu-gcc"}
+    env = {
+        "CARGO_TARGET_DIR": str(room / "target"),
+        "GOGBETIKU_LIB": str(library),
+        "GOGBETIKU_STATIC": "1",
+        "CARGO_NET_OFFLINE": "true",
+        "RUSTC": RUSTC,
+        "CARGO_TARGET_AARCH64_UNKNOWN_LINUX_GNU_LINKER": "aarch64-linux-gnu-gcc",
+    }
     env["CARGO_TARGET_AARCH64_UNKNOWN_LINUX_GNU_RUSTFLAGS"] = "-C target-feature=+crt-static"
-    run("rust, aarch64", CARGO, "build", "--offline", "--release", "--target", BOARD, "--example", "cases", folder=room / "rust", **env)
+    run(
+        "rust, aarch64",
+        CARGO,
+        "build",
+        "--offline",
+        "--release",
+        "--target",
+        BOARD,
+        "--example",
+        "cases",
+        folder=room / "rust",
+        **env,
+    )
     by_rust = room / "target" / BOARD / "release/examples/cases"
     compare("rust, aarch64", run("rust, aarch64", "qemu-aarch64", by_rust, some, folder=room), cases[::10])
 
 
 def is_rust_of(target: str) -> bool:
-    done = subprocess.run([RUSTC, "--print", "target-libdir", "--target", target], capture_output=True, text=True, check=False)
+    done = subprocess.run(
+        [RUSTC, "--print", "target-libdir", "--target", target], capture_output=True, text=True, check=False
+    )
     return done.returncode == 0 and any(pathlib.Path(done.stdout.strip()).glob("libstd-*"))
 
 
@@ -208,26 +295,41 @@ def codes_of(text: str, pattern: str) -> dict[str, int]:
 
 
 def named() -> None:
-    """The crate and the package have the codes of the header by their names, and no more lines than they may."""
-    header = (HERE / "gogbetiku.h").read_text()
-    listed = {name.title().replace("_", ""): number for name, number in codes_of(header, r"GOG_([A-Z_]+) = (\d+),? ").items() if number > 2}
-    listed |= {"NoMemory": 16, "TooLong": 17, "MalformedChain": 18}
-    same("the header's codes", sorted(listed.values())[-16:], list(range(3, 19)))
-    listed = {name: number for name, number in listed.items() if not name.startswith("Cover") and name not in ("NoMatch",)}
+    """Tests that the crate and the package have the header's codes and names, and do not exceed their limits of
+    lines."""
+    header = (HERE / "gogbetiku.h").read_text().partition("enum gog_code {")[2].partition("};")[0]
+    listed = {
+        name.title().replace("_", ""): number
+        for name, number in codes_of(header, r"GOG_([A-Z_]+) = (\d+)").items()
+        if number > 2
+    }
+    same("the header's codes", sorted(listed.values()), [*range(3, 20), 32, 33, 34])
+    del listed["NoneWithin"]
     crate, package = (HERE / "rust/src/lib.rs").read_text(), (HERE / "go/gogbetiku.go").read_text()
     same("the crate's kinds", codes_of(crate, r"^    (\w+) = (\d+),$"), listed)
-    same("the package's kinds", {name: number for name, number in codes_of(package, r"^\t(\w+) +Kind = (\d+)").items() if number}, listed)
+    same(
+        "the package's kinds",
+        {name: number for name, number in codes_of(package, r"^\t(\w+) +Kind = (\d+)").items() if number},
+        listed,
+    )
     same("missing docs are errors", "#![deny(missing_docs)]" in crate, True)
     for language, ending in (("rust", "rs"), ("go", "go")):
-        lines = list(code_of(HERE / language, ending))
-        same(f"{language}: {len(lines)} lines without comments and tests", len(lines) <= MOST_LINES, True)
+        for ages, most in ((False, MOST_LINES), (True, MOST_OF_AGES)):
+            lines = list(code_of(HERE / language, ending, ages))
+            same(
+                f"{language}: {len(lines)} lines{' on ages' * ages} without comments and tests",
+                len(lines) <= most,
+                True,
+            )
 
 
-def code_of(folder: pathlib.Path, ending: str) -> Iterator[str]:
-    """The lines of code: no comments, none of tests and of examples."""
+def code_of(folder: pathlib.Path, ending: str, ages: bool) -> Iterator[str]:
+    """The number of lines of code for the age of maps, or of all other lines, without comments, tests and examples."""
     for path in [*folder.glob(f"*.{ending}"), *folder.glob(f"src/*.{ending}")]:
-        if not path.name.endswith("_test.go"):
-            yield from (line for line in path.read_text().splitlines() if line.strip() and not line.strip().startswith("//"))
+        if not path.name.endswith("_test.go") and (path.stem == "age") == ages:
+            yield from (
+                line for line in path.read_text().splitlines() if line.strip() and not line.strip().startswith("//")
+            )
 
 
 def main(program: str) -> int:
@@ -243,7 +345,7 @@ def main(program: str) -> int:
         board(room, cases)
     for fault in faults:
         print(fault)
-    print(f"rust and go: {len(faults)} differ" if faults else "rust and go: they say what the library says")
+    print(f"rust and go: {len(faults)} differ" if faults else "rust and go: they agree with the library")
     return 1 if faults else 0
 
 

@@ -1,5 +1,5 @@
-/* Strains the library by hand: each request for memory of a check refused in turn, and then so many checks
- * from eight threads, each with rooms of its own. Usage: strain KEY REPLY FROM TO CHECKS.
+/* A manual stress test of the library: refuses each allocation of a check in turn, and then runs that many checks
+ * from eight threads, each with its own buffers. Usage: strain KEY REPLY FROM TO CHECKS.
  * cc -O2 -pthread -Wl,--wrap=malloc,--wrap=realloc strain.c FOLDER/libgogbetiku.a -o strain */
 #include "gogbetiku.h"
 
@@ -51,10 +51,14 @@ int main(int count, char **words) {
         memset(nodes, 7, sizeof nodes);
         uint32_t code = check(nodes, &verdict);
         if (calls < refused_call) break;
-        if (code == GOG_ACCEPTED && nodes[0].id == from) went_on++;
-        else if (code != GOG_NO_MEMORY || nodes[0].id != 0x07070707) return printf("request %ld: code %u\n", refused_call, code), 1;
+        if (code == GOG_ACCEPTED && nodes[0].id == from)
+            went_on++;
+        else if (code != GOG_NO_MEMORY || nodes[0].id != 0x07070707)
+            return printf("request %ld: code %u\n", refused_call, code), 1;
     }
-    printf("%ld requests for memory, each refused in turn: the check went on without %ld of them, and said no memory else\n",
+    printf("%ld requests for memory, each refused in turn: the check continued without %ld of them, and reported no "
+           "memory "
+           "else\n",
            calls, went_on);
     refused_call = 0;
 

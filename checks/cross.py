@@ -1,14 +1,16 @@
 #!/usr/bin/env python3
-"""The program beside the reference, over made maps: checks/cross.py PROGRAM [--seed N] [--seconds S] [--steps N] [--library]
+"""Compares the program with the reference over random maps: checks/cross.py PROGRAM [--seed N] [--seconds S] [--steps
+N] [--library] [--processes N]
 
-A step is one command of both. Maps, settings, queries and disks are drawn; so are road files, graphs, publications, replies,
-chains, disks and frames that are broken, cut, longer, spliced or lied about, with covers that fit the lie; and words that fit
-no command. Both must end with the same status and output, and leave the same `owner.desk`. Where routes are equally short a
-program may take any: what it writes is then looked at by the reference as an honest reply or a shortest route. What a client
-accepts is also compared with distances over the map that was signed. Ends after STEPS steps or SECONDS seconds (20), with
-status 1 at the first difference, whose files then stand in the folder that it names, and says how long the slowest run of the
-program took. With --library PROGRAM is libgogbetiku.so.0, and lies alone are drawn, in this process (checks/lies.py).
-Nothing here is proved, and no client trusts it.
+A step runs one command in both. Maps, settings, queries and disks are random. So are road files, graphs, publications,
+replies, chains, disks and frames that are broken, truncated, longer, spliced or false, with covers that fit the lie;
+and arguments that fit no command. Both must end with the same status and output, and leave the same `owner.desk`. If
+several routes are equally short, a program may take any of them; the reference then checks that the output is an honest
+reply or a shortest route. An answer that a client accepts is also compared with distances over the signed map. It ends
+after STEPS steps or SECONDS seconds (20), or with status 1 at the first difference, and then names the folder with its
+files. It prints the time of the slowest run of the program. With --library, PROGRAM is libgogbetiku.so.0, and only lies
+are drawn, in this process (checks/lies.py). With --processes, several processes share the steps, with the seeds SEED,
+SEED + 1 and so on. Nothing here is proved, and no client trusts it.
 """
 import argparse
 import pathlib
@@ -26,7 +28,7 @@ from dataclasses import replace
 TOP = pathlib.Path(__file__).resolve().parent.parent
 sys.path[:0] = [str(TOP / "reference"), str(TOP / "checks"), str(TOP / "bindings/python")]
 
-from gogbetiku_reference import commands, desks, servers  # noqa: E402
+from gogbetiku_reference import commands, desks, layout, servers  # noqa: E402
 from gogbetiku_reference.books import book_of  # noqa: E402
 from gogbetiku_reference.chains import Link, link_text, write_chain  # noqa: E402
 from gogbetiku_reference.commands import FORMS, Ended, World  # noqa: E402
@@ -46,13 +48,14 @@ from lies import Asked, Liar  # noqa: E402
 
 GREATEST = 2**64 - 1
 WORLDS_STEPS = 400
-# where it stands, the program's syncs of its disk take no time
+# in this folder, the program's syncs of its disk take no time
 IN_MEMORY = "/dev/shm" if pathlib.Path("/dev/shm").is_dir() else None
 Step = tuple[list[str], dict[str, bytes], bytes, bytes]
 
 
 def broken(rng: random.Random, text: bytes, others: list[bytes]) -> bytes:
-    """Octets with bits turned, cut, longer, with a piece swapped or a number changed, or spliced with others."""
+    """Octets that were changed: bits flipped, truncated, extended, a piece swapped, a number changed, or spliced with
+    others."""
     if not text:
         return rng.randbytes(rng.randrange(3))
     kind, at = rng.randrange(6), rng.randrange(len(text))
@@ -77,7 +80,7 @@ def broken(rng: random.Random, text: bytes, others: list[bytes]) -> bytes:
 
 
 def made_map(rng: random.Random) -> Parts:
-    """A map of one to thirty nodes, often of several components, with parallel roads and roads of length 0."""
+    """A random map of one to thirty nodes, often with several components, with parallel roads and roads of length 0."""
     count = rng.choice((1, 2, 5, 9, 16, 30))
     ids = rng.sample(range(1, 4 * count), count)
     frame = rng.choice((1, 9, 99, 2**31 - 1))
@@ -105,7 +108,7 @@ def drawn_settings(rng: random.Random, nodes: int, version: int) -> Settings:
 
 
 class Scene:
-    """A map with publications over it and over another one, keys, a disk, and a chain."""
+    """A map with publications over it and over another map, keys, a disk, and a chain."""
 
     def __init__(self, rng: random.Random, secrets: list[bytes]):
         self.rng, self.secrets = rng, secrets
@@ -130,7 +133,7 @@ class Scene:
                 continue
 
     def publish(self, version: int) -> None:
-        """One publication more, over the map or over one whose roads are half as long."""
+        """Makes one more publication, over the map or over a map with half the lengths."""
         parts = (
             self.parts
             if self.rng.random() < 0.8
@@ -152,7 +155,7 @@ class Scene:
 
 
 def lied(rng: random.Random, held: Held, octets: bytes, others: list[bytes]) -> bytes:
-    """A reply with fields changed, and covers that fit the items again."""
+    """A reply with changed fields, and with covers that fit the items."""
     try:
         reply = read_reply(Reader(octets)) if octets[:1] != b"R" else read_near_reply(Reader(octets))
     except Malformed:
@@ -182,7 +185,7 @@ def other_route(rng: random.Random, held: Held, reply: Answer) -> Answer:
 
 
 def other_items(rng: random.Random, held: Held, reply: Answer | NearReply) -> Answer | NearReply:
-    """Items left out or added, with their covers."""
+    """A reply with items left out or added, with the right covers."""
     nodes = {item.leaf.id for item in reply.nodes} & set(held.book.ids)
     nodes = {node for node in nodes if rng.random() < rng.choice((0.7, 0.9, 1))} | set(
         rng.sample(held.book.ids, min(len(held.book.ids), rng.choice((0, 0, 1, 3))))
@@ -200,7 +203,7 @@ def other_items(rng: random.Random, held: Held, reply: Answer | NearReply) -> An
 
 
 def other_leaf(rng: random.Random, reply: Answer | NearReply) -> Answer | NearReply:
-    """An octet of a leaf, or the place of an item."""
+    """A reply with a changed octet of a leaf, or a changed place of an item."""
     if not reply.nodes:
         return reply
     at = rng.randrange(len(reply.nodes))
@@ -264,7 +267,7 @@ class Steps:
         return self.maybe(text.upper() if self.rng.random() < 0.1 else text, [b"0" * 112], 0.02)
 
     def chain_words(self) -> tuple[list[str], dict[str, bytes]]:
-        """Sometimes a chain: the desk's own, a broken one, or one past the desk."""
+        """Sometimes a chain: the desk's own, a broken one, or one longer than the desk's."""
         if self.rng.random() < 0.5:
             return [], {}
         links = self.scene.chain
@@ -305,10 +308,18 @@ class Steps:
         return self.step(["check", "key", "reply", *query, least, *words], {**files, **chain})
 
     def lie(self) -> Step:
-        """A reply whose covers mostly fit, and that says what the signed map does not."""
+        """A reply whose covers mostly fit, but whose answer is not true of the signed map."""
         asked = self.liar.draw()
         files = {"key": self.scene.public.hex().encode(), "reply": asked.octets, "chain": write_chain(asked.chain)}
-        words = ["check-reach" if asked.is_near else "check", "key", "reply", asked.start, asked.end, asked.least, "chain"]
+        words = [
+            "check-reach" if asked.is_near else "check",
+            "key",
+            "reply",
+            asked.start,
+            asked.end,
+            asked.least,
+            "chain",
+        ]
         return self.step(words, files)
 
     def check_reach(self) -> Step:
@@ -410,7 +421,7 @@ class Steps:
         )
 
     def other_disk(self) -> bytes:
-        """A disk with an octet changed at a place that is read, a cut or longer one, a younger or an empty one."""
+        """A changed disk: an octet changed at a place that is read, truncated, extended, a later or an empty disk."""
         disk, kind = self.scene.disk, self.rng.randrange(6)
         if kind == 0:
             return rng_bytes(self.rng)
@@ -494,7 +505,7 @@ class Steps:
         return self.step(["serve", "pub"], {"pub": self.publications[0]}, source)
 
     def words(self) -> Step:
-        """Words that fit no command, or just one."""
+        """Arguments that fit no command, or only just fit one."""
         name = self.rng.choice([*FORMS, "", "help me", "Route"])
         given = [
             self.rng.choice(
@@ -534,7 +545,7 @@ def rng_bytes(rng: random.Random) -> bytes:
 
 
 def is_free(words: list[str], files: dict[str, bytes], source: bytes, seen: Ended, wanted: Ended) -> bool:
-    """Whether an output that is another than the reference's is as good, since routes are equally short."""
+    """Whether an output that differs from the reference's is as good, because routes are equally short."""
     if (seen.status, seen.disk) != (wanted.status, wanted.disk):
         return False
     if words[0] == "prove":
@@ -559,7 +570,7 @@ def is_shortest_line(chart: Map, start: int, end: int, line: bytes) -> bool:
 
 
 def serves(service: Service, bodies: list[bytes], written: bytes) -> bool:
-    """Whether framed replies are those of the service, but for the choice among shortest routes."""
+    """Whether framed replies are those of the service, except for the choice among shortest routes."""
     at = 0
     for body in bodies:
         size = int.from_bytes(written[at : at + 4], "big")
@@ -577,29 +588,28 @@ def serves(service: Service, bodies: list[bytes], written: bytes) -> bool:
 
 
 def is_true(scene: Scene, words: list[str], files: dict[str, bytes], line: str) -> bool:
-    """Whether what a client accepts holds of the signed map, by its distances."""
-    front = 1 if words[0] == "check" else 4
-    held = next(held for held in scene.held if held.book.header.octets() == files["reply"][front : front + 104])
+    """Whether an accepted answer is true of the signed map, by its distances."""
+    front = layout.IN_ANSWER if words[0] == "check" else layout.IN_RANGE_REPLY
+    held = next(
+        held for held in scene.held if held.book.header.octets() == files["reply"][front : front + layout.HEADER]
+    )
     chart, start, end = held.book.chart, int(words[3]), int(words[4])
     if line == "accepted none\n":
         return start in chart.places and end in chart.places and end not in chart.distances(start)
-    number, ids = re.fullmatch(r"\w+ (\d+):((?: \d+)*)\n", line).groups()
-    nodes = tuple(map(int, ids.split()))
+    found = re.fullmatch(r"\w+ (\d+):((?: \d+)*)\n", line)
+    if not found:
+        return False
+    number, nodes = int(found[1]), tuple(map(int, found[2].split()))
     if words[0] == "check-reach":
         return nodes == tuple(sorted(node for node, length in chart.distances(start).items() if length <= end))
-    return (nodes[0], nodes[-1], chart.length_of(nodes), chart.distances(start)[end]) == (
-        start,
-        end,
-        int(number),
-        int(number),
-    )
+    return (nodes[0], nodes[-1], chart.length_of(nodes), chart.distances(start)[end]) == (start, end, number, number)
 
 
 class Both:
-    """Runs each step by the program and by the reference."""
+    """Runs each step in the program and in the reference."""
 
     def __init__(self, program: str, folder: pathlib.Path):
-        self.program, self.folder, self.counts = str(pathlib.Path(program).resolve()), folder, Counter()
+        self.program, self.folder, self.counts = str(pathlib.Path(program).resolve()), folder, Counter[str]()
         self.slowest, self.is_guarded, self.is_spent_first = 0.0, False, False
 
     def by_program(self, words: list[str], files: dict[str, bytes], source: bytes, disk: bytes) -> Ended:
@@ -624,7 +634,7 @@ class Both:
         return commands.run(words, World(file, disk, source))
 
     def take(self, scene: Scene, step: Step) -> str | None:
-        """What differs."""
+        """Runs a step. Returns the difference, if there is one."""
         words, files, source, disk = step
         for path in self.folder.iterdir():
             path.unlink()
@@ -643,7 +653,7 @@ class Both:
                 return (
                     None
                     if is_true(scene, words, files, seen.output.decode())
-                    else f"{words}: {seen.output!r} is accepted, and not true"
+                    else f"{words}: {seen.output!r} is accepted but not true"
                 )
             return None
         if wanted.status in (0, 3, 13) and is_free(words, files, source, seen, wanted):
@@ -658,17 +668,21 @@ class Both:
 
 
 def fields_of(scene: Scene, asked: Asked) -> dict[str, object]:
-    """A lie as the vectors give it."""
-    given = {"public": scene.public.hex(), "chain": write_chain(asked.chain).hex(), "reply": asked.octets.hex()}
-    ends = {"radius": str(asked.end)} if asked.is_near else {"to": asked.end}
-    return {**given, "from": asked.start, **ends, "least": str(asked.least)}
+    """A lie in the form of the vectors."""
+    given: dict[str, object] = {
+        "public": scene.public.hex(),
+        "chain": write_chain(asked.chain).hex(),
+        "reply": asked.octets.hex(),
+    }
+    end: dict[str, object] = {"radius": str(asked.end)} if asked.is_near else {"to": asked.end}
+    return {**given, "from": asked.start, **end, "least": str(asked.least)}
 
 
 def by_library(library: str, seed: int, cases: int, seconds: float) -> int:
-    """Lies alone, in this process, by the library and by the reference."""
+    """Compares the library with the reference over lies only, in this process."""
     from vectors import by_library as runner
 
-    rng, begun, counts = random.Random(seed), time.monotonic(), Counter()
+    rng, begun, counts = random.Random(seed), time.monotonic(), Counter[str]()
     secrets, run = [rng.randbytes(48) for _ in range(3)], runner(library)
     while counts["cases"] < cases and time.monotonic() - begun < seconds:
         if counts["cases"] % WORLDS_STEPS == 0:
@@ -680,12 +694,29 @@ def by_library(library: str, seed: int, cases: int, seconds: float) -> int:
         counts["cases"] += 1
         counts[wanted["line"].split()[min(1, wanted["code"] - 1 if wanted["code"] > 2 else 0)]] += 1
         words = ["check-reach" if asked.is_near else "check", "key", "reply", str(asked.start), str(asked.end)]
-        if seen != wanted or wanted["code"] in (1, 2) and not is_true(scene, words, {"reply": asked.octets}, seen["line"]):
-            print(f"cross, lies, seed {seed}, case {counts['cases']}: the library {seen}, the reference {wanted}, given {given}")
+        if (
+            seen != wanted
+            or wanted["code"] in (1, 2)
+            and not is_true(scene, words, {"reply": asked.octets}, seen["line"])
+        ):
+            print(
+                f"cross, lies, seed {seed}, case {counts['cases']}: the library {seen}, the reference {wanted}, given {given}"
+            )
             return 1
     count = counts.pop("cases")
-    print(f"cross, lies, seed {seed}: {count} by the library without a difference ({', '.join(f'{name} {number}' for name, number in sorted(counts.items()))})")
+    print(
+        f"cross, lies, seed {seed}: {count} by the library without a difference ({', '.join(f'{name} {number}' for name, number in sorted(counts.items()))})"
+    )
     return 0
+
+
+def in_processes(asked: argparse.Namespace) -> int:
+    """Gives each process its part of the steps, and prints how each ended."""
+    words = [sys.executable, __file__, asked.program, *(["--library"] if asked.library else [])]
+    words += [f"--seconds={asked.seconds}"] if asked.seconds else []
+    words += [f"--steps={-(-asked.steps // asked.processes)}"] if asked.steps else []
+    running = [subprocess.Popen([*words, f"--seed={asked.seed + part}"]) for part in range(asked.processes)]
+    return max(process.wait() for process in running)
 
 
 def main() -> int:
@@ -694,17 +725,20 @@ def main() -> int:
     parser.add_argument("--seed", type=int, default=1)
     parser.add_argument("--seconds", type=float, default=None)
     parser.add_argument("--steps", type=int, default=None)
-    parser.add_argument("--library", action="store_true", help="PROGRAM is libgogbetiku.so.0, which is given lies alone")
+    parser.add_argument("--library", action="store_true", help="PROGRAM is libgogbetiku.so.0, which gets only lies")
+    parser.add_argument("--processes", type=int, default=1)
     asked = parser.parse_args()
+    if asked.processes > 1:
+        return in_processes(asked)
     seconds = asked.seconds or (20 if asked.steps is None else 10**9)
     if asked.library:
         return by_library(asked.program, asked.seed, asked.steps or 10**9, seconds)
     rng, begun = random.Random(asked.seed), time.monotonic()
     secrets = [rng.randbytes(48) for _ in range(3)]
     folder = pathlib.Path(tempfile.mkdtemp(prefix="cross-", dir=IN_MEMORY))
-    both, steps = Both(asked.program, folder), None
+    both, steps = Both(asked.program, folder), Steps(Scene(rng, secrets))
     while both.counts["steps"] < (asked.steps or 10**9) and time.monotonic() - begun < seconds:
-        if both.counts["steps"] % WORLDS_STEPS == 0:
+        if both.counts["steps"] % WORLDS_STEPS == 0 and both.counts["steps"]:
             steps = Steps(Scene(rng, secrets))
         differs = both.take(steps.scene, steps.draw())
         if differs:

@@ -11,6 +11,7 @@ import glob
 import os
 import re
 import sys
+from collections.abc import Iterator
 
 TOP = os.path.join(os.path.dirname(os.path.abspath(__file__)), "..")
 LISTS = r"List \S+|List \(List \S+\)|Option \(List \S+\)"
@@ -22,7 +23,11 @@ EXISTS = re.compile(r"\(([a-z_]+(?: [a-z_]+)*) : (?:" + LISTS + r")\) ×")
 DEFINED = re.compile(r"\s*(?:abbrev |unfoldable )*pub (\S+) :|\s*([A-Z]\w*) .*=")
 
 
-def paragraph(lines, at):
+# a field of a record: its line, its names and its type
+Field = tuple[int, list[str], str]
+
+
+def paragraph(lines: list[str], at: int) -> Iterator[tuple[int, str]]:
     """The lines from a place up to the next empty one, without comments."""
     for number in range(at, len(lines)):
         if not lines[number].strip():
@@ -31,25 +36,26 @@ def paragraph(lines, at):
             yield number, lines[number]
 
 
-def fields_of(lines, at):
+def fields_of(lines: list[str], at: int) -> list[Field]:
     """The fields of the record whose head ends before a line: each its line, its names and its type."""
-    fields = []
+    fields: list[Field] = []
     for number, line in paragraph(lines, at):
         field = FIELD.match(line)
         if field:
-            fields.append([number, field[1].split(), field[2]])
+            fields.append((number, field[1].split(), field[2]))
         elif fields:
-            fields[-1][2] += " " + line.strip()
+            begun, names, kind = fields[-1]
+            fields[-1] = begun, names, kind + " " + line.strip()
     return fields
 
 
-def ties_of(name, fields):
+def ties_of(name: str, fields: list[Field]) -> list[str]:
     """What the fields of a record say of one of them."""
     word = re.compile(r"\b" + name + r"\b")
     return [f"{' '.join(names)} : {kind}" for _, names, kind in fields if word.search(kind)]
 
 
-def lists_of_record(lines, at):
+def lists_of_record(lines: list[str], at: int) -> Iterator[tuple[int, str, list[str]]]:
     """The lists of the record whose head begins at a line, where a field of it is a statement."""
     head = at
     while not lines[head].rstrip().endswith("where") and head + 1 < len(lines):
@@ -63,7 +69,7 @@ def lists_of_record(lines, at):
                 yield number + 1, name, ties_of(name, fields)
 
 
-def equation(lines, at, where):
+def equation(lines: list[str], at: int, where: str) -> Iterator[str]:
     """The rest of the equation of a definition that a line belongs to."""
     for number, line in paragraph(lines, at):
         if number > at and line.strip().startswith(where + " "):
@@ -71,16 +77,16 @@ def equation(lines, at, where):
         yield line.strip()
 
 
-def lists_of_line(lines, at, where):
+def lists_of_line(lines: list[str], at: int, where: str) -> Iterator[tuple[int, str, list[str]]]:
     """The lists that a line of a definition says exist."""
     for found in EXISTS.finditer(lines[at]):
         rest = " ".join(equation(lines, at, where))
-        rest = rest[rest.index(found[0]) + len(found[0]):].strip()
+        rest = rest[rest.index(found[0]) + len(found[0]) :].strip()
         for name in found[1].split():
             yield at + 1, name, [rest] if re.search(r"\b" + name + r"\b", rest) else []
 
 
-def lists_in(path):
+def lists_in(path: str) -> Iterator[tuple[int, str, str, list[str]]]:
     """The lists that exist by a file's statements: each its line, where it stands, its name and its ties."""
     with open(path, encoding="utf-8") as file:
         lines = file.read().splitlines()
@@ -98,7 +104,7 @@ def lists_in(path):
             yield number, where, name, ties
 
 
-def main():
+def main() -> int:
     names = [name for name in sys.argv[1:] if name != "--check"]
     with open(os.path.join(TOP, "crates.txt"), encoding="utf-8") as file:
         crates = [line.split(":")[0].split()[0] for line in file if ":" in line and not line.startswith("#")]

@@ -4,7 +4,7 @@
 vectors/lms_verify.json is played by the reference, and by Bouncy Castle where javac and Debian's libbcprov-java are there.
 Bouncy Castle reads no further than a signature's or a key's end, so a test whose octets go on is left out of what it is
 asked; and it takes a signature of another type than the key's, which two tests show. Of vectors/client_verify.json the results are those of vectors/client.json and client_radius.json. Each test has a
-number of its own, each flag a note. Nothing here is proved, and no client trusts it. Ends with status 1 where anything
+number of its own, each flag a note. Nothing here is proved, and no client trusts it. Ends with status 1 if anything
 differs.
 """
 import json
@@ -41,14 +41,19 @@ def tests_of(name: str) -> list[tuple[Fields, Fields]]:
 
 def by_reference(tests: list[tuple[Fields, Fields]]) -> Iterator[str]:
     for group, test in tests:
-        seen = why_not(bytes.fromhex(group["publicKey"]), bytes.fromhex(test["msg"]), bytes.fromhex(test["sig"])) or "valid"
+        seen = (
+            why_not(bytes.fromhex(group["publicKey"]), bytes.fromhex(test["msg"]), bytes.fromhex(test["sig"]))
+            or "valid"
+        )
         if (seen, "valid" if seen == "valid" else "invalid") != (test["cause"], test["result"]):
             yield f"lms_verify, test {test['tcId']}: the reference says {seen}"
 
 
 def goes_on(group: Fields, test: Fields) -> bool:
     """Whether octets follow a key or a signature that can be read."""
-    return len(group["publicKey"]) > 2 * 56 or len(test["sig"]) > 2 * (1292 if group["publicKey"][:8] == "00000005" else 1452)
+    return len(group["publicKey"]) > 2 * 56 or len(test["sig"]) > 2 * (
+        1292 if group["publicKey"][:8] == "00000005" else 1452
+    )
 
 
 def by_bouncy_castle(tests: list[tuple[Fields, Fields]]) -> Iterator[str]:
@@ -56,7 +61,9 @@ def by_bouncy_castle(tests: list[tuple[Fields, Fields]]) -> Iterator[str]:
     lines = "".join(f"{group['publicKey']} {test['msg']} {test['sig']}\n" for group, test in asked)
     with tempfile.TemporaryDirectory() as folder:
         subprocess.run(["javac", "-cp", JAR, "-d", folder, TOP / "checks/lms/Verify.java"], check=True)
-        done = subprocess.run(["java", "-cp", f"{JAR}:{folder}", "Verify"], input=lines, capture_output=True, check=True, text=True)
+        done = subprocess.run(
+            ["java", "-cp", f"{JAR}:{folder}", "Verify"], input=lines, capture_output=True, check=True, text=True
+        )
     said = done.stdout.split()
     if len(said) != len(asked):
         yield f"Bouncy Castle says {len(said)} words of {len(asked)} tests"
@@ -68,8 +75,13 @@ def by_bouncy_castle(tests: list[tuple[Fields, Fields]]) -> Iterator[str]:
 def of_the_client(tests: list[tuple[Fields, Fields]]) -> Iterator[str]:
     """Each case of a client stands in the file, with its line."""
     cases = [case for family in (CLIENT, CLIENT_RADIUS) for case in read_family(VECTORS, family)]
-    wanted = sorted((case["given"]["reply"], case["given"]["public"], case["given"]["chain"], case["why"], case["result"]["line"]) for case in cases)
-    seen = sorted((test["reply"], group["publicKey"], group["chain"], test["comment"], test["line"]) for group, test in tests)
+    wanted = sorted(
+        (case["given"]["reply"], case["given"]["public"], case["given"]["chain"], case["why"], case["result"]["line"])
+        for case in cases
+    )
+    seen = sorted(
+        (test["reply"], group["publicKey"], group["chain"], test["comment"], test["line"]) for group, test in tests
+    )
     if seen != wanted:
         yield "client_verify has other cases than client and client_radius"
     for _, test in tests:

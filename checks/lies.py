@@ -7,6 +7,7 @@ here is proved, and no client trusts it.
 import random
 from collections.abc import Callable, Sequence
 from dataclasses import dataclass, replace
+from operator import attrgetter
 
 from gogbetiku_reference import servers
 from gogbetiku_reference.chains import Link
@@ -48,9 +49,17 @@ class Liar:
     def __init__(self, rng: random.Random, held: Sequence[Held], chain: tuple[Link, ...]):
         self.rng, self.held, self.chain = rng, list(held), chain
         self.lies: list[Callable[[Held, Reply], Reply]] = [
-            self.without_items, self.with_spare_items, self.with_an_item_twice, self.of_another_map, self.with_another_leaf,
-            self.with_another_cover, self.under_another_header, self.of_the_other_kind, self.with_another_route,
-            self.with_other_pairs, self.with_another_pair,
+            self.without_items,
+            self.with_spare_items,
+            self.with_an_item_twice,
+            self.of_another_map,
+            self.with_another_leaf,
+            self.with_another_cover,
+            self.under_another_header,
+            self.of_the_other_kind,
+            self.with_another_route,
+            self.with_other_pairs,
+            self.with_another_pair,
         ]
 
     def draw(self) -> Asked:
@@ -88,7 +97,9 @@ class Liar:
         if self.rng.random() > 0.04:
             return octets
         at = self.rng.randrange(len(octets))
-        return self.rng.choice((octets[:at] + u8(octets[at] ^ 1 << self.rng.randrange(8)) + octets[at + 1 :], octets[:at], octets + b"\0"))
+        return self.rng.choice(
+            (octets[:at] + u8(octets[at] ^ 1 << self.rng.randrange(8)) + octets[at + 1 :], octets[:at], octets + b"\0")
+        )
 
     def drawn_chain(self) -> tuple[Link, ...]:
         links, kind = list(self.chain), self.rng.randrange(12)
@@ -114,7 +125,9 @@ class Liar:
 
     def with_spare_items(self, held: Held, reply: Reply) -> Reply:
         places = {item.place for item in reply.nodes} | {self.rng.randrange(len(held.book.nodes)) for _ in range(3)}
-        return replace(reply, nodes=tuple(self.item(held, place) for place in sorted(places) if place < len(held.book.nodes)))
+        return replace(
+            reply, nodes=tuple(self.item(held, place) for place in sorted(places) if place < len(held.book.nodes))
+        )
 
     def item(self, held: Held, place: int) -> NodeItem:
         return NodeItem(place, held.book.nodes[place], held.book.node_texts[place])
@@ -125,13 +138,16 @@ class Liar:
             return reply
         item = self.rng.choice(reply.nodes)
         more = replace(item, place=self.rng.randrange(len(held.book.nodes) + 1))
-        return replace(reply, nodes=tuple(sorted((*reply.nodes, more), key=lambda one: one.place)))
+        return replace(reply, nodes=tuple(sorted((*reply.nodes, more), key=attrgetter("place"))))
 
     def of_another_map(self, held: Held, reply: Reply) -> Reply:
         """Some leaves, or all, are those of another publication at the same places."""
         other, share = self.other(held), self.rng.choice((0.2, 1))
         count = len(other.book.nodes)
-        changed = [self.item(other, item.place) if item.place < count and self.rng.random() < share else item for item in reply.nodes]
+        changed = [
+            self.item(other, item.place) if item.place < count and self.rng.random() < share else item
+            for item in reply.nodes
+        ]
         reply = replace(reply, nodes=tuple(changed))
         return covered(other, reply) if self.rng.random() < 0.5 else reply
 
@@ -140,7 +156,9 @@ class Liar:
             return reply
         at = self.rng.randrange(len(reply.nodes))
         leaf = self.changed(reply.nodes[at].leaf)
-        return replace(reply, nodes=(*reply.nodes[:at], NodeItem(reply.nodes[at].place, leaf, leaf.text()), *reply.nodes[at + 1 :]))
+        return replace(
+            reply, nodes=(*reply.nodes[:at], NodeItem(reply.nodes[at].place, leaf, leaf.text()), *reply.nodes[at + 1 :])
+        )
 
     def changed(self, leaf: NodeLeaf) -> NodeLeaf:
         kind = self.rng.randrange(5)
@@ -149,7 +167,9 @@ class Liar:
             return replace(leaf, arcs=leaf.arcs[:gone] + leaf.arcs[gone + 1 :])
         if kind == 1 and leaf.arcs:
             at = self.rng.randrange(len(leaf.arcs))
-            return replace(leaf, arcs=tuple((there, far ^ (index == at)) for index, (there, far) in enumerate(leaf.arcs)))
+            return replace(
+                leaf, arcs=tuple((there, far ^ (index == at)) for index, (there, far) in enumerate(leaf.arcs))
+            )
         if kind == 2:
             return replace(leaf, id=leaf.id + 1)
         match leaf.added:
@@ -184,7 +204,11 @@ class Liar:
         if isinstance(reply, NearReply):
             return reply
         if reply.kind == APART:
-            return replace(reply, kind=ROUTE, route=tuple(self.rng.choice(reply.nodes).leaf.id for _ in range(2)) if reply.nodes else (1,))
+            return replace(
+                reply,
+                kind=ROUTE,
+                route=tuple(self.rng.choice(reply.nodes).leaf.id for _ in range(2)) if reply.nodes else (1,),
+            )
         return replace(reply, kind=APART, route=())
 
     def with_another_route(self, held: Held, reply: Reply) -> Reply:
@@ -194,7 +218,9 @@ class Liar:
         route, end, arcs = [reply.route[0]], reply.route[-1], held.book.chart.arcs
         while len(route) < 12 and arcs.get(route[-1]) and (route[-1] != end or self.rng.random() < 0.3):
             route.append(self.rng.choice(arcs[route[-1]])[0])
-        route = self.rng.choice((route, route, list(reply.route[::-1]), list(reply.route[:-1]) or route, [reply.route[0], end]))
+        route = self.rng.choice(
+            (route, route, list(reply.route[::-1]), list(reply.route[:-1]) or route, [reply.route[0], end])
+        )
         return replace(reply, route=tuple(route))
 
     def with_other_pairs(self, held: Held, reply: Reply) -> Reply:
@@ -202,7 +228,11 @@ class Liar:
             return reply
         places = {item.place for item in reply.pairs if self.rng.random() < 0.7}
         places |= {self.rng.randrange(len(held.book.pairs)) for _ in range(self.rng.randrange(3))}
-        pairs = tuple(PairItem(at, held.book.pairs[at], held.book.pair_texts[at]) for at in sorted(places) if at < len(held.book.pairs))
+        pairs = tuple(
+            PairItem(at, held.book.pairs[at], held.book.pair_texts[at])
+            for at in sorted(places)
+            if at < len(held.book.pairs)
+        )
         return replace(reply, pairs=pairs)
 
     def with_another_pair(self, _held: Held, reply: Reply) -> Reply:
@@ -211,4 +241,6 @@ class Liar:
         at = self.rng.randrange(len(reply.pairs))
         old = reply.pairs[at].leaf
         leaf = PairLeaf(old.a, old.b, self.rng.choice((0, old.distance ^ 1, NO_WALK, 2**32 - 1, 2**63)))
-        return replace(reply, pairs=(*reply.pairs[:at], PairItem(reply.pairs[at].place, leaf, leaf.text()), *reply.pairs[at + 1 :]))
+        return replace(
+            reply, pairs=(*reply.pairs[:at], PairItem(reply.pairs[at].place, leaf, leaf.text()), *reply.pairs[at + 1 :])
+        )

@@ -4,7 +4,7 @@
 Distances, shortest routes and the nodes within radii over twenty made maps are those of networkx (Debian's
 python3-networkx, which /usr/bin/python3 alone sees). With --lms, public keys and whole signatures of both heights are those
 that Bouncy Castle makes from the same I and SEED, by checks/lms/run (Debian's default-jdk-headless and libbcprov-java); the
-greater height takes a minute. Nothing here is proved, and no client trusts it. Ends with status 1 where anything differs.
+greater height takes a minute. Nothing here is proved, and no client trusts it. Ends with status 1 if anything differs.
 """
 import hashlib
 import pathlib
@@ -66,9 +66,9 @@ def compare_signatures() -> int:
     said = subprocess.run([TOP / "checks/lms/run"], capture_output=True, check=True, text=True).stdout
     wrong = 0
     for part in re.split(r"^(?=H)", said, flags=re.M)[1:]:
-        kind, secret = re.match(r"(H\d+) secret ([0-9a-f]+)", part).groups()
+        kind, secret = re.findall(r"^(H\d+) secret ([0-9a-f]+)", part)[0]
         key = key_of(KINDS[kind.lower()], bytes.fromhex(secret))
-        wrong += key.public.hex() != re.search(r"public ([0-9a-f]+)", part)[1]
+        wrong += key.public.hex() != re.findall(r"public ([0-9a-f]+)", part)[0]
         for slot, text, digest in re.findall(
             r"slot (\d+) text '(\w*)' octets \d+ sha256 ([0-9a-f]+) verifies true", part
         ):

@@ -2,7 +2,7 @@
 """Looks at the vectors by their JSON Schemas: checks/schemas.py
 
 Each file of vectors/ is valid under the schema that it names, and each schema is one. It needs Debian's python3-jsonschema,
-which /usr/bin/python3 alone sees. Nothing here is proved, and no client trusts it. Ends with status 1 where a file differs.
+which /usr/bin/python3 alone sees. Nothing here is proved, and no client trusts it. Ends with status 1 if a file differs.
 """
 import json
 import pathlib

@@ -3,7 +3,7 @@
 
 Signed answers and replies on radii, digests of replies, keys, what forgeries come down to, and the line of a survey: each
 stands in a test as what another program says, and that program is reference/gogbetiku_reference. With a NAME behind it,
-prints that array in hex. Nothing here is proved, and no client trusts it. Ends with status 1 where anything differs.
+prints that array in hex. Nothing here is proved, and no client trusts it. Ends with status 1 if anything differs.
 """
 import hashlib
 import pathlib
@@ -14,8 +14,9 @@ from dataclasses import replace
 TOP = pathlib.Path(__file__).resolve().parent.parent
 sys.path.insert(0, str(TOP / "reference"))
 
+from gogbetiku_reference.layout import IN_ANSWER, IN_RANGE_REPLY, SIGNATURE  # noqa: E402
 from gogbetiku_reference.lms import key_of  # noqa: E402
-from gogbetiku_reference.reductions import reduce  # noqa: E402
+from gogbetiku_reference.reductions import Chain, reduce  # noqa: E402
 from gogbetiku_reference.replies import NearReply, cover_text, node_items_text  # noqa: E402
 from gogbetiku_reference.servers import Held, answer_near, near_reply  # noqa: E402
 from gogbetiku_reference.surveys import survey  # noqa: E402
@@ -38,7 +39,7 @@ from gogbetiku_vectors.scenes import (
 GREATEST = 2**64 - 1
 ORDERS = ("id", "breadth", "depth", "hilbert", "kd", "shuffled")
 # what stands before the route of an answer, and before the items of a reply on a radius
-ROUTE, FRONT = 1 + 104 + 2 + 1292, 4 + 104 + 2 + 1292
+ROUTE, FRONT = IN_ANSWER + SIGNATURE + 1292, IN_RANGE_REPLY + SIGNATURE + 1292
 
 faults: list[str] = []
 
@@ -145,7 +146,7 @@ def compare_digests() -> None:
     """The digests of unsigned replies in the tests of both servers."""
     routes = (TOP / "crates/road_tests/src/server.rt").read_text(encoding="utf-8")
     radii = (TOP / "crates/road_tests/src/reach.rt").read_text(encoding="utf-8")
-    pairs = {"dij": [], "full": [(1, 3)], "ldm": [], "hyp": [(2, 3), (3, 4)]}
+    pairs: dict[str, list[tuple[int, int]]] = {"dij": [], "full": [(1, 3)], "ldm": [], "hyp": [(2, 3), (3, 4)]}
     for method, order in (("dij", "id"), ("full", "id"), ("full", "hilbert"), ("ldm", "id"), ("hyp", "id")):
         nodes = [1, 2, 3] if method == "full" else [1, 2, 3, 4]
         reply = brings(in_order(method, order), [1, 2, 3], nodes, pairs[method]).octets()
@@ -168,6 +169,7 @@ def compare_reductions() -> None:
     ]
     for slot, text, spent in rows:
         found = reduce(key, spent, text, key.sign(slot, text))
+        assert isinstance(found, Chain)
         row = (
             rf'{slot},\s+b"{text.decode()}",[^"]*(?:"[^"]*"\),)?\s+{found.at},\s+{found.step},\s+"{found.value.hex()}"'
         )

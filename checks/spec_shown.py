@@ -4,7 +4,7 @@
 Each fault that SPEC names is the result of a vector. Each number in SPEC that bounds something, and each order of tests,
 has a way to be wrong in reference/gogbetiku_wrong that moves it, and a vector that catches that way (caught.json, which
 checks/switched_off.py holds to the vectors). A bound that is not in the list here is told, and so is one that is no longer
-in SPEC. Nothing here is proved, and no client trusts it. Ends with status 1 where something has no vector and no reason.
+in SPEC. Nothing here is proved, and no client trusts it. Ends with status 1 if something has no vector and no reason.
 """
 import json
 import pathlib
@@ -16,7 +16,9 @@ TOP = pathlib.Path(__file__).resolve().parent.parent
 SPEC = (TOP / "docs/SPEC.md").read_text(encoding="utf-8")
 CAUGHT: dict[str, str] = json.loads((TOP / "reference/gogbetiku_wrong/caught.json").read_text(encoding="ascii"))
 SHOWN = {name.split(", ", 1)[1] for name in CAUGHT}
-BOUND = re.compile(r"\b(?:to|at most|up to|above|longer than|more than|from|below|least|after|last|or)\s+([\d,]*\d)(?![\d,]*[*^]|\.\d)")
+BOUND = re.compile(
+    r"\b(?:to|at most|up to|above|longer than|more than|from|below|least|after|last|or)\s+([\d,]*\d)(?![\d,]*[*^]|\.\d)"
+)
 LOWER = re.compile(r"\b([1-9][\d,]*) to [\d,]+")
 
 # for each section and number that bounds something: the ways that move it, or why it has no vector in words that begin with -
@@ -35,6 +37,7 @@ LIMITS: dict[tuple[str, str], list[str]] = {
     ("3.3", "2"): ["a fan-out of 1"],
     ("3.3", "32"): ["a fan-out above 32", "a fan-out of at most 16"],
     ("4.1", "1,452"): ["a longer signature is taken"],
+    ("5.1", "1,577,836,800"): ["- no test of the program's: bindings/play_age.py holds the clients around it to it"],
     ("4.3", "1,024"): ["- the reference takes a minute for such a key; keys.json's neighbour great_keys has one"],
     ("4.3", "131,136"): ["- it follows from 1,024 slots"],
     ("4.3", "53"): ["- of the layout, which the images of desks show"],
@@ -65,7 +68,10 @@ LIMITS: dict[tuple[str, str], list[str]] = {
     ("6.1", "65,536"): ["at most 65,535 nodes"],
     ("6.1", "523,776"): ["pairs under every method"],
     ("6.1", "2,096,128"): ["pairs under every method"],
-    ("6.1", "1,024"): ["headers.py: first = reader.number(8, FIRST[method])", "headers.py: second = reader.number(8, SECOND[method])"],
+    ("6.1", "1,024"): [
+        "headers.py: first = reader.number(8, FIRST[method])",
+        "headers.py: second = reader.number(8, SECOND[method])",
+    ],
     ("6.1", "64"): ["at most 32 landmarks", "headers.py: second = reader.number(8, SECOND[method])"],
     ("6.2", "1,452"): ["a longer signature is taken"],
     ("6.2", "65,536"): ["any count of nodes"],
@@ -82,37 +88,102 @@ LIMITS: dict[tuple[str, str], list[str]] = {
 }
 # orders of tests, by words of SPEC, and the ways that exchange two
 ORDERS: list[tuple[str, str, list[str]]] = [
-    ("2.1", "stops at the first faulty line with that line's first fault", ["words behind the third are ignored"]),
-    ("2.2", "The graph is read before the coordinates. Faults, in order", ["the coordinates are read first", "arcs without one back are told before the coordinates", "the range is told before a bad number"]),
-    ("2.3", "The first that does is the answer", ["roads are looked at before nodes", "a road to itself is told before an unknown end"]),
-    ("3.4", "Then the cover must have exactly as many digests", ["the count of digests is tested before the places"]),
+    (
+        "2.1",
+        "stops at the first line with an error and reports that line's first error",
+        ["words behind the third are ignored"],
+    ),
+    (
+        "2.2",
+        "The graph is read before the coordinates. Errors, in order",
+        [
+            "the coordinates are read first",
+            "arcs without one back are told before the coordinates",
+            "the range is told before a bad number",
+        ],
+    ),
+    (
+        "2.3",
+        "The first that does is the answer",
+        ["roads are looked at before nodes", "a road to itself is told before an unknown end"],
+    ),
+    (
+        "3.4",
+        "Then the cover must have exactly the number of digests",
+        ["the count of digests is tested before the places"],
+    ),
     ("4.1", "refused by the first of `BadKey`, `BadForm`, `NoMatch`", ["the form is told before the key"]),
-    ("5.1", "the first setting out of range", ["the last setting out of range is told", "settings are told before a fault of the map"]),
+    (
+        "5.1",
+        "the first setting out of range",
+        ["the last setting out of range is told", "settings are told before a fault of the map"],
+    ),
     ("5.2", "Pairs are listed by ascending first", ["pairs stand by their second id first"]),
-    ("5.3", "Codes stand in the order of the picking", ["codes stand by the ids of their landmarks"]),
-    ("6.5", "Of two refusals the first in the order", ["a session above 15 is told as not begun", "the signature is told before the version"]),
-    ("8.1", "The first test that fails is the answer", [
-        "the version is tested behind the signature", "the signature is tested before the chain", "the cover is judged behind the items",
-        "the pair tree is tested before the node tree", "the last bad link is told", "the reason is that of the first key",
-    ]),
-    ("8.2", "In order (`Judged`)", [
-        "repeated ids are tested behind the route", "the end is tested before the hops", "all leaves of a route are looked for before its hops",
-        "DIJ: a shorter way is told before a node without an item", "LDM: a shorter way is told before a node without an item",
-        "HYP: an inner walk between the ends is told first", "HYP: the end's side is tested first", "HYP: the end's borders stand outside",
-        "HYP: pairs without an item are told first", "HYP: borders are looked at by their lengths",
-    ]),
-    ("8.2", "`MissingTuple` names the least such id", ["the greatest id without an item is told", "the nearest id without an item is told"]),
-    ("8.2", "`MissingPair` the lower id first", ["a missing pair is told in the order of the query"]),
+    ("5.3", "Codes are in the order of picking", ["codes stand by the ids of their landmarks"]),
+    (
+        "6.5",
+        "If several refusals apply, the first in the order",
+        ["a session above 15 is told as not begun", "the signature is told before the version"],
+    ),
+    (
+        "8.1",
+        "The first failing test gives the answer",
+        [
+            "the version is tested behind the signature",
+            "the signature is tested before the chain",
+            "the cover is judged behind the items",
+            "the pair tree is tested before the node tree",
+            "the last bad link is told",
+            "the reason is that of the first key",
+        ],
+    ),
+    (
+        "8.2",
+        "The tests follow in order (`Judged`)",
+        [
+            "repeated ids are tested behind the route",
+            "the end is tested before the hops",
+            "all leaves of a route are looked for before its hops",
+            "DIJ: a shorter way is told before a node without an item",
+            "LDM: a shorter way is told before a node without an item",
+            "HYP: an inner walk between the ends is told first",
+            "HYP: the end's side is tested first",
+            "HYP: the end's borders stand outside",
+            "HYP: pairs without an item are told first",
+            "HYP: borders are looked at by their lengths",
+        ],
+    ),
+    (
+        "8.2",
+        "`MissingTuple` names the least id",
+        ["the greatest id without an item is told", "the nearest id without an item is told"],
+    ),
+    ("8.2", "`MissingPair` names the lower id first", ["a missing pair is told in the order of the query"]),
     ("8.2", "Of two items for one pair the first counts", ["of two items for one pair the last counts"]),
-    ("8.3", "the start, then the end, has an item", ["the end's item is tested first", "of the ends without an item the lesser is told", "the ends are tested before repeated ids"]),
+    (
+        "8.3",
+        "the start, then the end, has an item",
+        [
+            "the end's item is tested first",
+            "of the ends without an item the lesser is told",
+            "the ends are tested before repeated ids",
+        ],
+    ),
     ("8.3", "Walks may have any length", ["DIJ: a way is told before a node without an item"]),
-    ("8.4", "Then no id stands in two items", ["nodes without an item are told before repeated ids"]),
+    ("8.4", "Then no id is in two items", ["nodes without an item are told before repeated ids"]),
     ("8.4", "by ascending id", ["nodes are listed by their distance"]),
-    ("9.1", "The first that holds is the answer (`Finds`)", [
-        "the publication is looked at before the reply", "the key is looked for behind the reply", "another publication is told before a forgery",
-        "the header is looked at before the links", "the last link that is forged is told",
-    ]),
-    ("9.2", "it is the first chain whose digit", ["the last chain whose digit is less"]),
+    (
+        "9.1",
+        "The first case that holds is the answer (`Finds`)",
+        [
+            "the publication is looked at before the reply",
+            "the key is looked for behind the reply",
+            "another publication is told before a forgery",
+            "the header is looked at before the links",
+            "the last link that is forged is told",
+        ],
+    ),
+    ("9.2", "it is the first chain where this text's digit", ["the last chain whose digit is less"]),
 ]
 
 
@@ -161,8 +232,16 @@ def not_shown(section: str, what: str, ways: list[str]) -> Iterator[str]:
 
 
 def limits_not_shown() -> Iterator[str]:
-    found = {(section, number) for section, text in sections().items() for number in (*BOUND.findall(text), *LOWER.findall(text)) if not section.startswith("1.") and number != "0"}
-    yield from (f"{section}: {number} bounds something, and stands in no list here" for section, number in sorted(found - LIMITS.keys()))
+    found = {
+        (section, number)
+        for section, text in sections().items()
+        for number in (*BOUND.findall(text), *LOWER.findall(text))
+        if not section.startswith("1.") and number != "0"
+    }
+    yield from (
+        f"{section}: {number} bounds something, and stands in no list here"
+        for section, number in sorted(found - LIMITS.keys())
+    )
     yield from (f"{section}: {number} is no longer in SPEC" for section, number in sorted(LIMITS.keys() - found))
     for (section, number), ways in LIMITS.items():
         yield from not_shown(section, number, ways)

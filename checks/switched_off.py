@@ -7,7 +7,7 @@ bound is moved by one: a test is a `raise`, or a range or a wanted text of a fie
 what is wrong: at least one must come out otherwise. reference/gogbetiku_wrong/caught.json has for each way the vector that
 caught it last, which is played first; --write writes it anew. With WORD, only the ways whose name has it. Ways that no
 octets can show are listed with the reason, and no vector may catch them. Runs four processes of low priority. Ends with
-status 1 where a way passes all vectors. Nothing here is proved, and no client trusts it.
+status 1 if a way passes all vectors. Nothing here is proved, and no client trusts it.
 """
 import ast
 import json
@@ -33,13 +33,21 @@ CAUGHT = TOP / "reference/gogbetiku_wrong/caught.json"
 PROCESSES, SECONDS = 4, 15
 # these modules say what Python and this package need, and no rule
 OTHERS = {"__init__", "__main__", "faults", "hashing", "commands", "codes"}
-# calls that no octets reach: what is built is always within their bounds
 MOVED = {ast.Lt: ast.LtE, ast.LtE: ast.Lt, ast.Gt: ast.GtE, ast.GtE: ast.Gt}
 READ_BEFORE = "words of commands and fields of headers have their ranges tested when they are read"
 # where no vector can show that a test is left out
 UNSEEN = {
     **{f'left out, books.py: raise Fault("Settings", {number})': READ_BEFORE for number in range(3)},
     'left out, maps.py: raise Fault("TooMany")': "each reader of a file refuses as many parts before they make a map",
+    **{
+        f"a bound moved, maps.py: if len(parts.nodes) > MOST_NODES or len(parts.roads) > MOST_ROADS:{more}": "a file of exactly as many has a megabyte; that of its reader has vectors"
+        for more in ("", " (2)")
+    },
+    "a bound moved, maps.py: len(route) > 0": "a route that is read has an id",
+    "a bound moved, books.py: if len(borders) > MOST_BORDERS:": "the reference takes a minute for the two million pairs of 2,048 borders",
+    "a bound moved, desks.py: return area.texts[slot] if len(signature) >= 4 and slot < len(area.texts) else None": "a signature of four octets is refused before",
+    'a bound moved, road_files.py: if not UNSIGNED.fullmatch(word) or len(word.lstrip(b"0")) > MOST_DIGITS:': "no number of a file has 20 digits; those of commands are the program's words",
+    "a bound moved, servers.py: nodes = with_references(book, nodes | (live if length > 0 else set()))": "where the length is 0 the start alone is live, which is on the route",
 }
 Fields = dict[str, Any]
 
@@ -87,7 +95,8 @@ class Off(ast.NodeTransformer):
 def without(module: str, at: int, bounds: bool) -> CodeType:
     tree = ast.parse(source_of(module))
     target = [node for node in ast.walk(tree) if is_test(node, bounds)][at]
-    return compile(ast.fix_missing_locations(Off(target).visit(tree)), f"{module}.py", "exec")
+    code: CodeType = compile(ast.fix_missing_locations(Off(target).visit(tree)), f"{module}.py", "exec")
+    return code
 
 
 def left_out(bounds: bool) -> Iterator[Way]:
@@ -98,9 +107,11 @@ def left_out(bounds: bool) -> Iterator[Way]:
             continue
         lines = source_of(module).splitlines()
         for at, node in enumerate(node for node in ast.walk(ast.parse(source_of(module))) if is_test(node, bounds)):
-            text = lines[node.lineno - 1].strip()  # type: ignore[attr-defined]
+            text = lines[node.lineno - 1].strip()
             seen[text] += 1
-            name = f"{'a bound moved' if bounds else 'left out'}, {module}.py: {text}" + (f" ({seen[text]})" if seen[text] > 1 else "")
+            name = f"{'a bound moved' if bounds else 'left out'}, {module}.py: {text}" + (
+                f" ({seen[text]})" if seen[text] > 1 else ""
+            )
             yield Way(name, module, lambda module=module, at=at: without(module, at, bounds), UNSEEN.get(name, ""))  # type: ignore[misc]
 
 
@@ -121,7 +132,11 @@ LAST = {"turned", "turned_signatures", "great_keys"}
 
 
 def all_cases() -> list[tuple[str, list[Fields]]]:
-    return [(family.name, files.read_family(TOP / "vectors", family)) for family in files.FAMILIES if family.name not in LAST]
+    return [
+        (family.name, files.read_family(TOP / "vectors", family))
+        for family in files.FAMILIES
+        if family.name not in LAST
+    ]
 
 
 CASES = all_cases()

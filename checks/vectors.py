@@ -6,7 +6,7 @@ since the reference made them; to PROGRAM by the command that has a use for it, 
 of a client, to LIBRARY (libgogbetiku.so.0, which bindings/build makes) through bindings/python. What no command
 takes alone is wrapped: a leaf or a header stands in a reply, a fold in a signed reply. Ranges of bits and of lengths
 are played at some of their places, with --all at each, and with it the case whose key takes a minute. Nothing here is
-proved, and no client trusts it. Ends with status 1 where anything comes out otherwise.
+proved, and no client trusts it. Ends with status 1 if anything comes out otherwise.
 """
 import hashlib
 import multiprocessing
@@ -21,7 +21,7 @@ from collections.abc import Callable
 TOP = pathlib.Path(__file__).resolve().parent.parent
 sys.path[:0] = [str(TOP / "reference"), str(TOP / "bindings/python")]
 
-from gogbetiku_reference import desks  # noqa: E402
+from gogbetiku_reference import desks, layout  # noqa: E402
 from gogbetiku_reference.headers import HYP, LDM, Header  # noqa: E402
 from gogbetiku_reference.leaves import NodeLeaf  # noqa: E402
 from gogbetiku_reference.maps import Parts, map_of  # noqa: E402
@@ -31,7 +31,7 @@ from gogbetiku_reference.trees import root_of  # noqa: E402
 from gogbetiku_vectors import files, formats, owners, signing  # noqa: E402
 from gogbetiku_vectors import asking, client as clients  # noqa: E402
 from gogbetiku_vectors.asking import turned  # noqa: E402
-from gogbetiku_vectors.families import Fields, octets, octets_again  # noqa: E402
+from gogbetiku_vectors.families import Family, Fields, octets, octets_again  # noqa: E402
 from gogbetiku_vectors.scenes import ZEROS, owner  # noqa: E402
 
 # ranges are played at each of so many places
@@ -135,8 +135,10 @@ def bare_reply(header: Header, rest: bytes) -> bytes:
 
 
 PLAIN_HEADER = Header(1, 0, 2, 3, 5, bytes(32), 0, bytes(32), 0, 0)
+# where these begin in a publication
+HEADER_AT, ROOT_AT = layout.IN_PUBLICATION, layout.IN_PUBLICATION + layout.NODE_ROOT
 UNSIGNED = "refused BadSignature BadForm\n"
-LEAF_AT = 1 + 104 + 2 + 8 + 4 + 6
+LEAF_AT = layout.IN_ANSWER + layout.SIGNATURE + 8 + 4 + 6
 
 
 def said_of(
@@ -163,7 +165,7 @@ def leaf(program: Program, given: Fields, result: Fields) -> None:
 
 def header(program: Program, given: Fields, result: Fields) -> None:
     text = octets(given["octets"])
-    if len(text) != 104:
+    if len(text) != layout.HEADER:
         return
     rest = u16(0) + u32(1) + u32(1) + u32(0) + u32(0) + u32(0) + u32(0)
     wanted = f"refused Malformed {1 + result['malformed']}\n" if "malformed" in result else UNSIGNED
@@ -254,7 +256,7 @@ def fold(program: Program, given: Fields, result: Fields) -> None:
 
 def order(program: Program, given: Fields, result: Fields) -> None:
     """By `publish`, whose header has the root of the leaves in the order."""
-    parts = Parts(tuple(map(tuple, given["nodes"])), tuple(map(tuple, given["roads"])))
+    parts = Parts(tuple((a, x, y) for a, x, y in given["nodes"]), tuple((a, b, c) for a, b, c in given["roads"]))
     chart = map_of(parts)
     root = root_of([NodeLeaf(node, *chart.places[node], chart.arcs[node]).text() for node in result["ids"]], 2)
     ended = program.run(
@@ -271,7 +273,7 @@ def order(program: Program, given: Fields, result: Fields) -> None:
         disk=blank_disk(),
         **{"map.roads": print_roads(parts)},
     )
-    same("publish", (ended[0], ended[1][24:56]), (0, root))
+    same("publish", (ended[0], ended[1][ROOT_AT : ROOT_AT + 32]), (0, root))
 
 
 def publication(program: Program, given: Fields, result: Fields) -> None:
@@ -282,7 +284,9 @@ def publication(program: Program, given: Fields, result: Fields) -> None:
     if "fault" in result:
         return faulty("publish", ended, result["fault"])
     same("publish", ended[:2], (0, octets(result["publication"])))
-    image = desks.spend(disk, desks.open_desk(disk).current(), given["slot"], ended[1][4:108])
+    image = desks.spend(
+        disk, desks.open_desk(disk).current(), given["slot"], ended[1][HEADER_AT : HEADER_AT + layout.HEADER]
+    )
     same("owner.desk", program.disk(), image)
 
 
@@ -297,7 +301,7 @@ def reply(program: Program, given: Fields, result: Fields) -> None:
     status, output, _ = program.run("prove", "pub", given["from"], given["to"], pub=octets(given["publication"]))
     same("prove", output.hex() in result["replies"], True)
     same("prove", status, NO_NODE if output == b"\x01" else 0)
-    version = str(int(given["publication"][24:40], 16))
+    version = str(layout.version_of(octets(given["publication"]), HEADER_AT))
     for one, line in zip(result["replies"], result["lines"]):
         same("check", said_of(program, octets(one), given["from"], given["to"], version, octets(given["public"])), line)
 
@@ -517,6 +521,9 @@ def by_library(library: str) -> Callable[[Fields], Fields]:
         try:
             if "radius" in given:
                 within = client_of.check_reach(octets(given["reply"]), start, int(given["radius"]), least)
+                listed = [node.id for node in reversed(within.nodes)]
+                nearest = client_of.nearest(octets(given["reply"]), start, int(given["radius"]), listed, least)
+                same("nearest", nearest.nodes, sorted(within.nodes, key=lambda node: (node.distance, node.id)))
                 ids = "".join(f" {node.id}" for node in within.nodes)
                 return told(f"within {len(within.nodes)}:{ids}\n", 1, 0, 0, within.version)
             found = client_of.check_route(octets(given["reply"]), start, given["to"], least)
@@ -572,7 +579,7 @@ def library_cuts(run: Callable[[Fields], Fields], given: Fields, result: Fields,
     return count
 
 
-def reference_plays(family, case: Fields, everything: bool) -> None:
+def reference_plays(family: Family, case: Fields, everything: bool) -> None:
     runs = {
         "turned": (clients.run_turned, BITS),
         "turned_signatures": (signing.run_turned, SIGNED_BITS),
@@ -594,9 +601,9 @@ class Player:
         self.library = by_library(words[1]) if len(words) > 1 else None
         self.everything = everything
 
-    def play(self, family, case: Fields) -> tuple[Counter, str | None]:
+    def play(self, family: Family, case: Fields) -> tuple[Counter[str], str | None]:
         """How many runs and checks a case took, and what differs."""
-        counts, before = Counter(cases=1), self.program.runs if self.program else 0
+        counts, before = Counter[str](cases=1), self.program.runs if self.program else 0
         try:
             if self.program is None or self.everything:
                 reference_plays(family, case, self.everything)
@@ -614,20 +621,20 @@ class Player:
 
 # what a process has: who plays, and all cases
 PLAYERS: list[Player] = []
-CASES: list[tuple] = []
+CASES: list[tuple[Family, Fields]] = []
 
 
 def begin(words: list[str], everything: bool) -> None:
     PLAYERS.append(Player(words, everything))
 
 
-def play_one(number: int) -> tuple[Counter, str | None]:
+def play_one(number: int) -> tuple[Counter[str], str | None]:
     return PLAYERS[0].play(*CASES[number])
 
 
-def play(words: list[str], everything: bool) -> tuple[Counter, list[str]]:
+def play(words: list[str], everything: bool) -> tuple[Counter[str], list[str]]:
     """Plays all cases, by four processes."""
-    counts, faults = Counter(), []
+    counts, faults = Counter[str](), list[str]()
     for family in files.FAMILIES:
         if everything or not family.slow:
             CASES.extend((family, case) for case in files.read_family(TOP / "vectors", family))

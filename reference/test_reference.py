@@ -74,7 +74,11 @@ class Rows(unittest.TestCase):
         self.assertFalse(are_apart(without, 4, 5))
 
     def test_the_latest_of_the_last_64_stands_for_a_node(self) -> None:
-        codes = {node: (2 * node,) for node in range(70)} | {70: (138,), 71: (0,), 72: (10,)}
+        codes: dict[int, tuple[int, ...]] = {node: (2 * node,) for node in range(70)} | {
+            70: (138,),
+            71: (0,),
+            72: (10,),
+        }
         said = references_of(codes, list(range(73)), 0)
         self.assertEqual((said[70], said[71], said[72]), (Near(69, 0), Own((0,)), Own((10,))))
 
@@ -135,6 +139,7 @@ class Rows(unittest.TestCase):
         self.assertIsNone(clash(texts, 2, [0], [b"ab"], cover, adding))
         other = [cover[0][:30] + bytes([1, cover[0][31] - 1]), cover[1]]
         found = clash(texts, 2, [0], [b"ab"], other, adding)
+        assert found is not None
         self.assertEqual((found[0][0], found[1][0], found[0] != found[1]), (1, 1, True))
 
     def test_a_reply_is_its_octets(self) -> None:

@@ -1,8 +1,8 @@
 """Distances on the ellipsoid of WGS 84: the inverse formula of T. Vincenty, "Direct and Inverse Solutions of
 Geodesics on the Ellipsoid with Application of Nested Equations", Survey Review 23 (1975).
 
-No client trusts it: lengths are what the owner signs. Its error is below a millimetre wherever it comes to
-an end, which is everywhere but between places on nearly opposite sides of the earth.
+No client trusts it: the owner signs the lengths. It converges except between places on nearly opposite sides of the
+earth. If it converges, its error is below a millimetre.
 """
 from math import asin, atan, atan2, cos, radians, sin, sqrt, tan
 
@@ -11,15 +11,15 @@ FLATTENING = 1 / 298.257223563
 POLE = EQUATOR * (1 - FLATTENING)
 CLOSE = 1e-12
 ROUNDS = 200
-# the earth as a ball, on which a distance is at most a hundredth wrong
+# the earth as a ball; a distance on it has an error of at most a hundredth
 BALL = 6_371_000.0
 
 Degrees = tuple[float, float]
 
 
 def metres(start: Degrees, end: Degrees) -> float | None:
-    """Metres between two places, each a longitude and a latitude in degrees; None where the two are too
-    nearly opposite for the formula."""
+    """The distance in metres between two places, each a longitude and a latitude in degrees. None if the places are so
+    nearly opposite that the formula fails."""
     if start == end:
         return 0.0
     apart = radians((end[0] - start[0] + 180) % 360 - 180)
@@ -45,7 +45,7 @@ def metres(start: Degrees, end: Degrees) -> float | None:
 
 
 def _stretched(square: float, arc: float, sin_arc: float, cos_arc: float, middle: float) -> float:
-    """The arc on the sphere, stretched to the ellipsoid whose short half axis is 1."""
+    """The length on the ellipsoid whose short half axis is 1, for an arc on the sphere."""
     ratio = square * (EQUATOR**2 - POLE**2) / POLE**2
     a = 1 + ratio / 16384 * (4096 + ratio * (-768 + ratio * (320 - 175 * ratio)))
     b = ratio / 1024 * (256 + ratio * (-128 + ratio * (74 - 47 * ratio)))
@@ -54,7 +54,8 @@ def _stretched(square: float, arc: float, sin_arc: float, cos_arc: float, middle
 
 
 def is_within(start: Degrees, end: Degrees, most: float) -> bool:
-    """Whether the two places are at most so many metres apart; the ball decides where it is sure."""
+    """Whether the two places are at most `most` metres apart. The distance on the ball decides if it leaves no
+    doubt."""
     east, north = radians(end[0] - start[0]) / 2, radians(end[1] - start[1]) / 2
     square = sin(north) ** 2 + cos(radians(start[1])) * cos(radians(end[1])) * sin(east) ** 2
     far = 2 * BALL * asin(min(1.0, sqrt(square)))

@@ -1,21 +1,21 @@
 #!/usr/bin/env python3
-"""Keeps what owners have signed, as clients meet it: tools/monitor.py BOOK KEY PROGRAM FILE.. [--desk SLOT]
+"""Keeps what owners have signed, as clients see it: tools/monitor.py BOOK KEY PROGRAM FILE.. [--desk SLOT]
 
-FILEs are publications and replies, on routes or radii, that clients were given. Of each the header and the one-time key
-that signed it go into BOOK, a text file of lines `KEY SLOT VERSION HEADER FROM`, which only grows. In FROM, the file's
-name, a space, a percent sign and what can't be printed are written as `%` and two hex digits for each octet. It tells,
-each as a line on standard output and with status 1:
+Each FILE is a publication or a reply, on a route or a radius, that a client received. BOOK is a text file that only
+grows. For each FILE it gets a line `KEY SLOT VERSION HEADER FROM` with the header and the one-time key that signed it.
+FROM is the file's name; a space, a percent sign and an unprintable octet are written as `%` and two hex digits. The
+tool reports each of these cases with a line on standard output and with status 1:
 
-- one slot with two headers: that one-time key is broken, shown by the public key alone. Both signatures are verified by
-  the proved client.
+- one slot with two headers: that one-time key is broken. The public key is enough to show this. The proved client
+  verifies both signatures.
 - one version with two headers.
 - a version that falls while the slot rises.
-- with `--desk SLOT`, the first slot that the owner's `desk` says is free (how many there are less how many are left): a
-  slot at or above it, so that somebody else signs.
-- a file whose header is not signed, which is not kept.
+- with `--desk SLOT`, a slot at or above SLOT: somebody else signs. SLOT is the first free slot of the owner's desk: the
+  last number that `desk` writes less the number before it.
+- a file whose header is not signed; it is not kept.
 
-A book with a line that is none of these is refused by the line's number, with status 2, and nothing is looked at. No
-client trusts this script.
+If the book has any other line, the tool names that line's number, reads no file and ends with status 2. No client
+trusts this script.
 """
 import argparse
 import os
@@ -43,9 +43,11 @@ class Row(NamedTuple):
 
 
 def told_name(path: str) -> str:
-    """A file's name as one word that can be printed."""
-    return "".join(c if c.isprintable() and c not in " %" else "".join(f"%{octet:02x}" for octet in os.fsencode(c))
-                   for c in os.path.basename(path))
+    """A file's name as one printable word."""
+    return "".join(
+        c if c.isprintable() and c not in " %" else "".join(f"%{octet:02x}" for octet in os.fsencode(c))
+        for c in os.path.basename(path)
+    )
 
 
 def rows_of(octets: bytes, path: str) -> list[Row]:
@@ -55,7 +57,7 @@ def rows_of(octets: bytes, path: str) -> list[Row]:
     for number, line in enumerate(lines[:-1], 1):
         parts = ROW.fullmatch(line)
         if parts is None:
-            raise Trouble(f"{path}: line {number} is none of the form KEY SLOT VERSION HEADER FROM")
+            raise Trouble(f"{path}: line {number} is not of the form KEY SLOT VERSION HEADER FROM")
         key, slot, version, digest, name = (part.decode("utf-8", "backslashreplace") for part in parts.groups())
         rows.append(Row(key.lower(), int(slot), int(version), digest, name))
     if lines[-1]:
@@ -64,7 +66,7 @@ def rows_of(octets: bytes, path: str) -> list[Row]:
 
 
 def kept(path: str) -> list[Row]:
-    """The rows of a book, none where it is not there yet."""
+    """The rows of a book; no rows if the book does not exist yet."""
     if not os.path.exists(path):
         return []
     with open(path, "rb") as file:
@@ -72,7 +74,7 @@ def kept(path: str) -> list[Row]:
 
 
 def findings(rows: list[Row], new: Row, desk: int | None) -> Iterator[str]:
-    """What a newly met header shows beside those that are kept."""
+    """The findings about a new header, compared with the kept headers."""
     for row in rows:
         if row.key != new.key or row.digest == new.digest:
             continue
@@ -81,10 +83,12 @@ def findings(rows: list[Row], new: Row, desk: int | None) -> Iterator[str]:
         elif row.version == new.version:
             yield f"version {row.version} has two headers, in {row.name} and in {new.name}"
         elif (row.version < new.version) != (row.slot < new.slot):
-            yield (f"versions {row.version} and {new.version} are of one-time keys {row.slot} and {new.slot}, in {row.name} and in {new.name}: "
-                   "one falls while the other rises")
+            yield (
+                f"versions {row.version} and {new.version} are of one-time keys {row.slot} and {new.slot}, in {row.name} and in {new.name}: "
+                "one falls while the other rises"
+            )
     if desk is not None and new.slot >= desk:
-        yield f"one-time key {new.slot} in {new.name} is at or above {desk}, the first that the owner's desk has free: somebody else signs"
+        yield f"one-time key {new.slot} in {new.name} is at or above {desk}, the desk's first free slot: somebody else signs"
 
 
 def signed_of(path: str) -> Signed | None:
@@ -93,12 +97,12 @@ def signed_of(path: str) -> Signed | None:
 
 
 def look(book: str, client: Client, paths: list[str], desk: int | None) -> list[str]:
-    """What the files show beside the book, which takes their headers."""
+    """Adds the headers of the files to the book. Returns the findings."""
     rows, told, key = kept(book), [], client.keys[0]
     for path in paths:
         signed, name = signed_of(path), told_name(path)
         if signed is None or client.signer(signed) is None:
-            told.append(f"unsigned: {name} has no header that this key has signed")
+            told.append(f"unsigned: {name} has no header signed by this key")
             continue
         row = Row(key, signed.slot, signed.version, signed.digest, name)
         told += findings(rows, row, desk)

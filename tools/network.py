@@ -1,8 +1,8 @@
-"""From lines to a network of roads: cut where lines meet, measured, and numbered from 1 on.
+"""Makes a network of roads from lines: cuts them where they meet, measures them, and numbers the nodes from 1.
 
-No client trusts it: it makes what an owner then looks at and signs. A key names a point of a line; lines meet
-where they have a key in common. A place is a longitude and a latitude in 1e-7 degrees. The outcome is the same
-whatever the order of the lines.
+No client trusts it: an owner looks at its output before signing it. A key names a point of a line; lines meet
+where they share a key. A place is a longitude and a latitude in 1e-7 degrees. The order of the lines does not
+change the result.
 """
 import argparse
 import math
@@ -10,23 +10,22 @@ import sys
 from collections import Counter, defaultdict
 from dataclasses import dataclass, field, replace
 from itertools import groupby, pairwise
-from typing import Iterable, Iterator
+from typing import Callable, Iterable, Iterator
 
 import bends
 import geodesic
-from roads import MOST_LENGTH, MOST_NODES, MOST_ROADS, UNITS, Place, Roads, Trouble, plain
+from roads import DEGREE, MOST_LENGTH, MOST_NODES, MOST_ROADS, Place, Roads, Trouble, output, plain
 
-DEGREE = UNITS["1e-7"]
-# how many of a length make a metre, or a second, by what a length is
+# how many lengths make a metre or a second, by the unit of a length
 COSTS = {"decimetres": 10, "seconds": 1}
 SMALLER = "cut a piece with --box or --around"
 
 
 @dataclass(frozen=True, slots=True)
 class Line:
-    """A line through points. `told` is its length in metres, or its seconds, where somebody said it; `speed` says how
-    many metres a second takes, where seconds are wanted; and `push`, that it is taken only where nothing else joins its
-    ends, since one goes against its direction there."""
+    """A line through points. `told` is its given length in metres or in seconds, if it has one. `speed` is the speed in
+    metres per second, if lengths are seconds. `push` says that a cycle is pushed against its direction, so it is used
+    only if nothing else joins its ends."""
 
     source: str
     keys: tuple[int, ...]
@@ -50,7 +49,7 @@ class Road:
 
 @dataclass
 class Told:
-    """What was dropped or done besides, by its reason: how often, and where first."""
+    """The dropped or changed elements by reason: the count, and the first of them."""
 
     counts: Counter[str] = field(default_factory=Counter)
     first: dict[str, str] = field(default_factory=dict)
@@ -60,8 +59,10 @@ class Told:
         self.first[reason] = min(self.first.get(reason, where), where, key=_by_number)
 
     def lines(self) -> list[str]:
-        return [f"{reason}: {self.counts[reason]:,}" + (f" (first {self.first[reason]})" if self.first[reason] else "")
-                for reason in sorted(self.counts)]
+        return [
+            f"{reason}: {self.counts[reason]:,}" + (f" (first {self.first[reason]})" if self.first[reason] else "")
+            for reason in sorted(self.counts)
+        ]
 
 
 def _by_number(where: str) -> tuple[str, int, str]:
@@ -76,7 +77,7 @@ def in_degrees(place: Place) -> tuple[float, float]:
 
 @dataclass(frozen=True)
 class Cut:
-    """The part of the earth that is kept: a box, or what lies around a place."""
+    """The part of the earth that is kept: a box, or the area around a place."""
 
     box: tuple[float, float, float, float] | None = None
     around: tuple[float, float, float] | None = None
@@ -88,42 +89,58 @@ class Cut:
             across = west <= longitude <= east if west <= east else longitude >= west or longitude <= east
             return across and south <= latitude <= north
         if self.around:
-            *centre, most = self.around
-            return geodesic.is_within(tuple(centre), (longitude, latitude), most)
+            east, north, most = self.around
+            return geodesic.is_within((east, north), (longitude, latitude), most)
         return True
 
     def told(self) -> str | None:
         if self.box:
             return "cut to the box %r,%r,%r,%r" % self.box
         if self.around:
-            return "cut to what lies around %r,%r within %r metres" % self.around
+            return "cut to the area around %r,%r within a distance of %r metres" % self.around
         return None
 
 
-def numbers(count: int):
-    """A reader of a word with so many numbers, parted by commas."""
+def numbers(count: int) -> Callable[[str], tuple[float, ...]]:
+    """Returns a parser of a word with this many numbers, separated by commas."""
+
     def read(word: str) -> tuple[float, ...]:
         found = tuple(float(part) for part in word.split(","))
         if len(found) != count or not all(map(math.isfinite, found)):
             raise ValueError
         return found
-    read.__name__ = f"{count} numbers with commas between"
+
+    read.__name__ = f"{count} numbers separated by commas"
     return read
 
 
 def add_arguments(parser: argparse.ArgumentParser) -> None:
-    """What each tool that makes a network can be asked for."""
+    """Adds the arguments of every tool that makes a network."""
     where = parser.add_mutually_exclusive_group()
-    where.add_argument("--box", type=numbers(4), metavar="W,S,E,N", help="keep only what lies in this box, in degrees")
-    where.add_argument("--around", type=numbers(3), metavar="LON,LAT,METRES", help="keep only what lies within so many metres of a place")
-    parser.add_argument("--largest", action="store_true", help="keep only the largest part that hangs together")
-    parser.add_argument("--ids", metavar="FILE", help="write a table from node ids to the ids of the source and the names of streets")
-    parser.add_argument("--every-bend", type=numbers(1), metavar="METRES", help="keep as nodes the points that a road needs, so that none of its others is so many metres beside it")
-    parser.add_argument("--shapes", metavar="FILE", help="write the lines of the roads, which nobody signs")
+    where.add_argument(
+        "--box", type=numbers(4), metavar="W,S,E,N", help="keep only the part within this box, in degrees"
+    )
+    where.add_argument(
+        "--around",
+        type=numbers(3),
+        metavar="LON,LAT,METRES",
+        help="keep only the part within a number of metres of a place",
+    )
+    parser.add_argument("--largest", action="store_true", help="keep only the largest connected component")
+    parser.add_argument(
+        "--ids", metavar="FILE", help="write a table from node ids to the ids of the source and the names of streets"
+    )
+    parser.add_argument(
+        "--every-bend",
+        type=numbers(1),
+        metavar="METRES",
+        help="keep enough bends as nodes that no dropped bend is more than METRES from its road",
+    )
+    parser.add_argument("--shapes", metavar="FILE", help="write the lines of the roads, which are not signed")
 
 
 def within(lines: Iterable[Line], places: dict[int, Place], cut: Cut, told: Told) -> Iterator[Line]:
-    """The parts of the lines that lie within the cut, and that have two points at least."""
+    """The parts of the lines within the cut that have at least two points."""
     for line in lines:
         runs: list[list[int]] = [[]]
         for key in line.keys:
@@ -134,14 +151,16 @@ def within(lines: Iterable[Line], places: dict[int, Place], cut: Cut, told: Told
         kept = [run for run in runs if len(run) > 1]
         if not kept:
             outside = len(runs) > 1
-            told.add("lines dropped, outside the cut" if outside else "lines dropped, of fewer than two points", line.source)
+            told.add(
+                "lines dropped, outside the cut" if outside else "lines dropped, of fewer than two points", line.source
+            )
         elif len(runs) > 1:
             told.add("lines cut at the edge", line.source)
         yield from (replace(line, keys=tuple(run)) for run in kept)
 
 
 class Meetings:
-    """The ends of lines, and the points that lines have in common or pass twice: `met`."""
+    """Finds `met`: the ends of lines, and the points that two lines share or one line passes twice."""
 
     def __init__(self) -> None:
         self.seen: set[int] = set()
@@ -164,7 +183,7 @@ def meetings(lines: Iterable[Line]) -> set[int]:
 
 
 class Parts:
-    """Parts that hang together, by their least keys."""
+    """The connected components, each with its least key."""
 
     def __init__(self, keys: Iterable[int] = ()):
         self.parent = {key: key for key in keys}
@@ -178,7 +197,7 @@ class Parts:
         return key
 
     def join(self, a: int, b: int) -> bool:
-        """Whether the two hung together only from now on."""
+        """Joins the components of two keys. Returns whether they were separate before."""
         a, b = self.top(a), self.top(b)
         self.parent[max(a, b)] = min(a, b)
         return a != b
@@ -187,7 +206,7 @@ class Parts:
         return Counter(self.top(key) for key in self.parent)
 
     def largest(self) -> set[int]:
-        """The keys of the part with the most of them; of two such parts, the one with the least key."""
+        """The keys of the largest component. Of two equally large components it takes the one with the least key."""
         sizes = self.sizes()
         best = min(sizes, key=lambda key: (-sizes[key], key), default=None)
         return {key for key in self.parent if self.top(key) == best}
@@ -199,7 +218,7 @@ class Parts:
 
 
 def steps(line: Line, met: set[int]) -> Iterator[tuple[int, ...]]:
-    """The keys of a line, from each point where lines meet to the next."""
+    """The keys of a line in pieces, each from a point where lines meet to the next such point."""
     begins = 0
     for at in range(1, len(line.keys)):
         if line.keys[at] in met:
@@ -208,7 +227,7 @@ def steps(line: Line, met: set[int]) -> Iterator[tuple[int, ...]]:
 
 
 class Measure:
-    """Lengths along lines on the ellipsoid."""
+    """Measures lengths along lines on the ellipsoid."""
 
     def __init__(self, places: dict[int, Place]):
         self.places = places
@@ -218,7 +237,9 @@ class Measure:
         for here, there in pairwise(in_degrees(self.places[key]) for key in keys):
             step = geodesic.metres(here, there)
             if step is None:
-                raise Trouble(f"{source}: two of its points in a row, {here} and {there}, lie on opposite sides of the earth")
+                raise Trouble(
+                    f"{source}: two of its points in a row, {here} and {there}, lie on opposite sides of the earth"
+                )
             steps.append(step)
         return math.fsum(steps)
 
@@ -226,7 +247,8 @@ class Measure:
         return Road(keys, self.of(keys, line.source) * share, line)
 
     def share(self, line: Line) -> float:
-        """What a measured metre of the line counts: where its length was told, it is shared out among its roads."""
+        """The length that a measured metre of the line stands for. A given length is divided among the roads of the
+        line."""
         if line.told is None:
             return 1 / line.speed if line.speed else 1.0
         whole = self.of(line.keys, line.source)
@@ -234,7 +256,7 @@ class Measure:
 
 
 def pieces(line: Line, met: set[int], measure: Measure) -> Iterator[Road]:
-    """The line, cut where lines meet, and in two where it comes back to where it began."""
+    """The line, cut where lines meet. A piece that returns to its start is cut in two."""
     share = measure.share(line)
     for keys in steps(line, met):
         road = measure.road(keys, line, share)
@@ -242,14 +264,14 @@ def pieces(line: Line, met: set[int], measure: Measure) -> Iterator[Road]:
 
 
 def halves(road: Road, measure: Measure, share: float) -> tuple[Road, Road]:
-    """A road with inner points, cut at the middle one."""
+    """The two halves of a road with inner points, cut at the middle point."""
     middle = len(road.keys) // 2
-    return tuple(measure.road(keys, road.line, share) for keys in (road.keys[: middle + 1], road.keys[middle:]))
+    return measure.road(road.keys[: middle + 1], road.line, share), measure.road(road.keys[middle:], road.line, share)
 
 
 def apart(roads: Iterable[Road], measure: Measure, told: Told) -> list[Road]:
-    """The roads, each other pair of ends with one road alone: the shortest stays whole, and others between the same
-    two ends are cut in two, or dropped where they have no inner point and so run along the same line."""
+    """Makes sure that no two roads have the same ends. The shortest road between two ends stays whole. Each other road
+    between them is cut in two. A road without an inner point is dropped, since it follows the same line."""
     by_ends = defaultdict(list)
     for road in roads:
         by_ends[road.ends()].append(road)
@@ -274,8 +296,8 @@ def parts_of(keys: Iterable[int], pairs: Iterable[tuple[int, int]]) -> Parts:
 
 
 def counted(lines: Iterable[Line], is_largest: bool) -> None:
-    """Refuses more than a road file holds, before anything is measured: there are at least as many nodes as points
-    where lines meet, and roads as pairs of them with a piece of a line between."""
+    """Refuses, before any measuring, a network that is too large for a road file. The network has at least one node for
+    each point where lines meet, and one road for each pair of these points that a piece of a line joins."""
     lines = list(lines)
     met = meetings(lines)
     pairs = {(min(keys[0], keys[-1]), max(keys[0], keys[-1])) for line in lines for keys in steps(line, met)}
@@ -283,11 +305,13 @@ def counted(lines: Iterable[Line], is_largest: bool) -> None:
         met = parts_of(met, pairs).largest()
         pairs = {pair for pair in pairs if pair[0] in met}
     if len(met) > MOST_NODES or len(pairs) > MOST_ROADS:
-        raise Trouble(f"{len(met):,} nodes and {len(pairs):,} roads at least are more than a road file holds, {MOST_NODES:,} and {MOST_ROADS:,}: {SMALLER}")
+        raise Trouble(
+            f"there are at least {len(met):,} nodes and {len(pairs):,} roads, but a road file holds at most {MOST_NODES:,} and {MOST_ROADS:,}: {SMALLER}"
+        )
 
 
 def joined(lines: list[Line], measure: Measure, told: Told) -> list[Line]:
-    """The lines, and of those to be pushed the pieces without which a part would fall into two, the shortest first."""
+    """The lines. Of lines on which a cycle is pushed, only the shortest pieces that hold a component together stay."""
     held: list[Line] = []
     met, parts = meetings(lines), Parts()
     for line in lines:
@@ -307,7 +331,7 @@ def joined(lines: list[Line], measure: Measure, told: Told) -> list[Line]:
 
 
 def bent(roads: Iterable[Road], measure: Measure, most: float) -> Iterator[Road]:
-    """The roads, cut at the points that each needs, so that none of its others is more than so many metres beside it."""
+    """The roads, cut at bends so that no other bend of a road is more than the given number of metres from it."""
     for road in roads:
         kept = bends.needed([in_degrees(measure.places[key]) for key in road.keys], most)
         share = road.metres / (measure.of(road.keys, "") or 1.0)
@@ -315,7 +339,7 @@ def bent(roads: Iterable[Road], measure: Measure, most: float) -> Iterator[Road]
 
 
 def largest(roads: list[Road], told: Told) -> list[Road]:
-    """The roads of the largest part that hangs together."""
+    """The roads of the largest connected component."""
     kept = parts_of((), (road.ends() for road in roads)).largest()
     for road in roads:
         if road.keys[0] not in kept:
@@ -324,18 +348,18 @@ def largest(roads: list[Road], told: Told) -> list[Road]:
 
 
 def length_of(road: Road, places: dict[int, Place], cost: str) -> int:
-    """Decimetres or seconds, rounded up (what is less than a hundred-thousandth above is the arithmetic's), and 0 only
-    between two points at one place."""
+    """The length in decimetres or seconds, rounded up. An excess of less than a hundred-thousandth is a rounding error
+    and is ignored. The length is 0 only between two points at one place."""
     length = math.ceil(round(road.metres * COSTS[cost], 5))
     if length > MOST_LENGTH:
-        raise Trouble(f"{road.line.source}: a road of {length:,} {cost} is longer than a road file can say")
+        raise Trouble(f"{road.line.source}: a road of {length:,} {cost} is longer than a road file can express")
     return max(length, int(places[road.keys[0]] != places[road.keys[-1]]))
 
 
 @dataclass
 class Network:
-    """A network of roads: what a road file says of it, the key and the street names of each node, the line of each
-    road that bends, and the roads on which a cycle is pushed one way."""
+    """A network of roads: its content in a road file, the key and the street names of each node, the line of each road
+    that bends, and the roads on which a cycle is pushed in one direction."""
 
     roads: Roads
     keys: dict[int, int]
@@ -348,16 +372,20 @@ class Network:
             bends.write(path, self.lines, self.pushed)
 
 
-def network_of(path: str, lines: Iterable[Line], places: dict[int, Place], asked: argparse.Namespace, told: Told) -> Network:
-    """The network of a file's lines within the cut. `told` learns what was dropped and what was cut."""
+def network_of(
+    path: str, lines: Iterable[Line], places: dict[int, Place], asked: argparse.Namespace, told: Told
+) -> Network:
+    """Returns the network of a file's lines within the cut. Records in `told` what was dropped and what was cut."""
     try:
         network = _network(lines, places, asked, told)
     except Trouble as trouble:
         raise Trouble(f"{path}: {trouble}") from None
     if not network.roads.roads:
-        raise Trouble(f"{path}: no road is left of it")
+        raise Trouble(f"{path}: no road is left")
     if network.roads.too_much():
-        raise Trouble(f"{path}: {network.roads.too_much()}: {SMALLER}" + (", or keep fewer bends" if asked.every_bend else ""))
+        raise Trouble(
+            f"{path}: {network.roads.too_much()}: {SMALLER}" + (", or keep fewer bends" if asked.every_bend else "")
+        )
     return network
 
 
@@ -379,14 +407,23 @@ def _network(lines: Iterable[Line], places: dict[int, Place], asked: argparse.Na
     for road in found:
         for key in road.ends():
             streets[ids[key]].add(road.line.name)
-    roads = Roads({number: places[key] for key, number in ids.items()},
-                  sorted((*sorted(ids[key] for key in road.ends()), length_of(road, places, asked.cost)) for road in found))
+    # ids rise with keys, so a road's ends are in order
+    roads = Roads(
+        {number: places[key] for key, number in ids.items()},
+        sorted((ids[road.ends()[0]], ids[road.ends()[1]], length_of(road, places, asked.cost)) for road in found),
+    )
     lines_of = {}
     for road in found if asked.shapes else ():
         keys = road.keys if road.keys[0] < road.keys[-1] else road.keys[::-1]
         lines_of[ids[keys[0]], ids[keys[-1]]] = [places[key] for key in keys]
     pushed = sorted((ids[road.ends()[0]], ids[road.ends()[1]]) for road in found if road.line.push)
-    return Network(roads, {number: key for key, number in ids.items()}, {number: sorted(names - {""}) for number, names in streets.items()}, lines_of, pushed)
+    return Network(
+        roads,
+        {number: key for key, number in ids.items()},
+        {number: sorted(names - {""}) for number, names in streets.items()},
+        lines_of,
+        pushed,
+    )
 
 
 def comments_of(what: str, licence: str, asked: argparse.Namespace) -> list[str]:
@@ -397,12 +434,11 @@ def comments_of(what: str, licence: str, asked: argparse.Namespace) -> list[str]
 
 
 def write(tool: str, roads: Roads, told: Told, cost: str) -> None:
-    """Writes the road file, and what was done on standard error."""
+    """Writes the road file to standard output, and what was dropped or changed to standard error."""
     length = sum(road[2] for road in roads.roads)
     long = f"{length / 3_600:,.1f} hours" if cost == "seconds" else f"{length / 10_000:,.1f} km"
     parts = parts_of(roads.nodes, (road[:2] for road in roads.roads)).told()
     cut = [comment for comment in roads.comments if comment.startswith("cut ")]
     lines = [f"{len(roads.nodes):,} nodes, {len(roads.roads):,} roads, {long}", parts, *told.lines(), *cut]
     sys.stderr.writelines(f"{tool}: {plain(line)}\n" for line in lines)
-    sys.stdout.reconfigure(encoding="utf-8")
-    roads.write(sys.stdout)
+    roads.write(output())

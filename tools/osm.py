@@ -1,27 +1,26 @@
-"""Reads OpenStreetMap extracts, element by element: XML, plain or packed by gzip or bzip2, with Python alone, and
-.osm.pbf with Debian's python3-pyosmium. No client trusts it.
+"""Reads OpenStreetMap extracts, element by element. It reads XML, plain or compressed by gzip or bzip2, with Python
+alone, and .osm.pbf with Debian's python3-pyosmium. No client trusts it.
 
 A document with a DOCTYPE is refused, so no entity is ever expanded.
 """
 import bz2
 import gzip
 import zlib
-from typing import BinaryIO, Callable
+from typing import IO, Any, Callable
 from xml.parsers import expat
 
-from roads import UNITS, Place, Trouble
+from roads import DEGREE, Place, Trouble
 
 Tags = dict[str, str]
 TakeWay = Callable[[int, Tags, list[int]], None]
 TakeNode = Callable[[int, Place, Tags], None]
-DEGREE = UNITS["1e-7"]
 PIECE = 1 << 16
-# how many attributes an element may have, and how long a number may be; OpenStreetMap's have at most 9, and 20 characters
+# the limits of attributes in an element and of characters in a number; OpenStreetMap has at most 9 and 20
 MOST_ATTRIBUTES, MOST_DIGITS = 32, 40
 
 
 def read_ways(path: str, take: TakeWay) -> None:
-    """Gives each way with a `highway` tag, and each ferry: its id, its tags and the ids of its nodes."""
+    """Yields each way with a `highway` tag, and each ferry: its id, its tags and the ids of its nodes."""
     if path.endswith(".pbf"):
         _read_pbf(path, take, None)
     else:
@@ -29,7 +28,7 @@ def read_ways(path: str, take: TakeWay) -> None:
 
 
 def read_nodes(path: str, take: TakeNode) -> None:
-    """Gives each node: its id, its place, and its tags."""
+    """Yields each node: its id, its place, and its tags."""
     if path.endswith(".pbf"):
         _read_pbf(path, None, take)
     else:
@@ -39,7 +38,7 @@ def read_nodes(path: str, take: TakeNode) -> None:
 def place_of(longitude: float, latitude: float, where: str) -> Place:
     """A place in 1e-7 degrees."""
     if not (-180 <= longitude <= 180 and -90 <= latitude <= 90):
-        raise Trouble(f"{where}: longitude {longitude}, latitude {latitude} is no place on earth")
+        raise Trouble(f"{where}: longitude {longitude}, latitude {latitude} is not a place on earth")
     return round(longitude * DEGREE), round(latitude * DEGREE)
 
 
@@ -61,20 +60,21 @@ def _short(word: str) -> str:
     return word
 
 
-def _opened(path: str) -> BinaryIO:
+def _opened(path: str) -> IO[bytes]:
     if path.endswith(".gz"):
-        return gzip.open(path)
+        return gzip.open(path)  # type: ignore[return-value]
     return bz2.open(path) if path.endswith(".bz2") else open(path, "rb")
 
 
 class _Document:
-    """One reading of an XML extract. A node, a way or a relation ends where the next one begins, which spares a call
-    for each end; `last` is what began last."""
+    """One reading of an XML extract. A node, a way or a relation ends where the next one begins, so no call is needed
+    for each end. `last` is the element that began last."""
 
     kind = ""
 
     def __init__(self, path: str):
-        self.path, self.last = path, None
+        self.path = path
+        self.last: tuple[str, Tags] | None = None
         self.parser = expat.ParserCreate()
         self.parser.StartElementHandler = self.root
         self.parser.StartDoctypeDeclHandler = self.doctype
@@ -88,12 +88,12 @@ class _Document:
 
     def root(self, name: str, _: Tags) -> None:
         if name != "osm":
-            raise self.trouble(f"no OSM extract: its root is <{name}>, and not <osm>")
+            raise self.trouble(f"not an OSM extract: its root is <{name}> instead of <osm>")
         self.parser.StartElementHandler = self.begin
 
-    def feed(self, file: BinaryIO) -> None:
-        """Reads it piece by piece. What stays open for more than a piece is longer than any element is, and would be
-        gone through again with each piece."""
+    def feed(self, file: IO[bytes]) -> None:
+        """Reads the file piece by piece. A mark that stays open for more than a piece is longer than any element, and
+        the parser would scan it again with each piece."""
         given = 0
         while piece := file.read(PIECE):
             self.parser.Parse(piece, False)
@@ -108,22 +108,22 @@ class _Document:
                 self.feed(file)
             self.end()
         except expat.ExpatError as error:
-            raise self.trouble(f"no whole XML: {expat.ErrorString(error.code)}") from None
+            raise self.trouble(f"not complete XML: {expat.ErrorString(error.code)}") from None
         except (EOFError, zlib.error, gzip.BadGzipFile) as error:
-            raise Trouble(f"{self.path}: can't be unpacked: {error}") from None
+            raise Trouble(f"{self.path}: cannot be decompressed: {error}") from None
         except OSError as error:
             raise Trouble(f"{self.path}: {error.strerror or error}") from None
         except KeyError as lacking:
             raise self.trouble(f"it lacks the attribute {lacking}") from None
         except ValueError:
-            raise self.trouble("a number can't be read") from None
+            raise self.trouble("a number cannot be read") from None
 
     def few(self, attributes: Tags) -> None:
         if len(attributes) > MOST_ATTRIBUTES:
-            raise self.trouble(f"an element with {len(attributes):,} attributes, and {MOST_ATTRIBUTES} may be")
+            raise self.trouble(f"an element with {len(attributes):,} attributes; at most {MOST_ATTRIBUTES} are allowed")
 
     def outer(self, name: str, attributes: Tags) -> bool:
-        """Ends what was open, and says whether an element of this kind begins that is not deleted."""
+        """Ends the open element. Returns whether an element of this kind begins that is not deleted."""
         if name not in ("node", "way", "relation"):
             return False
         self.end()
@@ -142,7 +142,8 @@ class _Ways(_Document):
 
     def __init__(self, path: str, take: TakeWay):
         super().__init__(path)
-        self.take, self.way = take, None
+        self.take = take
+        self.way: tuple[int, Tags, list[int]] | None = None
 
     def begin(self, name: str, attributes: Tags) -> None:
         self.few(attributes)
@@ -166,7 +167,8 @@ class _Nodes(_Document):
 
     def __init__(self, path: str, take: TakeNode):
         super().__init__(path)
-        self.take, self.node = take, None
+        self.take = take
+        self.node: tuple[int, Place, Tags] | None = None
 
     def begin(self, name: str, attributes: Tags) -> None:
         self.few(attributes)
@@ -175,7 +177,11 @@ class _Nodes(_Document):
                 self.node[2][attributes["k"]] = attributes["v"]
         elif name != "nd" and self.outer(name, attributes):
             longitude, latitude = _decimal(attributes["lon"]), _decimal(attributes["lat"])
-            self.node = _whole(attributes["id"]), place_of(longitude, latitude, f"{self.path}: node {attributes['id']}"), {}
+            self.node = (
+                _whole(attributes["id"]),
+                place_of(longitude, latitude, f"{self.path}: node {attributes['id']}"),
+                {},
+            )
 
     def end(self) -> None:
         if self.node:
@@ -187,15 +193,18 @@ def _read_pbf(path: str, take_way: TakeWay | None, take_node: TakeNode | None) -
     try:
         import osmium
     except ImportError:
-        raise Trouble(f"{path}: a .pbf is read with osmium's module, which this python3 lacks (Debian: python3-pyosmium, for /usr/bin/python3)") from None
+        raise Trouble(
+            f"{path}: a .pbf needs osmium's module, which this python3 lacks (Debian: python3-pyosmium, for /usr/bin/python3)"
+        ) from None
 
     class Ways(osmium.SimpleHandler):
-        def way(self, way) -> None:
-            if "highway" in way.tags or way.tags.get("route") == "ferry":
+        def way(self, way: Any) -> None:
+            if take_way and ("highway" in way.tags or way.tags.get("route") == "ferry"):
                 take_way(way.id, {tag.k: tag.v for tag in way.tags}, [node.ref for node in way.nodes])
 
     class Nodes(osmium.SimpleHandler):
-        def node(self, node) -> None:
+        def node(self, node: Any) -> None:
+            assert take_node
             at = node.location
             place = place_of(at.x / DEGREE, at.y / DEGREE, f"{path}: node {node.id}")
             take_node(node.id, place, {tag.k: tag.v for tag in node.tags} if len(node.tags) else {})
@@ -204,4 +213,4 @@ def _read_pbf(path: str, take_way: TakeWay | None, take_node: TakeNode | None) -
     try:
         (Ways if take_way else Nodes)().apply_file(path)
     except RuntimeError as error:
-        raise Trouble(f"{path}: no OSM extract: {error}") from None
+        raise Trouble(f"{path}: not an OSM extract: {error}") from None

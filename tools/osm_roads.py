@@ -1,10 +1,10 @@
 #!/usr/bin/env python3
-"""Makes a road file of an OpenStreetMap extract: tools/osm_roads.py FILE.osm[.gz|.bz2|.pbf] > FILE.roads
+"""Makes a road file from an OpenStreetMap extract: tools/osm_roads.py FILE.osm[.gz|.bz2|.pbf] > FILE.roads
 
-Nodes are the places where ways meet or end, roads the pieces of ways between them, as long as the way is on the
-ellipsoid. What was dropped, and what was done besides, is told on standard error, a line for each reason.
+Nodes are the places where ways meet or end; roads are the pieces of ways between them, with the way's length on the
+ellipsoid. Standard error reports what was dropped or changed, one line for each reason.
 
-No client trusts it: it makes what an owner then looks at and signs. docs/MAPS.md has a session with it.
+No client trusts it: an owner looks at its output before signing it. docs/MAPS.md has a session with it.
 """
 import argparse
 from dataclasses import dataclass, replace
@@ -28,7 +28,7 @@ class Way:
 
 
 class Extract:
-    """The ways of an extract that a profile takes, and the nodes that they pass."""
+    """The ways of an extract that a profile uses, and the nodes on these ways."""
 
     def __init__(self, path: str, profile: profiles.Profile, asked: argparse.Namespace, told: Told):
         self.path, self.profile, self.told = path, profile, told
@@ -47,7 +47,7 @@ class Extract:
         if reason:
             self.told.add(f"ways dropped, {reason}", where)
         elif way in self.ways:
-            raise Trouble(f"{self.path}: {where}: it stands twice")
+            raise Trouble(f"{self.path}: {where}: it occurs twice")
         else:
             self.tell(tags, where)
             speed = self.speeds.of(tags, where) if self.speeds else None
@@ -59,17 +59,23 @@ class Extract:
         if profiles.is_ferry(tags):
             self.told.add("ferries taken, whose timetable no road file has", where)
         if profiles.unknown(self.profile, tags):
-            self.told.add(f"ways taken, whose {profiles.unknown(self.profile, tags)} the table of tags does not know", where)
+            self.told.add(
+                f"ways taken, whose {profiles.unknown(self.profile, tags)} the table of tags does not know", where
+            )
 
     def count(self, way: Way) -> None:
-        """Refuses at once what will be more than a road file holds. A way that is held may be left out again."""
+        """Refuses the extract as soon as its network will be too large for a road file. A held way may still be left
+        out."""
         if self.is_whole and not way.push:
             self.meetings.take(way.nodes)
             if len(self.meetings.met) > MOST_NODES:
-                raise Trouble(f"{self.path}: its ways meet or end at more than the {MOST_NODES:,} nodes that a road file holds: {SMALLER}")
+                raise Trouble(
+                    f"{self.path}: its ways meet or end at more than the {MOST_NODES:,} nodes that a road file can hold: {SMALLER}"
+                )
 
     def is_held(self, tags: osm.Tags, where: str) -> bool:
-        """Whether a one-way street is taken only where nothing else joins its ends; tells where it is taken both ways."""
+        """Whether a one-way street is used only if nothing else joins its ends. Reports a street that is used both
+        ways."""
         if not profiles.is_one_way(self.profile, tags):
             return False
         if self.profile.both_ways:
@@ -86,7 +92,7 @@ class Extract:
         if node not in self.needed:
             return
         if node in self.places:
-            raise Trouble(f"{self.path}: node {node}: it stands twice")
+            raise Trouble(f"{self.path}: node {node}: it occurs twice")
         self.places[node] = place
         reason = profiles.blocked(self.profile, tags) if tags else None
         if reason:
@@ -94,7 +100,7 @@ class Extract:
             self.told.add(f"nodes closed, {reason}", f"node {node}")
 
     def lines(self) -> Iterator[Line]:
-        """The ways, each cut at the nodes that are closed: there, each piece ends at a point of its own."""
+        """The ways, each cut at its closed nodes. At such a node each piece ends at a point of its own."""
         self.origin: dict[int, int] = {}
         fresh = max(self.needed, default=0) + 1
         for way, found in sorted(self.ways.items()):
@@ -120,19 +126,23 @@ def network_in(path: str, profile: str, asked: argparse.Namespace, told: Told) -
     """The network of an extract, and the OSM id of each of its nodes."""
     extract = Extract(path, profiles.PROFILES[profile], asked, told)
     if not extract.ways:
-        raise Trouble(f"{path}: no way of it is for {profile}")
+        raise Trouble(f"{path}: it has no way for {profile}")
     network = network_of(path, list(extract.lines()), extract.places, asked, told)
     network.roads.comments = comments_of(f"made by tools/osm_roads.py for {profile}", asked.licence, asked)
     return network, {number: extract.origin.get(key, key) for number, key in network.keys.items()}
 
 
 def main() -> None:
-    parser = argparse.ArgumentParser(description="Makes a road file of an OpenStreetMap extract, on standard output.")
+    parser = argparse.ArgumentParser(description="Makes a road file from an OpenStreetMap extract, on standard output.")
     parser.add_argument("extract", metavar="FILE", help=".osm, .osm.gz, .osm.bz2 or .osm.pbf")
     parser.add_argument("--profile", choices=profiles.PROFILES, default="walk", help="who goes there (walk)")
-    parser.add_argument("--ferries", action="store_true", help="take ferries that the profile may use; none is taken otherwise")
-    parser.add_argument("--cost", choices=COSTS, default="decimetres", help="what a length is: decimetres, or seconds by --speeds")
-    parser.add_argument("--speeds", metavar="FILE", help="the table of speeds, with --cost seconds: columns highway, surface and km/h")
+    parser.add_argument("--ferries", action="store_true", help="also take the ferries that the profile may use")
+    parser.add_argument(
+        "--cost", choices=COSTS, default="decimetres", help="the unit of lengths: decimetres, or seconds with --speeds"
+    )
+    parser.add_argument(
+        "--speeds", metavar="FILE", help="the table of speeds, with --cost seconds: columns highway, surface and km/h"
+    )
     parser.add_argument("--licence", default=OSM_LICENCE, help=f"the first comment line ({OSM_LICENCE})")
     add_arguments(parser)
     asked = parser.parse_args(command_line())
@@ -141,7 +151,11 @@ def main() -> None:
     told = Told()
     network, origin = network_in(asked.extract, asked.profile, asked, told)
     if asked.ids:
-        write_table(asked.ids, ("node", "osm_node", "streets"), ((node, origin[node], "; ".join(network.streets[node])) for node in sorted(origin)))
+        write_table(
+            asked.ids,
+            ("node", "osm_node", "streets"),
+            ((node, origin[node], "; ".join(network.streets[node])) for node in sorted(origin)),
+        )
     network.write_shapes(asked.shapes)
     write(TOOL, network.roads, told, asked.cost)
 

@@ -1,30 +1,34 @@
-"""Who may take which way of OpenStreetMap: the one table of its tags. No client trusts it.
+"""The only table of OpenStreetMap's tags: it says who may use which way. No client trusts it.
 
 The tags are those of https://wiki.openstreetmap.org/wiki/Key:highway, Key:access, Key:barrier, Key:oneway and
 Tag:route=ferry. docs/MAPS.md says where routino's table differs, and why.
-Change a row here where your map is used otherwise.
+Change a row here if your map is used differently.
 """
 from dataclasses import dataclass
 
-STREETS = frozenset("primary primary_link secondary secondary_link tertiary tertiary_link unclassified residential "
-                    "living_street service road".split())
+STREETS = frozenset(
+    "primary primary_link secondary secondary_link tertiary tertiary_link unclassified residential "
+    "living_street service road".split()
+)
 TRUNKS = frozenset("trunk trunk_link".split())
 MOTORWAYS = frozenset("motorway motorway_link".split())
-# values of an access tag by which a way or a barrier is open, whatever stands in a more general tag
-OPEN = frozenset("yes designated permissive destination customers official".split())
-# values by which only those pass whom somebody let
-RESTRICTED = frozenset("no private agricultural forestry delivery permit residents limited restricted unsuitable military".split())
-# values that leave a way as open as its kind is
-OTHERS = frozenset("dismount discouraged public unknown use_sidepath".split())
+# values of an access tag that open a way or a barrier, whatever a more general tag says
+OPEN = frozenset("yes designated permissive destination customers official public true".split())
+# values that admit only people with permission
+RESTRICTED = frozenset(
+    "no private agricultural forestry delivery permit residents limited restricted unsuitable military".split()
+)
+# values that change nothing: the kind of the way decides
+OTHERS = frozenset("dismount discouraged unknown use_sidepath".split())
 ONE_WAY = frozenset("yes true 1 -1 reverse reversible".split())
 OPPOSITE = frozenset("opposite opposite_lane opposite_track opposite_share_busway".split())
 
 
 @dataclass(frozen=True)
 class Profile:
-    """Ways that are taken, those that are taken only where `access[0]` is open, the access tags from the one that
-    decides to the most general, the values that close, barriers that are passed, whether one-way streets are taken
-    both ways, and whether roads for motors alone are taken."""
+    """The rules of a profile: the ways that it uses; the ways that it uses only if `access[0]` is open; the access
+    tags, from the most specific to the most general; the values that close a way; the barriers that it passes; whether
+    it uses one-way streets both ways; and whether it uses roads for motor vehicles only."""
 
     taken: frozenset[str]
     asked: frozenset[str]
@@ -41,9 +45,12 @@ PROFILES = {
         asked=frozenset("bridleway busway".split()),
         access=("foot", "access"),
         closed=RESTRICTED | {"use_sidepath"},
-        passed=frozenset("bollard block border_control bump_gate bus_trap cattle_grid chain cycle_barrier entrance full-height_turnstile "
-                         "gate height_restrictor hampshire_gate jersey_barrier kerb kissing_gate lift_gate log motorcycle_barrier "
-                         "planter rope sally_port stile sump_buster swing_gate toll_booth turnstile".split()),
+        passed=frozenset(
+            "bollard block border_control bump_gate bus_trap car_barrier car_trap cattle_grid chain chicane cycle_barrier "
+            "entrance footgate full-height_turnstile gate height_restrictor hampshire_gate horse_barrier horse_jump "
+            "horse_stile jersey_barrier kerb kissing_gate lift_gate log motorcycle_barrier planter post rope sally_port "
+            "squeeze squeeze_stile step_over stile sump_buster swing_gate toll_booth turnstile v_stile".split()
+        ),
         both_ways=True,
     ),
     "cycle": Profile(
@@ -51,8 +58,11 @@ PROFILES = {
         asked=TRUNKS | frozenset("footway pedestrian bridleway busway".split()),
         access=("bicycle", "vehicle", "access"),
         closed=RESTRICTED | {"use_sidepath"},
-        passed=frozenset("bollard block border_control bus_trap cattle_grid cycle_barrier entrance gate height_restrictor kerb lift_gate "
-                         "motorcycle_barrier planter sally_port sump_buster swing_gate toll_booth".split()),
+        passed=frozenset(
+            "bollard block border_control bus_trap car_barrier car_trap cattle_grid chicane cycle_barrier entrance gate "
+            "height_restrictor horse_barrier kerb lift_gate motorcycle_barrier planter post sally_port sump_buster "
+            "swing_gate toll_booth".split()
+        ),
         both_ways=False,
     ),
     "fire": Profile(
@@ -60,7 +70,9 @@ PROFILES = {
         asked=frozenset("footway cycleway path bridleway".split()),
         access=("emergency", "motor_vehicle", "vehicle", "access"),
         closed=frozenset(["no"]),
-        passed=frozenset("border_control cattle_grid entrance gate kerb lift_gate sally_port swing_gate toll_booth".split()),
+        passed=frozenset(
+            "border_control cattle_grid entrance gate kerb lift_gate sally_port swing_gate toll_booth".split()
+        ),
         both_ways=True,
         motors=True,
     ),
@@ -68,13 +80,13 @@ PROFILES = {
 
 
 def closing(profile: Profile, tags: dict[str, str]) -> str | None:
-    """The access tag that closes a way or a barrier; the first of the profile's tags that stands there decides."""
+    """The access tag that closes a way or a barrier. The first of the profile's tags that is present decides."""
     tag = next((tag for tag in profile.access if tag in tags), None)
     return f"{tag}={tags[tag]}" if tag and tags[tag] in profile.closed else None
 
 
 def unknown(profile: Profile, tags: dict[str, str]) -> str | None:
-    """The access tag that decides, where this table has not its value."""
+    """The access tag that decides, if this table does not know its value."""
     tag = next((tag for tag in profile.access if tag in tags), None)
     return f"{tag}={tags[tag]}" if tag and tags[tag] not in OPEN | RESTRICTED | OTHERS else None
 
@@ -84,7 +96,7 @@ def is_roundabout(tags: dict[str, str]) -> bool:
 
 
 def is_one_way(profile: Profile, tags: dict[str, str]) -> bool:
-    """Also where the kind of way says so, unless `oneway=no` stands there."""
+    """Whether a way is one-way, by its tags or by its kind; `oneway=no` prevents the latter."""
     if not profile.both_ways and tags.get("oneway:bicycle") in ONE_WAY:
         return True
     implied = is_roundabout(tags) or tags.get("highway") in ("motorway", "motorway_link")
@@ -92,7 +104,7 @@ def is_one_way(profile: Profile, tags: dict[str, str]) -> bool:
 
 
 def goes_against(tags: dict[str, str]) -> bool:
-    """A one-way street that bicycles take both ways."""
+    """Whether bicycles may use a one-way street both ways."""
     sides = ("cycleway", "cycleway:left", "cycleway:right", "cycleway:both")
     return tags.get("oneway:bicycle") == "no" or any(tags.get(side) in OPPOSITE for side in sides)
 
@@ -102,15 +114,16 @@ def is_ferry(tags: dict[str, str]) -> bool:
 
 
 def refused_ferry(profile: Profile, tags: dict[str, str], ferries: bool) -> str | None:
-    """Why a ferry is not taken: it is taken where it is asked for, and where its access tags say that it takes such people."""
+    """Why a ferry is not used, or None. It is used if ferries are requested and its access tags admit the profile's
+    people."""
     if not ferries:
         return "route=ferry, since --ferries is not asked"
     deciding = next((tag for tag in profile.access if tag in tags), None)
-    return None if deciding and tags[deciding] in OPEN else f"route=ferry, not said to be open to {profile.access[0]}"
+    return None if deciding and tags[deciding] in OPEN else f"route=ferry, not tagged as open to {profile.access[0]}"
 
 
 def refused(profile: Profile, tags: dict[str, str], ferries: bool = False) -> str | None:
-    """Why a way with a `highway` tag, or a ferry, is not taken; None where it is. One-way streets are judged apart."""
+    """Why a way with a `highway` tag, or a ferry, is not used, or None. One-way streets are judged elsewhere."""
     if is_ferry(tags):
         return refused_ferry(profile, tags, ferries)
     kind = tags["highway"]
@@ -125,7 +138,7 @@ def refused(profile: Profile, tags: dict[str, str], ferries: bool = False) -> st
 
 
 def blocked(profile: Profile, tags: dict[str, str]) -> str | None:
-    """Why nobody passes a node: its access tag, beside its barrier where it has one, or the barrier alone."""
+    """Why nobody can pass a node, or None: its barrier, its access tag, or both."""
     barrier = f"barrier={tags['barrier']}" if "barrier" in tags else None
     access = closing(profile, tags)
     if access:

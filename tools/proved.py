@@ -1,8 +1,9 @@
-"""Asks the proved client of a reply: the one place of the tools that knows its library.
+"""Asks the proved client about a reply: the only tool that knows its library.
 
-What it gives is what the client accepted, with the places of its nodes, which the client has out of the reply's leaves
-under the signed root. Where no route joins two nodes, their places are read here, out of the accepted reply. A refused reply gives nothing. docs/LIBRARY.md says what the client's word is worth; no
-client trusts this file, and whoever runs it trusts that it asks.
+It returns the answer that the client accepted, with the places of the nodes. The client reads these places from the
+reply's leaves under the signed root. If no route joins two nodes, this file reads their places from the accepted reply.
+A refused reply gives nothing. docs/LIBRARY.md says what the client's verdict guarantees. No client trusts this file.
+Whoever runs it trusts that it asks the client.
 """
 import argparse
 import pathlib
@@ -21,7 +22,7 @@ sys.path.insert(0, str(TOP / "bindings/python"))
 
 @dataclass(frozen=True)
 class Question:
-    """What was asked, and of whom the answer must be: `end` is a radius where `reach` is set."""
+    """The query, and the key under which the answer must be signed. `end` is a radius if `reach` is set."""
 
     key: str
     reply: str
@@ -31,12 +32,13 @@ class Question:
     chain: str | None
     reach: bool
     library: str
+    max_age: int | None = None
 
 
 @dataclass(frozen=True)
 class Accepted:
-    """What the client accepted: the nodes of the route in order, or those within the radius with their distances,
-    or both ends where no route joins them; each node's place; and the version of the map."""
+    """The accepted answer: the nodes of the route in order, or the nodes within the radius with their distances, or
+    both ends if no route joins them. It also has each node's place and the version of the map."""
 
     kind: str
     nodes: list[int]
@@ -47,8 +49,33 @@ class Accepted:
 
 
 def add_arguments(parser: argparse.ArgumentParser) -> None:
-    parser.add_argument("--reach", action="store_true", help="the reply is one on a radius, and TO is the radius")
-    parser.add_argument("--library", default=str(LIBRARY), metavar="FILE", help="the proved client as bindings/build makes it (in crates/route_check_c/out)")
+    parser.add_argument("--reach", action="store_true", help="the reply is to a range query, and TO is the radius")
+    add_age(parser)
+    parser.add_argument(
+        "--library",
+        default=str(LIBRARY),
+        metavar="FILE",
+        help="the proved client as bindings/build makes it (in crates/route_check_c/out)",
+    )
+
+
+def add_age(parser: argparse.ArgumentParser) -> None:
+    parser.add_argument(
+        "--max-age",
+        type=age_of,
+        metavar="AGE",
+        help="the greatest age of the map by this machine's clock, such as 2d or 36h, if versions are dates",
+    )
+
+
+def age_of(word: str) -> int:
+    """An age in seconds, read by the client's module."""
+    from gogbetiku.age import seconds_of
+
+    try:
+        return seconds_of(word)
+    except ValueError as error:
+        raise argparse.ArgumentTypeError(str(error)) from None
 
 
 def octets_of(path: str) -> bytes:
@@ -56,10 +83,10 @@ def octets_of(path: str) -> bytes:
 
 
 def key_of(path: str) -> str:
-    """A public key, out of the file of hex digits that `road_proof key` writes."""
+    """The public key in a file of hex digits that `road_proof key` has written."""
     text = octets_of(path).decode("ascii", "replace").strip()
     if len(text) != 112 or not all(digit in string.hexdigits for digit in text):
-        raise Trouble(f"{path}: no public key in hex digits")
+        raise Trouble(f"{path}: not a public key in hex digits")
     return text
 
 
@@ -68,19 +95,22 @@ def places_of(nodes: list[Any]) -> dict[int, Place]:
 
 
 def accepted(question: Question) -> Accepted:
-    """What the client accepts of the reply to the question. A refusal is a Trouble with the client's own line."""
+    """Returns the answer that the client accepts. Raises a Trouble with the client's own line if it refuses the
+    reply."""
     import gogbetiku
 
     if not pathlib.Path(question.library).exists():
-        raise Trouble(f"{question.library}: the proved client is not there: bindings/archive and bindings/build make it (docs/LIBRARY.md)")
+        raise Trouble(
+            f"{question.library}: the proved client is not there: bindings/archive and bindings/build make it (docs/LIBRARY.md)"
+        )
     chain = octets_of(question.chain) if question.chain else b""
-    client = gogbetiku.Client(key_of(question.key), chain, library=question.library)
+    client = gogbetiku.Client(key_of(question.key), chain, library=question.library, max_age=question.max_age)
     octets = octets_of(question.reply)
-    check = client.check_reach if question.reach else client.check_route
+    check: Any = client.check_reach if question.reach else client.check_route
     try:
         found = check(octets, question.start, question.end, question.least)
     except gogbetiku.Refused as refusal:
-        raise Trouble(f"{question.reply}: {refusal.line}") from None
+        raise Trouble(f"{question.reply}: {refusal.line or refusal}") from None
     except ValueError as error:
         raise Trouble(str(error)) from None
     if isinstance(found, gogbetiku.NoRoute):

@@ -1,8 +1,9 @@
-"""What owners have signed, out of publications and replies, and by whom, by the proved client's word.
+"""Finds the signed headers in publications and replies, and the keys that signed them. The proved client verifies each
+signature.
 
-A signature is verified by `PROGRAM check` over a reply with that header and nothing behind it: its verdict is one that
-comes behind the look at signatures where the header is signed. No client trusts this file; whoever runs it trusts that
-it asks.
+It lets `PROGRAM check` judge a reply that has this header and nothing after it. If the header is signed, the reply
+fails one of the tests that follow the test of the signature. No client trusts this file. Whoever runs it trusts that it
+asks the client.
 """
 import hashlib
 import os
@@ -12,18 +13,19 @@ import subprocess
 import tempfile
 from typing import NamedTuple
 
+from offsets import HEADER, IN_ANSWER, IN_PUBLICATION, IN_RANGE_REPLY, NODES, SIGNATURE, VERSION
 from roads import Trouble
 
-# where the header begins, by the octets that a publication, a range reply and two kinds of replies begin with
-FORMS = {b"RPP1": 4, b"RPN1": 4, b"\x00RPF": 1, b"\x03RPF": 1}
-HEADER, LINK, KEY_DIGITS = 104, 56, 112
-# the verdicts that come only where a header is signed
+# the offset of the header, by the first octets of a publication, a range reply and two kinds of replies
+FORMS = {b"RPP1": IN_PUBLICATION, b"RPN1": IN_RANGE_REPLY, b"\x00RPF": IN_ANSWER, b"\x03RPF": IN_ANSWER}
+LINK, KEY_DIGITS = 56, 112
+# the verdicts that occur only if a header is signed
 BEHIND_SIGNATURES = {"BadCover", "RepeatedNode", "BadRoute", "MissingTuple", "MissingPair", "Shorter", "Disagrees"}
 CHAIN_MARK, MOST_LINKS = b"RPL1", 7
 
 
 class Signed(NamedTuple):
-    """A header and a signature beside it."""
+    """A header and its signature."""
 
     header: bytes
     signature: bytes
@@ -43,27 +45,27 @@ class Signed(NamedTuple):
 
 
 def version_of(header: bytes) -> int:
-    return int.from_bytes(header[8:16], "big")
+    return int.from_bytes(header[VERSION:NODES], "big")
 
 
 def signed_in(octets: bytes) -> Signed | None:
-    """What a publication or a reply says that it is signed by, or None."""
+    """The header and the signature in a publication or a reply, or None. Nothing is verified."""
     at = FORMS.get(octets[:4])
-    if at is None or len(octets) < at + 106 or octets[at : at + 4] != b"RPF1":
+    if at is None or len(octets) < at + SIGNATURE or octets[at : at + 4] != b"RPF1":
         return None
-    size = int.from_bytes(octets[at + HEADER : at + 106], "big")
-    signature = octets[at + 106 : at + 106 + size]
+    size = int.from_bytes(octets[at + HEADER : at + SIGNATURE], "big")
+    signature = octets[at + SIGNATURE : at + SIGNATURE + size]
     return Signed(octets[at : at + HEADER], signature) if len(signature) == size >= 4 else None
 
 
 def bare_reply(signed: Signed) -> bytes:
-    """A reply with this header and signature, a route of one node and nothing behind it."""
+    """A reply with this header and signature, a route of one node and nothing after it."""
     size = len(signed.signature).to_bytes(2, "big")
     return b"\0" + signed.header + size + signed.signature + (1).to_bytes(4, "big") * 2 + bytes(16)
 
 
 def program_of(word: str) -> str:
-    """The program that a word names, on the path or as a file."""
+    """The program that an argument names, on the path or as a file."""
     found = shutil.which(word) or shutil.which(os.path.abspath(word))
     if found is None:
         raise Trouble(f"{word}: there is no such program")
@@ -75,12 +77,12 @@ def key_of(path: str) -> str:
     with open(path, "rb") as file:
         octets = file.read(4096)
     if not re.fullmatch(rb"[0-9a-fA-F]{%d}(\r?\n)?" % KEY_DIGITS, octets):
-        raise Trouble(f"{path}: it is no public key of {KEY_DIGITS} hex digits")
+        raise Trouble(f"{path}: it is not a public key of {KEY_DIGITS} hex digits")
     return octets[:KEY_DIGITS].decode("ascii").lower()
 
 
 def keys_of(path: str) -> list[str]:
-    """The keys that the links of a chain file name, in their order."""
+    """The keys that the links of a chain file name, in order."""
     with open(path, "rb") as file:
         octets = file.read()
     keys: list[str] = []
@@ -89,21 +91,23 @@ def keys_of(path: str) -> list[str]:
         end = at + 4 + LINK + 2
         size = int.from_bytes(octets[end - 2 : end], "big")
         if octets[at : at + 4] != CHAIN_MARK or end + size > len(octets) or len(keys) == MOST_LINKS:
-            raise Trouble(f"{path}: it is no chain file, from offset {at} on")
+            raise Trouble(f"{path}: it is not a chain file: it cannot be read from offset {at} on")
         keys.append(octets[at + 4 : end - 2].hex())
         at = end + size
     return keys
 
 
 class Client:
-    """The proved client, under an owner's public key and, where one is named, along a chain."""
+    """The proved client, under an owner's public key and along a chain if one is given."""
 
     def __init__(self, program: str, key: str, chain: str | None = None):
         self.program, self.key, self.chain = program_of(program), key, chain
         self.keys = [key_of(key), *(keys_of(chain) if chain else [])]
 
-    def check(self, key: str, reply: str, start: int, end: int, least: int, chain: str | None) -> tuple[int, list[str], str]:
-        """How `check` ends: its status, the words that it writes, and what it says."""
+    def check(
+        self, key: str, reply: str, start: int, end: int, least: int, chain: str | None
+    ) -> tuple[int, list[str], str]:
+        """Runs `check`. Returns its status, the words on standard output, and the message."""
         words = [self.program, "check", key, reply, str(start), str(end), str(least), *([chain] if chain else [])]
         done = subprocess.run(words, capture_output=True, text=True, errors="replace", check=False)
         return done.returncode, done.stdout.split(), done.stderr.strip()
@@ -119,7 +123,8 @@ class Client:
         raise Trouble(f"{self.program} check ended with status {status}: {said}")
 
     def signer(self, signed: Signed) -> str | None:
-        """The public key that has signed a header: the owner's, or one that its chain names; None where none has."""
+        """The public key that has signed a header: the owner's, or one that the chain names. None if none of them has
+        signed it."""
         with tempfile.TemporaryDirectory() as folder:
             reply, one = os.path.join(folder, "reply"), os.path.join(folder, "key")
             _write(reply, bare_reply(signed))

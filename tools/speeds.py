@@ -1,7 +1,7 @@
-"""How fast somebody goes on which way: a table of the owner's, for maps whose lengths are seconds. No client trusts it.
+"""Reads the owner's table of speeds on each kind of way, for maps whose lengths are seconds. No client trusts it.
 
-Its columns, parted by tabs, are `highway`, `surface` and `km/h`. `*` stands for any word, a ferry's kind is `ferry`, and
-the row that says most of a way decides, its kind before its surface.
+Its columns, separated by tabs, are `highway`, `surface` and `km/h`. `*` matches any word, and a ferry's kind is `ferry`.
+The most specific row for a way decides; a match of the kind counts before a match of the surface.
 """
 from roads import Trouble, read_table
 
@@ -10,19 +10,20 @@ MOST = 1_000.0
 
 
 class Speeds:
-    """Metres a second by a way's tags."""
+    """The speed on a way, in metres a second, by the way's tags."""
 
     def __init__(self, path: str):
-        self.path, self.rows = path, {}
+        self.path = path
+        self.rows: dict[tuple[str, str], float] = {}
         for row in read_table(path):
             try:
                 key, speed = (row["highway"], row["surface"]), float(row["km/h"])
             except (KeyError, ValueError):
                 raise Trouble(f"{path}: a row without `highway`, `surface` or a number of `km/h`") from None
             if not 0 < speed <= MOST:
-                raise Trouble(f"{path}: {' '.join(key)}: {speed} km/h is no speed")
+                raise Trouble(f"{path}: {' '.join(key)}: {speed} km/h is not a speed")
             if key in self.rows:
-                raise Trouble(f"{path}: {' '.join(key)}: it stands twice")
+                raise Trouble(f"{path}: {' '.join(key)}: it occurs twice")
             self.rows[key] = speed / 3.6
 
     def of(self, tags: dict[str, str], where: str) -> float:

@@ -7,17 +7,18 @@
     GET /v1/p/ID/reach?from=S&radius=R     a reply on the nodes within R of S
     GET /v1/p/ID/publication               the publication itself
     GET /v1/route .. /v1/reach .. /v1/publication, each with &least=V or without
-                                           the way to the same over the newest publication
+                                           a redirect to the same over the newest publication
     GET /v1/info /v1/chain /v1/health /v1/ready /metrics
 
-**Nobody trusts this program**, as nobody trusts a server of replies: whoever uses a reply checks it with the
-owner's public key. ID is the front of the SHA-256 of a publication's header and signature, so an address names one
-publication for ever, its answer may be kept by any cache, and each replica gives the same octets.
-`web/openapi.json` describes each path. Its parts are in `gateway_parts`.
+**Nobody trusts this program** or any other server: whoever uses a reply checks it with the owner's public key. ID is
+the beginning of the SHA-256 of a publication's header and signature. So a URL names one publication for ever, any cache
+may keep its answer, and each replica gives the same octets. `web/openapi.json` describes each path. Its parts are in
+`gateway_parts`.
 
-A file that is moved into the place of PUB or CHAIN is taken: new `serve` are built beside those that there are and take
-over. What is moved to PUB.next is answered by its ID, and announced once it is moved to PUB. A `serve` is started anew
-before its frames end, and after any death. One event loop works on all of it, and Debian's python3-h11 reads the heads.
+When a file is moved to PUB or CHAIN, the gateway starts new `serve` processes beside the old ones, and the new ones
+take over. When a publication is moved to PUB.next, the gateway answers under its ID. When it is moved to PUB, the
+gateway announces it. The gateway restarts a `serve` before its frames end, and after any death. One event loop does all
+this, and Debian's python3-h11 reads the heads of requests.
 """
 
 import asyncio
@@ -31,7 +32,9 @@ import time
 try:
     import h11  # noqa: F401
 except ModuleNotFoundError:
-    sys.stderr.write(f"gateway: {sys.executable} has no h11: apt-get install python3-h11, and call it by /usr/bin/python3.\n")
+    sys.stderr.write(
+        f"gateway: {sys.executable} has no h11: apt-get install python3-h11, and call it by /usr/bin/python3.\n"
+    )
     sys.exit(2)
 
 from gateway_parts.answers import Answers  # noqa: E402
@@ -45,7 +48,7 @@ END_SECONDS = 10
 
 
 async def serve(options: Options) -> None:
-    """Answers until a signal; what is asked by then is still answered, for a while."""
+    """Answers requests until a signal. For a while it still answers the requests that have begun by then."""
     counts = Counts()
     keeper = Keeper(options, counts)
     server = Server(options, Answers(options, keeper, counts), counts)
@@ -75,7 +78,7 @@ async def serve(options: Options) -> None:
 
 def main(words: list[str]) -> int:
     options = options_of(words, (__doc__ or "").splitlines()[0])
-    # a thread that has packed an answer is not kept from handing it over
+    # a thread that has compressed an answer can hand it over at once
     sys.setswitchinterval(0.0005)
     logging.basicConfig(handlers=[Lines()], level=logging.WARNING)
     if sys.version_info < (3, 12):
@@ -86,5 +89,5 @@ def main(words: list[str]) -> int:
 
 if __name__ == "__main__":
     status = main(sys.argv[1:])
-    # a thread that a dead disk holds up does not hold up the end
+    # a thread that waits for a dead disk does not delay the end
     os._exit(status)

@@ -1,14 +1,15 @@
 /**
- * Plays what a caller may hand the module: node play_calls.mjs FOLDER
+ * Tests what a caller may pass to the module: node play_calls.mjs FOLDER
  *
- * FOLDER has the package, and cases.json that web/play.py wrote. Hashes right, wrong and malformed, of a file, of fetched
- * octets and of octets; numbers of each kind; a worker that is ended, that fails without a text, or is asked too much; and
- * servers that stop midway, of the module and of the page's replies. Ends with status 1 where anything differs. Nobody trusts this file.
+ * FOLDER has the package, and cases.json as web/play.py wrote it. Covers right, wrong and malformed hashes of a file,
+ * of fetched octets and of octets; numbers of each kind; a worker that is ended, fails without a text, or gets too many
+ * requests; and servers of the module and of the page's replies that stop midway. Exits with status 1 if anything
+ * differs. Nobody trusts this file.
  */
 import { createHash } from "node:crypto";
 import { readFile } from "node:fs/promises";
 import { createServer } from "node:http";
-import { Client, Refused, load } from "./route_check.mjs";
+import { Client, Refused, load, noneYoung } from "./route_check.mjs";
 import { WorkerClient } from "./route_check_worker.mjs";
 import { Server } from "./server.mjs";
 
@@ -25,7 +26,7 @@ function same(what, seen, wanted) {
     if (seen !== wanted) differ.push(`${what}: ${seen}, and not ${wanted}`);
 }
 
-/** The class of the error that a call ends with, and whether its text has a word; or what the call gives. */
+/** Returns the class of a call's error, and whether its text has a word; or what the call returns. */
 async function ended(call, word = "") {
     try {
         const found = await call();
@@ -36,7 +37,7 @@ async function ended(call, word = "") {
     }
 }
 
-/** Answers with the module, with a part of it before the connection is cut, or with no such place. */
+/** Serves the module, or a part of it before the connection is cut, or 404. */
 function serving(request, response) {
     if (request.url === "/none") return response.writeHead(404).end();
     response.writeHead(200, { "content-type": "application/wasm", "content-length": wasm.length });
@@ -69,14 +70,23 @@ async function numbers() {
         from: (value) => client.checkRoute(octets, value, to, 0),
         to: (value) => client.checkRoute(octets, from, value, 0),
         radius: (value) => client.checkReach(octets, from, value, 0),
+        ids: (value) => client.nearest(octets, from, 9, [from, value], 0),
+        count: (value) => client.nearest(octets, from, 9, [from], 0, { count: value }),
         memory: (value) => new Client(key, { memory: value }),
         mostOctets: (value) => new Client(key, { mostOctets: value }),
+        maxAge: (value) => new Client(key, { maxAge: value }),
+        floor: (value) => new Client(key, { maxAge: 9 }).leastToAsk(value),
+        now: (value) => client.checkRoute(octets, from, to, 0, { now: value }),
     };
+    const sentence = (value) => ended(() => { throw noneYoung(value); }, "maxAge");
+    for (const value of kinds) same(`the sentence on an age of ${String(value)}`, await sentence(value), "TypeError");
+    for (const value of ranges) same(`the sentence on an age of ${value}`, await sentence(value), "RangeError");
+    same("the sentence on an age of 60", await sentence(60), "Refused NoneYoung");
     for (const [name, call] of Object.entries(calls)) {
         for (const value of kinds) same(`${name} of ${String(value)}`, await ended(() => call(value), name), "TypeError");
         for (const value of ranges) same(`${name} of ${value}`, await ended(() => call(value), name), "RangeError");
     }
-    for (const name of ["from", "to", "mostOctets"]) same(`${name} of 2^32`, await ended(() => calls[name](2 ** 32), name), "RangeError");
+    for (const name of ["from", "to", "ids", "mostOctets"]) same(`${name} of 2^32`, await ended(() => calls[name](2 ** 32), name), "RangeError");
     same("memory of 2^32 + 1", await ended(() => calls.memory(2 ** 32 + 1), "memory"), "RangeError");
     same("least that is left out", await ended(() => calls.least(undefined), "least"), "TypeError");
     for (const value of [0, -0, 1n, 3]) same(`least of ${value}`, await ended(() => calls.least(value)), "gives route");
@@ -86,21 +96,23 @@ async function numbers() {
     same("mostOctets that is a BigInt", await ended(() => new Client(key, { mostOctets: 9n }).checkRoute(octets, from, to, 0)), "Refused TooLong");
     for (const simple of ["false", 0, null]) same(`simple of ${simple}`, await ended(() => client.checkRoute(octets, from, to, 0, { simple }), "simple"), "TypeError");
     for (const chain of [null, "00", 5]) same(`a chain of ${chain}`, await ended(() => new Client(key, { chain }), "chain"), "TypeError");
+    for (const value of [null, 5, undefined, "12", {}, () => 7]) same(`ids of ${value}`, await ended(() => client.nearest(octets, from, 9, value, 0), "ids"), "TypeError");
+    for (const value of [[], [from, from], new Set([1n]), new Uint32Array(9)]) same("ids", await ended(() => client.nearest(octets, from, 9, value, 0)), "Refused Malformed");
     for (const value of [null, 5, undefined, [1]]) {
         same(`a reply of ${value}`, await ended(() => client.checkRoute(value, from, to, 0), "reply"), "TypeError");
         same(`a key of ${value}`, await ended(() => new Client(value), "key"), "TypeError");
     }
 }
 
-/** The worker's own script, but with a client whose check fails without a text, or never ends. */
+/** The worker's script with a client whose check fails without a text, or never ends. */
 async function altered(check) {
     const text = (name) => readFile(`${folder}/${name}`, "utf8");
-    const client = (await text("route_check.mjs")).replace("checkRoute(reply, from, to, least, { simple = false } = {}) {", `$& ${check}`);
-    const worker = (await text("route_check_worker.mjs")).replace(/^import \{[^}]*\} from "\.\/route_check\.mjs";\n/m, "");
-    return new URL(`data:text/javascript,${encodeURIComponent(client + worker)}`);
+    const client = (await text("route_check.mjs")).replace("checkRoute(reply, from, to, least, { simple = false, now = clock() } = {}) {", `$& ${check}`);
+    const whole = (await text("age.mjs")) + client + (await text("route_check_worker.mjs"));
+    return new URL(`data:text/javascript,${encodeURIComponent(whole.replace(/^import \{[^}]*\} from "\.\/(age|route_check)\.mjs";\n/gm, ""))}`);
 }
 
-/** How long a call takes to end, in seconds, and how it ends. */
+/** Returns how many seconds a call takes, and how it ends. */
 async function timed(call, word) {
     const began = performance.now();
     const how = await ended(call, word);
@@ -111,6 +123,8 @@ async function workers() {
     const client = await WorkerClient.start(key);
     const check = (it, ...least) => () => it.checkRoute(octets, from, to, ...(least.length ? least : [0]));
     same("a worker", await ended(check(client)), "gives route");
+    same("a worker, of the nearest", await ended(() => client.nearest(octets, from, 9, [from], 0, { count: 1 })), "Refused Malformed");
+    same("a worker, of wrong ids", await ended(() => client.nearest(octets, from, 9, [-1], 0), "ids"), "RangeError");
     same("a worker, with a wrong kind", await ended(check(client, ""), "least"), "TypeError");
     same("a worker, with a wrong number", await ended(check(client, NaN), "least"), "RangeError");
     same("a worker, behind them", await ended(check(client)), "gives route");

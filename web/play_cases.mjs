@@ -1,16 +1,23 @@
 /**
- * Plays the module beside the library, case by case: node play_cases.mjs FOLDER [--long]
- * FOLDER has the package and the cases that web/play.py wrote. Nobody trusts this file.
+ * Compares the module with the library, case by case: node play_cases.mjs FOLDER [--long]
+ *
+ * FOLDER has the package and the cases as web/play.py wrote them. Nobody trusts this file.
  */
 import { Client, Refused, load } from "./route_check.mjs";
 
-/** What the module says of a case, in the words of cases.json. */
+function asked(client, one, [reply, from, end, least]) {
+    if (one.ask === "nearest") return client.nearest(reply, from, end, one.ids, least, one.count === null ? {} : { count: one.count });
+    return one.ask === "reach" ? client.checkReach(reply, from, end, least) : client.checkRoute(reply, from, end, least, { simple: one.simple });
+}
+
+/** Returns the module's result for a case, in the words of cases.json. */
 function said(client, one, reply) {
-    const words = [reply, one.from, one.ask === "reach" ? BigInt(one.end) : one.end, BigInt(one.least)];
+    const words = [reply, one.from, one.ask === "route" ? one.end : BigInt(one.end), BigInt(one.least)];
     try {
-        const found = one.ask === "reach" ? client.checkReach(...words) : client.checkRoute(...words, { simple: one.simple });
+        const found = asked(client, one, words);
         const nodes = found.nodes?.map(({ id, x, y, distance }) => [id, x, y, `${distance ?? ""}`]);
-        return { code: found.kind === "no route" ? 2 : 1, version: `${found.version}`, nodes, length: `${found.length ?? ""}` };
+        const code = found.kind === "no route" ? 2 : found.inside === 0 ? 19 : 1;
+        return { code, version: `${found.version}`, nodes, length: `${found.length ?? ""}`, inside: found.inside };
     } catch (error) {
         if (!(error instanceof Refused)) throw error;
         const { code, kind, first, second, line, sentence } = error;
@@ -18,7 +25,7 @@ function said(client, one, reply) {
     }
 }
 
-/** Whether all that a case tells was said; the vectors tell a line with its end, and no places. */
+/** Tests whether the result has everything that a case gives; the vectors give a line with its end, and no coordinates. */
 function agrees(told, seen) {
     return Object.entries(told).every(([name, value]) => {
         if (name !== "line") return JSON.stringify(seen[name]) === JSON.stringify(value);
@@ -26,7 +33,7 @@ function agrees(told, seen) {
     });
 }
 
-/** The cases that differ, and how many there were of each code. */
+/** Returns the cases that differ, and the number of cases for each code. */
 export function compare({ cases }, octets) {
     const clients = new Map();
     const differ = [];
@@ -45,7 +52,7 @@ export function digits(text) {
     return Uint8Array.from(text.match(/../g) ?? [], (two) => parseInt(two, 16));
 }
 
-/** How a check is refused, or what it accepts. */
+/** Returns how a check is refused, or what it accepts. */
 function kindOf(check) {
     try {
         return check().kind;
@@ -55,7 +62,7 @@ function kindOf(check) {
     }
 }
 
-/** Turns a bit in so many of a reply, which is then never accepted. */
+/** Flips every `stride`-th bit of a reply, one at a time; the reply is then never accepted. */
 function bits({ key, bits: replies }, stride) {
     const differ = [];
     for (const { from, to, reply } of replies) {
@@ -71,7 +78,7 @@ function bits({ key, bits: replies }, stride) {
     return differ;
 }
 
-/** Under each limit of memory a check is refused as NoMemory, or accepts, and from some limit on it accepts. */
+/** Under each memory limit a check is refused as NoMemory or accepts, and from some limit on it accepts. */
 function limits({ key, bits: replies }, step) {
     const differ = [];
     for (const { from, to, reply } of replies) {
@@ -86,7 +93,7 @@ function limits({ key, bits: replies }, step) {
     return differ;
 }
 
-/** What is no case: lengths, wrong words, and a check behind one that had no memory. */
+/** Checks beyond the cases: lengths, wrong arguments, and a check after one that ran out of memory. */
 function edges({ key, bits: [{ from, to, reply }] }) {
     const octets = digits(reply);
     const client = new Client(key, { mostOctets: octets.length });
@@ -114,7 +121,7 @@ function edges({ key, bits: [{ from, to, reply }] }) {
     return differ;
 }
 
-/** Eight workers at once, each with checks of its own. */
+/** Runs eight workers at once, each with its own checks. */
 async function workers({ key, bits: replies }) {
     const { WorkerClient } = await import("./route_check_worker.mjs");
     const clients = await Promise.all(Array.from({ length: 8 }, () => WorkerClient.start(key)));

@@ -1,35 +1,36 @@
 /**
- * Checks replies in a worker, so that a page goes on meanwhile: of browsers, or of Node. A check that takes
- * longer than `seconds` ends the worker, and is an error.
+ * Checks replies in a worker of a browser or of Node, so that a page stays responsive. A check that takes longer than
+ * `seconds` ends the worker and is an error.
  *
  *     const client = await WorkerClient.start(key, { chain });
  *     const found = await client.checkRoute(reply, from, to, least);
  *     client.end();
  *
- * `place` is the address of the worker's own script, this module's where nothing is said: a page that takes the
- * script by its hash gives the address of those octets.
+ * `place` is the address of the worker's script, by default this module's. A page that loads the script by its hash
+ * passes the address of those octets.
  */
-import { Client, Refused, load } from "./route_check.mjs";
+import { Client, Refused, load, noneYoung } from "./route_check.mjs";
 
 const THREADS = globalThis.process?.versions?.node ? await import("node:worker_threads") : undefined;
 
-/** The errors of a wrong argument keep their class on the way out of the worker. */
+/** Errors of wrong arguments keep their class on the way out of the worker. */
 const ERRORS = new Map([RangeError, TypeError].map((error) => [error.name, error]));
 
 export class WorkerClient {
     #worker;
     #seconds;
+    #maxAge;
     #asked = new Map();
     #count = 0;
-    /** Why no more is asked of the worker. */
+    /** Why the worker takes no more requests. */
     #ended;
 
-    /** `options` are those of `Client`, `seconds` and `place`. */
+    /** `options` are those of `Client`, and `seconds` and `place`. */
     static async start(key, { seconds = 30, place = new URL(import.meta.url), ...options } = {}) {
         if (typeof seconds !== "number") throw new TypeError("seconds is a number");
         if (!(seconds > 0 && seconds <= 2_000_000)) throw new RangeError(`seconds is ${seconds}, which is not above 0 and up to 2000000`);
         const client = new WorkerClient();
-        client.#seconds = seconds;
+        [client.#seconds, client.#maxAge, client.name] = [seconds, options.maxAge, options.name ?? ""];
         client.#worker = THREADS ? new THREADS.Worker(place) : new Worker(place, { type: "module" });
         client.#listen({
             message: (said) => client.#take(said),
@@ -54,7 +55,19 @@ export class WorkerClient {
         return this.#ask("checkReach", words);
     }
 
-    /** Ends the worker. What was asked and is not answered, and whatever is asked from here on, is an error. */
+    nearest(...words) {
+        return this.#ask("nearest", words);
+    }
+
+    leastToAsk(...words) {
+        return this.#ask("leastToAsk", words);
+    }
+
+    noneYoung() {
+        return noneYoung(this.#maxAge);
+    }
+
+    /** Ends the worker. Unanswered requests, and all later ones, are errors. */
     end() {
         this.#finish(new Error("the worker was ended"));
     }
@@ -97,7 +110,7 @@ export class WorkerClient {
     }
 }
 
-/** What a message of the page asks of this worker. */
+/** Handles a message from the page. */
 function answering(post) {
     let client;
     return async ({ number, call, words }) => {

@@ -20,7 +20,7 @@ func Example() {
 	if errors.As(err, &refused) {
 		fmt.Println(refused.Kind, refused.First, refused)
 	}
-	// Output: Malformed 0 The octets are no reply: the field at offset 0 can't be read.
+	// Output: Malformed 0 The octets are not a reply: the field at offset 0 can't be read.
 }
 
 func TestKeys(t *testing.T) {
@@ -44,7 +44,9 @@ func TestRefusals(t *testing.T) {
 	client, _ := gogbetiku.NewClient(make([]byte, 56), nil)
 	_, route := client.CheckRoute(nil, 1, 3, 0, false)
 	_, reach := client.CheckReach(nil, 1, 3, 0)
-	for _, err := range []error{route, reach} {
+	_, nearest := client.Nearest(nil, 1, 3, []uint32{2, 1}, 0, 1)
+	_, none := client.Nearest(nil, 1, 3, nil, 0, -1)
+	for _, err := range []error{route, reach, nearest, none} {
 		refused, isRefused := err.(*gogbetiku.Refused)
 		if !isRefused || refused.Kind != gogbetiku.Malformed || refused.Line != "refused Malformed 0" {
 			t.Errorf("no octets: %v", err)

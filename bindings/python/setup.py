@@ -1,6 +1,7 @@
-"""What pyproject.toml can't say: a wheel with libgogbetiku.so.0 beside the module is for that library's machine, and says
-the least C library (glibc) that it runs with. bindings/wheel builds it."""
+"""Does what pyproject.toml can't do: a wheel with libgogbetiku.so.0 beside the module is for that library's machine,
+and names the least C library (glibc) that it needs. bindings/wheel builds it."""
 
+# mypy: disallow-subclassing-any=False
 from __future__ import annotations
 
 import pathlib
@@ -8,30 +9,32 @@ import re
 import subprocess
 
 from setuptools import Distribution, setup
-from wheel.bdist_wheel import bdist_wheel  # type: ignore[import]
+from wheel.bdist_wheel import bdist_wheel
 
 LIBRARY = pathlib.Path(__file__).resolve().parent / "gogbetiku/libgogbetiku.so.0"
-# by the number of the machine in the head of an ELF file
+# the machines by their numbers in the header of an ELF file
 MACHINES = {0x3E: "x86_64", 0xB7: "aarch64"}
 ABOUT = "Checks routes against the public key of the map's owner"
 
 
 def least_glibc() -> str:
-    """The newest version of glibc that one of the library's symbols asks for."""
-    said = subprocess.run(["readelf", "-W", "--version-info", LIBRARY], capture_output=True, text=True, check=True).stdout
+    """The newest version of glibc that one of the library's symbols needs."""
+    said = subprocess.run(
+        ["readelf", "-W", "--version-info", LIBRARY], capture_output=True, text=True, check=True
+    ).stdout
     versions: list[str] = re.findall(r"GLIBC_(\d+(?:\.\d+)+)", said)
     return max(versions, key=lambda version: [*map(int, version.split("."))])
 
 
 class WithLibrary(Distribution):
-    """What is a machine's own where the library is in it."""
+    """A distribution that is specific to a machine if it contains the library."""
 
     def has_ext_modules(self) -> bool:
         return LIBRARY.exists()
 
 
-class Wheel(bdist_wheel):  # type: ignore[misc]
-    """A wheel of no Python's own, and of a machine's where the library is in it. The tag claims no manylinux."""
+class Wheel(bdist_wheel):
+    """A wheel for any Python 3, and for one machine if it contains the library. Its tag does not claim manylinux."""
 
     def get_tag(self) -> tuple[str, str, str]:
         if not LIBRARY.exists():

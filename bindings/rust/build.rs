@@ -1,5 +1,5 @@
-//! Where the C library lies: in the folder that GOGBETIKU_LIB names, or where the linker looks by itself. GOGBETIKU_STATIC
-//! takes libgogbetiku.a, which leaves no library to install.
+//! Finds the C library: in the folder named by GOGBETIKU_LIB, or where the linker looks. With GOGBETIKU_STATIC it links
+//! libgogbetiku.a, so that no library needs to be installed.
 
 fn main() {
     println!("cargo:rerun-if-env-changed=GOGBETIKU_LIB");

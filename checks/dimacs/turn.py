@@ -1,39 +1,43 @@
 #!/usr/bin/env python3
-"""Turns a piece of a file of the DIMACS challenge's form into a publication, and compares distances.
+"""Converts a piece of a file in the form of the DIMACS challenge into a publication, and compares distances.
 
     checks/dimacs/turn.py PROGRAM [SEED]
 
-PROGRAM is the built program (crates/road_proof/out/road_proof after `rt run`). A graph file and a
-coordinate file of the form of the 9th DIMACS Implementation Challenge are made: a street-like map of
-220 by 220 crossings, an arc in each direction for each street, some streets twice, a few arcs from a
-crossing to itself, and comment lines. A connected piece of 20,000 nodes is cut out of it, with its
-ids from 1 on, in the form of the challenge again.
+PROGRAM is the built program (crates/road_proof/out/road_proof after `rt run`). The script makes a graph file and a
+coordinate file in the form of the 9th DIMACS Implementation Challenge: a street-like map of 220 by 220 crossings, with
+an arc in each direction for each street, some streets twice, a few arcs from a crossing to itself, and comment lines.
+It cuts out a connected piece of 20,000 nodes, with ids from 1 on, in the same form.
 
-`dimacs` turns the piece into a road file, `publish` signs it under DIJ and under LDM, and each of 15
-pairs is proved and checked under both. The accepted length must be networkx's distance over the
-directed arcs of the piece, and the accepted route a path of that length along its arcs. A piece of
-which one arc's length is changed must be refused, and by that arc's index.
-It needs networkx (Debian: python3-networkx) and exits with 1 at the first difference.
+`dimacs` converts the piece into a road file, `publish` signs it under DIJ and under LDM, and each of 15 pairs is proved
+and checked under both. The accepted length must be networkx's distance over the directed arcs of the piece. The
+accepted route must be a path of that length along these arcs. If the length of one arc is changed, the piece must be
+refused with that arc's index. It needs networkx (Debian: python3-networkx) and exits with 1 at the first difference.
 """
 import collections
 import random
-import subprocess
 import sys
 import tempfile
 import time
+from collections.abc import Iterator
+from pathlib import Path
 
 import networkx
 
+sys.path.insert(0, str(Path(__file__).resolve().parents[1]))
+
+from common.runs import Ended, outcome  # noqa: E402
+
 SIDE = 220
 PIECE = 20_000
+Arc = tuple[int, int, int]
 METHODS = (("dij", "0", "0", "0"), ("ldm", "8", "10", "0"))
 
 
-def make_files(draw, graph_name, places_name):
+def make_files(draw: random.Random, graph_name: str, places_name: str) -> None:
     """Writes a graph and its coordinates in the form of the challenge."""
-    arcs = []
+    arcs: list[Arc] = []
 
-    def street(a, b):
+    def street(a: int, b: int) -> None:
         length = draw.randrange(1, 3000)
         arcs.append((a, b, length))
         arcs.append((b, a, length))
@@ -51,7 +55,9 @@ def make_files(draw, graph_name, places_name):
     draw.shuffle(arcs)
     with open(graph_name, "w", encoding="ascii") as file:
         file.write("c 9th DIMACS Implementation Challenge: Shortest Paths\nc http://www.dis.uniroma1.it/~challenge9\n")
-        file.write(f"c graph of made streets\nc\np sp {SIDE * SIDE} {len(arcs)}\nc graph contains {SIDE * SIDE} nodes\n")
+        file.write(
+            f"c graph of made streets\nc\np sp {SIDE * SIDE} {len(arcs)}\nc graph contains {SIDE * SIDE} nodes\n"
+        )
         for arc in arcs:
             file.write("a %d %d %d\n" % arc)
     with open(places_name, "w", encoding="ascii") as file:
@@ -61,18 +67,18 @@ def make_files(draw, graph_name, places_name):
                 file.write(f"v {row * SIDE + column + 1} {column * 900 - 73000000} {row * 900 + 40000000}\n")
 
 
-def lines_of(name, kind):
-    """The numbers of the lines of this kind in a file of the challenge."""
+def lines_of(name: str, kind: str) -> Iterator[tuple[int, ...]]:
+    """The numbers in the lines of one kind in a file of the challenge."""
     with open(name, encoding="ascii") as file:
         for line in file:
             words = line.split()
             if words and words[0] == kind:
-                yield [int(word) for word in words[1:]]
+                yield tuple(int(word) for word in words[1:])
 
 
-def cut(draw, graph_name, places_name):
-    """A connected piece: its places by id from 1 on, and its arcs in the order of the file."""
-    neighbours = collections.defaultdict(list)
+def cut(draw: random.Random, graph_name: str, places_name: str) -> tuple[dict[int, tuple[int, int]], list[Arc]]:
+    """A connected piece: its places by ids from 1 on, and its arcs in the order of the file."""
+    neighbours: dict[int, list[int]] = collections.defaultdict(list)
     arcs = list(lines_of(graph_name, "a"))
     for a, b, _ in arcs:
         neighbours[a].append(b)
@@ -91,7 +97,7 @@ def cut(draw, graph_name, places_name):
     return {number: places[node] for node, number in new_id.items()}, kept
 
 
-def write_piece(folder, name, places, arcs):
+def write_piece(folder: str, name: str, places: dict[int, tuple[int, int]], arcs: list[Arc]) -> None:
     with open(f"{folder}/{name}.gr", "w", encoding="ascii") as file:
         file.write(f"c a piece\nc\np sp {len(places)} {len(arcs)}\n")
         for arc in arcs:
@@ -102,18 +108,17 @@ def write_piece(folder, name, places, arcs):
             file.write("v %d %d %d\n" % (number, *place))
 
 
-def main():
+def main() -> None:
     program = sys.argv[1]
     seed = int(sys.argv[2]) if len(sys.argv) > 2 else 1
     draw = random.Random(seed)
     with tempfile.TemporaryDirectory() as folder:
 
-        def run(*words, status=0, output=None):
-            done = subprocess.run([program, *words], cwd=folder, capture_output=True, check=False)
-            assert done.returncode == status, (words, done.returncode, done.stderr)
+        def run(*words: str, status: int = 0, output: str | None = None) -> Ended:
+            done = outcome([program, *words], folder)
+            assert done[0] == status, (words, done[0], done[2])
             if output:
-                with open(f"{folder}/{output}", "wb") as file:
-                    file.write(done.stdout)
+                Path(folder, output).write_bytes(done[1])
             return done
 
         make_files(draw, f"{folder}/made.gr", f"{folder}/made.co")
@@ -125,9 +130,9 @@ def main():
         took = time.monotonic() - begun
         index = next(i for i, (a, b, _) in enumerate(arcs) if a != b)
         a, b, length = arcs[index]
-        write_piece(folder, "odd", places, arcs[:index] + [(a, b, length + 5000)] + arcs[index + 1:])
+        write_piece(folder, "odd", places, arcs[:index] + [(a, b, length + 5000)] + arcs[index + 1 :])
         refused = run("dimacs", "odd.gr", "odd.co", status=3)
-        assert b"The arc at index %d has no arc back" % index in refused.stderr, refused.stderr
+        assert f"The arc at index {index} has no arc back" in refused[2], refused[2]
 
         graph = networkx.DiGraph()
         graph.add_nodes_from(places)
@@ -144,7 +149,7 @@ def main():
                 expected = networkx.dijkstra_path_length(graph, start, end)
                 run("prove", "piece.pub", str(start), str(end), output="piece.reply")
                 done = run("check", "owner.key", "piece.reply", str(start), str(end), "1")
-                accepted, ids = done.stdout.decode().rstrip("\n").split(":")
+                accepted, ids = done[1].decode().rstrip("\n").split(":")
                 route = [int(word) for word in ids.split()]
                 assert accepted == f"accepted {expected}", (method, start, end, accepted, expected)
                 assert (route[0], route[-1]) == (start, end), (start, end, route)

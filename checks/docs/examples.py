@@ -1,9 +1,9 @@
 #!/usr/bin/env python3
 """Compares the examples at the heads of libraries with tests: checks/docs/examples.py
 
-Each library that another program could want shows its use at the head of its root, in 5 to 15 lines. The same lines, as
-they stand but for what is before all of them, are in a test of a crate of tests, which the gate proves and runs. Ends with
-status 1 where an example is not there, too short or too long, or in no test.
+Each library that other programs could use shows an example of 5 to 15 lines at the head of its root. The same lines,
+apart from their indent, must be in a test of a crate of tests, which the gate proves and runs. Ends with status 1 if an
+example is missing, too short, too long, or in no test.
 """
 import pathlib
 import re
@@ -14,27 +14,27 @@ LIBRARIES = ("route_client", "route_server", "key_desk", "merkle_cover", "lms_tr
 LEAST, MOST = 5, 15
 
 
-def example_of(library):
-    """The lines of the one example at a library's head."""
+def example_of(library: str) -> list[str]:
+    """The lines of the example at a library's head."""
     text = (TOP / "crates" / library / "src/lib.rt").read_text(encoding="utf-8")
     head = [line[3:].removeprefix(" ") for line in text.splitlines() if line.startswith("//!")]
-    found = re.findall(r"```rust\n(.*?)\n```", "\n".join(head), re.S)
+    found: list[str] = re.findall(r"```rust\n(.*?)\n```", "\n".join(head), re.S)
     return found[0].splitlines() if len(found) == 1 else []
 
 
-def stands_in(lines, text):
-    """Whether these lines stand one below the other in a text, all moved as far to the right."""
+def stands_in(lines: list[str], text: str) -> bool:
+    """Whether a text has these lines one below the other, all with the same further indent."""
     of_text = text.splitlines()
     for at in range(len(of_text) - len(lines) + 1):
         before = of_text[at].removesuffix(lines[0])
         if before.strip() == "" and of_text[at].endswith(lines[0]):
             moved = [before + line if line else "" for line in lines]
-            if of_text[at:at + len(lines)] == moved:
+            if of_text[at : at + len(lines)] == moved:
                 return True
     return False
 
 
-def main():
+def main() -> int:
     tests = {path: path.read_text(encoding="utf-8") for path in sorted(TOP.glob("crates/*_tests/src/**/*.rt"))}
     faults = 0
     for library in LIBRARIES:

@@ -1,15 +1,16 @@
 #!/usr/bin/env python3
-"""Plays what the documents show: checks/docs/play.py PROGRAM [DOCUMENT..]
+"""Plays the commands in the documents: checks/docs/play.py PROGRAM [DOCUMENT..]
 
-Takes the commands behind `$ ` and the outputs under them out of README.md, docs/COMMANDS.md, docs/WALKTHROUGH.md,
-docs/BEFORE_YOU_SIGN.md and docs/OPERATING.md, or the documents that are named, types each document's commands into one
-shell in a fresh folder, and compares. A command's output is what stands under it, standard output and standard error together; its status is 0, or
-what an `echo $?` right behind it shows. The fresh folder has what a clone has behind its first build (`out`, `crates/road_proof`
-with `data` and `out`, `tools`, `bindings`, `web` and the archive of the client). `./build` is stood in for by what it does there,
-nothing, and `rt run --` and `rt try --` by the built program, since a proof takes its time. Everything else is run as typed.
+It reads the commands after `$ ` and the outputs below them in README.md, docs/COMMANDS.md, docs/BEFORE_YOU_SIGN.md and
+docs/OPERATING.md, or in the named documents (docs/WALKTHROUGH.md and docs/MAPS.md need the library). It types each
+document's commands into one shell in a fresh folder, and compares. The text below a command must be its standard output
+and standard error together. Its status must be 0, or the number that an `echo $?` right after it shows. The fresh
+folder has the files of a clone after its first build (`out`, `crates/road_proof` with `data` and `out`, `tools`,
+`bindings`, `web` and the archive of the client). A stand-in for `./build` does nothing, and the built program stands in
+for `rt run --` and `rt try --`, since a proof takes too long. Everything else runs as typed.
 
-A block one of whose commands names a tool that this machine lacks is skipped with the rest of its
-document, and said so. Ends with status 1 where an output or a status differs.
+If a command needs a missing tool, its block and the rest of the document are skipped, with a message. Ends with status
+1 if an output or a status differs.
 """
 import os
 import re
@@ -17,27 +18,53 @@ import shutil
 import subprocess
 import sys
 import tempfile
+from collections.abc import Iterator
 
 TOP = os.path.dirname(os.path.dirname(os.path.dirname(os.path.abspath(__file__))))
-DOCUMENTS = ["README.md", "docs/COMMANDS.md", "docs/WALKTHROUGH.md", "docs/BEFORE_YOU_SIGN.md", "docs/OPERATING.md"]
+DOCUMENTS = ["README.md", "docs/COMMANDS.md", "docs/BEFORE_YOU_SIGN.md", "docs/OPERATING.md"]
 ARCHIVE = "crates/route_check_c/out/libroute_check_c.a"
 PROMPT = "$ "
 SECONDS = 120
-# words of the shell's own, and the two programs that this script puts on the path
-KNOWN = {"cd", "echo", "export", "printf", "umask", "exit", "true", "false", "road_proof", "rt", "test", "until", "do", "done", "kill"}
-# what a script of the repository needs beside itself
-NEEDS = {"web/gateway.py": ["python3-h11"], "web/many": ["python3-h11", "nginx", "haproxy"]}
+# the shell's own words, and the two programs that this script puts on the path
+KNOWN = {
+    "cd",
+    "echo",
+    "export",
+    "printf",
+    "umask",
+    "exit",
+    "true",
+    "false",
+    "road_proof",
+    "rt",
+    "test",
+    "until",
+    "do",
+    "done",
+    "kill",
+}
+# the programs that a script of the repository needs
+NEEDS = {
+    "web/gateway.py": ["python3-h11"],
+    "$TOOLS/../web/gateway.py": ["python3-h11"],
+    "web/many": ["python3-h11", "nginx", "haproxy"],
+}
 STAND_IN = """#!/bin/sh
-# Runs the built program in place of `rt run -- WORDS` and `rt try -- WORDS`; where the kit lies, rt itself says.
+# Runs the built program in place of `rt run -- WORDS` and `rt try -- WORDS`. The real rt answers `rt doc`.
 case "$1 $2" in "run --"|"try --") shift 2; exec out/road_proof "$@";; "doc ") exec REAL doc;; esac
 echo "rt: only run --, try -- and doc are stood in for here" >&2
 exit 2
 """
 
 
-def blocks_of(text):
+# the number of a command's line, the command, and the lines below it
+Command = tuple[int, str, list[str]]
+
+
+def blocks_of(text: str) -> Iterator[tuple[int, list[str]]]:
     """The indented blocks of a Markdown text, each a list of lines without the indent, with its first line's number."""
-    block, begins = [], 0
+    block: list[str] = []
+    begins = 0
     for number, line in enumerate(text.split("\n") + ["end"], 1):
         if line.startswith("    "):
             begins = begins or number
@@ -49,9 +76,9 @@ def blocks_of(text):
             block, begins = [], 0
 
 
-def commands_of(path):
-    """The commands of a document: (line number, command, the lines that stand under it)."""
-    commands = []
+def commands_of(path: str) -> list[Command]:
+    """The commands of a document: (line number, command, the lines below it)."""
+    commands: list[Command] = []
     with open(path, encoding="utf-8") as file:
         text = file.read()
     for begins, block in blocks_of(text):
@@ -61,14 +88,14 @@ def commands_of(path):
             block.pop()
         for offset, line in enumerate(block):
             if line.startswith(PROMPT):
-                commands.append((begins + offset, line[len(PROMPT):], []))
+                commands.append((begins + offset, line[len(PROMPT) :], []))
             else:
                 commands[-1][2].append(line)
     return commands
 
 
-def lacking(command):
-    """The first program of a command that this machine lacks."""
+def lacking(command: str) -> str | None:
+    """The first missing program of a command."""
     plain = re.sub(r"'[^']*'|\"[^\"]*\"", "", command)
     for part in re.split(r"\||;|&&|\$\(", plain):
         words = [word for word in part.split() if "=" not in word]
@@ -80,22 +107,25 @@ def lacking(command):
     return None
 
 
-def has_h11():
+def has_h11() -> bool:
     """Whether Debian's Python has the module."""
     return subprocess.run(["/usr/bin/python3", "-c", "import h11"], capture_output=True, check=False).returncode == 0
 
 
-def script_of(commands, results):
-    """A shell's script that types the commands, and keeps the output and the status of each."""
+def script_of(commands: list[Command], results: str) -> str:
+    """A shell script that runs the commands, and keeps the output and the status of each."""
     lines = ["exec < /dev/null", "true"]
     for index, (_, command, _) in enumerate(commands):
-        lines += [f"{{ {command}", f"}} > {results}/{index}.out 2>&1",
-                  f"status=$?; echo $status > {results}/{index}.status; (exit $status)"]
+        lines += [
+            f"{{ {command}",
+            f"}} > {results}/{index}.out 2>&1",
+            f"status=$?; echo $status > {results}/{index}.status; (exit $status)",
+        ]
     return "\n".join(lines) + "\n"
 
 
-def fresh_folder(room, program):
-    """A folder as a clone has it after `rt run`, and the path on which its programs lie."""
+def fresh_folder(room: str, program: str) -> tuple[str, str]:
+    """Makes a folder with the files of a clone after `rt run`. Returns it and the PATH of its programs."""
     crate = f"{room}/clone/crates/road_proof"
     os.makedirs(f"{crate}/out")
     os.makedirs(f"{room}/bin")
@@ -120,13 +150,13 @@ def fresh_folder(room, program):
     return f"{room}/clone", f"{room}/bin:{os.environ.get('PATH', '/usr/bin:/bin')}"
 
 
-def read(path):
+def read(path: str) -> str:
     with open(path, encoding="utf-8", errors="replace") as file:
         return file.read()
 
 
-def play(document, program):
-    """Plays one document. Returns how many commands came as shown, and how many did not."""
+def play(document: str, program: str) -> tuple[int, int]:
+    """Plays one document. Returns the number of commands that gave the shown output, and of those that did not."""
     commands = commands_of(f"{TOP}/{document}")
     if not commands:
         print(f"{document}: shows no command")
@@ -140,7 +170,13 @@ def play(document, program):
         folder, path = fresh_folder(room, program)
         results = f"{room}/results"
         environment = dict(os.environ, PATH=path, LC_ALL="C.UTF-8")
-        subprocess.run(["bash", "-c", script_of(commands, results)], cwd=folder, env=environment, timeout=SECONDS * len(commands), check=False)
+        subprocess.run(
+            ["bash", "-c", script_of(commands, results)],
+            cwd=folder,
+            env=environment,
+            timeout=SECONDS * len(commands),
+            check=False,
+        )
         passed = 0
         for index, (number, command, shown) in enumerate(commands):
             if not os.path.exists(f"{results}/{index}.status"):
@@ -150,17 +186,17 @@ def play(document, program):
             wanted = "".join(f"{line}\n" for line in shown)
             is_told = index + 1 < len(commands) and commands[index + 1][1] == "echo $?"
             if wrote != wanted:
-                print(f"{document}:{number}: `{command}` wrote\n{wrote}and the document shows\n{wanted}", end="")
+                print(f"{document}:{number}: `{command}` wrote\n{wrote}but the document shows\n{wanted}", end="")
             elif status != "0" and not is_told:
-                print(f"{document}:{number}: `{command}` ended with status {status}, and the document doesn't say so")
+                print(f"{document}:{number}: `{command}` ended with status {status}, but the document doesn't say so")
             else:
                 passed += 1
         return passed, len(commands) - passed
 
 
-def main():
+def main() -> None:
     if len(sys.argv) < 2:
-        sys.exit(__doc__.split("\n", 1)[0])
+        sys.exit((__doc__ or "").split("\n", 1)[0])
     program = os.path.abspath(sys.argv[1])
     if not os.path.isfile(program):
         sys.exit(f"checks/docs/play.py: there is no program {program}")

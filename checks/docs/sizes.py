@@ -1,38 +1,71 @@
 #!/usr/bin/env python3
-"""Counts what the documents may have: checks/docs/sizes.py
+"""Compares the documents with their limits: checks/docs/sizes.py
 
-Words beside code blocks of README.md and docs/*.md, the six longest told; sentences of more than 40 words, links to files or headings that
-are not there, and names of files that are not there, in these and in the documents apart. It compares the version of
-the file VERSION with the one that the program, the changelog, the C header, the modules for Python and JavaScript
-and the crate for Rust say, and the toolchain that the program names with that of SUMS, and looks that Git tracks nothing under an out folder.
-Ends with status 1 where one is above its budget, differs or is not there. checks/docs/planted.py plants each fault.
+It counts the words outside code blocks of README.md and docs/*.md, and prints the six longest documents. In these and
+in the documents of APART, it finds sentences of more than 40 words, links to missing files or headings, and names of
+missing files. It compares the version in the file VERSION with the version in the program, the changelog, README's
+release file, the C header, the modules for Python and JavaScript and the crate for Rust. It compares the toolchain that
+the program names with those in SUMS and README, and the number of lines of the adapters with CLAIMS. Git must track
+nothing under an out folder or a cache. Ends with status 1 if something exceeds its limit, differs or is missing.
+checks/docs/planted.py plants each fault.
 """
 import glob
 import os
 import re
 import subprocess
 import sys
+from collections.abc import Iterator
 
 TOP = os.path.dirname(os.path.dirname(os.path.dirname(os.path.abspath(__file__))))
-README_WORDS, ALL_WORDS, SENTENCE_WORDS, TOLD = 1_100, 22_000, 40, 6
-VERSIONS = {"crates/road_tell/src/usage.rt": r'VERSION: &str = "([^"]*)"', "CHANGELOG.md": r"^## (\S+)",
-            "bindings/gogbetiku.h": r'GOG_VERSION "([^"]*)"', "bindings/python/gogbetiku/__init__.py": r'__version__ = "([^"]*)"',
-            "web/route_check.mjs": r'VERSION = "([^"]*)"', "web/package.json": r'"version": "([^"]*)"', "bindings/rust/Cargo.toml": r'^version = "([^"]*)"'}
+README_WORDS, ALL_WORDS, SENTENCE_WORDS, TOLD = 1_200, 22_000, 40, 6
+VERSIONS = {
+    "crates/road_tell/src/usage.rt": r'VERSION: &str = "([^"]*)"',
+    "CHANGELOG.md": r"^## (\S+)",
+    "bindings/gogbetiku.h": r'GOG_VERSION "([^"]*)"',
+    "bindings/python/gogbetiku/__init__.py": r'__version__ = "([^"]*)"',
+    "README.md": r"gogbetiku-(\d\S*?)-x86_64",
+    "web/route_check.mjs": r'VERSION = "([^"]*)"',
+    "web/package.json": r'"version": "([^"]*)"',
+    "bindings/rust/Cargo.toml": r'^version = "([^"]*)"',
+}
+ADAPTERS = [
+    f"crates/{name}.rt"
+    for name in (
+        "road_io/src/file_library",
+        "road_io/src/std_source",
+        "road_io/src/std_sink",
+        "road_io/src/calls",
+        "road_io/src/record",
+        "mirror_out/src/file_mirror",
+        "desk_disk/src/desk_disk",
+        "desk_disk/src/state",
+        "desk_disk/src/handle",
+        "desk_disk/src/look",
+    )
+]
 KIT = r'KIT: &str = "([^"]*)"'
-APART = ["SECURITY.md", "CONTRIBUTING.md", "CHANGELOG.md", "checks/README.md", "vectors/README.md", "web/page/README.md"]
+APART = [
+    "SECURITY.md",
+    "CONTRIBUTING.md",
+    "CHANGELOG.md",
+    "checks/README.md",
+    "vectors/README.md",
+    "web/page/README.md",
+]
 SECTION = re.compile(r'`((?:docs/)?[A-Z_]+\.md)`(?:\]\([^)]*\))?,? (?:"([^"]+)"|(\d+(?:\.\d+)?)\b)')
-# what a document may name before it is made: all under an out folder
+# names of files; a document may name a file under an out folder before it exists
 NAMED = re.compile(r"`((?:bindings|checks|crates|docs|reference|tools|vectors|web)/[\w./@-]*\w|[A-Z]+\.md)`")
 
 
-def read(document):
+def read(document: str) -> str:
     with open(f"{TOP}/{document}", encoding="utf-8") as file:
         return file.read()
 
 
-def prose_of(text):
+def prose_of(text: str) -> list[str]:
     """The lines of a text outside its code blocks."""
-    lines, is_fenced = [], False
+    lines: list[str] = []
+    is_fenced = False
     for line in text.split("\n"):
         if line.startswith("```"):
             is_fenced = not is_fenced
@@ -41,8 +74,8 @@ def prose_of(text):
     return lines
 
 
-def paragraphs_of(lines):
-    """The lines of prose, those that go on with a paragraph joined to it."""
+def paragraphs_of(lines: list[str]) -> Iterator[str]:
+    """The paragraphs of prose: the lines of a paragraph are joined."""
     paragraph = ""
     for line in lines + [""]:
         plain = line.lstrip("> ").rstrip()
@@ -53,8 +86,8 @@ def paragraphs_of(lines):
         paragraph = f"{paragraph} {plain}".strip()
 
 
-def sentences_of(lines):
-    """The sentences of prose: of each paragraph, list item and cell of a table."""
+def sentences_of(lines: list[str]) -> Iterator[str]:
+    """The sentences of each paragraph, list item and table cell."""
     for line in paragraphs_of(lines):
         cells = line.strip().strip("|").split(" | ") if line.lstrip().startswith("|") else [line]
         for cell in cells:
@@ -62,9 +95,9 @@ def sentences_of(lines):
             yield from re.split(r"(?<=[.?!:;])[\"')*]*\s+(?=[A-Z`*\"(])", plain)
 
 
-def headings_of(text):
-    """The anchors of a document's headings, as a browser of repositories makes them."""
-    found = set()
+def headings_of(text: str) -> set[str]:
+    """The anchors of a document's headings, in the form of repository hosts."""
+    found: set[str] = set()
     for line in prose_of(text):
         if line.startswith("#"):
             plain = re.sub(r"[^\w\- ]", "", line.lstrip("# ").lower())
@@ -72,7 +105,7 @@ def headings_of(text):
     return found
 
 
-def dead_links(document, text):
+def dead_links(document: str, text: str) -> Iterator[str]:
     folder = os.path.dirname(f"{TOP}/{document}")
     for target in re.findall(r"\]\(([^)\s]+)\)", "\n".join(prose_of(text))):
         if target.startswith("http"):
@@ -85,46 +118,74 @@ def dead_links(document, text):
             yield target
 
 
-def sections_not_there(document, text):
-    """The sections that a document names, as `docs/SPEC.md`, 4.3, or by a heading or a bold lead in quotes."""
+def sections_not_there(document: str, text: str) -> Iterator[str]:
+    """The missing sections that a document names, by number, such as `docs/SPEC.md`, 4.3, or by a heading or a bold
+    lead in quotes."""
     for name, heading, number in SECTION.findall("\n".join(prose_of(text))):
         path = name if name.startswith("docs/") or os.path.exists(f"{TOP}/{name}") else f"docs/{name}"
-        wanted = rf"^(#+ {re.escape(heading)}$|\*\*{re.escape(heading)}\.?\*\*)" if heading else f"^#+ {re.escape(number)}[. ]"
+        wanted = (
+            rf"^(#+ {re.escape(heading)}$|\*\*{re.escape(heading)}\.?\*\*)"
+            if heading
+            else f"^#+ {re.escape(number)}[. ]"
+        )
         if os.path.exists(f"{TOP}/{path}") and not re.search(wanted, read(path), re.M):
             yield f"{path}, {heading or number}"
 
 
-def files_not_there(document, text):
-    """The files that a document names in its prose, from the top or from its own folder, and that are not there."""
+def files_not_there(document: str, text: str) -> Iterator[str]:
+    """The missing files that a document names in its prose, from the top or from its own folder."""
     folder = os.path.dirname(f"{TOP}/{document}")
     for name in NAMED.findall("\n".join(prose_of(text))):
-        if "/out/" not in name and "/NAME/" not in name and not any(os.path.exists(f"{at}/{name}") for at in (TOP, f"{TOP}/docs", folder)):
+        if (
+            "/out/" not in name
+            and "/NAME/" not in name
+            and not any(os.path.exists(f"{at}/{name}") for at in (TOP, f"{TOP}/docs", folder))
+        ):
             yield name
 
 
-def not_there(document, text):
+def not_there(document: str, text: str) -> list[str]:
     return [*dead_links(document, text), *files_not_there(document, text), *sections_not_there(document, text)]
 
 
-def versions_that_differ():
+def versions_that_differ() -> Iterator[str]:
     version = read("VERSION").strip()
     for name, pattern in VERSIONS.items():
         found = re.search(pattern, read(name), re.M)
         if not found or found[1] != version:
-            yield f"{name}: it says version {found[1] if found else 'nothing'}, and VERSION says {version}"
+            yield f"{name}: it says version {found[1] if found else 'nothing'}, but VERSION says {version}"
     found = re.search(KIT, read("crates/road_tell/src/usage.rt"))
     if not found or f"# {found[1]}" != read("SUMS").split("\n", 1)[0]:
         yield "crates/road_tell/src/usage.rt: it names another toolchain than SUMS"
+    if found and f"**Proved** with `{found[1]}`" not in read("README.md"):
+        yield "README.md: it does not say that it is proved with the toolchain that the program names"
 
 
-def tracked_in_out():
+def adapters_that_differ() -> Iterator[str]:
+    """Compares the number of lines of the adapters, in hundreds, with the only page that states it."""
+    count = sum(
+        not re.match(r"\s*(//.*)?$", line)
+        for name in ADAPTERS
+        if os.path.exists(f"{TOP}/{name}")
+        for line in read(name).splitlines()
+    )
+    if f"*The adapters*, some {round(count, -2)} lines" not in read("docs/CLAIMS.md"):
+        yield f"docs/CLAIMS.md: the adapters have {count} lines"
+    for document in ("README.md", "SECURITY.md", "docs/ARCHITECTURE.md"):
+        if re.search(r"adapters[^.]*\d+ lines", read(document)):
+            yield f"{document}: only docs/CLAIMS.md says how many lines the adapters have"
+
+
+def tracked_in_out() -> list[str]:
     listed = subprocess.run(["git", "ls-files"], cwd=TOP, capture_output=True, text=True, check=True).stdout.split("\n")
-    return [f"{name}: Git tracks a file under out/" for name in listed if re.search(r"(^|/)out/", name)]
+    found = [(re.search(r"(?:^|/)(out|\.mypy_cache|__pycache__)/", name), name) for name in listed]
+    return [f"{name}: Git tracks a file under {it[1]}/" for it, name in found if it]
 
 
-def main():
+def main() -> None:
     documents = ["README.md"] + sorted(os.path.relpath(name, TOP) for name in glob.glob(f"{TOP}/docs/*.md"))
-    faults, counts = [*versions_that_differ(), *tracked_in_out()], {}
+    faults = [*versions_that_differ(), *adapters_that_differ(), *tracked_in_out()]
+    counts: dict[str, int] = {}
     for document in documents + APART:
         text = read(document)
         lines = prose_of(text)
@@ -137,13 +198,13 @@ def main():
                 faults.append(f"{document}: a sentence of {count} words: {sentence.strip()[:90]} ..")
         faults += [f"{document}: {target} is not there" for target in not_there(document, text)]
         if document == "README.md" and words > README_WORDS:
-            faults.append(f"README.md has {words} words, and may have {README_WORDS}")
+            faults.append(f"README.md has {words} words, but at most {README_WORDS} are allowed")
     total = sum(counts.values())
-    for document in sorted(counts, key=counts.get, reverse=True)[:TOLD]:
+    for document in sorted(counts, key=counts.__getitem__, reverse=True)[:TOLD]:
         print(f"{counts[document]:6} {document}")
     print(f"{total:6} together")
     if total > ALL_WORDS:
-        faults.append(f"README.md and docs/*.md have {total} words, and may have {ALL_WORDS}")
+        faults.append(f"README.md and docs/*.md have {total} words, but at most {ALL_WORDS} are allowed")
     print("\n".join(faults) if faults else "0 faults")
     sys.exit(1 if faults else 0)
 

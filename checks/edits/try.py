@@ -4,7 +4,7 @@
 Those of crates/CRATE/must-fail are the gate's; those of crates/CRATE/more-edits, of the same form, are tried here: on a
 copy of the repository that has no other edits, by `rt ci CRATE..`, which takes what earlier runs on this machine have
 proved; with no names, the edits of all crates. With --apply nothing is tried: it says which edits of both folders can't
-be applied, since a text of theirs does not stand exactly once, and which name stands in both. Ends with status 1 where an
+be applied, since a text of theirs does not stand exactly once, and which name stands in both. Ends with status 1 if an
 edit is not refused or can't be applied.
 """
 import glob
@@ -13,14 +13,15 @@ import shutil
 import subprocess
 import sys
 import tempfile
+from collections.abc import Iterator
 
 TOP = os.path.dirname(os.path.dirname(os.path.dirname(os.path.abspath(__file__))))
 GATE, MORE = "must-fail", "more-edits"
 
 
-def steps_of(edit):
+def steps_of(edit: str) -> Iterator[tuple[str, str, str]]:
     """The steps of an edit: a file, the text that goes, and the text that comes."""
-    path = old = None
+    path = old = ""
     with open(edit, encoding="utf-8") as file:
         for line in file.read().splitlines():
             word, _, rest = line.partition(":")
@@ -33,9 +34,9 @@ def steps_of(edit):
                 yield path, old, rest
 
 
-def faults_of(edit, crate):
+def faults_of(edit: str, crate: str) -> Iterator[str]:
     """Why an edit of a crate can't be applied."""
-    texts = {}
+    texts: dict[str, str] = {}
     for path, old, new in steps_of(edit):
         name = os.path.join(TOP, "crates", crate, path)
         if path not in texts:
@@ -51,21 +52,21 @@ def faults_of(edit, crate):
         texts[path] = texts[path].replace(old, new, 1)
 
 
-def edits_in(folder, crate="*"):
+def edits_in(folder: str, crate: str = "*") -> list[str]:
     """The edits of a crate's folder of edits, or of every crate's, in their order."""
     return sorted(glob.glob(f"{TOP}/crates/{crate}/{folder}/*.edit"))
 
 
-def faults_of_names(crate):
+def faults_of_names(crate: str) -> list[str]:
     """The names that stand in both folders of a crate."""
     names = [{os.path.basename(edit) for edit in edits_in(folder, crate)} for folder in (GATE, MORE)]
     return [f"{name}: it stands in {GATE} and in {MORE}" for name in sorted(names[0] & names[1])]
 
 
-def apply_all():
+def apply_all() -> int:
     """Says which edits can't be applied, and answers how many faults there are."""
     gate, more = edits_in(GATE), edits_in(MORE)
-    faults = []
+    faults: list[str] = []
     for edit in gate + more:
         crate = edit.split("/")[-3]
         faults += [f"{crate}: {os.path.basename(edit)}: {fault}" for fault in faults_of(edit, crate)]
@@ -75,7 +76,7 @@ def apply_all():
     return len(faults)
 
 
-def try_all(crates):
+def try_all(crates: list[str]) -> int:
     """Tries the edits of crates on a copy, and answers the status of the run."""
     names = subprocess.check_output(["git", "ls-files", "crates", "crates.txt", "HANDLES"], cwd=TOP, text=True)
     with tempfile.TemporaryDirectory() as copy:
@@ -88,7 +89,7 @@ def try_all(crates):
         return subprocess.run(["rt", "ci", *crates], cwd=copy).returncode
 
 
-def main(words):
+def main(words: list[str]) -> int:
     if words == ["--apply"]:
         return 1 if apply_all() else 0
     here = sorted({edit.split("/")[-3] for edit in edits_in(MORE)})

@@ -10,7 +10,7 @@ each MB of its files, and with at most 64 MB of memory and four times the octets
 says what it took: processor seconds, the most memory, and the octets that it read. Memory below some 10 MB
 is that of the process that starts the runs.
 
-Ends with status 1 where anything differs.
+Ends with status 1 if anything differs.
 
 2026-11-28: 91 runs, none differs; the slowest 1.2 s (serve of 64 MB of empty frames, status 13), the largest 257
 MB (a road file of 268,435,457 octets, status 3); files of 64 MB took 0.8 s and 129 MB at most, a graph of 64 MB
@@ -22,6 +22,15 @@ import struct
 import subprocess
 import sys
 import tempfile
+from collections.abc import Iterator, Sequence
+from pathlib import Path
+
+sys.path.insert(0, str(Path(__file__).resolve().parents[1]))
+
+from common import layout  # noqa: E402
+from common.desks import ZEROS  # noqa: E402
+from common.maps import THREE  # noqa: E402
+from common.served import framed, install  # noqa: E402
 
 MB = 1 << 20
 SECOND_OF_ALL, SECONDS_A_MB = 1.0, 0.15
@@ -39,31 +48,38 @@ for line in sys.stdin:
     _, status, used = os.wait4(child, 0)
     print(os.waitstatus_to_exitcode(status), used.ru_utime + used.ru_stime, used.ru_maxrss * 1024, flush=True)
 """
-ROADS = b"roads 1\nnode 1 0 0\nnode 2 10 0\nnode 3 20 0\nroad 1 2 4\nroad 2 3 5\n"
+ROADS = THREE.encode()
 
 
 class Play:
     """Runs the program, from a process that is small, since a child's memory counts from its parent's."""
 
-    def __init__(self, program, folder):
+    def __init__(self, program: str, folder: str) -> None:
         self.program, self.folder = os.path.abspath(program), folder
         self.wrong, self.slowest, self.largest = 0, (0.0, ""), (0.0, "")
-        self.launcher = subprocess.Popen([sys.executable, "-S", "-E", "-c", LAUNCH], cwd=folder, text=True,
-                                         stdin=subprocess.PIPE, stdout=subprocess.PIPE)
+        launcher = subprocess.Popen(
+            [sys.executable, "-S", "-E", "-c", LAUNCH],
+            cwd=folder,
+            text=True,
+            stdin=subprocess.PIPE,
+            stdout=subprocess.PIPE,
+        )
+        assert launcher.stdin and launcher.stdout
+        self.launcher, self.words, self.ends = launcher, launcher.stdin, launcher.stdout
 
-    def write(self, name, octets):
+    def write(self, name: str, octets: bytes) -> None:
         with open(os.path.join(self.folder, name), "wb") as file:
             file.write(octets)
 
-    def run(self, words, octets=b""):
+    def run(self, words: Sequence[str], octets: bytes = b"") -> tuple[int, float, int]:
         """The status, the processor seconds and the most memory of a run."""
         self.write("input", octets)
-        self.launcher.stdin.write(json.dumps([self.program, *words]) + "\n")
-        self.launcher.stdin.flush()
-        status, seconds, memory = self.launcher.stdout.readline().split()
+        self.words.write(json.dumps([self.program, *words]) + "\n")
+        self.words.flush()
+        status, seconds, memory = self.ends.readline().split()
         return int(status), float(seconds), int(memory)
 
-    def must(self, name, *words):
+    def must(self, name: str, *words: str) -> bytes:
         status, _, _ = self.run(words)
         assert status == 0, words
         with open(os.path.join(self.folder, "output"), "rb") as file:
@@ -71,21 +87,27 @@ class Play:
         self.write(name, octets)
         return octets
 
-    def play(self, what, line, status, octets=b""):
+    def play(self, what: str, line: str, status: int, octets: bytes = b"") -> None:
         """Runs a command line, and compares its status and what it took with what it may take."""
         words = line.split()
-        size = len(octets) + sum(os.path.getsize(os.path.join(self.folder, word))
-                                 for word in set(words) if os.path.exists(os.path.join(self.folder, word)))
+        size = len(octets) + sum(
+            os.path.getsize(os.path.join(self.folder, word))
+            for word in set(words)
+            if os.path.exists(os.path.join(self.folder, word))
+        )
         ended, seconds, memory = self.run(words, octets)
         may_take = SECOND_OF_ALL + SECONDS_A_MB * size / MB, MEMORY_OF_ALL + TIMES_THE_OCTETS * size
         good = ended == status and seconds <= may_take[0] and memory <= may_take[1]
         self.wrong += not good
         self.slowest = max(self.slowest, (seconds, what))
         self.largest = max(self.largest, (memory / MB, what))
-        print(f"{'ok     ' if good else 'DIFFERS'} {what}: status {ended}, {seconds:.2f} s, {memory / MB:.0f} MB for {size / MB:.2f} MB", flush=True)
+        print(
+            f"{'ok     ' if good else 'DIFFERS'} {what}: status {ended}, {seconds:.2f} s, {memory / MB:.0f} MB for {size / MB:.2f} MB",
+            flush=True,
+        )
 
 
-def long_files(size):
+def long_files(size: int) -> Iterator[tuple[str, bytes]]:
     """What each file holds, and the file, one at a time."""
     node = b"node 1234567 -1000000 1000000\n"
     yield "one word", b"a" * size
@@ -104,10 +126,15 @@ def long_files(size):
 
 
 # How `route long 1 3` ends over the files that hold a map; the others are no road files, or their parts no map.
-ENDS = {"one number of many digits": 11, "a map behind empty lines": 0, "blanks in a line": 0, "a map behind a long comment": 0}
+ENDS = {
+    "one number of many digits": 11,
+    "a map behind empty lines": 0,
+    "blanks in a line": 0,
+    "a map behind a long comment": 0,
+}
 
 
-def long_lines(play, size):
+def long_lines(play: Play, size: int) -> None:
     """Long files in the places of each command's files."""
     for what, octets in long_files(size):
         play.write("long", octets)
@@ -131,17 +158,17 @@ def long_lines(play, size):
     play.play("dimacs of arcs that are too many", "dimacs long small.co", 3)
 
 
-def patched(octets, place, count):
-    return octets[:place] + struct.pack(">I", count) + octets[place + 4:]
+def patched(octets: bytes, place: int, count: int) -> bytes:
+    return octets[:place] + struct.pack(">I", count) + octets[place + 4 :]
 
 
-def lying_counts(play, publication, reply, near):
+def lying_counts(play: Play, publication: bytes, reply: bytes, near: bytes) -> None:
     """Counts that say more than is there."""
-    behind = 110 + struct.unpack_from(">H", publication, 108)[0] + 32
-    route = 107 + struct.unpack_from(">H", reply, 105)[0]
-    ids, = struct.unpack_from(">I", reply, route)
-    items = 110 + struct.unpack_from(">H", near, 108)[0]
-    for count in (65_536, 262_144, 2 ** 31, 2 ** 32 - 1):
+    behind = layout.behind(publication, layout.IN_PUBLICATION) + layout.SETTINGS
+    route = layout.behind(reply, layout.IN_ANSWER)
+    (ids,) = struct.unpack_from(">I", reply, route)
+    items = layout.behind(near, layout.IN_RANGE_REPLY)
+    for count in (65_536, 262_144, 2**31, 2**32 - 1):
         play.write("lie", patched(publication, behind, count))
         play.play(f"a publication that says {count} nodes", "prove lie 1 3", 3)
         play.write("lie", patched(publication, behind + 4 + 36, count))
@@ -157,11 +184,12 @@ def lying_counts(play, publication, reply, near):
         play.play(f"a frame that says {count} octets", "serve a.pub", 3, struct.pack(">I", count) + b"\4" * 100)
         play.write("lying.gr", b"p sp 65536 %d\na 1 2 3\n" % count)
         play.play(f"a graph that says {count} arcs", "dimacs lying.gr small.co", 3)
-    install = b"\4" + patched(publication, behind, 65_536)
-    play.play("60 installs that say 65536 nodes", "serve a.pub", 0, (struct.pack(">I", len(install)) + install) * 60)
+    play.play(
+        "60 installs that say 65536 nodes", "serve a.pub", 0, framed(install(patched(publication, behind, 65_536))) * 60
+    )
 
 
-def at_the_limits(play):
+def at_the_limits(play: Play) -> None:
     """Files with as much as a map may have, and files that are one octet too long."""
     nodes = b"".join(b"node %d %d %d\n" % (k, k % 256, k // 256) for k in range(65_536))
     roads = b"".join(b"road %d %d 1\n" % (k % 65_536, (k + 1 + k // 65_536) % 65_536) for k in range(262_144))
@@ -176,20 +204,24 @@ def at_the_limits(play):
     play.play("route over 268,435,457 octets", "route long 0 1", 3)
 
 
-def main():
+def main() -> None:
     size = (int(sys.argv[2]) if len(sys.argv) > 2 else 64) * MB
     with tempfile.TemporaryDirectory() as folder:
         play = Play(sys.argv[1], folder)
         play.write("a.roads", ROADS)
-        play.write("secret", b"0" * 96)
+        play.write("secret", ZEROS.encode())
         play.must("owner.key", "key", "secret", "h5")
         publication = play.must("a.pub", *"publish a.roads dij 1 id 0 2 0 0 0".split())
-        reply, near = play.must("a.reply", "prove", "a.pub", "1", "3"), play.must("near.reply", "reach", "a.pub", "1", "4")
+        reply, near = play.must("a.reply", "prove", "a.pub", "1", "3"), play.must(
+            "near.reply", "reach", "a.pub", "1", "4"
+        )
         play.write("small.co", b"p aux sp co 1\nv 1 0 0\n")
         lying_counts(play, publication, reply, near)
         long_lines(play, size)
         at_the_limits(play)
-        print(f"the slowest: {play.slowest[0]:.2f} s, {play.slowest[1]}; the largest: {play.largest[0]:.0f} MB, {play.largest[1]}")
+        print(
+            f"the slowest: {play.slowest[0]:.2f} s, {play.slowest[1]}; the largest: {play.largest[0]:.0f} MB, {play.largest[1]}"
+        )
         sys.exit(1 if play.wrong else 0)
 
 

@@ -11,16 +11,19 @@ and hubs, and ids without gaps, with gaps and in clusters: `check` and `check-re
 memory for each octet of the reply, beside what a reply of two nodes takes, each the least of five runs, or of up to
 25 as long as it is more. GNU time measures it; without it that is left out.
 
-Ends with status 1 where anything differs. No client rests on it.
+Ends with status 1 if anything differs. No client rests on it.
 """
 import os
 import struct
 import sys
 import tempfile
-from typing import Callable, Iterable, NamedTuple
+from collections.abc import Callable, Iterable, Iterator, Sequence
+from typing import NamedTuple
 
-sys.path.insert(0, os.path.dirname(os.path.abspath(__file__)))
-sys.path.insert(0, os.path.join(os.path.dirname(os.path.abspath(__file__)), os.pardir, "speed"))
+CHECKS = os.path.dirname(os.path.dirname(os.path.abspath(__file__)))
+sys.path[:0] = [f"{CHECKS}/files", f"{CHECKS}/speed", CHECKS]
+from common import layout  # noqa: E402
+from common.desks import ZEROS  # noqa: E402
 from hostile import MB, ROADS, Play  # noqa: E402
 from measure import GNU_TIME, memory_of, run  # noqa: E402
 
@@ -29,19 +32,21 @@ NODES, ACROSS = 65536, 256
 FEW, ROADS_OF_EACH = 1024, 127
 # where the system puts a program's pages differs from run to run
 RUNS = 5
+# two nodes and a length
+Road = tuple[int, int, int]
 
 
-def front_of(reply):
+def front_of(reply: bytes) -> bytes:
     """The front of a reply that brings a route: its kind, header, signature and route."""
-    behind = 107 + struct.unpack_from(">H", reply, 105)[0]
-    return reply[:behind + 4 + 4 * struct.unpack_from(">I", reply, behind)[0]]
+    behind = layout.behind(reply, layout.IN_ANSWER)
+    return reply[: behind + 4 + 4 * struct.unpack_from(">I", reply, behind)[0]]
 
 
-def counted(rows):
+def counted(rows: Sequence[bytes]) -> bytes:
     return struct.pack(">I", len(rows)) + b"".join(rows)
 
 
-def node_items(size, degree=0, extra=b""):
+def node_items(size: int, degree: int = 0, extra: bytes = b"") -> list[bytes]:
     """Node items of so many octets together, at rising places."""
     arcs = b"".join(struct.pack(">II", 1 + to, 7) for to in range(degree))
     back = struct.pack(">ii", 1, 2) + struct.pack(">H", degree) + arcs + extra
@@ -49,11 +54,11 @@ def node_items(size, degree=0, extra=b""):
     return [struct.pack(">IHcI", place, length, b"N", 1000 + place) + back for place in range(size // (6 + length))]
 
 
-def pair_items(size):
+def pair_items(size: int) -> list[bytes]:
     return [struct.pack(">IcIIQ", place, b"P", 1, 2 + place, 7) for place in range(size // 21)]
 
 
-def replies(fronts, size):
+def replies(fronts: dict[str, bytes], size: int) -> Iterator[tuple[str, bytes]]:
     """What each reply is, and the reply, one at a time."""
     plain, none = fronts["dij"], counted([])
     yield "node items without arcs", plain + counted(node_items(size)) + 3 * none
@@ -68,11 +73,12 @@ def replies(fronts, size):
 
 class Atlas(NamedTuple):
     """A map of so many nodes in rows of 256, its roads as pairs of nodes with a length, and the id of each node."""
-    roads: Callable[[], Iterable[tuple[int, int, int]]]
+
+    roads: Callable[[], Iterable[Road]]
     nodes: int = NODES
     id_of: Callable[[int], int] = int
 
-    def lines(self):
+    def lines(self) -> Iterator[str]:
         yield "roads 1\n"
         for node in range(1, self.nodes + 1):
             yield f"node {self.id_of(node)} {node % ACROSS} {node // ACROSS}\n"
@@ -80,22 +86,24 @@ class Atlas(NamedTuple):
             yield f"road {self.id_of(start)} {self.id_of(end)} {length}\n"
 
 
-def with_gaps(node):
+def with_gaps(node: int) -> int:
     """Ids with gaps of several widths."""
     return 7 * node + node * node % 5
 
 
-def in_clusters(node):
+def in_clusters(node: int) -> int:
     """Ids of which five stand in each fifth of as many spans of one width as there are nodes: each is parted again."""
     return node // 5 * 5 * 8192 + node % 5 * 1000 + 1
 
 
-def steps(*widths, nodes=NODES, length=lambda step: 6 + step):
+def steps(
+    *widths: int, nodes: int = NODES, length: Callable[[int], int] = lambda step: 6 + step
+) -> Callable[[], Iterator[Road]]:
     """Roads from each node to those so many behind it."""
     return lambda: ((node, node + step, length(step)) for step in widths for node in range(1, nodes + 1 - step))
 
 
-def hubs():
+def hubs() -> Iterator[Road]:
     """Roads from the first node to 255 others, and from each of these to 254 of its own."""
     for hub in range(2, 257):
         yield 1, hub, 7
@@ -130,13 +138,13 @@ ASKED = (
 )
 
 
-def memory_for(program, ask, reply):
+def memory_for(program: str, ask: Sequence[str], reply: str) -> float:
     """The memory, in octets, of one check of a reply, which the words after the publication ask for."""
     command = "check-reach" if ask[0] == "reach" else "check"
-    return memory_of([program, command, "owner.key", reply, *ask[1:], "0"], "verdict") * MB
+    return (memory_of([program, command, "owner.key", reply, *ask[1:], "0"], "verdict") or 0) * MB
 
 
-def octets_for_each(program, asks, size):
+def octets_for_each(program: str, asks: Sequence[Sequence[str]], size: int) -> float:
     """What the second reply takes beside the first, for each of its own octets: of both the least of RUNS runs, and of
     up to five times as many as long as it is too much."""
     least = [float("inf")] * 2
@@ -147,7 +155,7 @@ def octets_for_each(program, asks, size):
     return (least[1] - least[0]) / size
 
 
-def true_answers(program):
+def true_answers(program: str) -> int:
     """What each true answer takes, in octets of memory for each of its own; how many take too much."""
     wrong = 0
     run([program, "key", "secret", "h5"], "owner.key", silent=True)
@@ -169,17 +177,20 @@ def true_answers(program):
         size = os.path.getsize("1.reply")
         each = octets_for_each(program, asks, size)
         wrong += each > MOST
-        print(f"{'ok     ' if each <= MOST else 'DIFFERS'} {what}: {each:.2f} octets for each of {size / MB:.1f} MB", flush=True)
+        print(
+            f"{'ok     ' if each <= MOST else 'DIFFERS'} {what}: {each:.2f} octets for each of {size / MB:.1f} MB",
+            flush=True,
+        )
     return wrong
 
 
-def main():
+def main() -> None:
     program = os.path.abspath(sys.argv[1])
     size = (int(sys.argv[2]) if len(sys.argv) > 2 else 75) * MB
     with tempfile.TemporaryDirectory() as folder:
         play = Play(sys.argv[1], folder)
         play.write("a.roads", ROADS)
-        play.write("secret", b"0" * 96)
+        play.write("secret", ZEROS.encode())
         play.must("owner.key", "key", "secret", "h5")
         fronts = {}
         for method, plan in (("dij", "0 0 0"), ("ldm", "1 8 0")):
@@ -191,7 +202,10 @@ def main():
             ended, seconds, memory = play.run("check owner.key long 1 3 0".split())
             good = ended == 1 and seconds <= 3 and memory <= 4 * len(octets)
             wrong += not good
-            print(f"{'ok     ' if good else 'DIFFERS'} {what}: status {ended}, {seconds:.2f} s, {memory / MB:.0f} MB for {len(octets) / MB:.0f} MB", flush=True)
+            print(
+                f"{'ok     ' if good else 'DIFFERS'} {what}: status {ended}, {seconds:.2f} s, {memory / MB:.0f} MB for {len(octets) / MB:.0f} MB",
+                flush=True,
+            )
         if os.path.exists(GNU_TIME):
             os.chdir(folder)
             os.remove("owner.desk")

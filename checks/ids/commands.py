@@ -21,18 +21,28 @@ import os
 import random
 import sys
 import tempfile
+from collections.abc import Iterator
+from functools import partial
+from pathlib import Path
+
+sys.path.insert(0, str(Path(__file__).resolve().parents[1]))
+
+from common.desks import ZEROS  # noqa: E402
+from common.runs import least_in_turn, processor_seconds  # noqa: E402
+from common.served import framed, install  # noqa: E402
 
 MOST = {"meet": 1.5, "far": 1.5, "rows": 1.5, "shuffled": 2.5}
 # what a busy machine adds to any time
 SLACK = 0.03
 
 
-def meeting(count):
+def meeting(count: int) -> list[int]:
     """Rising ids whose hashes begin in a 128th of the places that a table of COUNT entries has."""
     places = 1
     while 9 * places < count:
         places *= 2
-    ids, number = [], 0
+    ids: list[int] = []
+    number = 0
     while len(ids) < count:
         number += 1
         product = (0x243F6A8885A308D3 ^ (number | number << 32)) * 0x9E3779B97F4A7C1D
@@ -42,16 +52,17 @@ def meeting(count):
     return ids
 
 
-def rows(count):
+def rows(count: int) -> list[int]:
     """Rising ids: in each of many spans of one width 127 odd ones at the front, and one at the end."""
-    ids, width = [], 2**32 // -(-count // 128)
+    ids: list[int] = []
+    width = 2**32 // -(-count // 128)
     while len(ids) < count:
         start = len(ids) // 128 * width
         ids += [*range(start + 1, start + 255, 2), start + width - 1]
     return ids[:count]
 
 
-def write(path, width, ids):
+def write(path: str, width: int, ids: list[int]) -> None:
     """The grid as a road file; the lengths of its roads are drawn from a fixed seed."""
     draw = random.Random(5)
     with open(path, "w") as roads:
@@ -64,30 +75,16 @@ def write(path, width, ids):
                 roads.write(f"road {node} {ids[at + width]} {draw.randint(1, 1000)}\n")
 
 
-def taken(program, folder, words, read=os.devnull, written=os.devnull):
+def taken(program: str, folder: str, words: list[str], read: str = os.devnull, written: str = os.devnull) -> float:
     """The processor seconds of one run."""
-    child = os.fork()
-    if child == 0:
-        os.chdir(folder)
-        os.dup2(os.open(read, os.O_RDONLY), 0)
-        os.dup2(os.open(written, os.O_WRONLY | os.O_CREAT | os.O_TRUNC), 1)
-        os.dup2(os.open(os.devnull, os.O_WRONLY), 2)
-        os.execv(program, [program, *words])
-    _, status, used = os.wait4(child, 0)
-    if status:
-        sys.exit(f"{words[0]}: status {os.waitstatus_to_exitcode(status)}")
-    return used.ru_utime + used.ru_stime
+    return processor_seconds([program, *words], read, written, silent=True, folder=folder)
 
 
-def framed(body):
-    return len(body).to_bytes(4, "big") + body
-
-
-def frame(kind, session, *numbers):
+def frame(kind: int, session: int, *numbers: int) -> bytes:
     return framed(bytes([kind, session]) + b"".join(number.to_bytes(4, "big") for number in numbers))
 
 
-def runs(folder, width, ids):
+def runs(folder: str, width: int, ids: list[int]) -> Iterator[tuple[str, list[str], str, str]]:
     """What is timed over the map in a folder: a name, the words, and the files that are read and written."""
     start, end = str(ids[0]), str(ids[-1])
     yield "route", ["route", "m.roads", start, end], os.devnull, os.devnull
@@ -101,16 +98,18 @@ def runs(folder, width, ids):
         yield f"check {method}", ["check", "owner.key", reply, start, end, "1"], os.devnull, os.devnull
     later = ["publish", "m.roads", "ldm", "2", "id", "0", "2", *plans["ldm"]]
     yield "publish 2", later, os.devnull, "later.pub"
-    with open(os.path.join(folder, "later.pub"), "rb") as book, open(os.path.join(folder, "install"), "wb") as frames:
-        frames.write(framed(b"\x04" + book.read()))
+    with open(os.path.join(folder, "later.pub"), "rb") as later_book, open(
+        os.path.join(folder, "install"), "wb"
+    ) as frames:
+        frames.write(framed(install(later_book.read())))
     for name in ("asks", "near", "install"):
         yield f"serve {name}", ["serve", "ldm.pub"], name, os.devnull
 
 
-def prepare(program, folder, width, ids):
+def prepare(program: str, folder: str, width: int, ids: list[int]) -> None:
     write(os.path.join(folder, "m.roads"), width, ids)
     with open(os.path.join(folder, "zeros.hex"), "w") as secret:
-        secret.write("0" * 96)
+        secret.write(ZEROS)
     draw = random.Random(11)
     starts = [draw.randrange(width) * width + draw.randrange(width - 1) for _ in range(200)]
     asks = {"asks": 3 * [(ids[0], ids[-1])], "near": [(ids[at], ids[at + 1]) for at in starts]}
@@ -120,7 +119,12 @@ def prepare(program, folder, width, ids):
     taken(program, folder, ["key", "zeros.hex", "h5"], written="owner.key")
 
 
-def main():
+def too_slow(seconds: dict[str, float]) -> list[str]:
+    """The kinds of ids that take more than they may, beside ids 1 to n."""
+    return [kind for kind, most in MOST.items() if seconds[kind] > most * seconds["plain"] + SLACK]
+
+
+def main() -> None:
     program = os.path.abspath(sys.argv[1])
     width = int(sys.argv[2]) if len(sys.argv) > 2 else 256
     ids = {"plain": list(range(1, width * width + 1)), "meet": meeting(width * width)}
@@ -128,7 +132,7 @@ def main():
     ids["shuffled"] = list(ids["plain"])
     random.Random(7).shuffle(ids["shuffled"])
     ids["rows"] = rows(width * width)
-    late = []
+    late: list[str] = []
     with tempfile.TemporaryDirectory() as top:
         folders = {kind: os.path.join(top, kind) for kind in ids}
         for kind, numbers in ids.items():
@@ -136,17 +140,11 @@ def main():
             prepare(program, folders[kind], width, numbers)
         print(f"{'seconds':12}" + "".join(f"{kind:>10}" for kind in ids))
         for steps in zip(*(runs(folders[kind], width, numbers) for kind, numbers in ids.items())):
-            seconds = dict.fromkeys(ids, float("inf"))
-            for _ in range(12):
-                for _ in range(3):
-                    for kind, (_, words, read, written) in zip(ids, steps):
-                        seconds[kind] = min(seconds[kind], taken(program, folders[kind], words, read, written))
-                slow = [kind for kind, most in MOST.items() if seconds[kind] > most * seconds["plain"] + SLACK]
-                if not slow:
-                    break
+            timed = {kind: partial(taken, program, folders[kind], *step[1:]) for kind, step in zip(ids, steps)}
+            seconds = least_in_turn(timed, lambda least: not too_slow(least))
             name = steps[0][0]
             print(f"{name:12}" + "".join(f"{spent:10.3f}" for spent in seconds.values()), flush=True)
-            late += [f"{name}: {kind}" for kind in slow]
+            late += [f"{name}: {kind}" for kind in too_slow(seconds)]
     if late:
         sys.exit("too slow: " + ", ".join(late))
 

@@ -18,12 +18,20 @@ import os
 import random
 import sys
 import tempfile
+from functools import partial
+from pathlib import Path
+
+sys.path.insert(0, str(Path(__file__).resolve().parents[1]))
+
+from common.runs import least_in_turn, processor_seconds  # noqa: E402
+
+Arc = tuple[int, int, int]
 
 
-def arcs_of(width, ids):
+def arcs_of(width: int, ids: list[int]) -> list[Arc]:
     """Both arcs of each street of the grid, whose lengths are drawn from a fixed seed."""
     draw = random.Random(5)
-    arcs = []
+    arcs: list[Arc] = []
     for row in range(width):
         for column in range(width):
             for down, right in ((0, 1), (1, 0), (1, 1), (1, -1)):
@@ -34,7 +42,7 @@ def arcs_of(width, ids):
     return arcs
 
 
-def write(folder, width, arcs):
+def write(folder: str, width: int, arcs: list[Arc]) -> None:
     count = width * width
     with open(os.path.join(folder, "graph.gr"), "w") as graph:
         graph.write(f"p sp {count} {len(arcs)}\n")
@@ -44,20 +52,16 @@ def write(folder, width, arcs):
         places.writelines(f"v {number} {number % width} {number // width}\n" for number in range(1, count + 1))
 
 
-def turned(program, folder):
+def turned(program: str, folder: str) -> float:
     """The processor seconds of one run."""
-    child = os.fork()
-    if child == 0:
-        os.chdir(folder)
-        os.dup2(os.open(os.devnull, os.O_WRONLY), 1)
-        os.execv(program, [program, "dimacs", "graph.gr", "graph.co"])
-    _, status, used = os.wait4(child, 0)
-    if status:
-        sys.exit(f"dimacs: status {os.waitstatus_to_exitcode(status)}")
-    return used.ru_utime + used.ru_stime
+    return processor_seconds([program, "dimacs", "graph.gr", "graph.co"], folder=folder)
 
 
-def main():
+def is_good(seconds: dict[str, float]) -> bool:
+    return seconds["shuffled"] <= 2 * seconds["in order"]
+
+
+def main() -> None:
     program = os.path.abspath(sys.argv[1])
     width = int(sys.argv[2]) if len(sys.argv) > 2 else 256
     ids = list(range(1, width * width + 1))
@@ -71,16 +75,10 @@ def main():
         for folder, arcs in zip(folders.values(), (ordered, shuffled)):
             os.mkdir(folder)
             write(folder, width, arcs)
-        seconds = dict.fromkeys(folders, float("inf"))
-        for _ in range(12):
-            for _ in range(3):
-                for what, folder in folders.items():
-                    seconds[what] = min(seconds[what], turned(program, folder))
-            if seconds["shuffled"] <= 2 * seconds["in order"]:
-                break
+        seconds = least_in_turn({what: partial(turned, program, folder) for what, folder in folders.items()}, is_good)
     for what, spent in seconds.items():
         print(f"{len(ordered)} arcs, {what}: {spent:.3f} s")
-    if seconds["shuffled"] > 2 * seconds["in order"]:
+    if not is_good(seconds):
         sys.exit("shuffled arcs take more than twice the time")
 
 

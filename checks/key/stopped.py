@@ -12,23 +12,32 @@ import subprocess
 import sys
 import tempfile
 import time
+from pathlib import Path
+
+sys.path.insert(0, str(Path(__file__).resolve().parents[1]))
+
+from common import layout  # noqa: E402
+from common.desks import BLOCK, slot_at, texts_of  # noqa: E402
 
 SLOTS = {"h5": 32, "h10": 1024}
 TYPES = {"h5": 5, "h10": 6}
 
 
-def is_open(image):
-    return len(image) >= 64 and image[0] != 0
+def is_open(image: bytes) -> bool:
+    return len(image) >= BLOCK and image[0] != 0
 
 
-def is_whole(image, secret, kind):
+def is_whole(image: bytes, secret: bytes, kind: str) -> bool:
     """The block is the secret's, each slot lies within the file, and none is spent."""
     block = TYPES[kind].to_bytes(4, "big") + secret
-    return (len(image) == 64 + 128 * SLOTS[kind] and image[1:53] == block
-            and all(image[64 + 128 * slot] == 0 for slot in range(SLOTS[kind])))
+    return (
+        len(image) == slot_at(SLOTS[kind])
+        and image[layout.KIND : layout.SPARE] == block
+        and not texts_of(image, SLOTS[kind])
+    )
 
 
-def read_desk(folder):
+def read_desk(folder: str) -> bytes:
     try:
         with open(f"{folder}/owner.desk", "rb") as file:
             return file.read()
@@ -36,7 +45,7 @@ def read_desk(folder):
         return b""
 
 
-def main():
+def main() -> None:
     program = os.path.abspath(sys.argv[1])
     times = int(sys.argv[2]) if len(sys.argv) > 2 else 100
     opened = 0

@@ -22,8 +22,7 @@ static int is_refused(void) {
         refused = number ? atol(number) : 0;
     }
     calls += 1;
-    if (calls != (unsigned long)refused)
-        return 0;
+    if (calls != (unsigned long)refused) return 0;
     errno = ENOMEM;
     return 1;
 }
@@ -42,8 +41,7 @@ __attribute__((destructor)) static void tell(void) {
     int file = name ? open(name, O_WRONLY | O_CREAT | O_TRUNC, 0600) : -1;
     if (file >= 0) {
         int length = snprintf(text, sizeof text, "%lu\n", calls);
-        if (write(file, text, (size_t)length) != length)
-            _exit(99);
+        if (write(file, text, (size_t)length) != length) _exit(99);
         close(file);
     }
 }

@@ -7,7 +7,7 @@ MORE others (60) in even strides up to the last. Each run must end as the first 
 a front of the same output. With status 9 `owner.desk` must hold the octets that it held, so that no one-time key
 was spent, and each mirror must hold what it held. With WORD only the commands that begin with it are run.
 
-Ends with status 1 where anything differs. A line a command says how many allocations it makes, how many were
+Ends with status 1 if anything differs. A line a command says how many allocations it makes, how many were
 refused, and how many of these runs ended with 9 and how many as the first.
 
 2026-11-28: 31 commands, 4,623 allocations, all refused: 4,512 runs with 9, 111 as the first, none differs; a
@@ -17,18 +17,22 @@ program of the same commands without the messages on standard error: 682 allocat
 9, 25 as the first, none differs.
 """
 import os
-import shutil
-import struct
 import subprocess
 import sys
 import tempfile
+from pathlib import Path
+
+sys.path.insert(0, str(Path(__file__).resolve().parents[1]))
+
+from common.desks import HEADER, SIGNED, SIGNED_AT, ZEROS  # noqa: E402
+from common.served import ask, begin, finish, framed, install  # noqa: E402
 
 HERE = os.path.dirname(os.path.abspath(__file__))
 METHODS = {"dij": "0 0 0", "full": "0 0 0", "ldm": "3 4 1", "hyp": "2 2 0"}
 KEPT = ("owner.desk", "mirror-1", "mirror-2")
 
 
-def road_file(width=4):
+def road_file(width: int = 4) -> bytes:
     """A grid with roads of changing lengths, and one node without roads."""
     lines = ["roads 1"]
     for id in range(width * width):
@@ -43,23 +47,27 @@ def road_file(width=4):
 class Folder:
     """A folder with the program's files, in which it runs under the shim."""
 
-    def __init__(self, program, path):
+    def __init__(self, program: str, path: str) -> None:
         self.program, self.path = os.path.abspath(program), path
         self.shim = os.path.join(path, "refuse.so")
         source = os.path.join(HERE, "refuse.c")
         subprocess.run(["cc", "-O2", "-Wall", "-Werror", "-fPIC", "-shared", "-o", self.shim, source], check=True)
 
-    def name(self, name):
+    def name(self, name: str) -> str:
         return os.path.join(self.path, name)
 
-    def read(self, name):
+    def read(self, name: str) -> bytes | None:
         try:
             with open(self.name(name), "rb") as file:
                 return file.read()
         except FileNotFoundError:
             return None
 
-    def write(self, name, octets):
+    def octets(self, name: str) -> bytes:
+        """The octets of a file that is there."""
+        return Path(self.path, name).read_bytes()
+
+    def write(self, name: str, octets: bytes | None) -> None:
         if octets is None:
             if os.path.exists(self.name(name)):
                 os.remove(self.name(name))
@@ -67,14 +75,23 @@ class Folder:
         with open(self.name(name), "wb") as file:
             file.write(octets)
 
-    def run(self, line, refused=0, octets=b""):
-        """The status, the output and the count of allocations of a command line."""
+    def run(self, line: str, refused: int = 0, octets: bytes = b"") -> tuple[int, bytes, int]:
+        """The status, the output and the count of allocations of a command line. Status 9 must say "Out of memory."."""
         more = {"LD_PRELOAD": self.shim, "REFUSE": str(refused), "COUNTED": self.name("counted")}
-        ended = subprocess.run([self.program, *line.split()], cwd=self.path, env={**os.environ, **more},
-                               input=octets, capture_output=True, check=False, timeout=60)
+        ended = subprocess.run(
+            [self.program, *line.split()],
+            cwd=self.path,
+            env={**os.environ, **more},
+            input=octets,
+            capture_output=True,
+            check=False,
+            timeout=60,
+        )
+        if ended.returncode == 9 and not ended.stderr.endswith(b"Out of memory.\n"):
+            sys.exit(f"{line}: status 9 says {ended.stderr!r}")
         return ended.returncode, ended.stdout, int(self.read("counted") or 0)
 
-    def must(self, line, name=None, status=0):
+    def must(self, line: str, name: str | None = None, status: int = 0) -> None:
         ended, octets, _ = self.run(line)
         if ended != status:
             sys.exit(f"{line}: status {ended}")
@@ -82,14 +99,10 @@ class Folder:
             self.write(name, octets)
 
 
-def frames(*bodies):
-    return b"".join(struct.pack(">I", len(body)) + body for body in bodies)
-
-
-def prepared(folder):
+def prepared(folder: Folder) -> None:
     """The files of an owner, with publications of each method and replies to them."""
     folder.write("map.roads", road_file())
-    folder.write("secret", b"0" * 96)
+    folder.write("secret", ZEROS.encode())
     folder.write("other", b"1" * 96)
     folder.write("small.gr", b"p sp 3 4\na 1 2 4\na 2 1 4\na 2 3 5\na 3 2 5\n")
     folder.write("small.co", b"p aux sp co 3\nv 1 0 0\nv 2 10 0\nv 3 20 -5\n")
@@ -99,42 +112,65 @@ def prepared(folder):
         folder.must(f"prove {method}.pub 1 16", f"{method}.reply")
         folder.must(f"prove {method}.pub 1 99", f"{method}.none")
     folder.must("reach dij.pub 6 4", "near.reply")
-    folder.write("cut.reply", folder.read("dij.reply")[:-1])
-    publication = folder.read("dij.pub")
-    folder.write("header.hex", publication[4:108].hex().encode())
-    folder.write("signature.hex", publication[110:1402].hex().encode())
+    folder.write("cut.reply", folder.octets("dij.reply")[:-1])
+    publication = folder.octets("dij.pub")
+    folder.write("header.hex", publication[HEADER].hex().encode())
+    folder.write("signature.hex", publication[SIGNED_AT:SIGNED].hex().encode())
 
 
-def commands(folder):
+def commands(folder: Folder) -> list[tuple[str, bytes, bool]]:
     """Command lines with what stands on standard input, and whether the desk is empty before them."""
-    rows = [("route map.roads 1 16", b"", False), ("route map.roads 1 99", b"", False), ("root map.roads 3", b"", False),
-            ("dimacs small.gr small.co", b"", False), ("key secret h5", b"", True), ("key secret h5", b"", False),
-            ("desk", b"", False), ("links", b"", False), ("succeed other h5", b"", False)]
+    rows = [
+        ("route map.roads 1 16", b"", False),
+        ("route map.roads 1 99", b"", False),
+        ("root map.roads 3", b"", False),
+        ("dimacs small.gr small.co", b"", False),
+        ("key secret h5", b"", True),
+        ("key secret h5", b"", False),
+        ("desk", b"", False),
+        ("links", b"", False),
+        ("succeed other h5", b"", False),
+    ]
     for method, numbers in METHODS.items():
-        rows += [(f"publish map.roads {method} 9 kd 0 2 {numbers}", b"", False),
-                 (f"prove {method}.pub 1 16", b"", False),
-                 (f"check owner.key {method}.reply 1 16 1", b"", False),
-                 (f"audit owner.key {method}.pub {method}.reply 1 16", b"", False),
-                 (f"prove {method}.pub 1 99", b"", False),
-                 (f"check owner.key {method}.none 1 99 1", b"", False)]
-    asks = frames(b"\1\0", struct.pack(">BBII", 2, 0, 1, 16), b"\4" + folder.read("hyp.pub"), b"\1\1",
-                  struct.pack(">BBII", 2, 1, 16, 1), struct.pack(">BBII", 2, 0, 2, 15), b"\3\0", b"\5")
+        rows += [
+            (f"publish map.roads {method} 9 kd 0 2 {numbers}", b"", False),
+            (f"prove {method}.pub 1 16", b"", False),
+            (f"check owner.key {method}.reply 1 16 1", b"", False),
+            (f"audit owner.key {method}.pub {method}.reply 1 16", b"", False),
+            (f"prove {method}.pub 1 99", b"", False),
+            (f"check owner.key {method}.none 1 99 1", b"", False),
+        ]
+    asks = framed(
+        begin(0),
+        ask(0, 1, 16),
+        install(folder.octets("hyp.pub")),
+        begin(1),
+        ask(1, 16, 1),
+        ask(0, 2, 15),
+        finish(0),
+        b"\5",
+    )
     return rows + [
-        ("prove dij.pub 1 98", b"", False), ("check owner.key cut.reply 1 16 1", b"", False),
-        ("audit owner.key ldm.pub dij.reply 1 16", b"", False), ("serve ldm.pub", asks, False),
-        ("reduce owner.key header.hex signature.hex", b"", False), ("survey 2 0 hyp 2", b"", False),
-        ("reach dij.pub 6 4", b"", False), ("check-reach owner.key near.reply 6 4 1", b"", False),
-        ("audit-reach owner.key dij.pub near.reply 6 4", b"", False)]
+        ("prove dij.pub 1 98", b"", False),
+        ("check owner.key cut.reply 1 16 1", b"", False),
+        ("audit owner.key ldm.pub dij.reply 1 16", b"", False),
+        ("serve ldm.pub", asks, False),
+        ("reduce owner.key header.hex signature.hex", b"", False),
+        ("survey 2 0 hyp 2", b"", False),
+        ("reach dij.pub 6 4", b"", False),
+        ("check-reach owner.key near.reply 6 4 1", b"", False),
+        ("audit-reach owner.key dij.pub near.reply 6 4", b"", False),
+    ]
 
 
-def numbers_of(count, first, more):
+def numbers_of(count: int, first: int, more: int) -> list[int]:
     """The first numbers, and so many others in even strides, the last one among them."""
     rest = range(first + 1, count + 1)
     strides = {rest[at * (len(rest) - 1) // max(more - 1, 1)] for at in range(more)} if rest else set()
     return sorted(set(range(1, min(first, count) + 1)) | strides)
 
 
-def play(folder, line, octets, first, more):
+def play(folder: Folder, line: str, octets: bytes, first: int, more: int) -> int:
     """Runs a command with each number refused, and counts what came. Answers how much differs."""
     entry = {name: folder.read(name) for name in KEPT}
     status, output, count = folder.run(line, 0, octets)
@@ -152,11 +188,14 @@ def play(folder, line, octets, first, more):
             print(f"DIFFERS {line}, allocation {number}: status {ended}, {len(written)} octets", flush=True)
     for name in KEPT:
         folder.write(name, entry[name])
-    print(f"{line}: status {status}, {count} allocations, {len(numbers)} refused: {nine} with 9, {same} as before", flush=True)
+    print(
+        f"{line}: status {status}, {count} allocations, {len(numbers)} refused: {nine} with 9, {same} as before",
+        flush=True,
+    )
     return wrong
 
 
-def main():
+def main() -> None:
     program, first = sys.argv[1], int(sys.argv[2]) if len(sys.argv) > 2 else 1000
     more, word = int(sys.argv[3]) if len(sys.argv) > 3 else 60, sys.argv[4] if len(sys.argv) > 4 else ""
     wrong = 0

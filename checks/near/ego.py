@@ -8,7 +8,7 @@ exactly the nodes of the ego graph, and `audit-reach` must find the first of the
 networkx a plain search stands in for it. Prints for each radius how many nodes lie within, the
 octets of a reply, and the seconds of processor time of `reach` and of `check-reach`, all of them the
 mean of the five; radius 0 shows what reading the publication and building its book costs. Exits
-with 1 where anything differs.
+with 1 if anything differs.
 """
 import heapq
 import os
@@ -17,43 +17,40 @@ import resource
 import subprocess
 import sys
 import tempfile
+from collections.abc import Callable
+from pathlib import Path
+from typing import Any
 
-HERE = os.path.dirname(os.path.abspath(__file__))
-GREATEST = 2 ** 64 - 1
+sys.path.insert(0, str(Path(__file__).resolve().parents[1]))
+
+from common.desks import ZEROS  # noqa: E402
+from common.maps import least_lengths, made, read_roads  # noqa: E402
+
+GREATEST = 2**64 - 1
 RADII = (0, 200, 1000, 4000, GREATEST)
 STARTS = 5
+# the least length between two nodes, both ways, and the nodes within a radius of one, rising
+Lengths = dict[tuple[int, int], int]
+Within = Callable[[int, int], list[int]]
 
 
-def read_map(path):
-    """The ids of a road file, and the least length of a road between two of them, both ways."""
-    ids, lengths = [], {}
-    with open(path, encoding="ascii") as file:
-        for line in file:
-            words = line.split()
-            if words[0] == "node":
-                ids.append(int(words[1]))
-            elif words[0] == "road":
-                a, b, length = map(int, words[1:])
-                for pair in ((a, b), (b, a)):
-                    lengths[pair] = min(length, lengths.get(pair, length))
-    return ids, lengths
-
-
-def within_by_networkx(ids, lengths):
+def within_by_networkx(ids: list[int], lengths: Lengths) -> Within:
     import networkx
-    graph = networkx.Graph()
+
+    graph: Any = networkx.Graph()
     graph.add_nodes_from(ids)
     graph.add_weighted_edges_from((a, b, length) for (a, b), length in lengths.items())
     return lambda start, radius: sorted(networkx.ego_graph(graph, start, radius=radius, distance="weight").nodes)
 
 
-def within_by_search(ids, lengths):
-    arcs = {node: [] for node in ids}
+def within_by_search(ids: list[int], lengths: Lengths) -> Within:
+    arcs: dict[int, list[tuple[int, int]]] = {node: [] for node in ids}
     for (a, b), length in lengths.items():
         arcs[a].append((b, length))
 
-    def within(start, radius):
-        found, waiting = set(), [(0, start)]
+    def within(start: int, radius: int) -> list[int]:
+        found: set[int] = set()
+        waiting = [(0, start)]
         while waiting:
             distance, node = heapq.heappop(waiting)
             if node not in found:
@@ -62,17 +59,18 @@ def within_by_search(ids, lengths):
                     if distance + length <= radius:
                         heapq.heappush(waiting, (distance + length, there))
         return sorted(found)
+
     return within
 
 
-def reference(ids, lengths):
+def reference(ids: list[int], lengths: Lengths) -> tuple[Within, str]:
     try:
         return within_by_networkx(ids, lengths), "networkx"
     except ImportError:
         return within_by_search(ids, lengths), "a plain search"
 
 
-def run(folder, *words):
+def run(folder: str, *words: str) -> tuple[bytes, float]:
     """What a command writes, and its seconds of processor time."""
     before = resource.getrusage(resource.RUSAGE_CHILDREN)
     done = subprocess.run(words, cwd=folder, capture_output=True, check=True)
@@ -80,12 +78,12 @@ def run(folder, *words):
     return done.stdout, now.ru_utime + now.ru_stime - before.ru_utime - before.ru_stime
 
 
-def keep(folder, name, octets):
+def keep(folder: str, name: str, octets: bytes) -> None:
     with open(f"{folder}/{name}", "wb") as file:
         file.write(octets)
 
 
-def ask(program, folder, start, radius, nodes):
+def ask(program: str, folder: str, start: int, radius: int, nodes: list[int]) -> tuple[bool, int, float, float]:
     """Whether one reply is accepted with these nodes, its octets, and the seconds of server and client."""
     query = [str(start), str(radius)]
     reply, served = run(folder, program, "reach", "map.pub", *query)
@@ -95,21 +93,22 @@ def ask(program, folder, start, radius, nodes):
     return line == f"within {len(nodes)}: {words}\n".encode(), len(reply), served, checked
 
 
-def publish(program, folder, count, seed):
-    roads, _ = run(HERE, sys.executable, f"{HERE}/../speed/streets.py", count, seed)
+def publish(program: str, folder: str, roads: bytes) -> None:
     keep(folder, "streets.roads", roads)
-    keep(folder, "secret.hex", b"0" * 96)
+    keep(folder, "secret.hex", ZEROS.encode())
     keep(folder, "owner.key", run(folder, program, "key", "secret.hex", "h5")[0])
     words = "publish streets.roads dij 1 hilbert 0 2 0 0 0".split()
     keep(folder, "map.pub", run(folder, program, *words)[0])
 
 
-def main():
+def main() -> None:
     program = os.path.abspath(sys.argv[1])
-    count, seed = (sys.argv[2:] + ["5000", "1"][len(sys.argv) - 2:])[:2]
+    count, seed = (sys.argv[2:] + ["5000", "1"][len(sys.argv) - 2 :])[:2]
     with tempfile.TemporaryDirectory() as folder:
-        publish(program, folder, count, seed)
-        ids, lengths = read_map(f"{folder}/streets.roads")
+        roads = made("streets", count, seed)
+        publish(program, folder, roads)
+        places, pieces = read_roads(roads.decode())
+        ids, lengths = list(places), least_lengths(pieces)
         within, by = reference(ids, lengths)
         starts, differ = random.Random(int(seed)).sample(ids, STARTS), 0
         print(f"{len(ids)} nodes, {len(lengths) // 2} roads, {STARTS} starts, by {by}")
@@ -117,11 +116,13 @@ def main():
             nodes = [within(start, radius) for start in starts]
             asked = [ask(program, folder, start, radius, found) for start, found in zip(starts, nodes)]
             differ += sum(not same for same, _, _, _ in asked)
-            mean = lambda numbers: sum(numbers) / STARTS
-            print(f"radius {radius}: {mean([len(found) for found in nodes]):.0f} nodes, "
-                  f"{mean([octets for _, octets, _, _ in asked]):.0f} octets, "
-                  f"reach {mean([served for _, _, served, _ in asked]):.3f} s, "
-                  f"check-reach {mean([checked for _, _, _, checked in asked]):.3f} s")
+            mean: Callable[[list[float]], float] = lambda numbers: sum(numbers) / STARTS
+            print(
+                f"radius {radius}: {mean([len(found) for found in nodes]):.0f} nodes, "
+                f"{mean([octets for _, octets, _, _ in asked]):.0f} octets, "
+                f"reach {mean([served for _, _, served, _ in asked]):.3f} s, "
+                f"check-reach {mean([checked for _, _, _, checked in asked]):.3f} s"
+            )
         query = [str(starts[-1]), str(RADII[-1])]
         finding, seconds = run(folder, program, "audit-reach", "owner.key", "map.pub", "reply", *query)
         differ += finding != b"right\n"

@@ -14,16 +14,19 @@ import itertools
 import os
 import pathlib
 import random
-import subprocess
 import sys
 import tempfile
 from collections.abc import Iterator
 from concurrent.futures import ThreadPoolExecutor
 
-MAP = "roads 1\nnode 1 0 0\nnode 2 10 0\nnode 3 20 0\nroad 1 2 4\nroad 2 3 5\n"
+sys.path.insert(0, str(pathlib.Path(__file__).resolve().parents[1]))
+
+from common import layout  # noqa: E402
+from common.desks import AREA, BLOCK, HEADER, SIGNED, SIGNED_AT, SLOT, SLOTS, Desk  # noqa: E402
+from common.desks import texts_of as texts_in  # noqa: E402
+from common.maps import THREE  # noqa: E402
+
 SECRETS = [bytes(range(first, first + 48)) for first in (0, 50, 100)]
-BLOCK, SLOT, SLOTS, TEXT, SIGNATURE = 64, 128, 32, 2, 1292
-AREA = BLOCK + SLOT * SLOTS
 PUBLISH, SECONDS, PROCESSORS = "publish map.roads dij {} id 0 2 0 0 0", 600, 4
 KEY, SUCCEED = "key secret-0 h5", "succeed secret-2 h5"
 # an octet of a desk, a bit of it, and whether the file owner.key lies beside the desk
@@ -32,27 +35,14 @@ Bit = tuple[int, int, bool]
 RUNS = ((KEY, PUBLISH.format(99)), (PUBLISH.format(99),), (SUCCEED, "links"), ("links",))
 
 
-class Owner:
+class Owner(Desk):
     """The program in a folder of an owner."""
 
-    def __init__(self, program: str, folder: str):
-        self.program, self.folder = program, pathlib.Path(folder)
-        (self.folder / "map.roads").write_text(MAP, encoding="ascii")
+    def __init__(self, program: str, folder: str) -> None:
+        super().__init__(program, folder, SECONDS)
+        (self.folder / "map.roads").write_text(THREE, encoding="ascii")
         for number, secret in enumerate(SECRETS):
             (self.folder / f"secret-{number}").write_text(secret.hex(), encoding="ascii")
-
-    def run(self, words: str) -> tuple[int, bytes, str]:
-        done = subprocess.run([self.program, *words.split()], cwd=self.folder, capture_output=True, check=False, timeout=SECONDS)
-        return done.returncode, done.stdout, done.stderr.decode(errors="replace")
-
-    def done(self, words: str) -> bytes:
-        status, told, said = self.run(words)
-        if status != 0:
-            sys.exit(f"{words}: status {status}: {said}")
-        return told
-
-    def desk(self) -> bytes:
-        return (self.folder / "owner.desk").read_bytes()
 
     def put(self, image: bytes, public: bytes | None) -> None:
         path, key = self.folder / "owner.desk", self.folder / "owner.key"
@@ -70,44 +60,47 @@ def randomiser(secret: bytes, slot: int) -> bytes:
 
 def texts_of(image: bytes) -> dict[bytes, bytes]:
     """What the spent slots of a desk have signed, by their randomisers."""
-    found = {}
-    for at in range(0, len(image), AREA):
-        secret = image[at + 5 : at + 53]
-        for slot in range(SLOTS):
-            place = at + BLOCK + SLOT * slot
-            if image[place]:
-                found[randomiser(secret, slot)] = image[place + TEXT : place + TEXT + image[place + 1]]
+    found: dict[bytes, bytes] = {}
+    for area in range(-(-len(image) // AREA)):
+        secret = image[AREA * area + layout.NAME : AREA * area + layout.SPARE]
+        found |= {randomiser(secret, slot): text for slot, text in texts_in(image, area=area).items()}
     return found
 
 
 def signed_in(told: bytes) -> Iterator[tuple[bytes, bytes]]:
     """The signatures of a publication or of a chain file, as pairs of randomiser and text."""
-    if told[:4] == b"RPP1" and len(told) >= 110 + SIGNATURE:
-        yield told[118:150], told[4:108]
+    if told[:4] == b"RPP1" and len(told) >= SIGNED:
+        yield told[SIGNED_AT + 8 : SIGNED_AT + 40], told[HEADER]
     at = 0
     while told[at : at + 4] == b"RPL1":
         yield told[at + 62 + 8 : at + 62 + 40], b"RPK1" + told[at + 4 : at + 60]
         at += 62 + int.from_bytes(told[at + 60 : at + 62], "big")
 
 
-def faults_of(owner: Owner, image: bytes, public: bytes | None, known: dict[bytes, bytes], words: tuple[str, ...]) -> Iterator[str]:
+def faults_of(
+    owner: Owner, image: bytes, public: bytes | None, known: dict[bytes, bytes], words: tuple[str, ...]
+) -> Iterator[str]:
     """What is wrong about commands that run over a turned desk, each behind the one before it where that was done."""
     owner.put(image, public)
     signed = dict(known)
     for command in words:
-        before = owner.desk()
+        before = owner.image()
         status, told, said = owner.run(command)
         for key, text in signed_in(told):
             if signed.setdefault(key, text) != text:
                 yield f"{command}: a one-time key has signed two texts"
         if status not in (0, 12):
             yield f"{command}: status {status}"
-        if status == 0 and command == SUCCEED and all(signed.get(key, text) == text for key, text in texts_of(owner.desk()).items()):
+        if (
+            status == 0
+            and command == SUCCEED
+            and all(signed.get(key, text) == text for key, text in texts_of(owner.image()).items())
+        ):
             return
         if status != 0:
             # what is signed under another key than owner.key's is found behind the signing
             is_signed = public is not None and command.startswith("publish") and "not signed by the key" in said
-            if told or (owner.desk() != before and not is_signed):
+            if told or (owner.image() != before and not is_signed):
                 yield f"{command}: status {status}, and it has written"
             return
 
@@ -138,12 +131,12 @@ def desks(owner: Owner) -> tuple[dict[str, bytes], bytes]:
     public = owner.done(KEY)
     for version in (1, 2, 3):
         owner.done(PUBLISH.format(version))
-    one = owner.desk()
+    one = owner.image()
     owner.done("succeed secret-1 h5")
-    two = owner.desk()
+    two = owner.image()
     for version in (4, 5):
         owner.done(PUBLISH.format(version))
-    return {"one key": one, "two keys, the second new": two, "two keys": owner.desk()}, public
+    return {"one key": one, "two keys, the second new": two, "two keys": owner.image()}, public
 
 
 def look(program: str, name: str, image: bytes, public: bytes, bits: list[Bit]) -> list[str]:
@@ -155,8 +148,11 @@ def look(program: str, name: str, image: bytes, public: bytes, bits: list[Bit]) 
         for place, bit, has_key in bits:
             turned = bytearray(image)
             turned[place] ^= 1 << bit
-            found += [f"a desk of {name}, octet {place}, bit {bit}, {fault}"
-                      for words in RUNS for fault in faults_of(owner, bytes(turned), public if has_key else None, known, words)]
+            found += [
+                f"a desk of {name}, octet {place}, bit {bit}, {fault}"
+                for words in RUNS
+                for fault in faults_of(owner, bytes(turned), public if has_key else None, known, words)
+            ]
     return found
 
 

@@ -18,10 +18,13 @@ import sys
 import tempfile
 from collections import Counter
 
-COMMANDS, MAP = 40, "roads 1\nnode 1 0 0\nnode 2 10 0\nnode 3 20 0\nroad 1 2 4\nroad 2 3 5\n"
-BLOCK, SLOT, SLOTS = 64, 128, 32
-# where the signature of a publication by an `h5` key ends
-SIGNED = 110 + 1292
+sys.path.insert(0, str(pathlib.Path(__file__).resolve().parents[1]))
+
+from common.desks import AREA, HEADER, SIGNED, SLOTS, key_number, slot_at  # noqa: E402
+from common.layout import LENGTH, TEXT  # noqa: E402
+from common.maps import THREE  # noqa: E402
+
+COMMANDS = 40
 CALLS = ["openat", "lseek", "read", "write", "fsync"]
 LINE = re.compile(r"^\d+ +(\w+)\((\d+)<([^>]*)>(?:, (.*))?\) += (-?\d+)")
 
@@ -29,16 +32,17 @@ LINE = re.compile(r"^\d+ +(\w+)\((\d+)<([^>]*)>(?:, (.*))?\) += (-?\d+)")
 class Disk:
     """What is stable of the file, and what was written since."""
 
-    def __init__(self, folder):
+    def __init__(self, folder: pathlib.Path) -> None:
         self.path = folder / "owner.desk"
-        self.stable, self.now, self.places = b"", b"", {}
-        self.written = []
+        self.stable, self.now = b"", b""
+        self.places: dict[str, int] = {}
+        self.written: list[tuple[int, int]] = []
 
-    def begin(self):
+    def begin(self) -> None:
         self.now = self.stable = self.path.read_bytes() if self.path.exists() else b""
         self.places, self.written = {}, []
 
-    def follow(self, trace):
+    def follow(self, trace: str) -> None:
         """Follows the calls of a trace: seeks, writes and syncs of the desk."""
         for line in trace.splitlines():
             found = LINE.match(line)
@@ -54,7 +58,7 @@ class Disk:
             elif call == "fsync" and result == 0:
                 self.stable, self.written = self.now, []
 
-    def write(self, fd, rest, result):
+    def write(self, fd: str, rest: str, result: int) -> None:
         octets = bytes(int(pair, 16) for pair in re.findall(r"\\x([0-9a-f]{2})", rest))
         at = self.places.get(fd, 0)
         count = max(result, 0)
@@ -62,7 +66,7 @@ class Disk:
         self.now = self.now[:at].ljust(at, b"\0") + octets[:count] + self.now[at + count :]
         self.places[fd] = at + count
 
-    def crash(self, rng):
+    def crash(self, rng: random.Random) -> None:
         """Leaves in the file what a crash may leave."""
         end = max([len(self.stable), *(at + count for at, count in self.written)])
         image = bytearray(self.stable.ljust(end, b"\0"))
@@ -82,19 +86,36 @@ class Disk:
 class Life:
     """One desk, and what was let out of it."""
 
-    def __init__(self, program, folder, rng):
+    def __init__(self, program: str, folder: pathlib.Path, rng: random.Random) -> None:
         self.program, self.folder, self.rng = program, folder, rng
-        self.disk, self.released, self.version, self.counts = Disk(folder), {}, 0, Counter()
-        (folder / "map.roads").write_text(MAP, encoding="ascii")
+        self.disk, self.version, self.counts = Disk(folder), 0, Counter[str]()
+        self.released: dict[tuple[int, int], bytes] = {}
+        (folder / "map.roads").write_text(THREE, encoding="ascii")
 
-    def run(self, words):
+    def run(self, words: list[str]) -> subprocess.CompletedProcess[bytes]:
         """A command, killed or failed at a drawn call, or left alone."""
         self.disk.begin()
         how = self.rng.choice(["whole", "killed", "killed", "failed"])
         call, number = self.rng.choice(CALLS[2:] if how != "whole" else CALLS), self.rng.randint(1, 12)
-        inject = [] if how == "whole" else ["-e", f"inject={call}:{'signal=KILL' if how == 'killed' else 'error=EIO'}:when={number}"]
+        inject = (
+            []
+            if how == "whole"
+            else ["-e", f"inject={call}:{'signal=KILL' if how == 'killed' else 'error=EIO'}:when={number}"]
+        )
         trace = self.folder / "trace"
-        strace = ["strace", "-f", "-y", "-xx", "-s", "300000", "-e", f"trace={','.join(CALLS)}", *inject, "-o", str(trace)]
+        strace = [
+            "strace",
+            "-f",
+            "-y",
+            "-xx",
+            "-s",
+            "300000",
+            "-e",
+            f"trace={','.join(CALLS)}",
+            *inject,
+            "-o",
+            str(trace),
+        ]
         done = subprocess.run([*strace, self.program, *words], cwd=self.folder, capture_output=True, check=False)
         self.disk.follow(unhexed(trace.read_text(encoding="ascii", errors="replace")))
         self.counts[how] += 1
@@ -103,44 +124,46 @@ class Life:
             self.disk.crash(self.rng)
         return done
 
-    def publish(self):
+    def publish(self) -> None:
         self.version += 1
         words = f"publish map.roads dij {self.version} id 0 2 0 0 0"
         done = self.run(words.split())
         if len(done.stdout) >= SIGNED:
             self.take(done.stdout)
 
-    def take(self, publication):
+    def take(self, publication: bytes) -> None:
         """A publication is let out: its one-time key has signed nothing else, and its header stands in the slot."""
-        header, slot = publication[4:108], int.from_bytes(publication[110:114], "big")
+        header, slot = publication[HEADER], key_number(publication)
         known = self.released.setdefault((self.keys(), slot), header)
         if known != header:
             raise SystemExit(f"one-time key {slot} has signed two headers: {known.hex()} and {header.hex()}")
         self.counts["let out"] += 1
 
-    def keys(self):
+    def keys(self) -> int:
         """How many keys the desk has."""
         image, base = self.disk.path.read_bytes(), 0
         number = 1
-        while len(image) >= base + BLOCK + SLOT * SLOTS:
-            last = base + BLOCK + SLOT * (SLOTS - 1)
-            if not image[last] or image[last + 2 : last + 6] != b"RPK1":
+        while len(image) >= base + AREA:
+            last = base + slot_at(SLOTS - 1)
+            if not image[last] or image[last + TEXT : last + TEXT + 4] != b"RPK1":
                 break
-            base += BLOCK + SLOT * SLOTS
+            base += AREA
             number += 1
         return number
 
-    def look(self):
+    def look(self) -> None:
         """Each header that was let out stands in its slot."""
         image = self.disk.path.read_bytes()
         for (number, slot), header in self.released.items():
-            at = (number - 1) * (BLOCK + SLOT * SLOTS) + BLOCK + SLOT * slot
-            if not image[at] or image[at + 2 : at + 2 + image[at + 1]] != header:
+            at = slot_at(slot, number - 1)
+            if not image[at] or image[at + TEXT : at + TEXT + image[at + LENGTH]] != header:
                 raise SystemExit(f"the header of one-time key {slot} of key {number} does not stand in its slot")
 
-    def live(self):
+    def live(self) -> Counter[str]:
         (self.folder / "secret").write_text(self.rng.randbytes(48).hex(), encoding="ascii")
-        while subprocess.run([self.program, "key", "secret", "h5"], cwd=self.folder, capture_output=True, check=False).returncode not in (0, 12):
+        while subprocess.run(
+            [self.program, "key", "secret", "h5"], cwd=self.folder, capture_output=True, check=False
+        ).returncode not in (0, 12):
             pass
         for _ in range(COMMANDS):
             turn = self.rng.random()
@@ -155,16 +178,16 @@ class Life:
         return self.counts
 
 
-def unhexed(trace):
+def unhexed(trace: str) -> str:
     """A trace whose paths are plain, where strace has written them in hex."""
 
-    def plain(found):
+    def plain(found: re.Match[str]) -> str:
         return "<" + bytes.fromhex(found[1].replace("\\x", "")).decode("utf-8", "replace") + ">"
 
     return re.sub(r"<((?:\\x[0-9a-f]{2})+)>", plain, trace)
 
 
-def main():
+def main() -> None:
     parser = argparse.ArgumentParser(description=__doc__.split("\n", maxsplit=1)[0])
     parser.add_argument("program")
     parser.add_argument("--lives", type=int, default=1000)
@@ -174,7 +197,7 @@ def main():
         print("skipped: checks/owner/lives.py, since this machine has no strace")
         return
     os.umask(0o077)
-    counts = Counter()
+    counts = Counter[str]()
     for number in range(given.lives):
         with tempfile.TemporaryDirectory() as folder:
             life = Life(os.path.abspath(given.program), pathlib.Path(folder), random.Random(f"{given.seed} {number}"))
@@ -183,4 +206,4 @@ def main():
 
 
 if __name__ == "__main__":
-    sys.exit(main())
+    main()

@@ -18,15 +18,18 @@ from concurrent.futures import ThreadPoolExecutor
 from functools import lru_cache
 from pathlib import Path
 
-from bits import AREA, BLOCK, PROCESSORS, RUNS, SECRETS, SLOT, SLOTS, TEXT, Owner, desks, faults_of, randomiser, texts_of
+from bits import PROCESSORS, RUNS, SECRETS, Owner, desks, faults_of, randomiser, texts_of
 
-sys.path.insert(0, str(Path(__file__).resolve().parents[2] / "reference"))
+CHECKS = Path(__file__).resolve().parents[1]
+sys.path[:0] = [str(CHECKS.parent / "reference"), str(CHECKS)]
 
+from common.desks import AREA, BLOCK, SLOT, SLOTS, TEXT  # noqa: E402
+from common.layout import HEADER, KIND, LENGTH, NAME, SPARE  # noqa: E402
 from gogbetiku_reference.headers import NO_ROOT, read_header  # noqa: E402
 from gogbetiku_reference.lms import key_of  # noqa: E402
 from gogbetiku_reference.octets import Malformed, Reader  # noqa: E402
 
-HEADER, LINK, H5, EARLY, DRAWN = 104, 60, 5, SLOTS - 1, 100_000
+LINK, H5, EARLY, DRAWN = 60, 5, SLOTS - 1, 100_000
 KEY, PUBLISH, SUCCEED = range(3)
 # a one-time key: identifier and seed, and the number
 Signs = tuple[bytes, int] | None
@@ -44,7 +47,7 @@ def has_header(text: bytes) -> bool:
 def early(slot: bytes) -> tuple[bool, bool, bool]:
     """Of a slot for maps: whether it is spent, whether it is empty, and whether a whole header stands in it."""
     text = slot[TEXT : TEXT + HEADER]
-    return slot[0] != 0, not any(slot[1 : TEXT + HEADER]), slot[1] == HEADER and has_header(text)
+    return slot[0] != 0, not any(slot[LENGTH : TEXT + HEADER]), slot[LENGTH] == HEADER and has_header(text)
 
 
 @lru_cache(maxsize=1 << 10)
@@ -55,8 +58,8 @@ def public_of(kind: int, secret: bytes) -> bytes:
 
 def block(image: bytes, at: int) -> bytes | None:
     """Identifier and seed of a key at a place, where its type is known and all of it is there."""
-    kind = int.from_bytes(image[at + 1 : at + 5], "big")
-    return image[at + 5 : at + 53] if kind == H5 and len(image) >= at + AREA else None
+    kind = int.from_bytes(image[at + KIND : at + NAME], "big")
+    return image[at + NAME : at + SPARE] if kind == H5 and len(image) >= at + AREA else None
 
 
 def free_slot(image: bytes, at: int) -> int | None:
@@ -81,6 +84,7 @@ def free_slot(image: bytes, at: int) -> int | None:
 
 def is_shut(image: bytes) -> bool:
     """Whether a desk stands behind a first gate that is closed."""
+
     def stands(at: int) -> bool:
         secret = block(image, at) if len(image) >= at + AREA else None
         return secret is not None and len(set(secret)) > 1
@@ -91,7 +95,7 @@ def is_shut(image: bytes) -> bool:
 def link_at(image: bytes, at: int) -> bytes | None:
     """The key that a whole link text names in the last slot of an area."""
     slot = image[at + AREA - SLOT : at + AREA]
-    return slot[TEXT + 4 : TEXT + LINK] if slot[1] == LINK and slot[TEXT : TEXT + 4] == b"RPK1" else None
+    return slot[TEXT + 4 : TEXT + LINK] if slot[LENGTH] == LINK and slot[TEXT : TEXT + 4] == b"RPK1" else None
 
 
 def signs(image: bytes, what: int) -> Signs:
@@ -102,7 +106,7 @@ def signs(image: bytes, what: int) -> Signs:
         return None
     for at in range(0, len(image), AREA):
         secret = block(image, at)
-        if secret is None or any(image[at + 53 : at + BLOCK]) or (at > 0 and image[at] != 0):
+        if secret is None or any(image[at + SPARE : at + BLOCK]) or (at > 0 and image[at] != 0):
             return None
         slot = free_slot(image, at)
         if slot is None:
@@ -135,7 +139,9 @@ def turned(image: bytes, pair: Iterable[int]) -> bytes:
 def is_twice(image: bytes, pair: tuple[int, int], known: dict[bytes, bytes]) -> bool:
     """Whether a command signs twice by a one-time key, where this pair of bits is turned."""
     octets = turned(image, pair)
-    return any(by is not None and randomiser(*by) in known for by in (signs(octets, what) for what in (KEY, PUBLISH, SUCCEED)))
+    return any(
+        by is not None and randomiser(*by) in known for by in (signs(octets, what) for what in (KEY, PUBLISH, SUCCEED))
+    )
 
 
 def gates(image: bytes) -> list[int]:
@@ -148,7 +154,9 @@ def closing(image: bytes) -> Iterator[tuple[int, int]]:
     """Every pair of bits of which one closes a gate."""
     closes = gates(image)
     for number, first in enumerate(closes):
-        yield from ((first, second) for second in range(8 * len(image)) if second != first and second not in closes[:number])
+        yield from (
+            (first, second) for second in range(8 * len(image)) if second != first and second not in closes[:number]
+        )
 
 
 def disagree(program: str, image: bytes, public: bytes, pairs: list[tuple[int, int]], wanted: bool) -> list[str]:
@@ -171,15 +179,32 @@ def measure(program: str, name: str, image: bytes, public: bytes, tries: int, rn
     for pair in closing(image):
         (twice if is_twice(image, pair, known) else once).append(pair)
     others = [(rng.randrange(bits), rng.randrange(bits)) for _ in range(DRAWN)]
-    strays = [pair for pair in others if not set(pair) & set(gates(image)) and pair[0] != pair[1] and is_twice(image, pair, known)]
+    strays = [
+        pair
+        for pair in others
+        if not set(pair) & set(gates(image)) and pair[0] != pair[1] and is_twice(image, pair, known)
+    ]
     all_pairs = bits * (bits - 1) // 2
-    print(f"{name}: {len(twice)} of {all_pairs} pairs of bits sign twice, one in {all_pairs // max(1, len(twice)):,}; "
-          f"{len(twice) + len(once)} close a gate; {len(strays)} of {DRAWN:,} drawn others sign twice")
+    print(
+        f"{name}: {len(twice)} of {all_pairs} pairs of bits sign twice, one in {all_pairs // max(1, len(twice)):,}; "
+        f"{len(twice) + len(once)} close a gate; {len(strays)} of {DRAWN:,} drawn others sign twice"
+    )
     samples = [(rng.sample(some, min(tries, len(some))), wanted) for some, wanted in ((twice, True), (once, False))]
-    parts = [(program, image, public, pairs[part::PROCESSORS], wanted) for pairs, wanted in samples for part in range(PROCESSORS)]
+    parts = [
+        (program, image, public, pairs[part::PROCESSORS], wanted)
+        for pairs, wanted in samples
+        for part in range(PROCESSORS)
+    ]
     with ThreadPoolExecutor(PROCESSORS) as pool:
         wrong = list(itertools.chain(*pool.map(lambda part: disagree(*part), parts)))
-    print("\n".join([*wrong, f"{name}: the program was tried on {sum(len(pairs) for pairs, _ in samples)} pairs, and disagrees on {len(wrong)}"]))
+    print(
+        "\n".join(
+            [
+                *wrong,
+                f"{name}: the program was tried on {sum(len(pairs) for pairs, _ in samples)} pairs, and disagrees on {len(wrong)}",
+            ]
+        )
+    )
     return len(wrong) + len(strays)
 
 
@@ -193,7 +218,14 @@ def main() -> int:
     os.umask(0o077)
     with tempfile.TemporaryDirectory() as folder:
         images, public = desks(Owner(program, folder))
-    return 1 if sum(measure(program, name, image, public, given.tries, random.Random(given.seed)) for name, image in images.items()) else 0
+    return (
+        1
+        if sum(
+            measure(program, name, image, public, given.tries, random.Random(given.seed))
+            for name, image in images.items()
+        )
+        else 0
+    )
 
 
 if __name__ == "__main__":

@@ -4,55 +4,52 @@
 `key h5`, `key h10` and `publish` over the grid of 64 by 64 nodes by an h10 key, run by both programs in turn: the median of
 the ratios of N pairs, which is to be 1.1 at most. Then `check` by PROGRAM of a reply over the grid of 256 by 256 nodes, as
 it is and with one octet of its last digest changed: the refused one is to take 1.1 of the accepted one at most. It ends
-with status 1 where a ratio is above that. Times are of a quiet machine. Nobody trusts this script.
+with status 1 if a ratio is above that. Times are of a quiet machine. Nobody trusts this script.
 """
 import argparse
 import os
 import pathlib
-import statistics
-import subprocess
 import sys
 import tempfile
 import time
 
-TOP = pathlib.Path(__file__).resolve().parents[1]
+sys.path.insert(0, str(pathlib.Path(__file__).resolve().parents[1]))
+
+from common.maps import made  # noqa: E402
+from common.runs import Seconds, median_ratio, written  # noqa: E402
+
 MOST = 1.1
 
 
-def timed(program, words, status=0):
+def timed(program: str, words: str, status: int = 0) -> tuple[float, bytes]:
     begun = time.monotonic()
-    done = subprocess.run([program, *words.split()], capture_output=True, check=False)
-    taken = time.monotonic() - begun
-    if done.returncode != status:
-        sys.exit(f"{program} {words}: status {done.returncode}: {done.stderr.decode()}")
-    return taken, done.stdout
+    told = written([program, *words.split()], status=status)
+    return time.monotonic() - begun, told
 
 
-def grid(width, name):
-    made = subprocess.run([sys.executable, TOP / "speed/grid.py", str(width)], capture_output=True, check=True)
-    pathlib.Path(name).write_bytes(made.stdout)
-
-
-def ratio(what, first, second, pairs):
-    """The median of how much longer the first takes than the second, each run in turn."""
-    found = statistics.median(first() / second() for _ in range(pairs))
+def ratio(what: str, first: Seconds, second: Seconds, pairs: int) -> bool:
+    """Whether the first takes at most MOST times as long as the second, by the median of pairs of runs."""
+    found = median_ratio(first, second, pairs)
     print(f"{what}: {found:.3f}")
     return found <= MOST
 
 
-def commands(program, before, pairs):
+def commands(program: str, before: str, pairs: int) -> bool:
     """The owner's commands by both programs, each in a folder of its own."""
-    def key(it, kind):
-        def run():
+
+    def key(it: tuple[str, str], kind: str) -> Seconds:
+        def run() -> float:
             os.chdir(it[1])
             pathlib.Path("owner.desk").unlink(missing_ok=True)
             return timed(it[0], f"key ../secret {kind}")[0]
+
         return run
 
-    def publish(it):
-        def run():
+    def publish(it: tuple[str, str]) -> Seconds:
+        def run() -> float:
             os.chdir(it[1])
             return timed(it[0], "publish ../small.roads dij 1 id 0 2 0 0 0")[0]
+
         return run
 
     new, old = (program, os.path.abspath("new")), (before, os.path.abspath("old"))
@@ -61,7 +58,7 @@ def commands(program, before, pairs):
     return all(good)
 
 
-def replies(program, pairs):
+def replies(program: str, pairs: int) -> bool:
     """An accepted and a refused reply from corner to corner."""
     public = timed(program, "key ../secret h5")[1]
     pathlib.Path("key").write_bytes(public)
@@ -70,11 +67,15 @@ def replies(program, pairs):
     pathlib.Path("good").write_bytes(reply)
     pathlib.Path("bad").write_bytes(reply[:-1] + bytes([reply[-1] ^ 1]))
     print(f"a reply of {len(reply)} octets")
-    return ratio("check, refused by accepted", lambda: timed(program, "check key bad 1 65536 1", 1)[0],
-                 lambda: timed(program, "check key good 1 65536 1")[0], pairs)
+    return ratio(
+        "check, refused by accepted",
+        lambda: timed(program, "check key bad 1 65536 1", 1)[0],
+        lambda: timed(program, "check key good 1 65536 1")[0],
+        pairs,
+    )
 
 
-def main():
+def main() -> int:
     parser = argparse.ArgumentParser(description=__doc__.split("\n", maxsplit=1)[0])
     parser.add_argument("program")
     parser.add_argument("before")
@@ -87,8 +88,8 @@ def main():
         pathlib.Path("secret").write_text(bytes(range(48)).hex(), encoding="ascii")
         for name in ("new", "old", "replies"):
             os.mkdir(name)
-        grid(64, "small.roads")
-        grid(256, "large.roads")
+        pathlib.Path("small.roads").write_bytes(made("grid", 64))
+        pathlib.Path("large.roads").write_bytes(made("grid", 256))
         is_good = commands(program, before, given.pairs)
         os.chdir(f"{folder}/replies")
         is_good = replies(program, given.pairs) and is_good

@@ -19,32 +19,23 @@ import tempfile
 import time
 
 TOP = pathlib.Path(__file__).resolve().parents[2]
+sys.path.insert(0, str(TOP / "checks"))
+
+from common import layout  # noqa: E402
+from common.desks import SIGNED, SIGNED_AT, slot_at  # noqa: E402
+from common.looks import StrictLooks  # noqa: E402
+from common.maps import FIVE  # noqa: E402
+from common.runs import Ended, outcome  # noqa: E402
+
 TOOLS, STOP_AT = TOP / "tools", TOP / "checks/owner/stop_at.py"
-FIVE = "roads 1\nnode 1 0 0\nnode 2 10 0\nnode 3 20 0\nnode 4 10 10\nnode 5 50 50\nroad 1 2 4\nroad 2 3 5\nroad 1 4 3\nroad 4 3 7\n"
 SECRET, NEXT = bytes(range(48)), bytes(range(100, 148))
-SECONDS, SIGNED = 600, 1402
-BLOCK, SLOT, LAST = 64, 128, 31
-Ended = tuple[int, bytes, str]
-played = 0
-
-
-def same(what: str, seen: object, wanted: object) -> None:
-    global played
-    played += 1
-    if seen != wanted:
-        sys.exit(f"{what}: {seen!r}, and not {wanted!r}")
+SECONDS, LAST = 600, 31
+LOOKS = StrictLooks()
+same, says = LOOKS.same, LOOKS.says
 
 
 def run(*words: object) -> Ended:
-    done = subprocess.run([str(word) for word in words], capture_output=True, check=False, timeout=SECONDS)
-    return done.returncode, done.stdout, done.stderr.decode()
-
-
-def says(what: str, ended: Ended, status: int, *parts: str) -> None:
-    """A command ended with this status, and said each of these."""
-    same(f"{what}: the status, where it said {ended[2]!r}", ended[0], status)
-    for part in parts:
-        same(f"{what}: {ended[2]!r} has {part!r}", part in ended[2], True)
+    return outcome(words, seconds=SECONDS)
 
 
 def write(name: str, text: str) -> None:
@@ -100,7 +91,11 @@ def released(program: str, name: str, *more: str, log: str = "log", key_name: st
 def left(what: str, ended: Ended, name: str, *parts: str) -> None:
     """A publication was neither let out nor destroyed, nor the log changed."""
     says(what, ended, 1, *parts)
-    same(f"{what}: what is left", (there(f"{name}.pub", f"{name}.pub.new"), octets(f"{name}.pub.new")), ([f"{name}.pub.new"], octets("copy")))
+    same(
+        f"{what}: what is left",
+        (there(f"{name}.pub", f"{name}.pub.new"), octets(f"{name}.pub.new")),
+        ([f"{name}.pub.new"], octets("copy")),
+    )
 
 
 def of_doubt(program: str) -> None:
@@ -108,20 +103,36 @@ def of_doubt(program: str) -> None:
     shutil.copyfile("two.pub.new", "copy")
     whole = octets("log")
     torn, other = whole[:-60], whole.replace(b" 0 1 ", b" 0 one ")
-    for what, log, part in (("a torn last line", torn, "line 1 has no line end"), ("no last line end", whole[:-1], "line 1 has no line end"),
-                            ("a line that is none", whole + b"what?\n" + whole, "line 2 is none of the form"),
-                            ("an empty line", b"\n" + whole, "line 1 is none of the form"),
-                            ("a number that is none", other, "line 1 is none of the form"), ("no text", b"\xff\xfe\n" + whole, "line 1 is none of the form"),
-                            ("two lines grown together", torn + whole, "line 1 is none of the form")):
+    for what, log, part in (
+        ("a torn last line", torn, "line 1 has no line end"),
+        ("no last line end", whole[:-1], "line 1 has no line end"),
+        ("a line that is none", whole + b"what?\n" + whole, "line 2 is not of the form"),
+        ("an empty line", b"\n" + whole, "line 1 is not of the form"),
+        ("a number that is none", other, "line 1 is not of the form"),
+        ("no text", b"\xff\xfe\n" + whole, "line 1 is not of the form"),
+        ("two lines grown together", torn + whole, "line 1 is not of the form"),
+    ):
         pathlib.Path("log").write_bytes(log)
         left(what, released(program, "two"), "two", part)
         same(f"{what}: the log", octets("log"), log)
     pathlib.Path("log").write_bytes(whole)
     write("ffff.key", "ffff\n")
     write("other.key", octets("owner.key").decode()[:48] + "0" * 64)
-    left("a key that is none", released(program, "two", key_name="ffff.key"), "two", "it is no public key")
+    for words in ((), (program, "two.pub", "log", "owner.key"), (program, "two.pub.new", "log")):
+        says(
+            f"release with {len(words)} words",
+            run(sys.executable, TOOLS / "release", *words),
+            2,
+            "where NEW ends with .new",
+        )
+    left("a key that is none", released(program, "two", key_name="ffff.key"), "two", "it is not a public key")
     left("another key", released(program, "two", key_name="other.key"), "two", "it is not signed under other.key")
-    left("no log, where the key has signed before", released(program, "two", log="nowhere"), "two", "there is no such log")
+    left(
+        "no log, where the key has signed before",
+        released(program, "two", log="nowhere"),
+        "two",
+        "there is no such log",
+    )
     left("a program that is none", released("no/program", "two"), "two", "there is no such program")
     left("a program that fails", released("/bin/false", "two"), "two", "check ended with status 1")
     changed = bytearray(octets("two.pub.new"))
@@ -131,7 +142,7 @@ def of_doubt(program: str) -> None:
     left("a changed signature", released(program, "false"), "false", "it is not signed under owner.key")
     pathlib.Path("copy").write_bytes(octets("two.pub.new")[:-1])
     shutil.copyfile("copy", "cut.pub.new")
-    left("one that is cut off", released(program, "cut"), "cut", "it is no whole publication")
+    left("one that is cut off", released(program, "cut"), "cut", "it is not a complete publication")
     same("the log", octets("log"), whole)
 
 
@@ -144,13 +155,23 @@ def of_release(program: str) -> None:
     same("the same publication again", released(program, "two")[0], 0)
     same("release of three", released(program, "three")[0], 0)
     shutil.copyfile("two.pub", "two.pub.new")
-    says("an earlier one that was let out, again", released(program, "two"), 0, "version 2 is below 3, which was let out before")
+    says(
+        "an earlier one that was let out, again",
+        released(program, "two"),
+        0,
+        "version 2 is below 3, which was released before",
+    )
     shutil.copyfile("nine.pub.new", "nine.copy")
-    says("release of nine", released(program, "nine"), 1, "one-time key 1 has signed another header before, of version 2")
+    says(
+        "release of nine",
+        released(program, "nine"),
+        1,
+        "one-time key 1 has already signed another header, of version 2",
+    )
     same("nine is destroyed", there("nine.pub", "nine.pub.new"), [])
     pathlib.Path("junk.pub.new").write_bytes(b"RPP1")
     shutil.copyfile("junk.pub.new", "copy")
-    left("junk", released(program, "junk"), "junk", "it is no whole publication")
+    left("junk", released(program, "junk"), "junk", "it is not a complete publication")
 
 
 def of_succession(program: str) -> None:
@@ -158,12 +179,20 @@ def of_succession(program: str) -> None:
     shutil.copyfile("ten.pub.new", "copy")
     left("the next key's without a chain", released(program, "ten"), "ten", "After `succeed` name the chain file too")
     same("the next key's along the chain", released(program, "ten", "owner.chain"), (0, b"", ""))
-    says("the first key's behind it", released(program, "eleven", "owner.chain"), 1, "one-time key 3 is below 0 of a later key")
+    says(
+        "the first key's behind it",
+        released(program, "eleven", "owner.chain"),
+        1,
+        "one-time key 3 is earlier than 0 of a later key",
+    )
     same("eleven is destroyed", there("eleven.pub", "eleven.pub.new"), [])
     lines = octets("log").decode("ascii").splitlines()
     same("the log", [line.split(" ")[1:3] for line in lines], [["0", "1"], ["1", "2"], ["2", "3"], ["0", "10"]])
-    same("whose keys it has", [line.split(" ")[0] for line in lines],
-         [octets("owner.key").decode().strip()] * 3 + [octets("owner.chain")[4:60].hex()])
+    same(
+        "whose keys it has",
+        [line.split(" ")[0] for line in lines],
+        [octets("owner.key").decode().strip()] * 3 + [octets("owner.chain")[4:60].hex()],
+    )
 
 
 def monitored(program: str, *files: str, desk: int | None = None) -> tuple[int, str]:
@@ -181,31 +210,51 @@ def of_monitor(program: str) -> None:
     same("what is in order", monitored(program, "one.pub", "one.reply", "t w\no.pub", "three.pub", desk=3), (0, ""))
     same("a slot that the desk has free", "at or above 2" in monitored(program, "three.pub", desk=2)[1], True)
     status, told = monitored(program, "nine.copy")
-    same("a broken key", (status, "broken: one-time key 1 has signed two headers, in t%20w%0ao.pub and in nine.copy" in told), (1, True))
+    same(
+        "a broken key",
+        (status, "broken: one-time key 1 has signed two headers, in t%20w%0ao.pub and in nine.copy" in told),
+        (1, True),
+    )
     same("a version that falls", "versions 3 and 9 are of one-time keys 2 and 1" in told, True)
     changed = bytearray(octets("one.pub"))
     changed[30] ^= 1
     pathlib.Path("fal\nse.pub").write_bytes(changed)
-    same("an unsigned header", monitored(program, "fal\nse.pub"), (1, "unsigned: fal%0ase.pub has no header that this key has signed\n"))
+    same(
+        "an unsigned header",
+        monitored(program, "fal\nse.pub"),
+        (1, "unsigned: fal%0ase.pub has no header signed by this key\n"),
+    )
     book = octets("book")
-    for what, broken, number in (("torn", book[:-3], 4), ("with a name in two lines", book.replace(b"%0a", b"\n"), 3), ("with a word less", book + b"a b c d\n", 5)):
+    for what, broken, number in (
+        ("torn", book[:-3], 4),
+        ("with a name in two lines", book.replace(b"%0a", b"\n"), 3),
+        ("with a word less", book + b"a b c d\n", 5),
+    ):
         pathlib.Path("book").write_bytes(broken)
-        says(f"a book {what}", run(sys.executable, TOOLS / "monitor.py", "book", "owner.key", program, "one.pub"), 2, f"book: line {number} ")
+        says(
+            f"a book {what}",
+            run(sys.executable, TOOLS / "monitor.py", "book", "owner.key", program, "one.pub"),
+            2,
+            f"book: line {number} ",
+        )
         same(f"a book {what}, behind it", octets("book"), broken)
 
 
 def day(program: str, version: object, out: str = "m.pub", *more: str) -> Ended:
     """One day by `publish`."""
-    return run(sys.executable, TOOLS / "publish", program, "five.roads", "dij", version, "id", 0, 2, 0, 0, 0, out, *more)
+    return run(
+        sys.executable, TOOLS / "publish", program, "five.roads", "dij", version, "id", 0, 2, 0, 0, 0, out, *more
+    )
 
 
 def spent() -> int:
     """How many one-time keys of the desk's first key are used for maps."""
-    return sum(octets("owner.desk")[BLOCK + SLOT * slot] != 0 for slot in range(LAST))
+    return sum(octets("owner.desk")[slot_at(slot)] != 0 for slot in range(LAST))
 
 
 def version_in(name: str) -> int | None:
-    return int.from_bytes(octets(name)[12:20], "big") if os.path.exists(name) and os.path.getsize(name) > 20 else None
+    is_there = os.path.exists(name) and os.path.getsize(name) > layout.IN_PUBLICATION + layout.NODES
+    return layout.version_of(octets(name), layout.IN_PUBLICATION) if is_there else None
 
 
 def refused(what: str, ended: Ended, *parts: str) -> None:
@@ -220,22 +269,36 @@ def of_days(program: str) -> None:
     says("a first day", day(program, 7), 0, "m.pub: Version 7 is in its place. One-time keys left: 30.")
     same("what is there", (version_in("m.pub"), there("m.pub.new"), octets("released.log").count(b"\n")), (7, [], 1))
     shutil.copyfile("owner.desk", "before")
-    for version, part in ((7, "version 7 is not above version 7"), (6, "is not above"), (7 + 2**32 + 1, "more than 2^32 above version 7"), (2**64 - 1, "more than 2^32"),
-                          (2**64, "is no number"), ("x", "is no number")):
+    for version, part in (
+        (7, "version 7 is not above version 7"),
+        (6, "is not above"),
+        (7 + 2**32 + 1, "more than 2^32 above version 7"),
+        (2**64 - 1, "more than 2^32"),
+        (2**64, "is not a number"),
+        ("x", "is not a number"),
+    ):
         refused(f"version {version}", day(program, version), part)
-    for name, part in (("owner.desk", "it is there and no publication"), ("five.roads", "it is there and no publication"), (".", "a link or no file")):
+    for name, part in (
+        ("owner.desk", "it exists but is not a publication"),
+        ("five.roads", "it exists but is not a publication"),
+        (".", "a link or not a regular file"),
+    ):
         refused(f"the place {name}", day(program, 8, name), part)
     os.symlink("m.pub", "link.pub")
-    refused("a place that is a link", day(program, 8, "link.pub"), "a link or no file")
+    refused("a place that is a link", day(program, 8, "link.pub"), "a link or not a regular file")
     write("torn", octets("released.log").decode()[:-1])
     refused("a torn log", day(program, 8, "m.pub", "--log", "torn"), "line 1 has no line end")
     refused("another log", day(program, 8, "m.pub", "--log", "nowhere"), "there is no such log")
     write("ffff.key", "ffff")
-    refused("a key that is none", day(program, 8, "m.pub", "--key", "ffff.key"), "it is no public key")
+    refused("a key that is none", day(program, 8, "m.pub", "--key", "ffff.key"), "it is not a public key")
     write("other.key", octets("owner.key").decode()[:16] + "0" * 96)
     refused("another key", day(program, 8, "m.pub", "--key", "other.key"), "its keys are not those of other.key")
     says("a version anyway", day(program, 7 + 2**32 + 1, "m.pub", "--version-anyway"), 0, "One-time keys left: 29.")
-    says("a bad map", run(sys.executable, TOOLS / "publish", program, "five.roads", "full", 2**33, "id", 0, 99, 0, 0, 0, "m.pub"), 2)
+    says(
+        "a bad map",
+        run(sys.executable, TOOLS / "publish", program, "five.roads", "full", 2**33, "id", 0, 99, 0, 0, 0, "m.pub"),
+        2,
+    )
     os.mkdir("mirror-1")
     says("a lost mirror", day(program, 2**33), 15, "lost mirror 1", "Version 8589934592 is in its place")
     os.rmdir("mirror-1")
@@ -245,10 +308,14 @@ def of_days(program: str) -> None:
     same("what it signed", octets("owner.desk"), octets("before"))
     shutil.copyfile("later", "owner.desk")
     same("succeed", run(program, "succeed", "next.hex", "h5")[0], 0)
-    says("no chain", day(program, 2**33 + 1), 1, "it signs by its key 2")
+    says("no chain", day(program, 2**33 + 1), 1, "it signs with its key 2")
     pathlib.Path("owner.chain").write_bytes(run(program, "links")[1])
     says("the next key", day(program, 2**33 + 1), 0, "One-time keys left: 30.")
-    same("whose it is", octets("released.log").split(b"\n")[-2].startswith(octets("owner.chain")[4:60].hex().encode()), True)
+    same(
+        "whose it is",
+        octets("released.log").split(b"\n")[-2].startswith(octets("owner.chain")[4:60].hex().encode()),
+        True,
+    )
 
 
 class Folder:
@@ -269,7 +336,11 @@ class Folder:
 
 def stood(what: str) -> None:
     """Behind a stop the old publication stands whole, or the new one."""
-    same(f"{what}: what stands", (version_in("m.pub"), len(octets("m.pub"))), (version_in("m.pub") if version_in("m.pub") in (7, 8) else 8, len(octets("old.pub"))))
+    same(
+        f"{what}: what stands",
+        (version_in("m.pub"), len(octets("m.pub"))),
+        (version_in("m.pub") if version_in("m.pub") in (7, 8) else 8, len(octets("old.pub"))),
+    )
 
 
 def of_syncs(program: str, base: str) -> None:
@@ -279,12 +350,50 @@ def of_syncs(program: str, base: str) -> None:
         return
     with Folder(base):
         calls = "trace=fsync,write,rename,renameat,renameat2"
-        says("a traced day", run("strace", "-f", "-y", "-o", "trace", "-e", calls, sys.executable, TOOLS / "publish", program, "five.roads", "dij", 8, "id", 0, 2, 0, 0, 0, "m.pub"), 0)
+        says(
+            "a traced day",
+            run(
+                "strace",
+                "-f",
+                "-y",
+                "-o",
+                "trace",
+                "-e",
+                calls,
+                sys.executable,
+                TOOLS / "publish",
+                program,
+                "five.roads",
+                "dij",
+                8,
+                "id",
+                0,
+                2,
+                0,
+                0,
+                0,
+                "m.pub",
+            ),
+            0,
+        )
         here = os.path.realpath(".")
-        marks = ((r"write\(\d+<.*/m\.pub\.new>", "signs"), (r"fsync\(\d+<.*/m\.pub\.new>", "syncs it"), (r"write\(\d+<.*/released\.log>", "writes the log"),
-                 (r"fsync\(\d+<.*/released\.log>", "syncs the log"), (r"rename.*m\.pub\.new", "moves it"), (rf"fsync\(\d+<{here}>", "syncs the folder"))
-        seen = [what for line in pathlib.Path("trace").read_text(errors="replace").splitlines() for mark, what in marks if re.search(mark, line)]
-        last = [max(number for number, what in enumerate(seen) if what == mark) if mark in seen else -1 for _, mark in marks]
+        marks = (
+            (r"write\(\d+<.*/m\.pub\.new>", "signs"),
+            (r"fsync\(\d+<.*/m\.pub\.new>", "syncs it"),
+            (r"write\(\d+<.*/released\.log>", "writes the log"),
+            (r"fsync\(\d+<.*/released\.log>", "syncs the log"),
+            (r"rename.*m\.pub\.new", "moves it"),
+            (rf"fsync\(\d+<{here}>", "syncs the folder"),
+        )
+        seen = [
+            what
+            for line in pathlib.Path("trace").read_text(errors="replace").splitlines()
+            for mark, what in marks
+            if re.search(mark, line)
+        ]
+        last = [
+            max(number for number, what in enumerate(seen) if what == mark) if mark in seen else -1 for _, mark in marks
+        ]
         same(f"the order of {seen}", (-1 in last, last), (False, sorted(last)))
         same("the name is stable before it signs", "syncs the folder" in seen[: seen.index("signs")], True)
 
@@ -302,56 +411,98 @@ def of_kills(program: str, base: str) -> int:
             stood(f"a kill at step {number}")
             ended = day(program, 8)
             for _ in range(100):
-                if "another run is at work" not in ended[2]:
+                if "another run is using" not in ended[2]:
                     break
                 time.sleep(0.1)
                 ended = day(program, 8)
             done = ended[0] == 0 or "version 8 is not above version 8" in ended[2]
-            same(f"the run behind it, {ended}: what is there", (done, version_in("m.pub"), there("m.pub.new"), spent(), octets("released.log").count(b"\n")),
-                 (True, 8, [], 2, 2))
+            same(
+                f"the run behind it, {ended}: what is there",
+                (done, version_in("m.pub"), there("m.pub.new"), spent(), octets("released.log").count(b"\n")),
+                (True, 8, [], 2, 2),
+            )
             says("a day behind it", day(program, 9), 0, "One-time keys left: 28.")
     return len(steps)
 
 
 def stand_in(text: str, program: str) -> str:
     """A program that does what a script says where it is to publish."""
-    write("stand-in", f"#!/bin/sh\ncase $1 in publish) {text};; esac\nexec {program} \"$@\"\n")
+    write("stand-in", f'#!/bin/sh\ncase $1 in publish) {text};; esac\nexec {program} "$@"\n')
     os.chmod("stand-in", 0o755)
     return "./stand-in"
 
 
 def of_stopped_programs(program: str, base: str) -> None:
     """The program is stopped, alone or with the tool, before it signs, within its output, and goes on behind a stopped tool."""
-    for count in (0, 3, 110, 700, SIGNED, SIGNED + 8):
+    for count in (0, 3, SIGNED_AT, 700, SIGNED, SIGNED + 8):
         with Folder(base):
-            stopped = stand_in(f"{program} \"$@\" | head -c {count}; kill -9 $PPID; exit 9", program)
+            stopped = stand_in(f'{program} "$@" | head -c {count}; kill -9 $PPID; exit 9', program)
             same(f"a stop behind {count} octets", day(stopped, 8)[0], -9)
             stood(f"a stop behind {count} octets")
-            says("the same day again", day(program, 8), 1, "One-time key 1 has signed version 8, and the log has nothing of it.", "not above version 8")
+            says(
+                "the same day again",
+                day(program, 8),
+                1,
+                "One-time key 1 has signed version 8, but the log does not have it.",
+                "not above version 8",
+            )
             same("what is there", (version_in("m.pub"), there("m.pub.new"), spent()), (7, [], 2))
             says("the next version", day(program, 9), 0, "One-time keys left: 28.")
     with Folder(base):
         same("a stop before it signs", day(stand_in("kill -9 $PPID; exit 9", program), 8)[0], -9)
-        says("the same day again", day(program, 8), 0, "It is taken away.", "One-time keys left: 29.")
+        says("the same day again", day(program, 8), 0, "It is removed.", "One-time keys left: 29.")
     with Folder(base):
-        says("the program alone is stopped", day(stand_in(f"{program} \"$@\"; kill -9 $$", program), 8), 1, "was stopped by signal 9")
-        says("the same day again", day(program, 8), 0, "which a stopped run had signed by one-time key 1", "One-time keys left: 29.")
+        says(
+            "the program alone is stopped",
+            day(stand_in(f'{program} "$@"; kill -9 $$', program), 8),
+            1,
+            "was stopped by signal 9",
+        )
+        says(
+            "the same day again",
+            day(program, 8),
+            0,
+            "which a stopped run had signed with one-time key 1",
+            "One-time keys left: 29.",
+        )
         same("one one-time key is used", spent(), 2)
     with Folder(base):
-        says("the output fails", day(stand_in(f"{program} \"$@\" | head -c 500; exit 6", program), 8), 6, "One-time key 1 has signed version 8")
+        says(
+            "the output fails",
+            day(stand_in(f'{program} "$@" | head -c 500; exit 6', program), 8),
+            6,
+            "One-time key 1 has signed version 8",
+        )
         same("what is there", (version_in("m.pub"), there("m.pub.new")), (7, []))
     with Folder(base):
-        going_on = stand_in(f"kill -9 $PPID; sleep 1; exec {program} \"$@\"", program)
-        with subprocess.Popen([sys.executable, str(TOOLS / "publish"), going_on, "five.roads", "dij", "8", "id", "0", "2", "0", "0", "0", "m.pub"],
-                              stdout=subprocess.DEVNULL, stderr=subprocess.DEVNULL) as running:
+        going_on = stand_in(f'kill -9 $PPID; sleep 1; exec {program} "$@"', program)
+        with subprocess.Popen(
+            [
+                sys.executable,
+                str(TOOLS / "publish"),
+                going_on,
+                "five.roads",
+                "dij",
+                "8",
+                "id",
+                "0",
+                "2",
+                "0",
+                "0",
+                "0",
+                "m.pub",
+            ],
+            stdout=subprocess.DEVNULL,
+            stderr=subprocess.DEVNULL,
+        ) as running:
             same("a stop beside a program that goes on", running.wait(SECONDS), -9)
-        says("a run beside it", day(program, 8), 1, "another run is at work on it")
+        says("a run beside it", day(program, 8), 1, "another run is using it")
         for _ in range(100):
             ended = day(program, 8)
             if "another run" not in ended[2]:
                 break
             time.sleep(0.1)
-        says("a run behind it", ended, 0, "which a stopped run had signed by one-time key 1")
+        says("a run behind it", ended, 0, "which a stopped run had signed with one-time key 1")
         same("one one-time key is used", spent(), 2)
 
 
@@ -361,7 +512,10 @@ def of_left(program: str, base: str) -> None:
         before = octets("owner.desk")
         signed(program, 8, "m.pub.new")
         shutil.copyfile("m.pub.new", "eight")
-        for what, found, part in (("another file", b"notes", "it is no publication that is signed"), ("a changed signature", octets("eight")[:700] + b"!" + octets("eight")[701:], "it is no publication")):
+        for what, found, part in (
+            ("another file", b"notes", "it is not a publication signed"),
+            ("a changed signature", octets("eight")[:700] + b"!" + octets("eight")[701:], "it is not a publication"),
+        ):
             pathlib.Path("m.pub.new").write_bytes(found)
             says(what, day(program, 9), 1, part)
             same(f"{what}: behind it", (octets("m.pub.new"), spent()), (found, 2))
@@ -388,18 +542,41 @@ def of_dates(program: str, base: str) -> None:
     """Dated versions: clocks at the edges, the same map each day, no way back to counts, and how long the keys last."""
     first, last, a_day = 1_577_836_800, 2**34 - 1, 86_400
     with Folder(base):
-        says("a clock before 2020", dated(program, first - 1), 1, "is no second from 2020")
-        says("a clock behind the last second", dated(program, last + 1), 1, "is no second from 2020")
+        says("a clock before 2020", dated(program, first - 1), 1, "is not between the years 2020")
+        says("a clock behind the last second", dated(program, last + 1), 1, "is not between the years 2020")
         says("the first second, behind counts", dated(program, first), 0, f"Version {first} is in its place")
         says("the same second", dated(program, first), 1, f"is not above version {first}")
-        says("a second before", dated(program, first - 1, "--version-anyway"), 1, "is no second from 2020")
+        says("a second before", dated(program, first - 1, "--version-anyway"), 1, "is not between the years 2020")
         says("400 days later and a second", dated(program, first + 400 * a_day + 1), 1, "more than 400 days above")
-        says("the next day", dated(program, first + a_day), 0, "One-time keys left: 28. At the pace of the last 2 signings they last 28 days. Make the next key in time")
-        says("a count", day(program, 8), 1, "there is no way back to counts")
-        says("a count anyway", day(program, 8, "m.pub", "--version-anyway"), 1, "there is no way back to counts")
+        says(
+            "the next day",
+            dated(program, first + a_day),
+            0,
+            "One-time keys left: 28. At the pace of the last 2 signings they last 28 days. Make the next key in time",
+        )
+        says("a count", day(program, 8), 1, "a key that has signed a date signs no counts")
+        says(
+            "a count anyway",
+            day(program, 8, "m.pub", "--version-anyway"),
+            1,
+            "a key that has signed a date signs no counts",
+        )
         says("400 days later", dated(program, first + 401 * a_day), 0, f"Version {first + 401 * a_day} is in its place")
         says("a clock that went back, anyway", dated(program, first + 2 * a_day, "--version-anyway"), 0)
         says("the last second, anyway", dated(program, last, "--version-anyway"), 0)
+    for days, wanted in ((7, "they last 126 days.\n"), (5, "they last 90 days. Make the next key in time")):
+        with Folder(base):
+            # two an hour apart come before: the pace is that of the last ten
+            ended = [
+                dated(program, at)
+                for at in (first, first + 3_600, *(first + days * a_day * number for number in range(1, 11)))
+            ]
+            says(
+                f"{days} days between the last ten",
+                ended[-1],
+                0,
+                f"One-time keys left: 18. At the pace of the last 10 signings {wanted}",
+            )
     for version in (2**30, first - 1, last + 1):
         with Folder(base):
             says(f"a desk with version {version}", day(program, version, "m.pub", "--version-anyway"), 0)
@@ -430,7 +607,9 @@ def main() -> None:
         of_left(program, f"{room}/base")
         of_dates(program, f"{room}/base")
         os.chdir("/")
-    print(f"tools/publish, tools/release and tools/monitor.py: {played} looks, each as wanted; kills at {kills} steps")
+    print(
+        f"tools/publish, tools/release and tools/monitor.py: {LOOKS.played} looks, each as wanted; kills at {kills} steps"
+    )
 
 
 if __name__ == "__main__":

@@ -16,26 +16,26 @@ import sys
 import tempfile
 import time
 
-MAP = "roads 1\nnode 1 0 0\nnode 2 10 0\nnode 3 20 0\nroad 1 2 4\nroad 2 3 5\n"
+sys.path.insert(0, str(pathlib.Path(__file__).resolve().parents[1]))
+
+from common.desks import KEY_NUMBER  # noqa: E402
+from common.looks import StrictLooks  # noqa: E402
+from common.maps import THREE  # noqa: E402
+from common.runs import Ended, outcome  # noqa: E402
+
 SECRET, NEXT = bytes(range(48)), bytes(range(100, 148))
 SEED = SECRET[16:]
 CALLS = ("read", "lseek", "fsync")
 SECONDS = 60
-played = 0
+LOOKS = StrictLooks()
+same = LOOKS.same
 
 
-def same(what, seen, wanted):
-    global played
-    played += 1
-    if seen != wanted:
-        sys.exit(f"{what}: {seen!r}, and not {wanted!r}")
-
-
-def traced(program, words, more):
+def traced(program: str, words: str, more: list[str]) -> list[str]:
     return ["strace", "-f", "-o", "trace", "-e", "trace=" + ",".join(CALLS), *more, program, *words.split()]
 
 
-def last_call(program, words):
+def last_call(program: str, words: str) -> tuple[str, int]:
     """The last of these calls in a run, and how many of its kind there are. The desk is put back."""
     desk = pathlib.Path("owner.desk").read_bytes()
     subprocess.run(traced(program, words, []), capture_output=True, check=False, timeout=SECONDS)
@@ -44,18 +44,20 @@ def last_call(program, words):
     return names[-1], names.count(names[-1])
 
 
-def stopped(tracer):
+def stopped(tracer: int) -> int:
     """The traced program, once it has stopped."""
     end = time.monotonic() + SECONDS
     while time.monotonic() < end:
         for pid in pathlib.Path(f"/proc/{tracer}/task/{tracer}/children").read_text(encoding="ascii").split():
-            if re.search(r"\) [Tt] ", pathlib.Path(f"/proc/{pid}/stat").read_text(encoding="ascii")) and "stopped by SIGSTOP" in pathlib.Path("trace").read_text(errors="replace"):
+            if re.search(
+                r"\) [Tt] ", pathlib.Path(f"/proc/{pid}/stat").read_text(encoding="ascii")
+            ) and "stopped by SIGSTOP" in pathlib.Path("trace").read_text(errors="replace"):
                 return int(pid)
         time.sleep(0.02)
     sys.exit("the program did not stop")
 
 
-def turn(pid):
+def turn(pid: int) -> int:
     """Turns a bit of each copy of the seed in the memory of a process, and counts them."""
     count = 0
     with open(f"/proc/{pid}/mem", "r+b", buffering=0) as memory:
@@ -75,7 +77,7 @@ def turn(pid):
     return count
 
 
-def turned(program, words):
+def turned(program: str, words: str) -> Ended:
     """How a command ends whose seed has turned in memory before it signs."""
     call, number = last_call(program, words)
     pathlib.Path("trace").write_bytes(b"")
@@ -88,27 +90,27 @@ def turned(program, words):
     return tracer.returncode, out, err.decode()
 
 
-def refused(program, words):
+def refused(program: str, words: str) -> None:
     status, out, said = turned(program, words)
     same(f"{words}: status and output, where {said!r} is said", (status, out), (12, b""))
     same(f"{words}: what is said", "was not verified" in said, True)
 
 
-def run(program, words):
-    done = subprocess.run([program, *words.split()], capture_output=True, check=False, timeout=SECONDS)
-    same(f"{words}: status, where {done.stderr!r} is said", done.returncode, 0)
-    return done.stdout
+def run(program: str, words: str) -> bytes:
+    status, told, said = outcome([program, *words.split()], seconds=SECONDS)
+    same(f"{words}: status, where {said!r} is said", status, 0)
+    return told
 
 
-def play(program):
-    pathlib.Path("map.roads").write_text(MAP, encoding="ascii")
+def play(program: str) -> None:
+    pathlib.Path("map.roads").write_text(THREE, encoding="ascii")
     pathlib.Path("secret").write_text(SECRET.hex(), encoding="ascii")
     pathlib.Path("next").write_text(NEXT.hex(), encoding="ascii")
     pathlib.Path("key").write_bytes(run(program, "key secret h5"))
     publish = "publish map.roads dij 1 id 0 2 0 0 0"
     refused(program, publish)
     publication = run(program, publish)
-    same("the one-time key of the publication after it", publication[110:114], bytes([0, 0, 0, 1]))
+    same("the one-time key of the publication after it", publication[KEY_NUMBER], bytes([0, 0, 0, 1]))
     refused(program, "succeed next h5")
     refused(program, "links")
     pathlib.Path("chain").write_bytes(run(program, "links"))
@@ -117,7 +119,7 @@ def play(program):
     same("along the chain", run(program, "check key reply 1 3 1 chain"), b"accepted 9: 1 2 3\n")
 
 
-def main():
+def main() -> None:
     if shutil.which("strace") is None:
         print("skipped: checks/owner/turned.py, since this machine has no strace")
         return
@@ -127,7 +129,7 @@ def main():
         os.chdir(folder)
         play(program)
         os.chdir("/")
-    print(f"bits turned in memory: {played} looks, each as wanted")
+    print(f"bits turned in memory: {LOOKS.played} looks, each as wanted")
 
 
 if __name__ == "__main__":

@@ -10,25 +10,36 @@ path of that length, and that no route is found exactly where networkx finds non
 It needs networkx (Debian: python3-networkx) and exits with 1 at the first difference.
 """
 import random
-import subprocess
 import sys
 import tempfile
+from pathlib import Path
 
 import networkx
+
+sys.path.insert(0, str(Path(__file__).resolve().parents[1]))
+
+from common.maps import Triple, road_file  # noqa: E402
+from common.runs import outcome  # noqa: E402
 
 SIDE = 20
 
 
-def street_map(draw):
+def street_map(draw: random.Random) -> tuple[list[Triple], list[Triple]]:
     """The nodes and roads of a street-like map: (nodes, roads) as the road file lists them."""
-    nodes = [(row * SIDE + column + 1, column * 100 + draw.randrange(40), row * 100 + draw.randrange(40))
-             for row in range(SIDE) for column in range(SIDE)]
-    roads = []
+    nodes = [
+        (row * SIDE + column + 1, column * 100 + draw.randrange(40), row * 100 + draw.randrange(40))
+        for row in range(SIDE)
+        for column in range(SIDE)
+    ]
+    roads: list[Triple] = []
     for row in range(SIDE):
         for column in range(SIDE):
             here = row * SIDE + column + 1
-            steps = [(1, column + 1 < SIDE), (SIDE, row + 1 < SIDE),
-                     (SIDE + 1, column + 1 < SIDE and row + 1 < SIDE and draw.random() < 0.1)]
+            steps = [
+                (1, column + 1 < SIDE),
+                (SIDE, row + 1 < SIDE),
+                (SIDE + 1, column + 1 < SIDE and row + 1 < SIDE and draw.random() < 0.1),
+            ]
             for step, exists in steps:
                 if exists and draw.random() < 0.85:
                     roads.append((here, here + step, draw.randrange(200)))
@@ -37,7 +48,7 @@ def street_map(draw):
     return nodes, roads
 
 
-def main():
+def main() -> None:
     program = sys.argv[1]
     seed = int(sys.argv[2]) if len(sys.argv) > 2 else 1
     draw = random.Random(seed)
@@ -48,25 +59,19 @@ def main():
         graph.add_edge(a, b, weight=length)
     found = 0
     with tempfile.TemporaryDirectory() as folder:
-        with open(f"{folder}/streets.roads", "w", encoding="ascii") as file:
-            file.write("roads 1\n")
-            for node in nodes:
-                file.write("node %d %d %d\n" % node)
-            for road in roads:
-                file.write("road %d %d %d\n" % road)
+        Path(folder, "streets.roads").write_text(road_file(nodes, roads), encoding="ascii")
         for _ in range(50):
             start, end = draw.randrange(1, len(nodes) + 1), draw.randrange(1, len(nodes) + 1)
-            run = subprocess.run([program, "route", "streets.roads", str(start), str(end)],
-                                 cwd=folder, capture_output=True, text=True, check=False)
+            run = outcome([program, "route", "streets.roads", start, end], folder)
             try:
                 expected = networkx.dijkstra_path_length(graph, start, end)
             except networkx.NetworkXNoPath:
-                assert (run.returncode, run.stdout) == (11, ""), (start, end, run)
+                assert run[:2] == (11, b""), (start, end, run)
                 continue
-            assert run.returncode == 0, (start, end, run)
-            length, ids = run.stdout.rstrip("\n").split(":")
+            assert run[0] == 0, (start, end, run)
+            told, ids = run[1].decode().rstrip("\n").split(":")
             route = [int(word) for word in ids.split()]
-            assert int(length) == expected, (start, end, length, expected)
+            assert int(told) == expected, (start, end, told, expected)
             assert (route[0], route[-1]) == (start, end), (start, end, route)
             total = sum(min(edge["weight"] for edge in graph[a][b].values()) for a, b in zip(route, route[1:]))
             assert total == expected, (start, end, total, expected)

@@ -11,7 +11,7 @@ speed    Asks a second over grids of 10,000 and of 65,536 nodes, of near and of 
 memory   The memory of `serve` while its 16 sessions are pinned to 16 publications of 65,536 nodes.
 frames   1,000,000 empty frames, and one octet more.
 
-Without a word behind PROGRAM it does all four. Ends with status 1 where anything differs.
+Without a word behind PROGRAM it does all four. Ends with status 1 if anything differs.
 """
 import os
 import struct
@@ -20,79 +20,59 @@ import sys
 import tempfile
 import threading
 import time
+from pathlib import Path
 
-GRID = os.path.join(os.path.dirname(os.path.abspath(__file__)), "../speed/grid.py")
+sys.path.insert(0, str(Path(__file__).resolve().parents[1]))
+
+from common.desks import ZEROS  # noqa: E402
+from common.layout import IN_ANSWER, version_of  # noqa: E402
+from common.maps import made  # noqa: E402
+from common.runs import written  # noqa: E402
+from common.served import Served, ask, begin, finish, install  # noqa: E402
+
 PROGRAM = os.path.abspath(sys.argv[1])
 OVER = "the two replies differ"
 # how many seconds a reply may take
 LONGEST = 60
 
 
-def run(*words, wanted=0, **more):
+def run(*words: object, wanted: int = 0, given: bytes | None = None) -> bytes:
     """What a command writes, whose status must be this."""
-    done = subprocess.run([PROGRAM, *map(str, words)], capture_output=True, check=False, **more)
-    if done.returncode != wanted:
-        sys.exit(f"{' '.join(map(str, words))}: status {done.returncode}: {done.stderr.decode()}")
-    return done.stdout
+    return written([PROGRAM, *words], status=wanted, given=given)
 
 
-def keep(name, octets):
-    with open(name, "wb") as file:
-        file.write(octets)
+def keep(name: str, octets: bytes) -> None:
+    Path(name).write_bytes(octets)
 
 
-def grid(width):
+def grid(width: int) -> str:
     """The road file of a grid."""
     name = f"grid{width}.roads"
-    with open(name, "wb") as file:
-        subprocess.run([sys.executable, GRID, str(width)], stdout=file, check=True)
+    keep(name, made("grid", width))
     return name
 
 
-def publish(roads, version, method="dij", order="hilbert", parameters=(0, 0, 0)):
-    """The file of a publication, and its octets."""
+def publish(
+    roads: str, version: int, method: str = "dij", order: str = "hilbert", parameters: tuple[int, int, int] = (0, 0, 0)
+) -> str:
+    """The name of a publication's file."""
     name = f"{roads}.{method}.{version}.pub"
     keep(name, run("publish", roads, method, version, order, 0, 2, *parameters))
     return name
 
 
-def octets_of(name):
-    with open(name, "rb") as file:
-        return file.read()
+def installing(name: str) -> bytes:
+    """The body that installs a publication."""
+    return install(Path(name).read_bytes())
 
 
-def begin(session):
-    return bytes([1, session])
+class Server(Served):
+    """`serve` over a publication, which must answer in time and end as it should."""
 
+    def __init__(self, publication: str) -> None:
+        super().__init__(PROGRAM, publication)
 
-def ask(session, start, end):
-    return struct.pack(">BBII", 2, session, start, end)
-
-
-def finish(session):
-    return bytes([3, session])
-
-
-def install(name):
-    return b"\4" + octets_of(name)
-
-
-class Server:
-    """`serve` over a publication, at the other end of two pipes."""
-
-    def __init__(self, publication):
-        self.child = subprocess.Popen([PROGRAM, "serve", publication], stdin=subprocess.PIPE, stdout=subprocess.PIPE)
-
-    def send(self, *bodies):
-        for body in bodies:
-            self.child.stdin.write(struct.pack(">I", len(body)) + body)
-        self.child.stdin.flush()
-
-    def reply(self):
-        (size,) = struct.unpack(">I", self.child.stdout.read(4))
-        return self.child.stdout.read(size)
-
-    def told(self, body):
+    def told(self, body: bytes) -> bytes:
         """The reply to a body, which comes while the server has no octet of another frame."""
         self.send(body)
         watch = threading.Timer(LONGEST, self.child.kill)
@@ -104,7 +84,7 @@ class Server:
         finally:
             watch.cancel()
 
-    def memory(self, what):
+    def memory(self, what: str) -> float:
         """A line of /proc/PID/status, in MB."""
         with open(f"/proc/{self.child.pid}/status", encoding="ascii") as file:
             for line in file:
@@ -112,14 +92,14 @@ class Server:
                     return int(line.split()[1]) / 1024
         return 0.0
 
-    def end(self, status=0):
-        self.child.stdin.close()
-        rest = self.child.stdout.read()
+    def end(self, status: int = 0) -> None:
+        self.words.close()
+        rest = self.answers.read()
         if rest or self.child.wait() != status:
             sys.exit(f"serve: status {self.child.returncode}, {len(rest)} octets behind the last reply")
 
 
-def wants(what, got, wanted):
+def wants(what: str, got: bytes, wanted: bytes) -> None:
     if got != wanted:
         sys.exit(f"{what}: {got[:40].hex()} in place of {wanted[:40].hex()}")
 
@@ -127,18 +107,21 @@ def wants(what, got, wanted):
 class Party:
     """A client with a session: what it was told, and what it checks."""
 
-    def __init__(self, server, session):
-        self.server, self.session, self.version, self.publication = server, session, None, None
+    def __init__(self, server: Server, session: int) -> None:
+        self.server, self.session, self.publication = server, session, ""
+        self.version: int | None = None
         self.answers = 0
 
-    def begin(self, version, publication):
+    def begin(self, version: int, publication: str) -> None:
         wants("begin", self.server.told(begin(self.session)), struct.pack(">BBQ", 0x81, self.session, version))
         self.version, self.publication = version, publication
 
-    def ask(self, start, end):
+    def ask(self, start: int, end: int) -> None:
         reply = self.server.told(ask(self.session, start, end))
         wants("answer", reply[:2], bytes([0x82, self.session]))
-        proved = subprocess.run([PROGRAM, "prove", self.publication, str(start), str(end)], capture_output=True, check=False)
+        proved = subprocess.run(
+            [PROGRAM, "prove", self.publication, str(start), str(end)], capture_output=True, check=False
+        )
         wants(f"{OVER}: {start} {end}", reply[2:], proved.stdout)
         keep("a.reply", reply[2:])
         if reply[2] in (0, 3):
@@ -149,17 +132,17 @@ class Party:
             sys.exit(f"check {start} {end}: {line.decode()}")
         self.answers += 1
 
-    def finish(self):
+    def finish(self) -> None:
         wants("finish", self.server.told(finish(self.session)), bytes([0x83, self.session]))
         self.version = None
 
 
-def owner():
-    keep("secret.hex", b"0" * 96)
+def owner() -> None:
+    keep("secret.hex", ZEROS.encode())
     keep("owner.key", run("key", "secret.hex", "h10"))
 
 
-def parties():
+def parties() -> None:
     roads = grid(20)
     first, second = publish(roads, 1), publish(roads, 2, "hyp", "kd", (3, 3, 0))
     third = publish(roads, 3, "ldm", "hilbert", (4, 12, 2))
@@ -168,15 +151,15 @@ def parties():
     one.begin(1, first)
     two.begin(1, first)
     one.ask(1, 400)
-    wants("install", server.told(install(second)), struct.pack(">BQ", 0x84, 2))
+    wants("install", server.told(installing(second)), struct.pack(">BQ", 0x84, 2))
     three.begin(2, second)
     for party in (three, two, one, two, three, one):
         party.ask(21, 399)
         party.ask(5, 5)
         party.ask(5, 999)
-    wants("an older version", server.told(install(first)), struct.pack(">BQ", 0xE6, 2))
+    wants("an older version", server.told(installing(first)), struct.pack(">BQ", 0xE6, 2))
     wants("no publication", server.told(b"\4RPP1"), b"\xe5\1")
-    forged = bytearray(install(third))
+    forged = bytearray(installing(third))
     forged[1 + 4 + 30] ^= 1
     wants("another header", server.told(bytes(forged)), b"\xe5\4")
     wants("begun already", server.told(begin(7)), b"\xe3\7")
@@ -190,10 +173,12 @@ def parties():
         party.ask(400, 1)
     server.end()
     count = one.answers + two.answers + three.answers
-    print(f"parties: {count} answers of three sessions over two publications: each is the octets of prove, and check says so")
+    print(
+        f"parties: {count} answers of three sessions over two publications: each is the octets of prove, and check says so"
+    )
 
 
-def asked(server, queries):
+def asked(server: Server, queries: list[tuple[int, int]]) -> tuple[float, float]:
     """Asks a second, where frames and replies go both ways at once, and the octets of the replies."""
     begun = time.monotonic()
     sender = threading.Thread(target=lambda: server.send(*(ask(0, *query) for query in queries)))
@@ -203,8 +188,13 @@ def asked(server, queries):
     return len(queries) / (time.monotonic() - begun), octets / len(queries)
 
 
-def speed():
-    for width, method, parameters in ((100, "dij", (0, 0, 0)), (100, "ldm", (16, 12, 2)), (256, "dij", (0, 0, 0)), (256, "ldm", (16, 12, 2))):
+def speed() -> None:
+    for width, method, parameters in (
+        (100, "dij", (0, 0, 0)),
+        (100, "ldm", (16, 12, 2)),
+        (256, "dij", (0, 0, 0)),
+        (256, "ldm", (16, 12, 2)),
+    ):
         roads = grid(width)
         begun = time.monotonic()
         pub = publish(roads, 1, method, "hilbert", parameters)
@@ -220,41 +210,53 @@ def speed():
             begun = time.monotonic()
             proved = run("prove", pub, *query)
             once = time.monotonic() - begun
-            print(f"speed: {width * width} nodes, {method}, {what}: {rate:.1f} asks a second, {octets:.0f} octets each; prove takes {once:.3f} s for {len(proved)}", flush=True)
-        print(f"speed: {width * width} nodes, {method}: published in {published:.2f} s, begun {installed:.2f} s after the start", flush=True)
+            print(
+                f"speed: {width * width} nodes, {method}, {what}: {rate:.1f} asks a second, {octets:.0f} octets each; prove takes {once:.3f} s for {len(proved)}",
+                flush=True,
+            )
+        print(
+            f"speed: {width * width} nodes, {method}: published in {published:.2f} s, begun {installed:.2f} s after the start",
+            flush=True,
+        )
         server.end()
 
 
-def memory():
+def memory() -> None:
     roads = grid(256)
     names = [publish(roads, version) for version in range(1, 17)]
     server = Server(names[0])
     wants("begin", server.told(begin(0)), struct.pack(">BBQ", 0x81, 0, 1))
-    print(f"memory: one publication of 65,536 nodes: {server.memory('VmRSS'):.0f} MB, at most {server.memory('VmHWM'):.0f} MB")
+    print(
+        f"memory: one publication of 65,536 nodes: {server.memory('VmRSS'):.0f} MB, at most {server.memory('VmHWM'):.0f} MB"
+    )
     for session in range(1, 16):
-        wants("install", server.told(install(names[session])), struct.pack(">BQ", 0x84, session + 1))
+        wants("install", server.told(installing(names[session])), struct.pack(">BQ", 0x84, session + 1))
         wants("begin", server.told(begin(session)), struct.pack(">BBQ", 0x81, session, session + 1))
-    print(f"memory: 16 pinned publications of 65,536 nodes: {server.memory('VmRSS'):.0f} MB, at most {server.memory('VmHWM'):.0f} MB")
+    print(
+        f"memory: 16 pinned publications of 65,536 nodes: {server.memory('VmRSS'):.0f} MB, at most {server.memory('VmHWM'):.0f} MB"
+    )
     for session in range(16):
         reply = server.told(ask(session, 1, 2))
-        wants("answer", reply[:3] + reply[11:19], bytes([0x82, session, 0]) + reply[11:19])
-        wants("its version", reply[11:19], struct.pack(">Q", session + 1))
+        wants("answer", reply[:3], bytes([0x82, session, 0]))
+        wants("its version", struct.pack(">Q", version_of(reply[2:], IN_ANSWER)), struct.pack(">Q", session + 1))
     server.end()
 
 
-def frames():
+def frames() -> None:
     roads = "one.roads"
     keep(roads, b"roads 1\nnode 7 -1 2\n")
     pub = publish(roads, 1)
     for octets, status in ((4_000_000, 0), (4_000_001, 13)):
         begun = time.monotonic()
-        written = run("serve", pub, wanted=status, input=bytes(octets))
+        written = run("serve", pub, wanted=status, given=bytes(octets))
         if written != b"\0\0\0\1\xe1" * 1_000_000:
             sys.exit(f"frames: {len(written)} octets")
-        print(f"frames: {octets} octets of empty frames: 1,000,000 replies and status {status}, in {time.monotonic() - begun:.2f} s")
+        print(
+            f"frames: {octets} octets of empty frames: 1,000,000 replies and status {status}, in {time.monotonic() - begun:.2f} s"
+        )
 
 
-def main():
+def main() -> None:
     parts = {"parties": parties, "speed": speed, "memory": memory, "frames": frames}
     with tempfile.TemporaryDirectory() as folder:
         os.chdir(folder)

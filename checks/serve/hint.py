@@ -12,12 +12,15 @@ import subprocess
 import sys
 import tempfile
 import time
+from pathlib import Path
 
-FIVE = "roads 1\nnode 1 0 0\nnode 2 10 0\nnode 3 20 0\nnode 4 10 10\nnode 5 50 50\nroad 1 2 4\nroad 2 3 5\nroad 1 4 3\nroad 4 3 7\n"
-GRID = os.path.join(os.path.dirname(os.path.abspath(__file__)), "..", "speed", "grid.py")
+sys.path.insert(0, str(Path(__file__).resolve().parents[1]))
+
+from common.desks import Desk  # noqa: E402
+from common.maps import FIVE, made  # noqa: E402
 
 
-def drained(end):
+def drained(end: int) -> bytes:
     """All that was written to a pseudo-terminal whose other end is closed."""
     said = b""
     while True:
@@ -30,7 +33,7 @@ def drained(end):
         said += piece
 
 
-def at_terminal(words):
+def at_terminal(words: list[str]) -> tuple[str, float]:
     """Runs a program with a pseudo-terminal as its standard error. Returns what it said, and the seconds it took."""
     ours, theirs = pty.openpty()
     begun = time.monotonic()
@@ -43,24 +46,16 @@ def at_terminal(words):
     return said.decode(), time.monotonic() - begun
 
 
-def publish(program, roads, settings, name):
-    with open(name, "wb") as file:
-        subprocess.run([program, "publish", roads, *settings.split()], stdout=file, check=True)
-
-
-def main():
+def main() -> None:
     program = os.path.abspath(sys.argv[1])
     with tempfile.TemporaryDirectory() as folder:
         os.chdir(folder)
-        with open("secret.hex", "w", encoding="ascii") as file:
-            file.write("0" * 96)
-        with open("grid.roads", "wb") as file:
-            subprocess.run([sys.executable, GRID, "128"], stdout=file, check=True)
-        with open("five.roads", "w", encoding="ascii") as file:
-            file.write(FIVE)
-        subprocess.run([program, "key", "secret.hex", "h5"], stdout=subprocess.DEVNULL, check=True)
-        publish(program, "grid.roads", "hyp 1 id 0 2 4 4 0", "grid.pub")
-        publish(program, "five.roads", "dij 1 id 0 2 0 0 0", "five.pub")
+        Path("grid.roads").write_bytes(made("grid", 128))
+        Path("five.roads").write_text(FIVE, encoding="ascii")
+        desk = Desk(program)
+        desk.make_key()
+        desk.done("publish grid.roads hyp 1 id 0 2 4 4 0", "grid.pub")
+        desk.done("publish five.roads dij 1 id 0 2 0 0 0", "five.pub")
         slow = [program, "prove", "grid.pub", "1", "16384"]
         piped = subprocess.Popen(slow, stdout=subprocess.DEVNULL, stderr=subprocess.PIPE)
         said, seconds = at_terminal(slow)
@@ -72,7 +67,9 @@ def main():
         sys.exit(f"A prove of {seconds:.1f} s at a terminal said {said!r}.")
     if silent or quick:
         sys.exit(f"Through a pipe prove said {silent!r}, and of five nodes {quick!r}.")
-    print(f"prove took {seconds:.1f} s and said {said.strip()!r}; through a pipe, and when it was quick, it said nothing")
+    print(
+        f"prove took {seconds:.1f} s and said {said.strip()!r}; through a pipe, and when it was quick, it said nothing"
+    )
 
 
 if __name__ == "__main__":

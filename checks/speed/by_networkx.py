@@ -5,7 +5,7 @@ import sys
 import networkx
 
 
-def main():
+def main() -> None:
     path, start, end = sys.argv[1], int(sys.argv[2]), int(sys.argv[3])
     graph = networkx.MultiGraph()
     with open(path, encoding="ascii") as file:

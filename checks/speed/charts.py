@@ -8,7 +8,12 @@ WIDTH, PANEL, EDGE, LEFT, TOP, BOTTOM = 760, 150, 12, 46, 40, 44
 INSET, LETTER = 14, 6.2
 # colour in light, colour in dark, shape of the points
 METHODS = ["DIJ", "LDM", "HYP", "FULL"]
-LOOKS = [("#c2571a", "#f0a060", "circle"), ("#2a6fb0", "#7ab8f0", "square"), ("#7a3fa0", "#c79be8", "diamond"), ("#2f7d32", "#86cf8a", "triangle")]
+LOOKS = [
+    ("#c2571a", "#f0a060", "circle"),
+    ("#2a6fb0", "#7ab8f0", "square"),
+    ("#7a3fa0", "#c79be8", "diamond"),
+    ("#2f7d32", "#86cf8a", "triangle"),
+]
 STYLE = """text{font:11px sans-serif;fill:#222}.paper{fill:#fff}.axis{stroke:#666;fill:none}.grid{stroke:#ddd}.title{font-weight:bold}
 %s
 @media(prefers-color-scheme:dark){text{fill:#ddd}.paper{fill:#16181d}.axis{stroke:#999}.grid{stroke:#333}
@@ -20,6 +25,7 @@ class Panel(NamedTuple):
 
     The places along x are numbers, or words that stand one beside the other.
     """
+
     title: str
     across: str
     up: str
@@ -44,11 +50,24 @@ class Axis:
         if is_log:
             low, high = 10 ** math.floor(math.log10(low) + 1e-9), max(high, low * 1.5)
             decades = range(round(math.log10(low)), math.ceil(math.log10(high) - 1e-9) + 1)
-            self.ticks = [10.0 ** power for power in decades] if len(decades) > 2 else [base * 10.0 ** power for power in decades for base in (1, 2, 5) if base * 10.0 ** power <= high * 1.5]
+            self.ticks = (
+                [10.0**power for power in decades]
+                if len(decades) > 2
+                else [
+                    base * 10.0**power
+                    for power in decades
+                    for base in (1, 2, 5)
+                    if base * 10.0**power <= high * 1.5
+                ]
+            )
             high = max([high, *self.ticks[:-1]]) if len(decades) <= 2 else self.ticks[-1]
             self.ticks = [tick for tick in self.ticks if low <= tick <= high * 1.01]
         else:
-            step = next(size for size in (base * 10.0 ** power for power in range(-4, 12) for base in (1, 2, 5)) if high / size <= 5)
+            step = next(
+                size
+                for size in (base * 10.0**power for power in range(-4, 12) for base in (1, 2, 5))
+                if high / size <= 5
+            )
             low, high = 0.0, step * math.ceil(high / step - 1e-9)
             self.ticks = [step * at for at in range(round(high / step) + 1)]
         self.low, self.high = low, high
@@ -69,8 +88,8 @@ class Given:
 
     def at(self, value: float | str) -> float:
         if self.scale and len(self.ticks) > 1:
-            first, last = self.scale(self.ticks[0]), self.scale(self.ticks[-1])
-            share = (self.scale(value) - first) / (last - first)
+            first, last = (self.scale(float(tick)) for tick in (self.ticks[0], self.ticks[-1]))
+            share = (self.scale(float(value)) - first) / (last - first)
         else:
             share = self.ticks.index(value) / max(1, len(self.ticks) - 1)
         return self.start + (self.end - self.start) * share
@@ -86,14 +105,23 @@ def point(look: int, x: float, y: float) -> str:
 
 def ticks_of(panel: Panel, across: Given, up: Axis) -> list[str]:
     left, right, foot, top = across.start - INSET, across.end + INSET, up.start, up.end
-    drawn = [f'<path class="grid" d="{" ".join(f"M{left:.0f} {up.at(tick):.1f}H{right:.0f}" for tick in up.ticks)}"/>',
-             f'<path class="axis" d="M{left:.0f} {top:.0f}V{foot:.0f}H{right:.0f}"/>']
-    drawn += [f'<text x="{left - 4:.0f}" y="{up.at(tick) + 4:.1f}" text-anchor="end">{short(tick)}</text>' for tick in up.ticks]
+    drawn = [
+        f'<path class="grid" d="{" ".join(f"M{left:.0f} {up.at(tick):.1f}H{right:.0f}" for tick in up.ticks)}"/>',
+        f'<path class="axis" d="M{left:.0f} {top:.0f}V{foot:.0f}H{right:.0f}"/>',
+    ]
+    drawn += [
+        f'<text x="{left - 4:.0f}" y="{up.at(tick) + 4:.1f}" text-anchor="end">{short(tick)}</text>'
+        for tick in up.ticks
+    ]
     for tick in across.ticks:
-        drawn.append(f'<text x="{across.at(tick):.1f}" y="{foot + 14:.0f}" text-anchor="middle">{escape(tick if isinstance(tick, str) else short(tick))}</text>')
-    return drawn + [f'<text x="{(left + right) / 2:.0f}" y="{foot + 36:.0f}" text-anchor="middle">{escape(panel.across)}</text>',
-                    f'<text class="title" x="{left - LEFT + 4:.0f}" y="{top - 22:.0f}">{escape(panel.title)}</text>',
-                    f'<text x="{left - LEFT + 4:.0f}" y="{top - 8:.0f}">{escape(panel.up)}</text>']
+        drawn.append(
+            f'<text x="{across.at(tick):.1f}" y="{foot + 14:.0f}" text-anchor="middle">{escape(tick if isinstance(tick, str) else short(tick))}</text>'
+        )
+    return drawn + [
+        f'<text x="{(left + right) / 2:.0f}" y="{foot + 36:.0f}" text-anchor="middle">{escape(panel.across)}</text>',
+        f'<text class="title" x="{left - LEFT + 4:.0f}" y="{top - 22:.0f}">{escape(panel.title)}</text>',
+        f'<text x="{left - LEFT + 4:.0f}" y="{top - 8:.0f}">{escape(panel.up)}</text>',
+    ]
 
 
 def drawn(panel: Panel, names: list[str], left: float, top: float, width: float) -> list[str]:
@@ -134,7 +162,17 @@ def chart(caption: str, panels: list[Panel], columns: int) -> str:
             left += 40 + LETTER * len(name)
     for at, panel in enumerate(panels):
         body += drawn(panel, names, width * (at % columns), 24 + row * (at // columns), width)
-    body += [f'<text x="{EDGE}" y="{24 + rows * row + 15 * (at + 1)}">{escape(line)}</text>' for at, line in enumerate(told)]
-    looks = ["".join(f".p{at}{{fill:{look[shade]}}}.l{at}{{stroke:{look[shade]};stroke-width:1.5;fill:none}}" for at, look in enumerate(LOOKS)) for shade in (0, 1)]
-    return (f'<svg xmlns="http://www.w3.org/2000/svg" width="{WIDTH}" height="{height}" viewBox="0 0 {WIDTH} {height}">\n'
-            f'<title>{escape(caption)}</title>\n<style>{STYLE % tuple(looks)}</style>\n' + "\n".join(body) + "\n</svg>\n")
+    body += [
+        f'<text x="{EDGE}" y="{24 + rows * row + 15 * (at + 1)}">{escape(line)}</text>' for at, line in enumerate(told)
+    ]
+    looks = [
+        "".join(
+            f".p{at}{{fill:{look[shade]}}}.l{at}{{stroke:{look[shade]};stroke-width:1.5;fill:none}}"
+            for at, look in enumerate(LOOKS)
+        )
+        for shade in (0, 1)
+    ]
+    return (
+        f'<svg xmlns="http://www.w3.org/2000/svg" width="{WIDTH}" height="{height}" viewBox="0 0 {WIDTH} {height}">\n'
+        f"<title>{escape(caption)}</title>\n<style>{STYLE % tuple(looks)}</style>\n" + "\n".join(body) + "\n</svg>\n"
+    )

@@ -1,12 +1,14 @@
-//! What an answer cannot be cheaper than: plain searches for the pairs of a file, ROADS PAIRS RUNS. `checks/speed/far.py` builds it.
+//! What an answer cannot be cheaper than: plain searches for the pairs of a file, ROADS PAIRS KIND RUNS. `checks/speed/far.py`
+//! builds it.
 //!
-//! It prints the nanoseconds of a query by Dijkstra's search, stopped at the end, and by A* over the codes of 16 landmarks
-//! of 12 bits, each the least of the runs.
+//! KIND is `plain` for Dijkstra's search, stopped at the end, `codes` for A* over the codes of 16 landmarks of 12 bits, and
+//! `within` for a search as far as a radius, which takes the place of the end. It prints the nanoseconds of a query, the least
+//! of the runs. Without runs it searches once for each pair, in the function `searched`, whose instructions are counted.
 
 mod plain;
 
 use std::cmp::Reverse;
-use std::collections::{BinaryHeap, HashMap};
+use std::collections::BinaryHeap;
 
 const LANDMARKS: usize = 16;
 const FAR: u64 = u64::MAX;
@@ -21,11 +23,11 @@ impl Graph {
         &self.arcs[self.starts[node]..self.starts[node + 1]]
     }
 
-    fn of(roads: &plain::Roads, at: &HashMap<u32, usize>) -> Graph {
+    fn of(roads: &plain::Roads) -> Graph {
         let mut lists = vec![vec![]; roads.nodes.len()];
-        for (a, b, length) in &roads.roads {
-            lists[at[a]].push((at[b] as u32, *length));
-            lists[at[b]].push((at[a] as u32, *length));
+        for &(a, b, length) in &roads.roads {
+            lists[roads.place(a) as usize].push((roads.place(b), length));
+            lists[roads.place(b) as usize].push((roads.place(a), length));
         }
         let mut starts = vec![0];
         for list in &lists {
@@ -34,8 +36,9 @@ impl Graph {
         Graph { starts, arcs: lists.concat() }
     }
 
-    /// The least lengths from a start, as far as an end where there is one, in room whose touched places are noted.
-    fn search(&self, room: &mut Room, start: usize, end: usize, bound: impl Fn(usize) -> u64) -> u64 {
+    /// The least lengths from a start below a limit, as far as an end where there is one, in room whose touched places are
+    /// noted.
+    fn search(&self, room: &mut Room, start: usize, end: usize, limit: u64, bound: impl Fn(usize) -> u64) -> u64 {
         room.clear();
         let mut heap = BinaryHeap::from([Reverse((bound(start), 0, start as u32))]);
         room.set(start, 0);
@@ -48,7 +51,7 @@ impl Graph {
             }
             for &(there, road) in self.out(here as usize) {
                 let further = length + u64::from(road);
-                if further < room.lengths[there as usize] {
+                if further < limit && further < room.lengths[there as usize] {
                     room.set(there as usize, further);
                     heap.push(Reverse((further + bound(there as usize), further, there)));
                 }
@@ -83,7 +86,7 @@ fn codes_of(graph: &Graph, room: &mut Room) -> (Vec<u16>, u64) {
     let count = room.lengths.len();
     let (mut rows, mut nearest, mut next) = (vec![], vec![FAR; count], 0);
     for _ in 0..LANDMARKS.min(count) {
-        graph.search(room, next, usize::MAX, |_| 0);
+        graph.search(room, next, usize::MAX, FAR, |_| 0);
         rows.push(room.lengths.clone());
         for (least, length) in nearest.iter_mut().zip(&room.lengths) {
             *least = (*least).min(*length);
@@ -101,38 +104,71 @@ fn spent() -> u64 {
     told.split(' ').next().unwrap().parse().unwrap()
 }
 
-/// The nanoseconds of a query, the least of some runs of a tenth of a second, and the lengths added up.
-fn timed(pairs: &[(usize, usize)], runs: usize, mut query: impl FnMut(usize, usize) -> u64) -> (u64, u64) {
-    let mut sum = 0;
+/// What is searched, and how.
+struct Floor {
+    graph: Graph,
+    codes: Vec<u16>,
+    step: u64,
+    pairs: Vec<(u32, u32)>,
+    kind: String,
+}
+
+impl Floor {
+    fn bound(&self, node: usize, end: usize) -> u64 {
+        let marks = self.codes.len() / (self.graph.starts.len() - 1);
+        let gaps = (0..marks).map(|mark| {
+            self.codes[node * marks + mark].abs_diff(self.codes[end * marks + mark]).saturating_sub(1)
+        });
+        u64::from(gaps.max().unwrap_or(0)) * self.step
+    }
+}
+
+/// Searches once for each pair, and adds the lengths up.
+#[no_mangle]
+#[inline(never)]
+extern "C" fn searched(floor: &Floor, room: &mut Room) -> u64 {
+    let one = |&(start, end): &(u32, u32)| {
+        let (start, end) = (start as usize, end as usize);
+        match floor.kind.as_str() {
+            "plain" => floor.graph.search(room, start, end, FAR, |_| 0),
+            "codes" => floor.graph.search(room, start, end, FAR, |node| floor.bound(node, end)),
+            _ => {
+                floor.graph.search(room, start, usize::MAX, end as u64 + 1, |_| 0);
+                room.touched.len() as u64
+            }
+        }
+    };
+    floor.pairs.iter().map(one).sum()
+}
+
+/// The nanoseconds of a query, the least of some runs of a tenth of a second.
+fn timed(floor: &Floor, room: &mut Room, runs: usize) -> u64 {
     let least = (0..runs).map(|_| {
         let (begun, mut rounds) = (spent(), 0);
         while rounds == 0 || spent() - begun < 100_000_000 {
-            sum = pairs.iter().map(|&(start, end)| query(start, end)).sum();
+            std::hint::black_box(searched(floor, room));
             rounds += 1;
         }
         (spent() - begun) / rounds
     });
-    (least.min().unwrap() / pairs.len() as u64, sum)
+    least.min().unwrap() / floor.pairs.len() as u64
 }
 
 fn main() {
     let words: Vec<String> = std::env::args().collect();
+    let (kind, runs) = (words[3].clone(), words[4].parse().unwrap());
     let roads = plain::Roads::read(&words[1]);
-    let at: HashMap<u32, usize> = roads.nodes.iter().enumerate().map(|(place, node)| (node.0, place)).collect();
-    let graph = Graph::of(&roads, &at);
+    let graph = Graph::of(&roads);
     let mut room = Room { lengths: vec![FAR; roads.nodes.len()], touched: vec![] };
-    let (codes, step) = codes_of(&graph, &mut room);
-    let marks = codes.len() / roads.nodes.len();
+    let (codes, step) = if kind == "codes" { codes_of(&graph, &mut room) } else { (vec![], 1) };
     let text = std::fs::read_to_string(&words[2]).unwrap();
-    let ids: Vec<usize> = text.split_whitespace().map(|word| at[&word.parse().unwrap()]).collect();
-    let pairs: Vec<(usize, usize)> = ids.chunks(2).map(|pair| (pair[0], pair[1])).collect();
-    let runs = words[3].parse().unwrap();
-    let bound = |node: usize, end: usize| {
-        let gaps = (0..marks).map(|mark| codes[node * marks + mark].abs_diff(codes[end * marks + mark]).saturating_sub(1));
-        u64::from(gaps.max().unwrap_or(0)) * step
-    };
-    let (plain, sum) = timed(&pairs, runs, |start, end| graph.search(&mut room, start, end, |_| 0));
-    let (headed, same) = timed(&pairs, runs, |start, end| graph.search(&mut room, start, end, |node| bound(node, end)));
-    assert!(sum >= same / 2 && same >= sum);
-    println!("{plain} {headed}");
+    let numbers: Vec<u32> = text.split_whitespace().map(|word| word.parse().unwrap()).collect();
+    let end = |number| if kind == "within" { number } else { roads.place(number) };
+    let pairs = numbers.chunks(2).map(|pair| (roads.place(pair[0]), end(pair[1]))).collect();
+    let floor = Floor { graph, codes, step, pairs, kind };
+    if runs == 0 {
+        println!("{}", searched(&floor, &mut room));
+    } else {
+        println!("{}", timed(&floor, &mut room, runs));
+    }
 }

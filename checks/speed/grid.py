@@ -8,7 +8,7 @@ between the two middle columns are left out, so that no walk joins the left half
 import sys
 
 
-def main():
+def main() -> None:
     width, cut = int(sys.argv[1]), sys.argv[2:] == ["halves"]
     state = 0
     print("roads 1")

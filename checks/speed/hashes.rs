@@ -8,6 +8,8 @@ use sha2::{Digest, Sha256};
 
 const CHAINS: u16 = 34;
 const LAST: u8 = 255;
+/// The octets of a header, docs/SPEC.md, 6.1.
+const HEADER: usize = 104;
 
 fn hash(parts: &[&[u8]]) -> [u8; 32] {
     let mut hasher = Sha256::new();
@@ -82,7 +84,7 @@ fn reply(file: &str, fan: usize) -> String {
     let text = std::fs::read(file).unwrap();
     let mut rest = Rest(&text);
     let kind = rest.number(1);
-    rest.take(104);
+    rest.take(HEADER);
     let signature = rest.number(2);
     rest.take(signature);
     if kind == 0 {

@@ -6,23 +6,27 @@ to have held what that process did.
 """
 import os
 import re
-import struct
-import subprocess
 import sys
 import tempfile
 from typing import Iterable, NamedTuple, Sequence
 
 HERE = os.path.dirname(os.path.abspath(__file__))
 TOP = os.path.dirname(os.path.dirname(HERE))
+sys.path.insert(0, os.path.dirname(HERE))
+
+from common import layout, maps  # noqa: E402
+from common.desks import Desk  # noqa: E402
+from common.runs import processor_seconds  # noqa: E402
+from common.served import Served, ask, begin  # noqa: E402
+
 PROGRAM = f"{TOP}/crates/road_proof/out/road_proof"
 DOCUMENT = f"{TOP}/docs/BENCHMARKS.md"
 GNU_TIME = "/usr/bin/time"
-# a header's count of pairs and the greatest finite distance, docs/SPEC.md 6.1
-PAIRS_AT = 52
 
 
 class Cost(NamedTuple):
     """Seconds of processor time, megabytes at most (None where they were not measured), octets of standard output."""
+
     seconds: float
     memory: float | None
     octets: int
@@ -33,22 +37,13 @@ def pin() -> None:
     os.sched_setaffinity(0, {max(os.sched_getaffinity(0))})
 
 
-def note(*words) -> None:
+def note(*words: object) -> None:
     print(*words, file=sys.stderr, flush=True)
 
 
 def run(words: Sequence[str], output: str, silent: bool = False) -> float:
     """Runs a program with its output in a file, and ends all where its status is not 0. Seconds of processor time."""
-    child = os.fork()
-    if child == 0:
-        os.dup2(os.open(output, os.O_WRONLY | os.O_CREAT | os.O_TRUNC, 0o600), 1)
-        if silent:
-            os.dup2(os.open(os.devnull, os.O_WRONLY), 2)
-        os.execv(words[0], words)
-    _, status, used = os.wait4(child, 0)
-    if status:
-        sys.exit(f"{' '.join(words)}: status {os.waitstatus_to_exitcode(status)}")
-    return used.ru_utime + used.ru_stime
+    return processor_seconds(words, output=output, silent=silent)
 
 
 def memory_of(words: Sequence[str], output: str, silent: bool = False) -> float | None:
@@ -73,40 +68,27 @@ def costs(commands: Sequence[Sequence[str]], output: str, runs: int) -> list[Cos
     return [Cost(min(seconds), memory, 0) for seconds, memory in zip(zip(*rounds), memories)]
 
 
-class Server:
+class Server(Served):
     """`serve` over a publication, with session 0 begun."""
 
-    def __init__(self, program: str, publication: str):
-        self.child = subprocess.Popen([program, "serve", publication], stdin=subprocess.PIPE, stdout=subprocess.PIPE)
-        self.told(b"\1\0")
-
-    def told(self, body: bytes) -> bytes:
-        self.child.stdin.write(struct.pack(">I", len(body)) + body)
-        self.child.stdin.flush()
-        (size,) = struct.unpack(">I", self.child.stdout.read(4))
-        return self.child.stdout.read(size)
+    def __init__(self, program: str, publication: str, *more: str, under: Sequence[str] = ()) -> None:
+        super().__init__(program, publication, *more, under=under)
+        self.told(begin(0))
 
     def ask(self, start: int, end: int) -> bytes:
         """The reply to a query, as `prove` writes it."""
-        return self.told(struct.pack(">BBII", 2, 0, start, end))[2:]
-
-    def seconds(self) -> float:
-        """How long it was on a processor so far."""
-        with open(f"/proc/{self.child.pid}/schedstat", encoding="ascii") as file:
-            return int(file.read().split()[0]) / 1e9
+        return self.told(ask(0, start, end))[2:]
 
     def seconds_for(self, start: int, end: int, asks: int, runs: int) -> float:
         """The least processor time of an answer, over runs of so many asks."""
+
         def once() -> float:
             before = self.seconds()
             for _ in range(asks):
                 self.ask(start, end)
             return (self.seconds() - before) / asks
-        return min(once() for _ in range(runs))
 
-    def close(self) -> None:
-        self.child.stdin.close()
-        self.child.wait()
+        return min(once() for _ in range(runs))
 
 
 def owner(program: str, folder: str) -> None:
@@ -114,9 +96,7 @@ def owner(program: str, folder: str) -> None:
     os.chdir(folder)
     if os.path.exists("owner.desk"):
         os.remove("owner.desk")
-    with open("secret.hex", "w", encoding="ascii") as file:
-        file.write("0" * 96)
-    run([program, "key", "secret.hex", "h5"], "owner.key")
+    Desk(program).make_key()
 
 
 def publishing(program: str, roads: str, settings: str) -> list[str]:
@@ -128,15 +108,16 @@ def publishing(program: str, roads: str, settings: str) -> list[str]:
 def pairs_of(publication: str) -> int:
     """How many pairs have a leaf."""
     with open(publication, "rb") as file:
-        return struct.unpack(">I", file.read(4 + PAIRS_AT + 4)[-4:])[0]
+        return int.from_bytes(file.read(layout.IN_PUBLICATION + layout.PAIR_ROOT)[-4:], "big")
 
 
 def made(name: str, *words: str) -> str:
     """A road file of the generator of this name, in the working folder."""
     path = os.path.abspath("-".join([name, *words]) + ".roads")
     if not os.path.exists(path):
+        octets = maps.made(name, *words)
         with open(path, "wb") as file:
-            subprocess.run([sys.executable, f"{HERE}/{name}.py", *words], stdout=file, check=True)
+            file.write(octets)
     return path
 
 

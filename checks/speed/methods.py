@@ -17,6 +17,7 @@ RUNS = 3
 
 class Asked(NamedTuple):
     """What a query costs, and what the client's line says."""
+
     prove: Cost
     check: Cost
     audit: Cost
@@ -40,17 +41,20 @@ def asked(program: str, start: int, end: int, runs: int) -> Asked:
 def lines(program: str, roads: str, settings: str, ends: list[int]) -> Iterator[tuple[str, Cost]]:
     yield "publish " + settings, published(program, roads, settings, RUNS)
     for start, end in zip(ends[::2], ends[1::2]):
-        for what, found in zip(("prove", "check", "audit"), asked(program, start, end, RUNS)):
-            yield f"{what} {start} {end}", found
+        found = asked(program, start, end, RUNS)
+        for what, cost_of in (("prove", found.prove), ("check", found.check), ("audit", found.audit)):
+            yield f"{what} {start} {end}", cost_of
 
 
-def main():
+def main() -> None:
     program, roads = os.path.abspath(sys.argv[1]), os.path.abspath(sys.argv[2])
     pin()
     with tempfile.TemporaryDirectory() as folder:
         owner(program, folder)
         for what, found in lines(program, roads, sys.argv[3], [int(word) for word in sys.argv[4:]]):
-            print(f"{what:34} {found.seconds:8.3f} s  {megabytes(found.memory):>8}  {found.octets:10} octets", flush=True)
+            print(
+                f"{what:34} {found.seconds:8.3f} s  {megabytes(found.memory):>8}  {found.octets:10} octets", flush=True
+            )
         print(f"{pairs_of('map.pub')} pairs")
 
 

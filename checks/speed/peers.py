@@ -34,7 +34,10 @@ class Peers:
     """Their commands by name, their versions, and what was skipped."""
 
     def __init__(self, folder: str, none: bool):
-        self.folder, self.commands, self.versions, self.skipped = folder, {}, [], []
+        self.folder = folder
+        self.commands: dict[str, list[str]] = {}
+        self.versions: list[str] = []
+        self.skipped: list[str] = []
         if none:
             return
         self.plain("route")
@@ -69,14 +72,20 @@ class Peers:
         with open(f"{folder}/Cargo.toml", "w", encoding="ascii") as file:
             file.write(MANIFEST.format(source=f"{HERE}/{name}.rs", crate=crate))
         configured = [word for source in SOURCES for word in ("--config", source)]
-        built = subprocess.run(["cargo", "build", "--quiet", "--release", "--offline", *configured], cwd=folder, capture_output=True, check=False, text=True)
+        built = subprocess.run(
+            ["cargo", "build", "--quiet", "--release", "--offline", *configured],
+            cwd=folder,
+            capture_output=True,
+            check=False,
+            text=True,
+        )
         if built.returncode:
             self.skip(crate, f"cargo ends with {built.returncode}: {built.stderr.strip().splitlines()[0]}")
             return
         with open(f"{folder}/Cargo.lock", encoding="ascii") as file:
-            version = re.search(f'name = "{crate}"\nversion = "(.*)"', file.read())
+            version = re.findall(f'name = "{crate}"\nversion = "(.*)"', file.read())
         self.commands[name] = [f"{folder}/target/release/peer"]
-        self.versions.append(f"{crate} {version[1]}")
+        self.versions.append(f"{crate} {version[0]}")
 
     def networkx(self) -> None:
         try:

@@ -3,7 +3,7 @@
 
 Looks that each table has its rows, each with a time that is a number, that each picture is well-formed and has its
 axes, units and caption, and that the data drawn again gives the same pictures. It says nothing of how long anything takes. Nobody
-trusts it. Ends with status 1 where something is missing.
+trusts it. Ends with status 1 if something is missing.
 """
 import os
 import re
@@ -11,6 +11,7 @@ import subprocess
 import sys
 import tempfile
 import xml.etree.ElementTree as tree
+from collections.abc import Iterator
 
 HERE = os.path.dirname(os.path.abspath(__file__))
 CHARTS = ["range", "nodes", "landmarks", "cells", "trees"]
@@ -20,7 +21,9 @@ ROWS = [2, 5, 9]
 
 
 def said(*words: str) -> str:
-    return subprocess.run([sys.executable, *words], stdout=subprocess.PIPE, stderr=subprocess.DEVNULL, check=True, text=True).stdout
+    return subprocess.run(
+        [sys.executable, *words], stdout=subprocess.PIPE, stderr=subprocess.DEVNULL, check=True, text=True
+    ).stdout
 
 
 def tables_of(text: str) -> list[list[str]]:
@@ -29,10 +32,10 @@ def tables_of(text: str) -> list[list[str]]:
 
 
 def texts_of(picture: str) -> list[str]:
-    return [found.text for found in tree.parse(picture).getroot().iter(f"{SVG}text")]
+    return [found.text or "" for found in tree.parse(picture).getroot().iter(f"{SVG}text")]
 
 
-def faults(program: str, folder: str):
+def faults(program: str, folder: str) -> Iterator[str]:
     rows = tables_of(said(f"{HERE}/all", "--program", program, "--small", "--alone", "--runs", "1", "beside", "routes"))
     if [len(found) for found in rows] != ROWS:
         yield f"all: tables of {[len(found) for found in rows]} rows, not {ROWS}"
@@ -45,15 +48,21 @@ def faults(program: str, folder: str):
     for name in CHARTS:
         told = texts_of(f"{folder}/{name}.svg")
         yield from (f"{name}.svg: no {word}" for word in ("kB",) if not any(word in text for text in told))
-        with open(f"{folder}/{name}.svg", encoding="utf-8") as one, open(f"{again}/{name}.svg", encoding="utf-8") as two:
+        with open(f"{folder}/{name}.svg", encoding="utf-8") as one, open(
+            f"{again}/{name}.svg", encoding="utf-8"
+        ) as two:
             if one.read() != two.read():
                 yield f"{name}.svg: drawn again it differs"
 
 
-def main():
+def main() -> None:
     with tempfile.TemporaryDirectory() as folder:
         found = list(faults(os.path.abspath(sys.argv[1]), folder))
-    print("\n".join(found) if found else f"speed: {len(ROWS)} tables and {len(CHARTS)} pictures over small maps, as they are to be")
+    print(
+        "\n".join(found)
+        if found
+        else f"speed: {len(ROWS)} tables and {len(CHARTS)} pictures over small maps, as they are to be"
+    )
     sys.exit(1 if found else 0)
 
 

@@ -8,27 +8,34 @@ again. Only the piece that hangs together with the first crossing is written.
 import math
 import random
 import sys
+from collections.abc import Iterator
 
 
-def crossings(side, draw):
-    return {row * side + column + 1: (column * 100 + draw.randrange(-35, 36), row * 100 + draw.randrange(-35, 36))
-            for row in range(side) for column in range(side)}
+def crossings(side: int, draw: random.Random) -> dict[int, tuple[int, int]]:
+    return {
+        row * side + column + 1: (column * 100 + draw.randrange(-35, 36), row * 100 + draw.randrange(-35, 36))
+        for row in range(side)
+        for column in range(side)
+    }
 
 
-def streets(side, places, draw):
+def streets(side: int, places: dict[int, tuple[int, int]], draw: random.Random) -> Iterator[tuple[int, int, int]]:
     for row in range(side):
         for column in range(side):
             here = row * side + column + 1
-            for step, exists, share in ((1, column + 1 < side, 0.86), (side, row + 1 < side, 0.86),
-                                        (side + 1, column + 1 < side and row + 1 < side, 0.05)):
+            for step, exists, share in (
+                (1, column + 1 < side, 0.86),
+                (side, row + 1 < side, 0.86),
+                (side + 1, column + 1 < side and row + 1 < side, 0.05),
+            ):
                 if exists and draw.random() < share:
                     length = math.dist(places[here], places[here + step])
                     winding = 1 + draw.random() / 2 if draw.random() < 0.1 else 1
                     yield here, here + step, max(1, round(length * winding))
 
 
-def joined(roads, start):
-    ends = {}
+def joined(roads: list[tuple[int, int, int]], start: int) -> set[int]:
+    ends: dict[int, list[int]] = {}
     for a, b, _ in roads:
         ends.setdefault(a, []).append(b)
         ends.setdefault(b, []).append(a)
@@ -41,7 +48,7 @@ def joined(roads, start):
     return seen
 
 
-def main():
+def main() -> None:
     count, seed = int(sys.argv[1]), int(sys.argv[2]) if len(sys.argv) > 2 else 1
     draw = random.Random(seed)
     side = math.ceil(math.sqrt(count))

@@ -11,7 +11,7 @@ smuggled  requests that two readers could part differently, through nginx and ha
 hour      deaf, busy, rolls and kills together, by nginx with haproxy (--minutes 60)
 
 Without WHAT: all but speed and hour. --short takes seconds of each, for the gate. --room lets times be so many times longer,
-for a busy machine. Traffic goes to 127.0.0.0/8 alone. It ends no process but those that it starts. Ends with status 1
+for a busy machine. The priority of this script's session goes to all that it starts. Traffic goes to 127.0.0.0/8 alone. It ends no process but those that it starts. Ends with status 1
 where a bar does not hold. No client trusts this file."""
 
 import argparse
@@ -19,7 +19,6 @@ import asyncio
 import collections
 import contextlib
 import dataclasses
-import hashlib
 import json
 import os
 import pathlib
@@ -34,8 +33,13 @@ import time
 import urllib.parse
 from collections.abc import Awaitable, Callable, Coroutine, Iterator
 
-from parties import STREETS, Gateway, Many, Owner, Place, replace, roads, serves_of
+sys.path.insert(0, str(pathlib.Path(__file__).resolve().parents[1]))
 
+from common.desks import id_of  # noqa: E402
+from parties import STREETS, Gateway, Many, Owner, Place, pass_priority_on, replace, roads, serves_of
+
+# the requests of one address that a gateway works on at a time
+SHARE = 64
 SAMPLES: dict[str, list[str]] = {"nginx": [], "nginx and haproxy": ["--haproxy"]}
 LUA = """local id, packed = os.getenv("GATEWAY_ID"), os.getenv("PACKED") == "1"
 local count, ids = tonumber(os.getenv("PAIRS")), {}
@@ -59,11 +63,6 @@ def holds(what: str, value: float, most: float, room: float = 1) -> None:
         faults.append(f"{what}: {value:.4g}, and at most {most * room:.4g}")
 
 
-def id_of_file(octets: bytes) -> str:
-    length = int.from_bytes(octets[108:110], "big")
-    return hashlib.sha256(octets[4:108] + octets[110 : 110 + length]).hexdigest()[:16]
-
-
 # ---- asking
 
 
@@ -80,7 +79,9 @@ class Seen:
         return sorted(self.times)[len(self.times) * 99 // 100] if self.times else float("inf")
 
     def bad(self) -> int:
-        return len(self.failed) + sum(count for status, count in self.statuses.items() if not 200 <= status < 300 and status != 304)
+        return len(self.failed) + sum(
+            count for status, count in self.statuses.items() if not 200 <= status < 300 and status != 304
+        )
 
     def told(self) -> str:
         return f"{len(self.times)} asks, {dict(self.statuses)}, 99th of 100 {1000 * self.late():.0f} ms"
@@ -102,7 +103,9 @@ class Wire:
         try:
             writer.write("\r\n".join([f"GET {target} HTTP/1.1", "Host: a", *headers, "", ""]).encode())
             head = (await asyncio.wait_for(reader.readuntil(b"\r\n\r\n"), 30)).decode("latin-1")
-            found = {name.lower(): value for name, _, value in (line.partition(": ") for line in head.split("\r\n")[1:-2])}
+            found = {
+                name.lower(): value for name, _, value in (line.partition(": ") for line in head.split("\r\n")[1:-2])
+            }
             body = await asyncio.wait_for(reader.readexactly(int(found.get("content-length", "0"))), 30)
         except BaseException:
             self.close()
@@ -139,26 +142,37 @@ async def answer_of(wire: Wire, ends: str, least: int, repeats: int) -> tuple[in
     return 0, said
 
 
-async def load(address: str, ids: list[int], count: int, until: Callable[[], bool], sources: Callable[[int], str], repeats: int = 0, least: int = 0, pause: float = 0, seed: int = 0) -> Seen:
+async def load(
+    address: str,
+    ids: list[int],
+    count: int,
+    until: Callable[[], bool],
+    sources: Callable[[int], str],
+    repeats: int = 0,
+    least: int = 0,
+    pause: float = 0,
+    seed: int = 0,
+    seen: Seen | None = None,
+) -> Seen:
     """So many connections that ask for routes between drawn ends, one after the other, until something holds."""
-    seen = Seen()
+    found = seen or Seen()
 
     async def one(number: int) -> None:
         wire, draw = Wire(address, sources(number)), random.Random(seed * 1000 + number)
         while not until():
             began = time.monotonic()
             status, said = await answer_of(wire, f"from={draw.choice(ids)}&to={draw.choice(ids)}", least, repeats)
-            seen.times.append(time.monotonic() - began)
+            found.times.append(time.monotonic() - began)
             if status:
-                seen.statuses[status] += 1
+                found.statuses[status] += 1
             else:
-                seen.failed.append(said)
+                found.failed.append(said)
             if pause:
                 await asyncio.sleep(pause)
         wire.close()
 
     await asyncio.gather(*(one(number) for number in range(count)))
-    return seen
+    return found
 
 
 def after(seconds: float) -> Callable[[], bool]:
@@ -239,7 +253,7 @@ class Bench:
         return self.owner.path(self.owner.publish(self.version, "ldm")).read_bytes()
 
     def id(self) -> str:
-        return id_of_file(self.owner.path(self.name).read_bytes())
+        return id_of(self.owner.path(self.name).read_bytes())
 
 
 async def deaf(bench: Bench) -> None:
@@ -262,7 +276,12 @@ async def deaf(bench: Bench) -> None:
     with half_requests(gateway.address, 20, 60):
         began = time.monotonic()
         status, _ = await answer_of(Wire(gateway.address, "127.8.8.8"), f"from={bench.ids[0]}&to={bench.ids[-1]}", 0, 0)
-        holds("beside 20 addresses with 60 half requests each, an answer's seconds", time.monotonic() - began if status == 200 else float("inf"), 1, bench.room)
+        holds(
+            "beside 20 addresses with 60 half requests each, an answer's seconds",
+            time.monotonic() - began if status == 200 else float("inf"),
+            1,
+            bench.room,
+        )
     gateway.end()
 
 
@@ -284,17 +303,18 @@ def by_each_sample(bench: Bench) -> Iterator[tuple[str, Many]]:
 
 async def busy(bench: Bench) -> None:
     for title, many in by_each_sample(bench):
-        before = downs(many)
+        before, share = downs(many), 0
         for who, sources in (("300 addresses", each), ("one address", same)):
             seen = await load(many.address, bench.ids, 300, after(bench.seconds(20, 4)), sources)
             print(f" {title}, 300 connections from {who}: {seen.told()}")
-            good = sum(count for status, count in seen.statuses.items() if status == 200)
             if sources is each:
                 holds("other than 2xx", seen.bad(), 0)
                 holds("99th of a hundred, seconds", seen.late(), 1, bench.room)
+                # what so many of the 300 get as may be in progress for one address (--asks-by-address)
+                share = seen.statuses[200] * SHARE // 300
             else:
                 holds("failed, or neither 2xx nor 429", seen.bad() - seen.statuses[429], 0)
-                holds("a second without a 2xx", 1 if good < bench.seconds(20, 4) else 0, 0)
+                holds(f"2xx that are missing to its share of {share}", max(0, share - seen.statuses[200]), 0)
         holds("gateways that were taken for dead", downs(many) - before, 0)
 
 
@@ -305,7 +325,10 @@ async def least(bench: Bench) -> None:
         async def asks() -> None:
             wire = Wire(many.address, "127.6.6.6")
             while not stopped:
-                for path in (f"/v1/route?from={bench.ids[0]}&to={bench.ids[1]}&least={2**64 - 1}", f"/v1/p/0123456789abcdef/route?from={bench.ids[0]}&to={bench.ids[1]}"):
+                for path in (
+                    f"/v1/route?from={bench.ids[0]}&to={bench.ids[1]}&least={2**64 - 1}",
+                    f"/v1/p/0123456789abcdef/route?from={bench.ids[0]}&to={bench.ids[1]}",
+                ):
                     status, _, _ = await wire.ask(path)
                     if status != 503:
                         faults.append(f"{path}: {status}")
@@ -359,14 +382,16 @@ async def roll_over(bench: Bench, many: Many, count: int) -> None:
     for _ in range(count):
         octets = await asyncio.to_thread(bench.next)
         await asyncio.to_thread(replace, many.folder / "map.pub", octets)
-        name = id_of_file(octets)
+        name = id_of(octets)
         await until_all("a roll", lambda name=name: announced(many, name))  # type: ignore[misc]
 
 
 async def rolls(bench: Bench) -> None:
     count = int(bench.seconds(10, 2))
     for title, many in by_each_sample(bench):
-        seen = await beside(roll_over(bench, many, count), lambda done: load(many.address, bench.ids, 12, done, each, pause=0.01))
+        seen = await beside(
+            roll_over(bench, many, count), lambda done: load(many.address, bench.ids, 12, done, each, pause=0.01)
+        )
         print(f" {title}, {count} rolls: {seen.told()}")
         holds("asks that failed", seen.bad(), 0)
 
@@ -395,10 +420,23 @@ async def kills(bench: Bench) -> None:
 
 
 SMUGGLED = [
-    b"Content-Length: 0\r\nContent-Length: 60\r\n", b"Content-Length: 60\r\nContent-Length: 0\r\n", b"Content-Length: 60\r\nTransfer-Encoding: chunked\r\n",
-    b"Transfer-Encoding: chunked\r\nContent-Length: 60\r\n", b"Transfer-Encoding: xchunked\r\n", b"Transfer-Encoding : chunked\r\n", b"Transfer-Encoding:\x0bchunked\r\n",
-    b"Transfer-Encoding: identity, chunked\r\n", b"X: a\n\nTransfer-Encoding: chunked\r\n", b"X: a\r\n Content-Length: 60\r\n", b"X: a\r\n\tTransfer-Encoding: chunked\r\n",
-    b"Content-Length: +60\r\n", b"Content-Length: 6 0\r\n", b"Content-Length: 0x3c\r\n", b"X: a\rContent-Length: 60\r\n", b"Content-Length: 60\n", b"X\0: a\r\n",
+    b"Content-Length: 0\r\nContent-Length: 60\r\n",
+    b"Content-Length: 60\r\nContent-Length: 0\r\n",
+    b"Content-Length: 60\r\nTransfer-Encoding: chunked\r\n",
+    b"Transfer-Encoding: chunked\r\nContent-Length: 60\r\n",
+    b"Transfer-Encoding: xchunked\r\n",
+    b"Transfer-Encoding : chunked\r\n",
+    b"Transfer-Encoding:\x0bchunked\r\n",
+    b"Transfer-Encoding: identity, chunked\r\n",
+    b"X: a\n\nTransfer-Encoding: chunked\r\n",
+    b"X: a\r\n Content-Length: 60\r\n",
+    b"X: a\r\n\tTransfer-Encoding: chunked\r\n",
+    b"Content-Length: +60\r\n",
+    b"Content-Length: 6 0\r\n",
+    b"Content-Length: 0x3c\r\n",
+    b"X: a\rContent-Length: 60\r\n",
+    b"Content-Length: 60\n",
+    b"X\0: a\r\n",
 ]
 
 
@@ -443,11 +481,15 @@ async def smuggle(who: str, address: str, method: bytes, headers: bytes, bench: 
 async def hour(bench: Bench) -> None:
     many = Many(bench.owner, bench.name, "--replicas", 3, "--haproxy")
     end = time.monotonic() + 60 * bench.given.minutes
-    bench.version = 3
+    bench.version, seen = 3, Seen()
 
     async def meanwhile() -> None:
-        turn = 0
+        turn, told, at = 0, 0, time.monotonic()
         while time.monotonic() < end:
+            if time.monotonic() > at + 300:
+                part, told, at = Seen(seen.times[told:]), len(seen.times), time.monotonic()
+                late, load = 1000 * part.late(), os.getloadavg()[1]
+                print(f"  {len(part.times)} more asks, 99th of 100 {late:.0f} ms, load {load:.0f}", flush=True)
             turn += 1
             with deaf_one(many.gateways[turn % 3], bench.id()), deaf_one(many.address, bench.id()):
                 await kill(many, 2)
@@ -455,7 +497,9 @@ async def hour(bench: Bench) -> None:
                     await roll_over(bench, many, 1)
                 await asyncio.sleep(5)
 
-    seen = await beside(meanwhile(), lambda done: load(many.address, bench.ids, 300, done, each, repeats=1, pause=0.2))
+    await beside(
+        meanwhile(), lambda done: load(many.address, bench.ids, 300, done, each, repeats=1, pause=0.2, seen=seen)
+    )
     print(f" {bench.given.minutes:.0f} minutes, {bench.version - 3} rolls: {seen.told()}")
     holds("asks that failed after one repeat", seen.bad(), 0)
     holds("99th of a hundred, seconds", seen.late(), 1, bench.room)
@@ -475,7 +519,9 @@ def spent(numbers: list[int]) -> float:
     return total
 
 
-def wrk(bench: Bench, address: str, name: str, packed: bool, pairs: int, seconds: float) -> tuple[float, float, float, int]:
+def wrk(
+    bench: Bench, address: str, name: str, packed: bool, pairs: int, seconds: float
+) -> tuple[float, float, float, int]:
     """Answers a second, the median and the 99th of a hundred in milliseconds, and how many were none."""
     script = bench.owner.path("drawn.lua")
     script.write_text(LUA)
@@ -484,7 +530,9 @@ def wrk(bench: Bench, address: str, name: str, packed: bool, pairs: int, seconds
     done = subprocess.run(command, env={**os.environ, **words}, capture_output=True, text=True, check=True).stdout
     rate = float(re.search(r"Requests/sec:\s+([\d.]+)", done)[1])  # type: ignore[index]
     units = {"us": 0.001, "ms": 1.0, "s": 1000.0}
-    times = {part: float(value) * units[unit] for part, value, unit in re.findall(r"(50|99)%\s+([\d.]+)(us|ms|s)\b", done)}
+    times = {
+        part: float(value) * units[unit] for part, value, unit in re.findall(r"(50|99)%\s+([\d.]+)(us|ms|s)\b", done)
+    }
     none = re.search(r"Non-2xx or 3xx responses: (\d+)", done)
     return rate, times["50"], times["99"], int(none[1]) if none else 0
 
@@ -501,8 +549,13 @@ async def speed(bench: Bench) -> None:
             one, many_of = [gateway.process.pid], gateway.serves()
             before = spent(one), spent(many_of)
             rate, median, late, none = await asyncio.to_thread(wrk, bench, gateway.address, name, packed, 0, seconds)
-            own, theirs = (1000 * (now - then) / (rate * seconds) for now, then in zip((spent(one), spent(many_of)), before))
-            print(f" uncached, --serves {serves}, {'gzip' if packed else 'plain'}: {rate:.0f} a second, median {median:.1f} ms, 99th of 100 {late:.1f} ms, {none} not answered; processor time of an answer: gateway {own:.2f} ms, serve {theirs:.2f} ms", flush=True)
+            own, theirs = (
+                1000 * (now - then) / (rate * seconds) for now, then in zip((spent(one), spent(many_of)), before)
+            )
+            print(
+                f" uncached, --serves {serves}, {'gzip' if packed else 'plain'}: {rate:.0f} a second, median {median:.1f} ms, 99th of 100 {late:.1f} ms, {none} not answered; processor time of an answer: gateway {own:.2f} ms, serve {theirs:.2f} ms",
+                flush=True,
+            )
             if serves == "auto" and not bench.given.short:
                 holds("answers a second that are missing to 1,500", max(0, 1500 - rate), 0)
                 holds("99th of a hundred, ms", late, 60, bench.room)
@@ -513,14 +566,24 @@ async def speed(bench: Bench) -> None:
             ends = f"from={bench.ids[number * 7919 % len(bench.ids)]}&to={bench.ids[number * 104729 % len(bench.ids)]}"
             Place(many.address).ask(f"/v1/p/{name}/route?{ends}", **({"Accept_Encoding": "gzip"} if packed else {}))
         rate, median, late, none = await asyncio.to_thread(wrk, bench, many.address, name, packed, pairs, seconds)
-        print(f" cached, {'gzip' if packed else 'plain'}: {rate:.0f} a second, median {median:.1f} ms, 99th of 100 {late:.1f} ms, {none} not answered", flush=True)
+        print(
+            f" cached, {'gzip' if packed else 'plain'}: {rate:.0f} a second, median {median:.1f} ms, 99th of 100 {late:.1f} ms, {none} not answered",
+            flush=True,
+        )
         if not bench.given.short:
             holds(f"answers a second that are missing to {bar:,}", max(0, bar - rate), 0)
     many.end()
 
 
 BARS: dict[str, Callable[[Bench], Coroutine[None, None, None]]] = {
-    "speed": speed, "deaf": deaf, "busy": busy, "least": least, "rolls": rolls, "kills": kills, "smuggled": smuggled, "hour": hour,
+    "speed": speed,
+    "deaf": deaf,
+    "busy": busy,
+    "least": least,
+    "rolls": rolls,
+    "kills": kills,
+    "smuggled": smuggled,
+    "hour": hour,
 }
 
 
@@ -539,6 +602,7 @@ def main(words: list[str]) -> int:
     except ImportError:
         print("skipped: checks/web/bars.py, since this machine has no python3-h11")
         return 0
+    pass_priority_on()
     bench = Bench(given.program, given)
     try:
         for what in given.what or [name for name in BARS if name not in ("speed", "hour")]:

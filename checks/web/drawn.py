@@ -3,34 +3,46 @@
 
 Path, method, parameters good and bad, and headers are drawn. The status must be one that the document lists for the path
 and the method, the headers must fit what it says of them, and octets their type and schema. Schemas are checked by Debian's
-python3-jsonschema, and skipped by name without it. Ends with status 1 where an answer is not described. No client trusts this."""
+python3-jsonschema, and skipped by name without it. Ends with status 1 if an answer is not described. No client trusts this."""
 
 import argparse
 import collections
+import importlib
 import json
 import random
 import re
 import sys
 import urllib.parse
 
+from collections.abc import Sequence
 from parties import STREETS, TOP, Gateway, Owner, Place, roads
+from typing import Any
 
 try:
-    import jsonschema
+    jsonschema: Any = importlib.import_module("jsonschema")
 except ImportError:
     jsonschema = None
 METHODS = ["GET"] * 12 + ["HEAD"] * 2 + ["OPTIONS", "POST", "PUT", "DELETE", "PATCH"]
 NOT_ALLOWED = ("POST", "PUT", "DELETE", "PATCH")
 
 
+Fields = dict[str, Any]
+
+
+class Tagged(Place):
+    """An address, and the tag of its last answer that had one."""
+
+    tag = '"x"'
+
+
 class Document:
     """web/openapi.json, with its references followed."""
 
-    def __init__(self):
-        self.page = json.loads((TOP / "web/openapi.json").read_text())
+    def __init__(self) -> None:
+        self.page: Fields = json.loads((TOP / "web/openapi.json").read_text())
         self.paths = self.page["paths"]
 
-    def found(self, it):
+    def found(self, it: Fields) -> Fields:
         """What a reference leads to."""
         while "$ref" in it:
             part = self.page
@@ -39,26 +51,35 @@ class Document:
             it = part
         return it
 
-    def schema_fits(self, schema, value):
+    def schema_fits(self, schema: Fields, value: object) -> str:
         """Why a value does not fit, or nothing."""
         if jsonschema is None:
             return ""
         whole = {**schema, "components": self.page["components"]}
         why = next(iter(jsonschema.Draft202012Validator(whole).iter_errors(value)), None)
-        return why.message if why else ""
+        return str(why.message) if why else ""
 
 
-def number(draw, pattern, near):
+def number(draw: random.Random, pattern: str, near: Sequence[int]) -> str:
     """A number that fits a parameter's pattern, or nearly."""
     turn = draw.randrange(12)
     if turn < 8:
         return str(draw.choice(near))
-    good = [str(draw.randrange(10 ** draw.randrange(1, 21))), "0", str(2**32 - 1), str(2**32), str(2**64 - 1), str(2**64)]
+    good = [
+        str(draw.randrange(10 ** draw.randrange(1, 21))),
+        "0",
+        str(2**32 - 1),
+        str(2**32),
+        str(2**64 - 1),
+        str(2**64),
+    ]
     bad = ["01", "", "-1", "+1", "1.0", "0x1", "%31", "1" * 30, " 1", "a", "\u0661"]
     return draw.choice(good if turn < 11 else bad)
 
 
-def query_of(document, operation, draw, near, versions):
+def query_of(
+    document: Document, operation: Fields, draw: random.Random, near: Sequence[int], versions: Sequence[int]
+) -> str:
     """The words of a query, mostly in their one spelling."""
     words = []
     for reference in operation.get("parameters", []):
@@ -77,7 +98,9 @@ def query_of(document, operation, draw, near, versions):
     return urllib.parse.quote("&".join(words), safe="=&%+.-")
 
 
-def ask(document, place, draw, ids, near, versions):
+def ask(
+    document: Document, place: Tagged, draw: random.Random, ids: list[str], near: Sequence[int], versions: Sequence[int]
+) -> tuple[str, str]:
     """One drawn ask: what is wrong with its answer, and which path and status it was."""
     path, item = draw.choice(list(document.paths.items()))
     method = draw.choice(METHODS)
@@ -87,7 +110,9 @@ def ask(document, place, draw, ids, near, versions):
     headers = {"Accept-Encoding": draw.choice(["", "gzip", "gzip;q=0", "br, gzip", "*"])}
     if draw.random() < 0.4:
         headers["If-None-Match"] = draw.choice(["*", "*", "*", '"x"', 'W/"y", *', place.tag])
-    status, given, octets = place.ask(target, method, **{name.replace("-", "_"): value for name, value in headers.items()})
+    status, given, octets = place.ask(
+        target, method, **{name.replace("-", "_"): value for name, value in headers.items()}
+    )
     place.tag = given.get("ETag", place.tag)
     listed = item["get"]["responses"] if method in NOT_ALLOWED else operation["responses"]
     name = f"{method} {path} {status}"
@@ -117,8 +142,8 @@ def ask(document, place, draw, ids, near, versions):
     return "", name
 
 
-def main(words):
-    parser = argparse.ArgumentParser(description=__doc__.splitlines()[0])
+def main(words: list[str]) -> int:
+    parser = argparse.ArgumentParser(description=(__doc__ or "").splitlines()[0])
     parser.add_argument("program")
     parser.add_argument("--count", type=int, default=1500)
     parser.add_argument("--seed", type=int, default=1)
@@ -129,9 +154,11 @@ def main(words):
     owner = Owner(given.program, roads(STREETS, 400))
     for version in (3, 4, 5):
         owner.publish(version)
-    faults, seen = [], collections.Counter()
+    faults: list[str] = []
+    seen = collections.Counter[str]()
     # one gateway as it is, and one that lets each address ask little
-    for more in ([], ["--asks-per-second", "3", "--burst", "5"]):
+    samples: tuple[list[str], ...] = ([], ["--asks-per-second", "3", "--burst", "5"])
+    for more in samples:
         gateway = Gateway(owner, "dij-3.pub", "--keep", "1", *more)
         first = gateway.newest()
         (gateway.folder / "map.pub.fresh").write_bytes(owner.path("dij-4.pub").read_bytes())
@@ -141,15 +168,19 @@ def main(words):
         (gateway.folder / "map.pub.next").write_bytes(owner.path("dij-5.pub").read_bytes())
         ids = [it["id"] for it in gateway.info()] * 9 if not more else [first]
         ids += [first, "0123456789abcdef", "0123456789ABCDEF", "x", "%41", "0" * 17]
-        place = Place(gateway.address)
-        place.tag = '"x"'
+        place = Tagged(gateway.address)
         for _ in range(given.count if not more else given.count // 5):
             why, name = ask(document, place, draw, ids, [*owner.ids[:50], 4_000_000_000], [0, 3, 4, 5, 9, 2**64 - 1])
             seen[re.sub(r"^(POST|PUT|DELETE|PATCH)", "other", name)] += 1
             if why:
                 faults.append(why)
         gateway.end()
-    listed = {f"GET {path} {status}" for path, item in document.paths.items() for status in item["get"]["responses"] if status != "405"}
+    listed = {
+        f"GET {path} {status}"
+        for path, item in document.paths.items()
+        for status in item["get"]["responses"]
+        if status != "405"
+    }
     # what the document lists is met, but for 503: whether one is met rests on when a child is asked
     rare = {name for name in listed if name.endswith(" 503")}
     missing = sorted(listed - rare - set(seen))
@@ -157,7 +188,9 @@ def main(words):
         print("DIFFERS", fault)
     for name in missing:
         print("NOT MET", name)
-    print(f"drawn: {sum(seen.values())} asks, {len(seen)} of path, method and status, {len(faults)} not as described, {len(missing)} listed and not met")
+    print(
+        f"drawn: {sum(seen.values())} asks, {len(seen)} of path, method and status, {len(faults)} not as described, {len(missing)} listed and not met"
+    )
     return 1 if faults or missing else 0
 
 

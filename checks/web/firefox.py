@@ -15,10 +15,12 @@ import subprocess
 import sys
 import tempfile
 import time
+from collections.abc import Callable
+from typing import Any
 
 TOP = pathlib.Path(__file__).resolve().parents[2]
 sys.path.insert(0, str(TOP / "web/page"))
-from play import END, ISLAND, KINDS, RADIUS, SECRETS, START, Town  # noqa: E402
+from expected import END, ISLAND, KINDS, RADIUS, SECRETS, START, Town  # noqa: E402
 from scene import METHODS, Scene, free_port  # noqa: E402
 
 SECONDS = 120
@@ -35,18 +37,20 @@ SAID = "const it = document.getElementById('verdict'); return [it.getAttribute('
 class Firefox:
     """A Firefox without a window."""
 
-    def __init__(self, folder):
+    def __init__(self, folder: pathlib.Path) -> None:
         port = free_port()
         (folder / "user.js").write_text(f'user_pref("marionette.port", {port});\n')
-        words = ["firefox-esr", "--headless", "--marionette", "--no-remote", "--profile", folder]
-        self.process = subprocess.Popen(words, stdout=subprocess.DEVNULL, stderr=subprocess.DEVNULL, env={**os.environ, "HOME": str(folder)})
+        words = ["firefox-esr", "--headless", "--marionette", "--no-remote", "--profile", str(folder)]
+        self.process = subprocess.Popen(
+            words, stdout=subprocess.DEVNULL, stderr=subprocess.DEVNULL, env={**os.environ, "HOME": str(folder)}
+        )
         self.line = self.connected(port)
         self.file, self.count = self.line.makefile("rb"), 0
         self.read()
         self.told("WebDriver:NewSession", capabilities={"alwaysMatch": {}})
         self.told("WebDriver:SetWindowRect", width=1280, height=1100)
 
-    def connected(self, port):
+    def connected(self, port: int) -> socket.socket:
         until = time.monotonic() + SECONDS
         while True:
             try:
@@ -56,13 +60,13 @@ class Firefox:
                     raise
                 time.sleep(0.2)
 
-    def read(self):
+    def read(self) -> Any:
         length = b""
         while not length.endswith(b":"):
             length += self.file.read(1)
         return json.loads(self.file.read(int(length[:-1])))
 
-    def told(self, command, **words):
+    def told(self, command: str, **words: Any) -> Any:
         """What a command answers."""
         self.count += 1
         text = json.dumps([0, self.count, command, words]).encode()
@@ -72,44 +76,49 @@ class Firefox:
             sys.exit(f"{command}: {error['message']}")
         return result
 
-    def run(self, script, *words):
+    def run(self, script: str, *words: object) -> Any:
         return self.told("WebDriver:ExecuteScript", script=script, args=list(words))["value"]
 
-    def open(self, address):
+    def open(self, address: str) -> None:
         self.told("WebDriver:Navigate", url=address)
 
-    def until(self, test):
+    def until(self, test: Callable[[], bool]) -> None:
         end = time.monotonic() + SECONDS
         while not test():
             if time.monotonic() > end:
                 sys.exit(f"Firefox: not yet: {self.run(SAID)}")
             time.sleep(0.1)
 
-    def settled(self):
-        self.until(lambda: self.run(SAID)[0] == "false")
-        return self.run(SAID)[1:]
+    def settled(self) -> list[str]:
+        self.until(lambda: bool(self.run(SAID)[0] == "false"))
+        said: list[str] = self.run(SAID)[1:]
+        return said
 
-    def end(self):
+    def end(self) -> None:
         self.process.terminate()
         self.process.wait(30)
 
 
-def played(firefox, scene, picture):
+def played(firefox: Firefox, scene: Scene, picture: pathlib.Path | None) -> int:
     """How many verdicts were not as expected."""
     far, place, faults = Town(scene.owner).distances(START), scene.page.place, 0
 
-    def same(what, seen, wanted):
+    def same(what: str, seen: object, wanted: object) -> None:
         nonlocal faults
         faults += seen != wanted
         print(f"{what}: {seen}" if seen == wanted else f"DIFFERS {what}: {seen}, and not {wanted}")
 
     firefox.open(scene.page.origin)
-    firefox.until(lambda: firefox.run("return document.querySelectorAll('[name=map] option').length") == 5)
+    firefox.until(lambda: bool(firefox.run("return document.querySelectorAll('[name=map] option').length") == 5))
     maps = firefox.run("return [...document.querySelectorAll('[name=map] option')].map((it) => it.value)")
     for version, method in enumerate(METHODS, 1):
         firefox.run(ASK, "route", START, END, maps[5 - version])
         state, text, _ = firefox.settled()
-        same(method, (state, f" {far[END] / 10_000:.2f} km long" in text, f"in version {version} " in text), ("accepted", True, True))
+        same(
+            method,
+            (state, f" {far[END] / 10_000:.2f} km long" in text, f"in version {version} " in text),
+            ("accepted", True, True),
+        )
         for name, kind in KINDS.items():
             firefox.run(LIE, name)
             state, text, line = firefox.settled()
@@ -134,7 +143,7 @@ def played(firefox, scene, picture):
     return faults
 
 
-def main(program, picture=None):
+def main(program: str, picture: str | None = None) -> int:
     if not shutil.which("firefox-esr"):
         sys.exit("this machine has no firefox-esr")
     with tempfile.TemporaryDirectory() as folder:

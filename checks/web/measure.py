@@ -11,8 +11,9 @@ install  the longest wait of an ask while a publication under HYP over the grid 
 full     one gateway whose log lies on a disk without room
 alone    one gateway: slow and hostile clients for an hour (--minutes), with its memory and its open files
 
-Each reply is compared octet for octet with those of `prove` and `reach`. Prints lines for docs/BENCHMARKS.md, and ends with
-status 1 where anything is wrong. It ends no process but those that it starts. No client trusts this file.
+Each reply is compared octet for octet with those of `prove` and `reach`. The priority of this script's session goes to all
+that it starts. Prints lines for docs/BENCHMARKS.md, and ends with
+status 1 if anything is wrong. It ends no process but those that it starts. No client trusts this file.
 """
 
 import argparse
@@ -21,6 +22,7 @@ import gzip
 import http.client
 import multiprocessing
 import os
+import pathlib
 import random
 import re
 import signal
@@ -28,26 +30,37 @@ import socket
 import sys
 import threading
 import time
+from functools import partial
 
-from parties import GRID, STREETS, Client, Gateway, Many, Owner, Place, replace, roads, serves_of
-from play import LIAR, faults, id_of, newest_of, until
+from collections.abc import Callable, Sequence
+
+sys.path.insert(0, str(pathlib.Path(__file__).resolve().parents[1]))
+
+from common.desks import id_of  # noqa: E402
+from common.layout import IN_ANSWER, version_of  # noqa: E402
+from parties import GRID, STREETS, Client, Gateway, Many, Owner, Place, pass_priority_on, replace, roads, serves_of
+from play import LIAR, faults, newest_of, until
+from typing import Any
 
 LOADERS, CONNECTIONS = 3, 6
+# the start and the end of a query
+Ends = tuple[int, int]
 METHOD = "ldm"
 
 
-def mix(count, draw):
+def mix(count: int, draw: random.Random) -> list[int]:
     """Places of asks, of which the first are asked most: the k-th as often as 1/k."""
     return draw.choices(range(count), [1 / (place + 1) for place in range(count)], k=100_000)
 
 
-def pairs(owner, count, draw, near=None):
+def pairs(owner: Owner, count: int, draw: random.Random, near: int | None = None) -> list[Ends]:
     """Queries, and the replies of `prove` to them."""
-    found = []
+    found: list[Ends] = []
+    known = set(owner.ids)
     while len(found) < count:
         start = draw.choice(owner.ids)
         end = draw.choice(owner.ids) if near is None else start + draw.randrange(1, near)
-        if end in owner.known:
+        if end in known:
             found.append((start, end))
     return found
 
@@ -57,11 +70,12 @@ class Wire:
 
     LENGTH = re.compile(rb"\r\ncontent-length: (\d+)", re.I)
 
-    def __init__(self, address):
+    def __init__(self, address: str) -> None:
         place = Place(address)
-        self.room, self.socket = (place.host, place.port), None
+        self.room = (place.host, place.port)
+        self.socket: socket.socket | None = None
 
-    def ask(self, request):
+    def ask(self, request: bytes) -> tuple[int, bytes]:
         """The status and the octets; a connection that is gone is opened anew, once."""
         for trial in (1, 2):
             try:
@@ -72,36 +86,50 @@ class Wire:
                 self.socket = None
                 if trial == 2:
                     raise
-        return None
+        raise AssertionError
 
-    def more(self):
+    def more(self) -> bytes:
+        assert self.socket
         part = self.socket.recv(1 << 18)
         if not part:
             raise ConnectionResetError
         return part
 
-    def read(self):
+    def read(self) -> tuple[int, bytes]:
         got = self.more()
         while (at := got.find(b"\r\n\r\n")) < 0:
             got += self.more()
-        parts = [got[at + 4:]]
-        left = int(self.LENGTH.search(got, 0, at)[1]) - len(parts[0])
+        parts = [got[at + 4 :]]
+        length = self.LENGTH.search(got, 0, at)
+        assert length
+        left = int(length[1]) - len(parts[0])
         while left > 0:
             parts.append(self.more())
             left -= len(parts[-1])
         return int(got[9:12]), b"".join(parts)
 
 
-def ask_all(addresses, name, asked, wanted, order, seconds, results):
+def ask_all(
+    addresses: list[str],
+    name: str,
+    asked: list[Ends],
+    wanted: list[bytes],
+    order: list[int],
+    seconds: float,
+    results: Any,
+) -> None:
     """Asks as browsers do over so many connections, and puts the times and the count of what is wrong."""
-    times, wrong, lock, end = [], [], threading.Lock(), time.monotonic() + seconds
+    times: list[float] = []
+    wrong: list[int] = []
+    lock, end = threading.Lock(), time.monotonic() + seconds
     line = "GET /v1/p/{}/route?from={}&to={} HTTP/1.1\r\nHost: a\r\nAccept-Encoding: gzip\r\n\r\n"
     requests = [line.format(name, *ends).encode() for ends in asked]
     # what came of each ask and was right, so that equal octets are unpacked once
-    known = [None] * len(asked)
+    known: list[bytes | None] = [None] * len(asked)
 
-    def one(number):
-        wire, mine = Wire(addresses[number % len(addresses)]), []
+    def one(number: int) -> None:
+        wire = Wire(addresses[number % len(addresses)])
+        mine: list[float] = []
         for at in order[number::CONNECTIONS]:
             if time.monotonic() > end:
                 break
@@ -125,37 +153,54 @@ def ask_all(addresses, name, asked, wanted, order, seconds, results):
     results.put((times, len(wrong)))
 
 
-def loaded(addresses, name, asked, wanted, seconds, seed):
+def loaded(
+    addresses: list[str], name: str, asked: list[Ends], wanted: list[bytes], seconds: float, seed: int
+) -> tuple[float, float, float, int]:
     """Answers a second, the median and the 99th of a hundred in milliseconds, and how many were wrong."""
-    results, loaders = multiprocessing.Queue(), []
+    results: Any = multiprocessing.Queue()
+    loaders: list[multiprocessing.Process] = []
     for number in range(LOADERS):
         order = mix(len(asked), random.Random(seed + number))
-        loaders.append(multiprocessing.Process(target=ask_all, args=(addresses, name, asked, wanted, order, seconds, results)))
+        loaders.append(
+            multiprocessing.Process(target=ask_all, args=(addresses, name, asked, wanted, order, seconds, results))
+        )
     for loader in loaders:
         loader.start()
     told = [results.get() for _ in loaders]
     for loader in loaders:
         loader.join()
     times = sorted(it for found, _ in told for it in found)
-    return len(times) / seconds, 1000 * times[len(times) // 2], 1000 * times[len(times) * 99 // 100], sum(wrong for _, wrong in told)
+    return (
+        len(times) / seconds,
+        1000 * times[len(times) // 2],
+        1000 * times[len(times) * 99 // 100],
+        sum(wrong for _, wrong in told),
+    )
 
 
-def prepared(program, text, versions=(3,), method=METHOD):
+def prepared(
+    program: str, text: bytes, versions: tuple[int, ...] = (3,), method: str = METHOD
+) -> tuple[Owner, list[str]]:
     owner = Owner(program, text)
-    owner.known = set(owner.ids)
     return owner, [owner.publish(version, method) for version in versions]
 
 
-def speed(program, given):
+def proved(owner: Owner, name: str, ends: Ends) -> bytes:
+    return owner.prove(name, *ends)
+
+
+def speed(program: str, given: argparse.Namespace) -> int:
     bad = 0
     print("| map | replicas | way | answers a second | median | 99th of 100 | octets of a reply |")
     print("|---|---|---|---|---|---|---|")
-    for title, text, near in (("streets, 5,000 nodes", roads(STREETS, 5000), None), ("grid, 65,536 nodes", roads(GRID, 256), 40)):
+    maps: tuple[tuple[str, bytes, int | None], ...]
+    maps = (("streets, 5,000 nodes", roads(STREETS, 5000), None), ("grid, 65,536 nodes", roads(GRID, 256), 40))
+    for title, text, near in maps:
         owner, (name,) = prepared(program, text)
         draw = random.Random(1)
         asked = pairs(owner, given.asks, draw, near)
         with concurrent.futures.ThreadPoolExecutor(3) as pool:
-            wanted = list(pool.map(lambda ends, owner=owner, name=name: owner.prove(name, *ends), asked))
+            wanted = list(pool.map(partial(proved, owner, name), asked))
         for replicas in (1, 2, 3):
             started = Many(owner, name, "--replicas", replicas, "--haproxy")
             here = newest_of(started.gateways[0])
@@ -166,16 +211,26 @@ def speed(program, given):
                 rate, median, late, wrong = loaded(addresses, here, asked, wanted, given.seconds, replicas)
                 bad += wrong
                 size = sum(map(len, wanted)) // len(wanted)
-                print(f"| {title} | {replicas} | {way} | {rate:.0f} | {median:.1f} ms | {late:.1f} ms | {size:,} |", flush=True)
+                print(
+                    f"| {title} | {replicas} | {way} | {rate:.0f} | {median:.1f} ms | {late:.1f} ms | {size:,} |",
+                    flush=True,
+                )
             started.end()
     return bad
 
 
-def asks_of_clients(owner, address, asked, wanted, clients, stop):
+def asks_of_clients(
+    owner: Owner,
+    address: str,
+    asked: list[Ends],
+    wanted: Sequence[Sequence[bytes]],
+    clients: int,
+    stop: Callable[[dict[str, int]], bool],
+) -> dict[str, int]:
     """What clients meet, each asking in turn: how many were wrong, lost, and asked again."""
     counts, lock = {"asks": 0, "wrong": 0, "lost": 0}, threading.Lock()
 
-    def one(number):
+    def one(number: int) -> None:
         client, draw = Client(owner, address, checks=False), random.Random(number)
         while not stop(counts):
             at = draw.randrange(len(asked))
@@ -195,7 +250,7 @@ def asks_of_clients(owner, address, asked, wanted, clients, stop):
     return counts
 
 
-def patient(client, words):
+def patient(client: Client, words: str) -> bytes:
     """A reply, where nothing listens for up to five seconds."""
     end = time.monotonic() + 5
     while True:
@@ -207,14 +262,15 @@ def patient(client, words):
             time.sleep(0.1)
 
 
-def killed(program, given):
+def killed(program: str, given: argparse.Namespace) -> int:
     owner, (name,) = prepared(program, roads(STREETS, 5000))
     asked = pairs(owner, given.asks, random.Random(2))
     wanted = [(owner.prove(name, *ends),) for ends in asked]
     started = Many(owner, name, "--replicas", 3, "--haproxy")
-    done, kills = threading.Event(), []
+    done = threading.Event()
+    kills: list[str] = []
 
-    def kill():
+    def kill() -> None:
         for turn in range(20):
             for what in ("gateway", "serve", "nginx"):
                 # the gateway whose `serve` is killed is not the one that was killed just before
@@ -231,27 +287,36 @@ def killed(program, given):
 
     thread = threading.Thread(target=kill)
     thread.start()
-    counts = asks_of_clients(owner, started.address, asked, wanted, 50, lambda counts: counts["asks"] >= 10_000 and done.is_set())
+    counts = asks_of_clients(
+        owner, started.address, asked, wanted, 50, lambda counts: counts["asks"] >= 10_000 and done.is_set()
+    )
     thread.join()
     started.end()
     print(f"killed: {counts}, {({what: kills.count(what) for what in set(kills)})}")
     return counts["wrong"] + counts["lost"]
 
 
-def old(program, given):
+def has_other(one: str, other: str) -> bool:
+    """Whether two gateways announce different publications."""
+    return newest_of(one) != newest_of(other)
+
+
+def old(program: str, given: argparse.Namespace) -> int:
     owner, names = prepared(program, roads(STREETS, 5000), (3, 4))
     asked = pairs(owner, given.asks, random.Random(3))
     wanted = [tuple(owner.prove(name, *ends) for name in names) for ends in asked]
     started = Many(owner, names[0], "--replicas", 3)
     for number in (0, 1):
         replace(started.replica(number) / "map.pub", owner.path(names[1]).read_bytes())
-        until("rolled", lambda number=number: newest_of(started.gateways[number]) != newest_of(started.gateways[2]))
-    end = time.monotonic() + given.seconds
+        until("rolled", partial(has_other, started.gateways[number], started.gateways[2]))
+    end = time.monotonic() + float(given.seconds)
     counts = asks_of_clients(owner, started.address, asked, wanted, 20, lambda _: time.monotonic() > end)
     ids = [newest_of(started.gateways[0]), newest_of(started.gateways[2])]
     wrong = sum(
-        Place(started.address).ask("/v1/p/{}/route?from={}&to={}".format(ids[1 - version], *asked[at]))[::2] != (200, wanted[at][version])
-        for at in range(min(100, len(asked))) for version in (0, 1)
+        Place(started.address).ask("/v1/p/{}/route?from={}&to={}".format(ids[1 - version], *asked[at]))[::2]
+        != (200, wanted[at][version])
+        for at in range(min(100, len(asked)))
+        for version in (0, 1)
     )
     client = Client(owner, started.address, least=4)
     back = sum(client.reply("from={}&to={}".format(*ends)) not in both[1:] for ends, both in zip(asked, wanted))
@@ -260,22 +325,23 @@ def old(program, given):
     return counts["wrong"] + counts["lost"] + wrong + back
 
 
-def roll(program, given):
+def roll(program: str, given: argparse.Namespace) -> int:
     owner, names = prepared(program, roads(STREETS, 5000), (3, 4))
     asked = pairs(owner, given.asks, random.Random(4))
     wanted = [tuple(owner.prove(name, *ends) for name in names) for ends in asked]
-    started, turned, back = Many(owner, names[0], "--replicas", 3, "--haproxy"), threading.Event(), []
+    started, turned = Many(owner, names[0], "--replicas", 3, "--haproxy"), threading.Event()
+    back: list[int] = []
 
-    def turn():
+    def turn() -> None:
         time.sleep(2)
         replace(started.folder / "map.pub", owner.path(names[1]).read_bytes())
         time.sleep(12)
         turned.set()
 
-    def follows():
+    def follows() -> None:
         client = Client(owner, started.address, checks=False)
         while not turned.is_set():
-            version = int.from_bytes(client.reply("from={}&to={}".format(*asked[0]))[9:17], "big")
+            version = version_of(client.reply("from={}&to={}".format(*asked[0])), IN_ANSWER)
             if version < client.least:
                 back.append(version)
             client.least = max(client.least, version)
@@ -291,7 +357,7 @@ def roll(program, given):
     return counts["wrong"] + counts["lost"] + len(back)
 
 
-def lies(program, given):
+def lies(program: str, given: argparse.Namespace) -> int:
     owner, (name,) = prepared(program, roads(STREETS, 900), method="dij")
     liar = owner.path("liar")
     liar.write_text(LIAR.format(program=owner.program, each=10))
@@ -310,16 +376,18 @@ def lies(program, given):
     return counts["wrong"]
 
 
-def install(program, given):
+def install(program: str, given: argparse.Namespace) -> int:
     owner, _ = prepared(program, roads(GRID, 256), ())
     # two columns and two rows of cells, with 1,020 borders
     names = [owner.publish(version, "hyp", "hilbert 0 2 2 2 0") for version in (3, 4)]
     asked = pairs(owner, 4, random.Random(6), 40)
     wanted = [owner.prove(names[0], *ends) for ends in asked]
-    gateway, installed, times, wrong = Gateway(owner, names[0]), threading.Event(), [], []
+    gateway, installed = Gateway(owner, names[0]), threading.Event()
+    times: list[float] = []
+    wrong: list[Ends] = []
     ids, here = [id_of(owner.path(name).read_bytes()) for name in names], gateway.newest()
 
-    def one(number):
+    def one(number: int) -> None:
         place, draw = Place(gateway.address), random.Random(number)
         while not installed.is_set():
             at = draw.randrange(len(asked))
@@ -341,29 +409,38 @@ def install(program, given):
     installed.set()
     for thread in threads:
         thread.join()
-    print(f"install: {took:.1f} s, {len(times)} asks beside it, {len(wrong)} wrong, {max(times):.2f} s at worst; status {gateway.end()}")
+    print(
+        f"install: {took:.1f} s, {len(times)} asks beside it, {len(wrong)} wrong, {max(times):.2f} s at worst; status {gateway.end()}"
+    )
     return len(wrong) + (max(times) > 0.5)
 
 
-def full(program, given):
+def full(program: str, given: argparse.Namespace) -> int:
     owner, (name,) = prepared(program, roads(STREETS, 900), method="dij")
     gateway = Gateway(owner, name, "--log-requests", log="/dev/full")
     here, asked = gateway.newest(), pairs(owner, given.asks, random.Random(7))
-    wrong = sum(gateway.place.ask("/v1/p/{}/route?from={}&to={}".format(here, *ends))[::2] != (200, owner.prove(name, *ends)) for ends in asked)
+    wrong = sum(
+        gateway.place.ask("/v1/p/{}/route?from={}&to={}".format(here, *ends))[::2] != (200, owner.prove(name, *ends))
+        for ends in asked
+    )
     for pid in gateway.serves():
         os.kill(pid, signal.SIGKILL)
     until("serve is back", lambda: len(gateway.serves()) == 1 and Place(gateway.address).ask("/v1/ready")[0] == 200)
-    wrong += sum(gateway.place.ask("/v1/p/{}/route?from={}&to={}".format(here, *ends))[::2] != (200, owner.prove(name, *ends)) for ends in asked[:20])
+    wrong += sum(
+        gateway.place.ask("/v1/p/{}/route?from={}&to={}".format(here, *ends))[::2] != (200, owner.prove(name, *ends))
+        for ends in asked[:20]
+    )
     status = gateway.end()
     print(f"full: {len(asked) + 20} asks, {wrong} wrong, beside a log that takes nothing; status {status}")
     return wrong + (status != 0)
 
 
-def alone(program, given):
+def alone(program: str, given: argparse.Namespace) -> int:
     owner, (name,) = prepared(program, roads(STREETS, 5000), method="dij")
     gateway = Gateway(owner, name, "--reply-seconds", 20, "--request-seconds", 10)
     here, ends = gateway.newest(), (owner.ids[0], owner.ids[-1])
-    wanted, end, worst, seen = owner.prove(name, *ends), time.monotonic() + 60 * given.minutes, 0.0, []
+    wanted, end, worst = owner.prove(name, *ends), time.monotonic() + 60 * given.minutes, 0.0
+    seen: list[tuple[float, float, int]] = []
     line = "GET /v1/p/{}/route?from={}&to={} HTTP/1.1\r\nHost: a\r\n\r\n".format(here, *ends).encode()
     held = [socket.create_connection((gateway.place.host, gateway.place.port)) for _ in range(200)]
     bad, turn = 0, 0
@@ -386,19 +463,22 @@ def alone(program, given):
         one.close()
     late = [it for it in seen if it[0] > seen[0][0] + 600] or seen[-1:]
     grown = max(it[1] for it in late) - late[0][1]
-    print(f"alone: {turn} asks beside 200 connections, {bad} wrong, {worst:.2f} s at worst; after ten minutes {grown:.1f} MB more, {min(it[2] for it in late)} to {max(it[2] for it in late)} open files; status {gateway.end()}")
+    print(
+        f"alone: {turn} asks beside 200 connections, {bad} wrong, {worst:.2f} s at worst; after ten minutes {grown:.1f} MB more, {min(it[2] for it in late)} to {max(it[2] for it in late)} open files; status {gateway.end()}"
+    )
     return bad + (grown > 5) + (worst > 1)
 
 
-def main(words):
-    parser = argparse.ArgumentParser(description=__doc__.splitlines()[0])
+def main(words: list[str]) -> int:
+    parser = argparse.ArgumentParser(description=(__doc__ or "").splitlines()[0])
     parser.add_argument("program")
     parser.add_argument("what", choices=("speed", "killed", "old", "roll", "lies", "install", "full", "alone"))
     parser.add_argument("--seconds", type=float, default=20)
     parser.add_argument("--asks", type=int, default=200)
     parser.add_argument("--minutes", type=float, default=60)
     given = parser.parse_args(words)
-    bad = globals()[given.what](given.program, given)
+    pass_priority_on()
+    bad: int = globals()[given.what](given.program, given)
     for fault in faults:
         print("DIFFERS", fault)
     return 1 if bad or faults else 0

@@ -1,21 +1,28 @@
 """An owner, gateways and clients, for the scripts beside this one. Nothing here is proved, and no client trusts it."""
 
+import contextlib
 import http.client
 import json
 import os
 import pathlib
+import re
 import shutil
 import signal
 import socket
 import subprocess
 import sys
 import tempfile
+import threading
 import time
 import urllib.parse
 from email.message import Message
 from typing import Any
 
 TOP = pathlib.Path(__file__).resolve().parents[2]
+sys.path.insert(0, str(TOP / "checks"))
+
+from common.layout import IN_ANSWER, version_of  # noqa: E402
+
 PYTHON = "/usr/bin/python3"
 STREETS, GRID = TOP / "checks/speed/streets.py", TOP / "checks/speed/grid.py"
 METHODS = {"dij": "hilbert 0 2 0 0 0", "full": "kd 0 2 0 0 0", "ldm": "hilbert 0 2 16 12 0", "hyp": "hilbert 0 2 4 4 0"}
@@ -51,7 +58,13 @@ class Owner:
         return octets
 
     def ended(self, words: str) -> tuple[int, bytes]:
-        done = subprocess.run([self.program, *words.split()], cwd=self.folder, stdout=subprocess.PIPE, stderr=subprocess.DEVNULL, check=False)
+        done = subprocess.run(
+            [self.program, *words.split()],
+            cwd=self.folder,
+            stdout=subprocess.PIPE,
+            stderr=subprocess.DEVNULL,
+            check=False,
+        )
         return done.returncode, done.stdout
 
     def publish(self, version: int, method: str = "dij", settings: str | None = None) -> str:
@@ -91,6 +104,38 @@ def replace(file: pathlib.Path, octets: bytes) -> None:
     fresh.rename(file)
 
 
+def priority_of(process: int | str) -> int | None:
+    """The priority of a process's session, where the system groups processes by sessions."""
+    found = re.search(rb" nice (-?\d+)", read(f"/proc/{process}/autogroup"))
+    return int(found[1]) if found else None
+
+
+def descendants(process: int) -> list[int]:
+    """The processes that this one has started, and those that they have started."""
+    found: list[int] = []
+    with contextlib.suppress(OSError):  # it may end meanwhile
+        for task in os.listdir(f"/proc/{process}/task"):
+            found += map(int, read(f"/proc/{process}/task/{task}/children").split())
+    return found + [below for one in found for below in descendants(one)]
+
+
+def pass_priority_on() -> None:
+    """Gives the priority of this script's session to all that it starts. Gateways, `serve` and balancers have sessions
+    of their own, which would begin with no priority: a busy machine would then measure itself."""
+    wanted = priority_of("self")
+
+    def watch() -> None:
+        while True:
+            for one in descendants(os.getpid()):
+                if priority_of(one) not in (None, wanted):
+                    with contextlib.suppress(OSError):
+                        pathlib.Path(f"/proc/{one}/autogroup").write_text(str(wanted))
+            time.sleep(0.2)
+
+    if wanted:
+        threading.Thread(target=watch, daemon=True).start()
+
+
 def free_port() -> int:
     with socket.socket() as one:
         one.bind(("127.0.0.1", 0))
@@ -111,7 +156,11 @@ class Place:
             if self.connection is None:
                 self.connection = http.client.HTTPConnection(self.host, self.port, timeout=self.seconds)
             try:
-                self.connection.request(method, path, headers={**self.headers, **{name.replace("_", "-"): value for name, value in headers.items()}})
+                self.connection.request(
+                    method,
+                    path,
+                    headers={**self.headers, **{name.replace("_", "-"): value for name, value in headers.items()}},
+                )
                 found = self.connection.getresponse()
                 return found.status, found.headers, found.read()
             except (OSError, http.client.HTTPException):
@@ -140,7 +189,7 @@ class Client:
             reply = self.reply(f"from={start}&to={end}", past_caches=trial > 0)
             line = self.owner.verdict(reply, start, end, self.least)
             if line.startswith("accepted"):
-                self.least = max(self.least, int.from_bytes(reply[9:17], "big"))
+                self.least = max(self.least, version_of(reply, IN_ANSWER))
                 return line
             refused.append(line)
         return "servers disagree"
@@ -166,7 +215,9 @@ class Started:
 
     def __init__(self, words: list[Any], cwd: pathlib.Path, log: pathlib.Path | str) -> None:
         with open(log, "ab") as it:
-            self.process = subprocess.Popen(list(map(str, words)), cwd=cwd, stdin=subprocess.DEVNULL, stdout=subprocess.PIPE, stderr=it)
+            self.process = subprocess.Popen(
+                list(map(str, words)), cwd=cwd, stdin=subprocess.DEVNULL, stdout=subprocess.PIPE, stderr=it
+            )
 
     def end(self, number: signal.Signals = signal.SIGTERM, seconds: float = 20) -> int:
         if self.process.poll() is None:
@@ -181,14 +232,32 @@ class Started:
 class Gateway(Started):
     """A gateway over files of its own in an owner's folder."""
 
-    def __init__(self, owner: Owner, name: str, *more: Any, program: Any = None, log: pathlib.Path | str | None = None, wait: bool = True) -> None:
+    def __init__(
+        self,
+        owner: Owner,
+        name: str,
+        *more: Any,
+        program: Any = None,
+        log: pathlib.Path | str | None = None,
+        wait: bool = True,
+    ) -> None:
         self.folder = owner.folder / f"gateway-{free_port()}"
         self.folder.mkdir()
         for file, held in (("map.pub", name), ("owner.key", "owner.key"), ("owner.chain", "owner.chain")):
             shutil.copy(owner.path(held), self.folder / file)
         self.address = f"http://127.0.0.1:{free_port()}"
         listen = self.address.removeprefix("http://")
-        words = [PYTHON, TOP / "web/gateway.py", program or owner.program, "map.pub", "owner.key", "owner.chain", "--listen", listen, *more]
+        words = [
+            PYTHON,
+            TOP / "web/gateway.py",
+            program or owner.program,
+            "map.pub",
+            "owner.key",
+            "owner.chain",
+            "--listen",
+            listen,
+            *more,
+        ]
         self.log = log or self.folder / "log"
         super().__init__(words, self.folder, self.log)
         self.place = Place(self.address)
@@ -246,7 +315,14 @@ class Many(Started):
     """web/many over a publication."""
 
     def __init__(self, owner: Owner, name: str, *more: Any, program: Any = None) -> None:
-        command = [TOP / "web/many", program or owner.program, owner.path(name), owner.path("owner.key"), owner.path("owner.chain"), *more]
+        command = [
+            TOP / "web/many",
+            program or owner.program,
+            owner.path(name),
+            owner.path("owner.key"),
+            owner.path("owner.chain"),
+            *more,
+        ]
         self.log = owner.folder / f"many-{free_port()}.log"
         super().__init__(command, owner.folder, self.log)
         assert self.process.stdout
@@ -254,7 +330,11 @@ class Many(Started):
         if not line:
             sys.exit(f"web/many does not start: {self.log.read_text()}")
         self.said = json.loads(line)
-        self.address, self.gateways, self.folder = self.said["service"], self.said["gateways"], pathlib.Path(self.said["folder"])
+        self.address, self.gateways, self.folder = (
+            self.said["service"],
+            self.said["gateways"],
+            pathlib.Path(self.said["folder"]),
+        )
 
     def replica(self, number: int) -> pathlib.Path:
         return self.folder / f"replica-{number}"

@@ -4,6 +4,7 @@ docs/SPEC.md, 9.1 The audit. Part of the reference: tested, not proved, and trus
 """
 from collections.abc import Callable, Sequence
 from dataclasses import dataclass
+from typing import TypeVar
 
 from .chains import Link, link_text
 from .clients import check, check_near
@@ -37,6 +38,7 @@ class Collision:
 
 
 Finding = Right | Forged | Collision
+Reply = TypeVar("Reply", Answer, NearReply)
 
 
 def forged(desk: Desk, chain: Sequence[Link], header: Header, signature: bytes) -> Forged | None:
@@ -68,8 +70,8 @@ def audit_reply(
     publication: Publication,
     desk: Desk,
     checked: Callable[[], object],
-    reply_of: Callable[[], Answer | NearReply],
-    clash_of: Callable[[Held, object], Clash | None],
+    reply_of: Callable[[], Reply],
+    clash_of: Callable[[Held, Reply], Clash | None],
 ) -> Finding:
     """The first finding that holds. A refusal of the client, and each other reason to find nothing, is raised."""
     desk.area_of(public)
@@ -85,6 +87,13 @@ def audit_reply(
     return Right() if found is None else Collision(*found)
 
 
+def read_answer(octets: bytes) -> Answer:
+    """An answer, which an accepted reply is."""
+    answer = read_reply(Reader(octets))
+    assert isinstance(answer, Answer)
+    return answer
+
+
 def audit(
     public: bytes, chain: Sequence[Link], publication: Publication, octets: bytes, start: int, end: int, desk: Desk
 ) -> Finding:
@@ -94,7 +103,7 @@ def audit(
         publication,
         desk,
         lambda: check(public, chain, octets, start, end, 0),
-        lambda: read_reply(Reader(octets)),
+        lambda: read_answer(octets),
         route_clash,
     )
 

@@ -3,6 +3,7 @@
 docs/SPEC.md, 5.1 Settings, 5.2 Books and 6.1 Headers. Part of the reference: tested, not proved, and trusted by no
 client.
 """
+from collections.abc import Mapping
 from dataclasses import dataclass
 from functools import cached_property
 
@@ -103,7 +104,7 @@ def pair_leaves(chart: Map, chosen: list[int]) -> tuple[PairLeaf, ...]:
     return tuple(PairLeaf(a, b, chart.distances(a).get(b, NO_WALK)) for a in chosen for b in chosen if a < b)
 
 
-def node_leaves(chart: Map, order: list[int], added: dict[int, Added]) -> tuple[NodeLeaf, ...]:
+def node_leaves(chart: Map, order: list[int], added: Mapping[int, Added]) -> tuple[NodeLeaf, ...]:
     return tuple(NodeLeaf(node, *chart.places[node], chart.arcs[node], added.get(node)) for node in order)
 
 

@@ -33,7 +33,8 @@ def is_link_text(text: bytes) -> bool:
 
 def read_chain(octets: bytes) -> tuple[Link, ...]:
     """The links that a chain file lists."""
-    reader, links = Reader(octets), []
+    reader = Reader(octets)
+    links: list[Link] = []
     while reader.at < len(octets):
         if len(links) == MOST_LINKS:
             raise Malformed(reader.at)

@@ -3,8 +3,9 @@
 docs/SPEC.md, 8.1 The tests, in order, and 8.4 Range queries. Part of the reference: tested, not proved, and trusted by
 no client.
 """
-from collections.abc import Sequence
+from collections.abc import Callable, Sequence
 from dataclasses import dataclass
+from typing import TypeVar
 
 from .chains import Link, link_text
 from .faults import Fault, Refused
@@ -17,7 +18,8 @@ from .trees import fold
 from .walks import least_lengths
 
 NODES, PAIRS = (1,), (2,)
-ONE_TREE = ()
+ONE_TREE: tuple[int, ...] = ()
+Found = TypeVar("Found")
 
 
 @dataclass(frozen=True)
@@ -37,7 +39,7 @@ class Within:
     header: Header
 
 
-def read_or_refuse(octets: bytes, read):
+def read_or_refuse(octets: bytes, read: Callable[[Reader], Found]) -> Found:
     try:
         return read(Reader(octets))
     except Malformed as fault:
@@ -56,7 +58,7 @@ def test_header(public: bytes, chain: Sequence[Link], header: Header, signature:
         keys.append(link.key)
     reasons = [why_not(key, header.octets(), signature) for key in keys]
     if None not in reasons:
-        raise Refused("BadSignature", reasons[-1])
+        raise Refused("BadSignature", str(reasons[-1]))
 
 
 def test_cover(

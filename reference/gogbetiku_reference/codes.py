@@ -22,11 +22,13 @@ TESTS = {
 }
 SEALS = {"BadKey": 1, "BadForm": 2, "NoMatch": 3}
 COVERS = {"Place": 1, "Short": 2, "Long": 3, "Differs": 4}
+CAUSES = SEALS | COVERS
 
 
 def code_of(refused: Refused) -> tuple[int, int, int]:
     """The code of a refusal, and its two numbers."""
-    fields = [SEALS.get(field, COVERS.get(field, field)) for field in refused.fields]
+    fields = [field if isinstance(field, int) else CAUSES[field] for field in refused.fields]
     if refused.name == "BadCover" and len(fields) == 1:
         fields.insert(0, 1)
-    return (TESTS[refused.name], *(fields + [0, 0])[:2])
+    first, second = (fields + [0, 0])[:2]
+    return TESTS[refused.name], first, second

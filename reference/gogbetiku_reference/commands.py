@@ -7,6 +7,7 @@ not proved, and trusted by no client.
 import re
 from collections.abc import Callable
 from dataclasses import dataclass
+from typing import TypeVar
 
 from . import audits, clients, desks, dimacs, reductions, servers, surveys
 from .books import book_of
@@ -89,7 +90,10 @@ class World:
         return Ended(status, octets, self.disk if disk is None else disk, fault)
 
 
-def read_or_fault(read):
+Found = TypeVar("Found")
+
+
+def read_or_fault(read: Callable[[], Found]) -> Found:
     try:
         return read()
     except Malformed as fault:
@@ -162,7 +166,8 @@ def publish(
     desks.open_desk(world.disk)
     book = book_of(parts, Settings(method, version, order, seed, fan, *parameters))
     disk, signature = desks.sign(world.disk, book.header.octets())
-    return world.ended(DONE, Publication(book.header, signature, seed, *parameters, parts).octets(), disk)
+    first, second, third = parameters
+    return world.ended(DONE, Publication(book.header, signature, seed, first, second, third, parts).octets(), disk)
 
 
 def prove(world: World, publication: str, start: int, end: int) -> Ended:
@@ -264,9 +269,11 @@ def one_of(names: dict[str, int]) -> Callable[[str], int | None]:
     return names.get
 
 
+# what a word says, or nothing where it says none of that kind
+WordReader = Callable[[str], str | int | None]
 FILE, ID, WIDE, FAN = file_name, number(range(2**32)), number(range(2**64)), number(range(2, 33))
 METHOD, ORDER, KIND = one_of(METHODS), one_of(ORDERS), one_of(KINDS)
-FORMS: dict[str, tuple[Callable[..., Ended], list, int]] = {
+FORMS: dict[str, tuple[Callable[..., Ended], list[WordReader], int]] = {
     "route": (route, [FILE, ID, ID], 0),
     "root": (root, [FILE, FAN], 0),
     "dimacs": (dimacs_files, [FILE, FILE], 0),
@@ -287,7 +294,7 @@ FORMS: dict[str, tuple[Callable[..., Ended], list, int]] = {
 }
 
 
-def command_of(words: list[str]) -> tuple[Callable[..., Ended], list]:
+def command_of(words: list[str]) -> tuple[Callable[..., Ended], list[str | int | None]]:
     """The command that words ask for, and what they say."""
     if not words or words[0] not in FORMS:
         raise Fault("Words")

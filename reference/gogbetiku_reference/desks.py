@@ -10,14 +10,15 @@ from functools import lru_cache
 
 from .chains import Link, is_link_text, link_text
 from .faults import Fault
+from .layout import BLOCK, KIND, LENGTH, MOST_TEXT, NAME, SLOT, SPARE, TEXT
 from .lms import HEIGHTS, Key, key_of
 from .octets import u8, u32
 
-BLOCK, SLOT, MOST_TEXT, MOST_AREAS = 64, 128, 126, 8
+MOST_AREAS = 8
 
 
 def area_octets(kind: int) -> int:
-    return BLOCK + SLOT * 2 ** HEIGHTS[kind]
+    return int(BLOCK + SLOT * 2 ** HEIGHTS[kind])
 
 
 @dataclass(frozen=True)
@@ -70,16 +71,16 @@ class Desk:
 
 def slot_text(image: bytes, at: int) -> bytes | None:
     """The text of the slot that begins there, nothing where it is not spent."""
-    length = min(image[at + 1], MOST_TEXT)
-    return image[at + 2 : at + 2 + length] if image[at] != 0 else None
+    length = min(image[at + LENGTH], MOST_TEXT)
+    return image[at + TEXT : at + TEXT + length] if image[at] != 0 else None
 
 
 def read_area(image: bytes, at: int) -> Area:
     """The area that begins there."""
-    kind = int.from_bytes(image[at + 1 : at + 5], "big")
+    kind = int.from_bytes(image[at + KIND : at + NAME], "big")
     if kind not in HEIGHTS or at + area_octets(kind) > len(image):
         raise Fault("BadBlock")
-    key = key_of(kind, image[at + 5 : at + 53])
+    key = key_of(kind, image[at + NAME : at + SPARE])
     texts = tuple(slot_text(image, at + BLOCK + SLOT * slot) for slot in range(key.slots))
     if any(text is not None and is_link_text(text) for text in texts[:-1]):
         raise Fault("BadBlock")

@@ -3,11 +3,11 @@
 docs/SPEC.md, 2.2 DIMACS files. Part of the reference: tested, not proved, and trusted by no client.
 """
 from collections import Counter
-from collections.abc import Iterator
+from collections.abc import Iterator, Sequence
 
 from .faults import Fault
 from .maps import MOST_NODES, MOST_ROADS, Parts
-from .road_files import coordinate, lines_of, numbers_of, unsigned
+from .road_files import NumberReader, coordinate, lines_of, numbers_of, unsigned
 
 GRAPH, PLACES = 1, 2
 MOST_ARCS = 2 * MOST_ROADS
@@ -23,7 +23,8 @@ def told_lines(text: bytes) -> Lines:
 
 def problem(lines: Lines, file: int, begins: list[bytes], counts: int) -> tuple[int, ...]:
     """The counts of the problem line, the first line of all."""
-    number, words = next(lines, (0, []))
+    nothing: tuple[int, list[bytes]] = (0, [])
+    number, words = next(lines, nothing)
     if words[: len(begins)] != begins or len(words) != len(begins) + counts:
         raise Fault("NoProblem", file)
     numbers = numbers_of(words[len(begins) :], (unsigned,) * counts)
@@ -34,7 +35,7 @@ def problem(lines: Lines, file: int, begins: list[bytes], counts: int) -> tuple[
     return numbers
 
 
-def rows(lines: Lines, file: int, word: bytes, readers: tuple, ids: int, nodes: int) -> Iterator[tuple]:
+def rows(lines: Lines, file: int, word: bytes, readers: Sequence[NumberReader], ids: int, nodes: int) -> Iterator[Arc]:
     """The numbers of each later line, of which the first `ids` are ids."""
     for number, words in lines:
         if words[0] != word or len(words) != 4:
@@ -44,7 +45,8 @@ def rows(lines: Lines, file: int, word: bytes, readers: tuple, ids: int, nodes: 
             raise Fault("BadNumber", file, number)
         if any(not 1 <= node <= nodes for node in numbers[:ids]):
             raise Fault("Range", file, number)
-        yield numbers
+        one, two, three = numbers
+        yield one, two, three
 
 
 def read_graph(text: bytes) -> tuple[int, list[Arc]]:
@@ -72,7 +74,7 @@ def read_places(text: bytes, nodes: int) -> list[tuple[int, int, int]]:
 
 def unpaired(arcs: list[Arc]) -> int | None:
     """The index of the first arc between two nodes that has no arc back of its own."""
-    all_arcs, so_far = Counter(arcs), Counter()
+    all_arcs, so_far = Counter(arcs), Counter[Arc]()
     for index, (start, end, length) in enumerate(arcs):
         so_far[start, end, length] += 1
         if start != end and so_far[start, end, length] > all_arcs[end, start, length]:

@@ -33,7 +33,7 @@ class Guard:
         try:
             test_header(self.public, self.chain, publication.header, publication.signature, 0)
         except Refused as refused:
-            return CAUSES[refused.fields[-1]]
+            return CAUSES[str(refused.fields[-1])]
         return None
 
 

@@ -8,17 +8,26 @@ client.
 import hashlib
 import importlib
 from collections.abc import Callable
+from typing import Protocol
 
 Hash = Callable[[bytes], bytes]
 
 
-def implementation():
+class Hasher(Protocol):
+    """What was fed a text, and gives its digest."""
+
+    def digest(self) -> bytes:
+        ...
+
+
+def implementation() -> Callable[[bytes], Hasher]:
     """Python's own implementation where it is found, else OpenSSL's."""
     for name in ("_sha2", "_sha256"):
         try:
-            return importlib.import_module(name).sha256
+            found: Callable[[bytes], Hasher] = importlib.import_module(name).sha256
         except ImportError:
             continue
+        return found
     return hashlib.sha256
 
 

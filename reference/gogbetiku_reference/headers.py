@@ -8,7 +8,6 @@ from .leaves import CELL, PLAIN, VECTOR, Kind
 from .octets import Reader, u8, u32, u64
 
 HEADER = b"RPF1"
-OCTETS = 104
 DIJ, FULL, LDM, HYP = 1, 2, 3, 4
 METHODS = {"dij": DIJ, "full": FULL, "ldm": LDM, "hyp": HYP}
 NONE = range(1)

@@ -31,7 +31,7 @@ def farness(chart: Map, chosen: list[int], node: int) -> float:
 
 def step_of(chart: Map, chosen: list[int], bits: int) -> int:
     greatest = max(length for mark in chosen for length in chart.distances(mark).values())
-    return greatest // (2**bits - 1) + 1
+    return greatest // ((1 << bits) - 1) + 1
 
 
 def codes_of(chart: Map, chosen: list[int], step: int) -> dict[int, Codes]:
@@ -59,6 +59,13 @@ def fits(own: Codes, other: Codes, threshold: int) -> bool:
     return error is not None and error <= threshold
 
 
+def near(codes: dict[int, Codes], node: int, other: int) -> Near:
+    """What a node's leaf says where the codes of another one stand for its own."""
+    error = error_of(codes[node], codes[other])
+    assert error is not None
+    return Near(other, error)
+
+
 def references_of(codes: dict[int, Codes], order: list[int], threshold: int) -> dict[int, Own | Near]:
     """What each node's leaf says: its own codes, or the latest node before it that fits."""
     said: dict[int, Own | Near] = {}
@@ -66,7 +73,7 @@ def references_of(codes: dict[int, Codes], order: list[int], threshold: int) -> 
     for node in order:
         fitting = [other for other in kept[-CANDIDATES:] if fits(codes[node], codes[other], threshold)]
         if fitting:
-            said[node] = Near(fitting[-1], error_of(codes[node], codes[fitting[-1]]))
+            said[node] = near(codes, node, fitting[-1])
         else:
             said[node] = Own(codes[node])
             kept.append(node)

@@ -1,6 +1,6 @@
 """Nodes and roads, the map that they make, and its distances and shortest routes.
 
-docs/SPEC.md, 2.3 What is a map and 10 Lines. Part of the reference: tested, not proved, and trusted by no client.
+docs/SPEC.md, 2.3 Maps and 10 Lines. Part of the reference: tested, not proved, and trusted by no client.
 """
 import heapq
 from collections import Counter

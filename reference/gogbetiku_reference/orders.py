@@ -64,7 +64,7 @@ def along_curve(level: int, x: int, y: int) -> int:
     """The index of a place on Hilbert's curve over a square of side 2^level."""
     if level == 0:
         return 0
-    half = 2 ** (level - 1)
+    half: int = 2 ** (level - 1)
     if x < half and y < half:
         return along_curve(level - 1, y, x)
     if x < half:

@@ -66,8 +66,9 @@ def leaf_texts(key: Key, signature: Signature, text: bytes) -> Iterator[Texts]:
     own_hash, shown_hash = (ends_hash(key.name, signature.slot, ends) for ends in (own, shown))
     node = key.slots + signature.slot
     yield from tree_texts(key, signature, leaf_value(key.name, node, shown_hash))
-    yield tuple(key.name + u32(node) + D_LEAF + hashed for hashed in (own_hash, shown_hash))
-    yield tuple(key.name + u32(signature.slot) + D_PBLC + b"".join(ends) for ends in (own, shown))
+    leaf_front, ends_front = key.name + u32(node) + D_LEAF, key.name + u32(signature.slot) + D_PBLC
+    yield leaf_front + own_hash, leaf_front + shown_hash
+    yield ends_front + b"".join(own), ends_front + b"".join(shown)
 
 
 def chain_texts(key: Key, signature: Signature, text: bytes) -> Iterator[Texts]:

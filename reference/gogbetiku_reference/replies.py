@@ -4,6 +4,7 @@ docs/SPEC.md, 6.3 Replies and 6.4 Range replies. Part of the reference: tested, 
 """
 from collections.abc import Callable, Sequence
 from dataclasses import dataclass
+from typing import TypeVar
 
 from .chains import MOST_SIGNATURE
 from .headers import Header, read_header
@@ -102,7 +103,10 @@ def read_place(reader: Reader, before: int | None) -> int:
     return reader.number(4, range(0 if before is None else before + 1, 2**32))
 
 
-def read_leaf(reader: Reader, length: int, read: Callable[[bytes], NodeLeaf | PairLeaf]) -> tuple:
+Leaf = TypeVar("Leaf", NodeLeaf, PairLeaf)
+
+
+def read_leaf(reader: Reader, length: int, read: Callable[[bytes], Leaf]) -> tuple[Leaf, bytes]:
     """A whole leaf, which is one field, with its text."""
     begin = reader.at
     text = reader.take(length)

@@ -3,7 +3,7 @@
 docs/SPEC.md, 2.1 Road files. Part of the reference: tested, not proved, and trusted by no client.
 """
 import re
-from collections.abc import Iterator
+from collections.abc import Callable, Iterator, Sequence
 
 from .faults import Fault
 from .maps import MOST_NODES, MOST_ROADS, Parts
@@ -11,6 +11,8 @@ from .maps import MOST_NODES, MOST_ROADS, Parts
 UNSIGNED = re.compile(rb"[0-9]+")
 U32 = range(2**32)
 MOST_DIGITS = 20
+# what reads a word as a number, or finds that it is none
+NumberReader = Callable[[bytes], int | None]
 
 
 def lines_of(text: bytes) -> Iterator[tuple[int, list[bytes]]]:
@@ -39,12 +41,14 @@ def coordinate(word: bytes) -> int | None:
     return None if number is None else -number
 
 
-def numbers_of(words: list[bytes], readers: tuple) -> tuple | None:
+def numbers_of(words: list[bytes], readers: Sequence[NumberReader]) -> tuple[int, ...] | None:
     """The numbers of some words, each by its reader; nothing where one is no number of its range."""
-    numbers = tuple(reader(word) for reader, word in zip(readers, words))
-    return None if None in numbers else numbers
+    numbers = [reader(word) for reader, word in zip(readers, words)]
+    known = tuple(number for number in numbers if number is not None)
+    return known if len(known) == len(numbers) else None
 
 
+FORMS: dict[bytes, tuple[NumberReader, NumberReader, NumberReader]]
 FORMS = {b"node": (unsigned, coordinate, coordinate), b"road": (unsigned, unsigned, unsigned)}
 
 
@@ -54,7 +58,7 @@ def read_roads(text: bytes) -> Parts:
     title = next(lines, None)
     if title is None or title[1] != [b"roads", b"1"]:
         raise Fault("NoTitle")
-    found: dict[bytes, list] = {b"node": [], b"road": []}
+    found: dict[bytes, list[tuple[int, int, int]]] = {b"node": [], b"road": []}
     for number, words in lines:
         if words[0] not in FORMS or len(words) != 4:
             raise Fault("BadLine", number)
@@ -63,7 +67,8 @@ def read_roads(text: bytes) -> Parts:
             raise Fault("BadNumber", number)
         if len(found[words[0]]) == (MOST_NODES if words[0] == b"node" else MOST_ROADS):
             raise Fault("TooMany", number)
-        found[words[0]].append(numbers)
+        one, two, three = numbers
+        found[words[0]].append((one, two, three))
     return Parts(tuple(found[b"node"]), tuple(found[b"road"]))
 
 

@@ -2,16 +2,17 @@
 
 Tested, not proved; no client trusts it.
 """
-from collections.abc import Iterator
+from collections.abc import Callable, Iterator
 from dataclasses import replace
 from functools import lru_cache
 
+from gogbetiku_reference import layout
 from gogbetiku_reference.chains import Link, link_text, read_chain, write_chain
 from gogbetiku_reference.clients import Accepted, Within, check, check_near
 from gogbetiku_reference.codes import ACCEPTED, code_of
 from gogbetiku_reference.codes import APART as APART_CODE
 from gogbetiku_reference.faults import Refused
-from gogbetiku_reference.leaves import NodeLeaf
+from gogbetiku_reference.leaves import Added, InCell, NodeLeaf, Own
 from gogbetiku_reference.lines import accepted_line, within_line
 from gogbetiku_reference.lms import Key, key_of
 from gogbetiku_reference.octets import u8, u32
@@ -24,18 +25,21 @@ from .scenes import LINE, LINE_LDM, STREETS, brings, owner, published, settings_
 
 GREATEST = 2**64 - 1
 # where the fields of an answer begin, and those of a reply on a radius, which has three octets more in front
-HEADER, SEALED, SEAL, ROUTED = 1, 105, 107, 1399
-METHOD, ORDER, FANNED, ZERO, VERSIONED, NODES, NODE_ROOT, PAIRS, PAIR_ROOT, FIRST, SECOND = (
-    HEADER + place for place in (4, 5, 6, 7, 8, 16, 20, 52, 56, 88, 96)
-)
-NEAR_FRONT = 4 + 104 + 2 + 1292
+HEADER = layout.IN_ANSWER
+METHOD, ORDER, FANNED, ZERO = (HEADER + at for at in (layout.METHOD, layout.ORDER, layout.FAN, layout.ZERO))
+VERSIONED, NODES, NODE_ROOT = (HEADER + at for at in (layout.VERSION, layout.NODES, layout.NODE_ROOT))
+PAIRS, PAIR_ROOT = HEADER + layout.PAIRS, HEADER + layout.PAIR_ROOT
+FIRST, SECOND = HEADER + layout.FIRST, HEADER + layout.SECOND
+SEALED, SEAL = HEADER + layout.HEADER, HEADER + layout.SIGNATURE
+ROUTED = SEAL + 1292
+NEAR_FRONT = layout.IN_RANGE_REPLY + layout.SIGNATURE + 1292
 QUERY = {"public": HEX, "chain": HEX, "reply": HEX, "from": NUMBER}
 ROUTE_GIVEN = {**QUERY, "to": NUMBER, "least": WIDE}
 NEAR_GIVEN = {**QUERY, "radius": WIDE, "least": WIDE}
 VERDICT = {"line": TEXT, "code": NUMBER, "first": WIDE, "second": WIDE, "version": WIDE}
 
 
-def verdict_of(checked) -> Fields:
+def verdict_of(checked: Callable[[], Accepted | Within]) -> Fields:
     """A verdict as its line, and in the numbers of the library."""
     try:
         accepted = checked()
@@ -103,7 +107,7 @@ def near_asked(
     return {**given, "radius": str(radius), "least": str(least)}
 
 
-def expected(given: Fields, line: str, run) -> Fields:
+def expected(given: Fields, line: str, run: Callable[[Fields], Fields]) -> Fields:
     """The verdict, whose line must be this one."""
     result = run(given)
     if result["line"] != line + "\n":
@@ -207,5 +211,11 @@ def bad_chains() -> Iterator[tuple[str, str, tuple[Link, ...]]]:
     )
 
 
-def leaf(node: int, arcs: dict[int, int], added=None) -> NodeLeaf:
+def leaf(node: int, arcs: dict[int, int], added: Added = None) -> NodeLeaf:
     return NodeLeaf(node, 0, 0, tuple(sorted(arcs.items())), added)
+
+
+def added_of(method: str, border: bool = False) -> Added:
+    """What a leaf adds under a method, of one landmark and one cell."""
+    known: dict[str, Added] = {"ldm": Own((0,)), "hyp": InCell(0, border)}
+    return known.get(method)

@@ -6,8 +6,9 @@ from collections.abc import Iterator
 from contextlib import contextmanager
 from dataclasses import replace
 from functools import lru_cache
+from unittest import mock
 
-from gogbetiku_reference import clients
+from gogbetiku_reference import clients, layout
 from gogbetiku_reference.faults import Refused
 from gogbetiku_reference.headers import Header
 from gogbetiku_reference.lms import Signature, kind_of
@@ -127,9 +128,10 @@ def near_fields(held: Held, good: NearReply, text: bytes) -> Iterator[Case]:
     yield neared("no octets", "refused Malformed 0", b"")
     yield neared("the first octets are no reply's on a radius", "refused Malformed 0", b"RPN2" + text[4:])
     yield neared("an answer is no reply on a radius", "refused Malformed 0", honest("dij").octets())
-    yield neared("the header's first octets", "refused Malformed 4", turned(text, 7))
-    yield neared("the method is 0", "refused Malformed 8", put(text, 8, u8(0)))
-    yield neared("a signature that is too long by its length", "refused Malformed 108", put(text, 108, u16(1453)))
+    yield neared("the header's first octets", "refused Malformed 4", turned(text, layout.IN_RANGE_REPLY + 3))
+    yield neared("the method is 0", "refused Malformed 8", put(text, layout.IN_RANGE_REPLY + layout.METHOD, u8(0)))
+    length = layout.IN_RANGE_REPLY + layout.HEADER
+    yield neared("a signature that is too long by its length", "refused Malformed 108", put(text, length, u16(1453)))
     yield neared(
         "two items at one place", f"refused Malformed {NEAR_FRONT + 4 + 37}", put(text, NEAR_FRONT + 4 + 37, u32(0))
     )
@@ -197,7 +199,7 @@ def run_turned(given: Fields, stride: int = 1) -> Fields:
 def line_with_bit(given: Fields, bit: int) -> str:
     """The line where this bit of the reply, counted from its first octet's highest one, is turned."""
     reply = turned(octets(given["reply"]), bit // 8, 128 >> bit % 8).hex()
-    return (run_near if "radius" in given else run_route)({**given, "reply": reply})["line"]
+    return str((run_near if "radius" in given else run_route)({**given, "reply": reply})["line"])
 
 
 def quick(public: bytes, text: bytes, signature: bytes) -> str | None:
@@ -217,18 +219,17 @@ GOOD: set[tuple[bytes, bytes, bytes]] = set()
 def without_hashing(header: Header, signature: bytes) -> Iterator[None]:
     """Signatures are looked at by `quick`."""
     GOOD.add((owner().public, header.octets(), signature))
-    kept, clients.why_not = clients.why_not, quick
-    try:
+    with mock.patch.object(clients, "why_not", quick):
         yield
-    finally:
-        clients.why_not = kept
 
 
 def lines_of(given: Fields, seal: int) -> Iterator[tuple[int, int, str]]:
     """The line of each bit; within the signature, that of each of its fields."""
     yield from ((bit, bit + 1, line_with_bit(given, bit)) for bit in range(seal))
     yield from ((seal + begin, seal + end, f"refused BadSignature {why}\n") for _, begin, end, why in FIELDS)
-    yield from ((bit, bit + 1, line_with_bit(given, bit)) for bit in range(seal + FIELDS[-1][2], 4 * len(given["reply"])))
+    yield from (
+        (bit, bit + 1, line_with_bit(given, bit)) for bit in range(seal + FIELDS[-1][2], 4 * len(given["reply"]))
+    )
 
 
 def ranges_of(given: Fields, seal: int) -> tuple[list[list[int]], list[str]]:
@@ -249,10 +250,15 @@ def make_turned() -> Iterator[Case]:
     for kind in KINDS:
         for method in PARAMETERS:
             reply = good(kind, method)
-            given = near_asked(reply, 1, 4) if kind == "radius" else asked(reply, 1, 5 if kind == "no route" else 3)
+            if isinstance(reply, NearReply):
+                given = near_asked(reply, 1, 4)
+            else:
+                given = asked(reply, 1, 5 if kind == "no route" else 3)
             with without_hashing(reply.header, reply.signature):
                 bits, lines = ranges_of(given, 8 * (NEAR_FRONT - 1292 if kind == "radius" else SEAL))
-            yield Case(f"each bit of a reply turned: {kind}, {method.upper()}", {**given, "bits": bits}, {"lines": lines})
+            yield Case(
+                f"each bit of a reply turned: {kind}, {method.upper()}", {**given, "bits": bits}, {"lines": lines}
+            )
 
 
 CLIENT = Family(

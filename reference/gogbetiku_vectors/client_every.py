@@ -5,6 +5,7 @@ trusts it.
 """
 from collections.abc import Iterator
 from dataclasses import dataclass, replace
+from typing import TypeVar
 
 from gogbetiku_reference.chains import Link
 from gogbetiku_reference.leaves import NO_WALK, NodeLeaf, PairLeaf
@@ -48,7 +49,7 @@ class Query:
 
 
 def of_kind(kind: str, why: str, line: str, reply: Reply, query: Query = Query()) -> Case:
-    if kind == "radius":
+    if isinstance(reply, NearReply):
         return neared(why, line, reply, 4, 1, query.least, query.public, query.chain)
     return routed(why, line, reply, 1, 5 if kind == "no route" else 3, query.least, query.public, query.chain)
 
@@ -68,7 +69,11 @@ def every(kinds: tuple[str, ...]) -> Iterator[Case]:
 def queries() -> Iterator[tuple[str, str, Query]]:
     public = owner().public
     yield "the version is below the asked one", "Stale 3", Query(least=4)
-    bad = [links for why, _, links in bad_chains() if why in ("a bit of the first link's signature", "the second link without a signature")]
+    bad = [
+        links
+        for why, _, links in bad_chains()
+        if why in ("a bit of the first link's signature", "the second link without a signature")
+    ]
     yield "a bit of the first link's signature", "BadChain 0 NoMatch", Query(chain=bad[0])
     yield "the second link without a signature", "BadChain 1 BadForm", Query(chain=bad[1])
     yield "another owner's key", "BadSignature NoMatch", Query(public=keys()[1].public)
@@ -104,7 +109,10 @@ def node_changes(tree: str, reply: Reply) -> Iterator[tuple[str, str, Reply]]:
         yield f"another leaf at item {index}", f"BadCover {tree}Differs", with_node(reply, index, other)
 
 
-def with_node(reply: Reply, index: int, leaf: NodeLeaf) -> Reply:
+Given = TypeVar("Given", bound=Reply)
+
+
+def with_node(reply: Given, index: int, leaf: NodeLeaf) -> Given:
     item = NodeItem(reply.nodes[index].place, leaf, leaf.text())
     return replace(reply, nodes=(*reply.nodes[:index], item, *reply.nodes[index + 1 :]))
 
@@ -142,13 +150,19 @@ def turned_kinds() -> Iterator[Case]:
     """Replies with a route as if none existed, and with lies that hide it, behind the first octet `03`."""
     full = brings(books()["full"], [1, 2, 3], [1, 2, 3], [(1, 3)])
     hidden = with_pair(replace(full, kind=3, route=()), 0, PairLeaf(1, 3, NO_WALK))
-    yield routed("a route as if none existed, FULL: the pair's distance is all ones", "refused BadCover 2 Differs", hidden)
+    yield routed(
+        "a route as if none existed, FULL: the pair's distance is all ones", "refused BadCover 2 Differs", hidden
+    )
     hyp = replace(honest("hyp"), kind=3, route=())
     for index, item in enumerate(hyp.pairs):
         hyp = with_pair(hyp, index, replace(item.leaf, distance=NO_WALK))
     yield routed("a route as if none existed, HYP: all distances are all ones", "refused BadCover 2 Differs", hyp)
     for method, line in (("dij", "Shorter 9"), ("full", "Disagrees 9"), ("ldm", "Shorter 9"), ("hyp", "Disagrees 5")):
         honest_reply = replace(honest(method), kind=3, route=())
-        yield routed(f"a route as if none existed, {method.upper()}: the leaves show it", f"refused {line}", honest_reply)
-    forged = replace(full, kind=3, route=(), header=replace(full.header, pairs=0, pair_root=bytes(32)), pairs=(), pair_cover=())
+        yield routed(
+            f"a route as if none existed, {method.upper()}: the leaves show it", f"refused {line}", honest_reply
+        )
+    forged = replace(
+        full, kind=3, route=(), header=replace(full.header, pairs=0, pair_root=bytes(32)), pairs=(), pair_cover=()
+    )
     yield routed("a route as if none existed, FULL: a header without pairs", "refused BadSignature NoMatch", forged)

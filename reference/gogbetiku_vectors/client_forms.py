@@ -4,6 +4,7 @@ Tested, not proved; no client trusts it.
 """
 from collections.abc import Iterator
 from dataclasses import replace
+from typing import TypeVar
 
 from gogbetiku_reference.leaves import InCell
 from gogbetiku_reference.octets import u8, u16, u32, u64
@@ -175,7 +176,10 @@ def list_fields() -> Iterator[Case]:
     yield from pair_fields()
 
 
-def with_text(item: NodeItem | PairItem, text: bytes) -> NodeItem | PairItem:
+Item = TypeVar("Item", NodeItem, PairItem)
+
+
+def with_text(item: Item, text: bytes) -> Item:
     return replace(item, text=text)
 
 

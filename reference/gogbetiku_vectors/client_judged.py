@@ -5,7 +5,7 @@ Tested, not proved; no client trusts it.
 from collections.abc import Iterator
 from dataclasses import replace
 
-from gogbetiku_reference.leaves import NO_WALK, InCell, Near, NodeLeaf, Own, PairLeaf
+from gogbetiku_reference.leaves import NO_WALK, Added, InCell, Near, NodeLeaf, Own, PairLeaf
 from gogbetiku_reference.replies import APART, ROUTE
 from gogbetiku_reference.servers import Held
 
@@ -176,7 +176,13 @@ def judged_ldm() -> Iterator[Case]:
 def bounds() -> Iterator[Case]:
     """Bounds by hand-made codes: step 1, from 1 over 2 to 3, and a node 4 beside 1 that lacks a leaf."""
 
-    def ldm(ends: tuple, start: tuple, step: int = 1, landmarks: int = 1, more: tuple = ()) -> Held:
+    def ldm(
+        ends: tuple[Added, ...],
+        start: tuple[Added, ...],
+        step: int = 1,
+        landmarks: int = 1,
+        more: tuple[NodeLeaf, ...] = (),
+    ) -> Held:
         nodes = [leaf(1, {2: 4, 4: 1}, *start), leaf(2, {1: 4, 3: 5}, Own((0,) * landmarks)), leaf(3, {2: 5}, *ends)]
         return by_hand("ldm", [*nodes, *more], (), step, landmarks)
 

@@ -9,12 +9,12 @@ from typing import Any
 Fields = dict[str, Any]
 
 # octets in hex; where a name in braces stands, the octets of that name at the head of the file
-HEX = {"type": "string", "pattern": r"^([0-9a-f]{2}|\{s[0-9]+\})*$"}
-WIDE = {"type": "string", "pattern": "^(0|[1-9][0-9]*)$"}
-NUMBER = {"type": "integer", "minimum": 0}
-WHOLE = {"type": "integer"}
-TEXT = {"type": "string"}
-DIGEST = {"type": "string", "pattern": "^[0-9a-f]{64}$"}
+HEX: Fields = {"type": "string", "pattern": r"^([0-9a-f]{2}|\{s[0-9]+\})*$"}
+WIDE: Fields = {"type": "string", "pattern": "^(0|[1-9][0-9]*)$"}
+NUMBER: Fields = {"type": "integer", "minimum": 0}
+WHOLE: Fields = {"type": "integer"}
+TEXT: Fields = {"type": "string"}
+DIGEST: Fields = {"type": "string", "pattern": "^[0-9a-f]{64}$"}
 
 
 def listed(items: Fields) -> Fields:

@@ -13,7 +13,7 @@ from collections.abc import Iterator
 
 from . import client, formats, owners, parties, signing
 from .families import Family, Fields
-from .imported import IMPORTED
+from .imported import IMPORTED, Imported
 
 FAMILIES: list[Family] = [*formats.FAMILIES, *signing.FAMILIES, *parties.FAMILIES, *client.FAMILIES, *owners.FAMILIES]
 
@@ -43,7 +43,7 @@ def case_lines(made: Fields) -> str:
     )
 
 
-FILES = {file.name: file for file in (*FAMILIES, *IMPORTED)}
+FILES: dict[str, Family | Imported] = {file.name: file for file in FAMILIES} | {file.name: file for file in IMPORTED}
 # what takes longest is made first, that of the client twice by one process
 TOGETHER = [["client", "client_radius", "client_verify"], ["turned"], ["services"], ["lms_verify", "signatures"]]
 
@@ -88,4 +88,5 @@ def read_family(folder: pathlib.Path, family: Family) -> list[Fields]:
     """The cases of a family's file, with each signature in its place."""
     text = (folder / f"{family.name}.json").read_text(encoding="ascii")
     named = json.loads(text)["signatures"]
-    return json.loads(re.sub(r"\{(s[0-9]+)\}", lambda found: named[found[1]], text))["cases"]
+    cases: list[Fields] = json.loads(re.sub(r"\{(s[0-9]+)\}", lambda found: str(named[found[1]]), text))["cases"]
+    return cases

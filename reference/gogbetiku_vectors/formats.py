@@ -5,6 +5,7 @@ Tested, not proved; no client trusts it.
 """
 from collections.abc import Iterator
 
+from gogbetiku_reference import layout
 from gogbetiku_reference.chains import Link, read_chain, write_chain
 from gogbetiku_reference.dimacs import read_dimacs
 from gogbetiku_reference.faults import Fault
@@ -93,7 +94,9 @@ def changed(old: bytes, new: bytes) -> bytes:
 
 def two_crowds() -> bytes:
     nodes = b"".join(b"node %d 0 0\n" % node for node in range(258))
-    return b"roads 1\n" + nodes + b"".join(b"road %d %d 1\n" % (end, node) for end in (257, 0) for node in range(1, 257))
+    return (
+        b"roads 1\n" + nodes + b"".join(b"road %d %d 1\n" % (end, node) for end in (257, 0) for node in range(1, 257))
+    )
 
 
 def make_roads() -> Iterator[Case]:
@@ -270,8 +273,16 @@ def make_dimacs() -> Iterator[Case]:
         ("two equal roads", (b"p sp 2 4\na 2 1 4\na 1 2 4\na 1 2 4\na 2 1 4\n", b"p aux sp co 2\nv 2 0 0\nv 1 0 0\n")),
         ("CR LF, tabs and no last line end", (GRAPH.replace(b"\n", b"\r\n").replace(b" ", b"\t"), PLACES[:-1])),
         ("no node", (b"p sp 0 0\n", b"p aux sp co 0\n")),
-        ("an arc without one back behind one that is dropped, which counts", (b"p sp 2 2\na 1 1 3\na 1 2 4\n", b"p aux sp co 2\nv 1 0 0\nv 2 0 0\n")),
-        ("two nodes placed twice: the lesser id is told", (b"p sp 4 0\n", b"p aux sp co 4\nv 3 0 0\nv 3 0 0\nv 2 0 0\nv 2 0 0\n")),
+        (
+            "an arc without one back behind one that is dropped, which counts",
+            (b"p sp 2 2\na 1 1 3\na 1 2 4\n", b"p aux sp co 2\nv 1 0 0\nv 2 0 0\n"),
+        ),
+        (
+            "two nodes placed twice: the lesser id is told",
+            (b"p sp 4 0\n", b"p aux sp co 4\nv 3 0 0\nv 3 0 0\nv 2 0 0\nv 2 0 0\n"),
+        ),
+        ("65,536 nodes are not too many: the coordinates count others", graph(b"p sp 3 5", b"p sp 65536 5")),
+        ("524,288 arcs are not too many: fewer stand there", graph(b"p sp 3 5", b"p sp 3 524288")),
     ]
     return answered(run_dimacs, [(why, {"graph": two[0].hex(), "places": two[1].hex()}) for why, two in files])
 
@@ -453,42 +464,42 @@ def make_headers() -> Iterator[Case]:
     changes = [
         ("the first octets", dij, 0, b"rPF1"),
         ("the last of the first octets", dij, 3, b"2"),
-        ("method 0", dij, 4, u8(0)),
-        ("method 5", dij, 4, u8(5)),
-        ("order 5", dij, 5, u8(5)),
-        ("order 6", dij, 5, u8(6)),
-        ("fan-out 1", dij, 6, u8(1)),
-        ("fan-out 32", dij, 6, u8(32)),
-        ("fan-out 33", dij, 6, u8(33)),
-        ("an octet that is not 0", dij, 7, u8(128)),
-        ("the greatest version", dij, 8, u64(GREATEST)),
-        ("no node", dij, 16, u32(0)),
-        ("65,536 nodes", dij, 16, u32(65_536)),
-        ("65,537 nodes", dij, 16, u32(65_537)),
-        ("a node root of zeros", dij, 20, bytes(32)),
-        ("a pair under DIJ", dij, 52, u32(1)),
-        ("a pair under LDM", ldm, 52, u32(1)),
-        ("no pair under FULL, and a root", full, 52, u32(0)),
-        ("523,776 pairs under FULL", full, 52, u32(523_776)),
-        ("523,777 pairs under FULL", full, 52, u32(523_777)),
-        ("2,096,128 pairs under HYP", hyp, 52, u32(2_096_128)),
-        ("2,096,129 pairs under HYP", hyp, 52, u32(2_096_129)),
-        ("a pair root of zeros where there are pairs", full, 56, bytes(32)),
-        ("a pair root that is not zeros where there are none", dij, 87, u8(1)),
-        ("a step of 0", ldm, 88, u64(0)),
-        ("the greatest step", ldm, 88, u64(GREATEST)),
-        ("no landmark", ldm, 96, u64(0)),
-        ("64 landmarks", ldm, 96, u64(64)),
-        ("65 landmarks", ldm, 96, u64(65)),
-        ("no column", hyp, 88, u64(0)),
-        ("1,024 columns", hyp, 88, u64(1024)),
-        ("1,025 columns", hyp, 88, u64(1025)),
-        ("no row", hyp, 96, u64(0)),
-        ("1,024 rows", hyp, 96, u64(1024)),
-        ("1,025 rows", hyp, 96, u64(1025)),
-        ("a first number under FULL", full, 88, u64(1)),
-        ("a second number under DIJ", dij, 96, u64(GREATEST)),
-        ("FULL's header as LDM's", full, 4, u8(3)),
+        ("method 0", dij, layout.METHOD, u8(0)),
+        ("method 5", dij, layout.METHOD, u8(5)),
+        ("order 5", dij, layout.ORDER, u8(5)),
+        ("order 6", dij, layout.ORDER, u8(6)),
+        ("fan-out 1", dij, layout.FAN, u8(1)),
+        ("fan-out 32", dij, layout.FAN, u8(32)),
+        ("fan-out 33", dij, layout.FAN, u8(33)),
+        ("an octet that is not 0", dij, layout.ZERO, u8(128)),
+        ("the greatest version", dij, layout.VERSION, u64(GREATEST)),
+        ("no node", dij, layout.NODES, u32(0)),
+        ("65,536 nodes", dij, layout.NODES, u32(65_536)),
+        ("65,537 nodes", dij, layout.NODES, u32(65_537)),
+        ("a node root of zeros", dij, layout.NODE_ROOT, bytes(32)),
+        ("a pair under DIJ", dij, layout.PAIRS, u32(1)),
+        ("a pair under LDM", ldm, layout.PAIRS, u32(1)),
+        ("no pair under FULL, and a root", full, layout.PAIRS, u32(0)),
+        ("523,776 pairs under FULL", full, layout.PAIRS, u32(523_776)),
+        ("523,777 pairs under FULL", full, layout.PAIRS, u32(523_777)),
+        ("2,096,128 pairs under HYP", hyp, layout.PAIRS, u32(2_096_128)),
+        ("2,096,129 pairs under HYP", hyp, layout.PAIRS, u32(2_096_129)),
+        ("a pair root of zeros where there are pairs", full, layout.PAIR_ROOT, bytes(32)),
+        ("a pair root that is not zeros where there are none", dij, layout.FIRST - 1, u8(1)),
+        ("a step of 0", ldm, layout.FIRST, u64(0)),
+        ("the greatest step", ldm, layout.FIRST, u64(GREATEST)),
+        ("no landmark", ldm, layout.SECOND, u64(0)),
+        ("64 landmarks", ldm, layout.SECOND, u64(64)),
+        ("65 landmarks", ldm, layout.SECOND, u64(65)),
+        ("no column", hyp, layout.FIRST, u64(0)),
+        ("1,024 columns", hyp, layout.FIRST, u64(1024)),
+        ("1,025 columns", hyp, layout.FIRST, u64(1025)),
+        ("no row", hyp, layout.SECOND, u64(0)),
+        ("1,024 rows", hyp, layout.SECOND, u64(1024)),
+        ("1,025 rows", hyp, layout.SECOND, u64(1025)),
+        ("a first number under FULL", full, layout.FIRST, u64(1)),
+        ("a second number under DIJ", dij, layout.SECOND, u64(GREATEST)),
+        ("FULL's header as LDM's", full, layout.METHOD, u8(3)),
     ]
     rows += [(why, put(text, at, piece)) for why, text, at, piece in changes]
     return answered(run_header, [(why, {"octets": text.hex()}) for why, text in rows])

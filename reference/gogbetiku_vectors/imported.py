@@ -7,6 +7,8 @@ import json
 from collections.abc import Callable, Iterator
 from dataclasses import dataclass
 
+from gogbetiku_reference.layout import IN_ANSWER, IN_RANGE_REPLY, METHOD
+
 from .client import both, by_test, make_client, make_near
 from .families import HEX, NUMBER, TEXT, WIDE, Case, Fields, listed, octets, one_of, record
 from .signing import FIELDS, SIGNATURES
@@ -26,7 +28,10 @@ CLIENT_NOTES = {
     "Route": "a reply with a route",
     "NoRoute": "a reply by which no route exists",
     "Radius": "a reply on the nodes within a radius",
-    "Dij": "under DIJ", "Full": "under FULL", "Ldm": "under LDM", "Hyp": "under HYP",
+    "Dij": "under DIJ",
+    "Full": "under FULL",
+    "Ldm": "under LDM",
+    "Hyp": "under HYP",
     "Chain": "with a chain of keys",
     "Form": "octets that can or can't be read",
     "Seal": "versions, chains and signatures",
@@ -36,10 +41,23 @@ CLIENT_NOTES = {
     "Width": "numbers of 32 and 64 bits and beyond",
     "Limit": "many items, ids, digests, arcs, landmarks or links",
     "Order": "two tests fail, or one fails twice",
-    **{name: f"refused by {name}" for name in (
-        "NotAnswer", "Malformed", "Stale", "BadChain", "BadSignature", "BadCover", "RepeatedNode", "BadRoute",
-        "MissingTuple", "MissingPair", "Shorter", "Disagrees",
-    )},
+    **{
+        name: f"refused by {name}"
+        for name in (
+            "NotAnswer",
+            "Malformed",
+            "Stale",
+            "BadChain",
+            "BadSignature",
+            "BadCover",
+            "RepeatedNode",
+            "BadRoute",
+            "MissingTuple",
+            "MissingPair",
+            "Shorter",
+            "Disagrees",
+        )
+    },
 }
 KINDS = {"00": "Route", "03": "NoRoute", "52": "Radius"}
 METHODS = {1: "Dij", 2: "Full", 3: "Ldm", 4: "Hyp"}
@@ -74,17 +92,30 @@ class Imported:
     def text(self) -> str:
         """A test a line."""
         made = self.made()
-        groups = [json.dumps({**group, "tests": []})[:-2] + "\n" + ",\n".join(map(json.dumps, group["tests"])) + "\n]}" for group in made.pop("testGroups")]
+        groups = [
+            json.dumps({**group, "tests": []})[:-2] + "\n" + ",\n".join(map(json.dumps, group["tests"])) + "\n]}"
+            for group in made.pop("testGroups")
+        ]
         return json.dumps(made)[:-1] + ', "testGroups": [\n' + ",\n".join(groups) + "\n]}\n"
 
     def schema(self) -> Fields:
-        common = {"tcId": NUMBER, "comment": TEXT, "flags": listed(one_of(*self.notes)), "result": one_of("valid", "invalid")}
+        common = {
+            "tcId": NUMBER,
+            "comment": TEXT,
+            "flags": listed(one_of(*self.notes)),
+            "result": one_of("valid", "invalid"),
+        }
         test = record({**common, **self.test.get("required", {})}, self.test.get("optional", {}))
-        file = record({
-            "algorithm": {"const": self.algorithm}, "schema": {"const": f"{self.name}.schema.json"}, "numberOfTests": NUMBER,
-            "header": listed(TEXT), "notes": {"type": "object", "additionalProperties": record({"description": TEXT})},
-            "testGroups": listed(record({**self.group, "tests": listed(test)})),
-        })
+        file = record(
+            {
+                "algorithm": {"const": self.algorithm},
+                "schema": {"const": f"{self.name}.schema.json"},
+                "numberOfTests": NUMBER,
+                "header": listed(TEXT),
+                "notes": {"type": "object", "additionalProperties": record({"description": TEXT})},
+                "testGroups": listed(record({**self.group, "tests": listed(test)})),
+            }
+        )
         return {"$schema": "http://json-schema.org/draft-07/schema#", "title": self.shows, **file}
 
 
@@ -104,7 +135,9 @@ def seal_flags(why: str, given: Fields, verdict: str) -> list[str]:
     elif verdict == "BadForm":
         found.append("SignatureForm")
     elif verdict == "NoMatch":
-        found.append("OtherText" if "text" in why or "message" in why else "OtherKey" if "key" in why else "ModifiedSignature")
+        found.append(
+            "OtherText" if "text" in why or "message" in why else "OtherKey" if "key" in why else "ModifiedSignature"
+        )
     return found
 
 
@@ -112,11 +145,20 @@ def seal_tests() -> Iterator[tuple[tuple[str, ...], Fields]]:
     rows = [(case.why, case.given, case.result["verdict"]) for case in SIGNATURES.make()]
     for why, given, verdict in list(rows):
         if verdict == "valid" and len(given["signature"]) == 2 * 1292:
-            rows += [(f"{why}: a bit of {field}", with_bit(given, bit), said) for field, begin, end, said in FIELDS for bit in (begin, end - 1)]
+            rows += [
+                (f"{why}: a bit of {field}", with_bit(given, bit), said)
+                for field, begin, end, said in FIELDS
+                for bit in (begin, end - 1)
+            ]
     for why, given, verdict in rows:
         test = {
-            "tcId": 0, "comment": why, "flags": seal_flags(why, given, verdict), "msg": given["text"],
-            "sig": given["signature"], "result": "valid" if verdict == "valid" else "invalid", "cause": verdict,
+            "tcId": 0,
+            "comment": why,
+            "flags": seal_flags(why, given, verdict),
+            "msg": given["text"],
+            "sig": given["signature"],
+            "result": "valid" if verdict == "valid" else "invalid",
+            "cause": verdict,
         }
         yield (given["public"],), test
 
@@ -126,7 +168,8 @@ def with_bit(given: Fields, bit: int) -> Fields:
 
 
 SEALS = Imported(
-    "lms_verify", "LMS",
+    "lms_verify",
+    "LMS",
     "Signatures of LMS (RFC 8554) with LMS_SHA256_M32_H5 or _H10 and LMOTS_SHA256_N32_W8: whether one is good under a public key on a message. `cause` says why not, by docs/SPEC.md, 4.1.",
     SEAL_NOTES,
     {"type": one_of("LmsVerify"), "publicKey": HEX},
@@ -138,8 +181,9 @@ SEALS = Imported(
 def client_flags(case: Case, themes: dict[int, str]) -> list[str]:
     reply, words = case.given["reply"], case.result["line"].split()
     found = [KINDS[reply[:2]]] if reply[:2] in KINDS else []
-    at = 8 if "radius" in case.given else 2
-    method = int(reply[at + 8 : at + 10] or "0", 16)
+    # (two digits an octet)
+    at = 2 * (METHOD + (IN_RANGE_REPLY if "radius" in case.given else IN_ANSWER))
+    method = int(reply[at : at + 2] or "0", 16)
     found += [METHODS[method]] if found and method in METHODS else []
     found += ["Chain"] if case.given["chain"] else []
     found += [words[1]] if words[0] == "refused" else []
@@ -160,19 +204,29 @@ def client_tests() -> Iterator[tuple[tuple[str, ...], Fields]]:
         kind = "RadiusVerify" if near else "RouteVerify"
         ends = {"radius": given["radius"]} if near else {"to": given["to"]}
         test = {
-            "tcId": 0, "comment": case.why, "flags": client_flags(case, themes), "from": given["from"], **ends,
-            "least": given["least"], "reply": given["reply"],
-            "result": "valid" if result["code"] in (1, 2) else "invalid", "line": result["line"],
+            "tcId": 0,
+            "comment": case.why,
+            "flags": client_flags(case, themes),
+            "from": given["from"],
+            **ends,
+            "least": given["least"],
+            "reply": given["reply"],
+            "result": "valid" if result["code"] in (1, 2) else "invalid",
+            "line": result["line"],
         }
         yield (kind, given["public"], given["chain"]), test
 
 
 CLIENT = Imported(
-    "client_verify", "Gogbetiku",
+    "client_verify",
+    "Gogbetiku",
     "What a client accepts: a reply to a query for a route or for the nodes within a radius, under a public key and a chain of keys. `line` is that of docs/SPEC.md, 10.",
     CLIENT_NOTES,
     {"type": one_of("RouteVerify", "RadiusVerify"), "publicKey": HEX, "chain": HEX},
-    {"required": {"from": NUMBER, "least": WIDE, "reply": HEX, "line": TEXT}, "optional": {"to": NUMBER, "radius": WIDE}},
+    {
+        "required": {"from": NUMBER, "least": WIDE, "reply": HEX, "line": TEXT},
+        "optional": {"to": NUMBER, "radius": WIDE},
+    },
     lambda: grouped(client_tests(), lambda common: dict(zip(("type", "publicKey", "chain"), common))),
 )
 

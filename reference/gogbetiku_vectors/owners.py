@@ -6,7 +6,7 @@ import re
 from collections.abc import Iterator
 from dataclasses import replace
 
-from gogbetiku_reference import commands, desks
+from gogbetiku_reference import commands, desks, layout
 from gogbetiku_reference.chains import Link, link_text, write_chain
 from gogbetiku_reference.commands import World
 from gogbetiku_reference.faults import Fault
@@ -67,7 +67,7 @@ def used(image: bytes, *texts: bytes) -> bytes:
 
 
 def with_slot(image: bytes, slot: int, text: bytes, at: int = 0, gate: int = 1) -> bytes:
-    return put(image, at + desks.BLOCK + desks.SLOT * slot, u8(gate) + u8(len(text)) + text)
+    return put(image, at + layout.BLOCK + layout.SLOT * slot, u8(gate) + u8(len(text)) + text)
 
 
 def second_area() -> bytes:
@@ -94,17 +94,20 @@ def images() -> Iterator[tuple[str, bytes]]:
         ("a gate of another octet", put(good, 0, u8(255))),
         ("a disk that is longer", good + b"\x07" * 100),
         ("an octet less than its slots", good[:-1]),
-        ("the block alone", good[:64]),
-        ("type 4", put(good, 1, u32(4))),
-        ("type 7", put(good, 1, u32(7))),
-        ("type 6 with the slots of type 5", put(good, 1, u32(6))),
-        ("octets 53 to 63 are not read", put(good, 53, b"\x01" * 11)),
+        ("the block alone", good[: layout.BLOCK]),
+        ("type 4", put(good, layout.KIND, u32(4))),
+        ("type 7", put(good, layout.KIND, u32(7))),
+        ("type 6 with the slots of type 5", put(good, layout.KIND, u32(6))),
+        ("octets 53 to 63 are not read", put(good, layout.SPARE, b"\x01" * 11)),
         ("one slot is spent", with_slot(good, 0, b"a text")),
         ("a slot is spent behind a free one", with_slot(good, 9, b"a text")),
         ("a gate of 255", with_slot(good, 3, b"a text", gate=255)),
         ("a text behind a closed gate", with_slot(good, 3, b"a text", gate=0)),
         ("a slot of no octets", with_slot(good, 3, b"")),
-        ("a length of 255", put(with_slot(good, 3, b"x" * 126), 64 + 128 * 3 + 1, u8(255))),
+        (
+            "a length of 255",
+            put(with_slot(good, 3, b"x" * layout.MOST_TEXT), layout.BLOCK + 3 * layout.SLOT + layout.LENGTH, u8(255)),
+        ),
         ("all but the last are spent", used(good, *(b"text %d" % number for number in range(31)))),
         ("the last slot is spent with a header", with_slot(good, 31, b"RPF1" + bytes(100))),
         ("two areas", two),
@@ -126,7 +129,10 @@ def images() -> Iterator[tuple[str, bytes]]:
         ("a link text, and nothing behind the area", with_slot(good, 31, strange)),
         ("eight areas", eight),
         ("eight areas, of which the last has a link text", with_slot(eight, 31, strange, 7 * at)),
-        ("a ninth area, which the eighth has linked", with_slot(eight, 31, link_text(key_of(5, NINES).public), 7 * at) + desks.blank_area(5, NINES, 0)),
+        (
+            "a ninth area, which the eighth has linked",
+            with_slot(eight, 31, link_text(key_of(5, NINES).public), 7 * at) + desks.blank_area(5, NINES, 0),
+        ),
         ("the second area has the first one's name, and another seed", same_name(good)),
         ("the third area has the first one's name", third_of_the_first(two)),
         ("a text of 60 octets that is no link's", with_slot(good, 4, b"RPK2" + strange[4:])),
@@ -174,7 +180,7 @@ def make_changes() -> Iterator[Case]:
         ("key", "where a key stands", good, RISING),
         ("key", "over 63 octets", b"\x09" * 63, RISING),
         ("key", "over a closed gate and what is left of another key", put(used(good, b"a text"), 0, u8(0)), RISING),
-        ("key", "where a disk is open that can't be used", put(good, 1, u32(9)), RISING),
+        ("key", "where a disk is open that can't be used", put(good, layout.KIND, u32(9)), RISING),
         ("key", "over a longer disk", bytes(5000), RISING),
         ("succeed", "behind a key that has signed nothing", good, ONES),
         ("succeed", "behind a key that has signed", used(good, b"a text", b"another"), ONES),
@@ -186,9 +192,10 @@ def make_changes() -> Iterator[Case]:
         ("succeed", "where the last slot has signed a header", with_slot(good, 31, b"RPF1" + bytes(100)), ONES),
         ("succeed", "behind eight keys", eight_areas(), bytes([9]) * 48),
         ("succeed", "behind eight keys, with the secret of one", eight_areas(), ZEROS),
-        ("succeed", "on a disk that can't be used", put(good, 1, u32(9)), ONES),
+        ("succeed", "on a disk that can't be used", put(good, layout.KIND, u32(9)), ONES),
         ("succeed", "over a longer disk", good + b"\x05" * 6000, ONES),
         ("succeed", "the last slot is spent, and the secret is the same", with_slot(good, 31, b"RPF1"), ZEROS),
+        ("key", "over 64 octets", b"\x09" * 64, RISING),
     ]
     return answered(
         run_change,
@@ -207,6 +214,7 @@ CHANGES = Family(
     run_change,
     make_changes,
 )
+
 
 def run_signing(given: Fields) -> Fields:
     words = ["publish", "roads", "dij", given["version"], "id", "0", "2", "0", "0", "0"]
@@ -231,10 +239,12 @@ def make_signings() -> Iterator[Case]:
         ("the second slot of the current key of two", used(two, b"a text")),
         ("all slots of the current key of two are spent", second_full),
         ("no key", b""),
-        ("a disk that can't be used", put(good, 1, u32(9))),
+        ("a disk that can't be used", put(good, layout.KIND, u32(9))),
         ("a longer disk, which stays as long", good + b"\x07" * 100),
     ]
-    return answered(run_signing, [(why, {"image": image_fields(image), "roads": roads, "version": "7"}) for why, image in rows])
+    return answered(
+        run_signing, [(why, {"image": image_fields(image), "roads": roads, "version": "7"}) for why, image in rows]
+    )
 
 
 SIGNINGS = Family(
@@ -362,7 +372,7 @@ def make_audits() -> Iterator[Case]:
             audited(disk, replace(dij, publication=replace(dij.publication, p1=1)), good[:-1]),
         ),
         ("a disk without a key", audited(b"", dij, good)),
-        ("a disk that can't be used", audited(put(disk, 1, u32(9)), dij, good)),
+        ("a disk that can't be used", audited(put(disk, layout.KIND, u32(9)), dij, good)),
         ("an empty disk that has signed nothing", audited(fresh(), dij, good)),
     ]
     broken = audited(disk, dij, good)
@@ -490,12 +500,24 @@ def make_reductions() -> Iterator[Case]:
         ("a disk without a key", reduced(b"", key.public, b"x", key.sign(0, b"x"))),
     ]
     rows += [
-        (f"another randomiser, on {text.decode()}, which slot {slot} has not signed", reduced(disk, key.public, text, with_randomiser(key, slot, text)))
+        (
+            f"another randomiser, on {text.decode()}, which slot {slot} has not signed",
+            reduced(disk, key.public, text, with_randomiser(key, slot, text)),
+        )
         for slot, text in ((0, b"version 9"), (1, b"version 9"), (0, b"version 11"), (1, b"version 12"))
     ]
-    longest = b"x" * 126
-    image = put(with_slot(fresh(), 3, longest), desks.BLOCK + 3 * desks.SLOT + 1, u8(255))
-    rows.append(("a text of 126 octets, whose length is told as 255", reduced(image, key.public, longest, key.sign(3, longest))))
+    longest = b"x" * layout.MOST_TEXT
+    image = put(with_slot(fresh(), 3, longest), layout.BLOCK + 3 * layout.SLOT + layout.LENGTH, u8(255))
+    rows.append(
+        ("a text of 126 octets, whose length is told as 255", reduced(image, key.public, longest, key.sign(3, longest)))
+    )
+    rows += [
+        (
+            f"a digit that equals the signed text's stands before the first that is below it: slot {slot}, on {text.decode()}",
+            reduced(disk, key.public, text, key.sign(slot, text)),
+        )
+        for slot, text in ((0, b"version 31"), (1, b"version 427"))
+    ]
     yield from answered(run_reduction, rows)
 
 

@@ -6,7 +6,7 @@ import hashlib
 from collections.abc import Iterator
 from dataclasses import replace
 
-from gogbetiku_reference import clients, servers
+from gogbetiku_reference import clients, layout, servers
 from gogbetiku_reference.books import book_of
 from gogbetiku_reference.chains import Link, link_text, read_chain, write_chain
 from gogbetiku_reference.draws import grid
@@ -24,7 +24,23 @@ from gogbetiku_reference.servers import Held, install
 from gogbetiku_reference.surveys import survey
 
 from .asking import GREATEST, books, put, turned
-from .families import AGAIN, DIGEST, HEX, NUMBER, TEXT, WIDE, Case, Family, Fields, answered, listed, octets, octets_again, one_of, record
+from .families import (
+    AGAIN,
+    DIGEST,
+    HEX,
+    NUMBER,
+    TEXT,
+    WIDE,
+    Case,
+    Family,
+    Fields,
+    answered,
+    listed,
+    octets,
+    octets_again,
+    one_of,
+    record,
+)
 from .formats import PARTS, parts_fields
 from .scenes import LINE, LINE_LDM, PARAMETERS, SEED, SIX, STREETS, ZEROS, owner, published, settings_of
 
@@ -77,7 +93,7 @@ LEVEL_BORDERS = Parts(((1, 0, 0), (2, 1, 0), (3, 10, 0), (4, 11, 0)), ((1, 2, 4)
 
 
 def run_order(given: Fields) -> Fields:
-    parts = Parts(tuple(map(tuple, given["nodes"])), tuple(map(tuple, given["roads"])))
+    parts = Parts(*(tuple((one, two, three) for one, two, three in given[what]) for what in ("nodes", "roads")))
     return {"ids": order_of(map_of(parts), ORDERS[given["order"]], int(given["seed"]))}
 
 
@@ -100,7 +116,10 @@ def make_orders() -> Iterator[Case]:
                 (),
             ),
         ),
-        ("places that the finest grid alone tells apart", Parts(((9, 0, 0), (1, 1, 0), (4, 1, 1), (5, 65_535, 65_535)), ())),
+        (
+            "places that the finest grid alone tells apart",
+            Parts(((9, 0, 0), (1, 1, 0), (4, 1, 1), (5, 65_535, 65_535)), ()),
+        ),
     ]
     rows = [
         (f"{name}, {order}", parts, order, seed)
@@ -249,8 +268,16 @@ def make_publications() -> Iterator[Case]:
             settings_of("dij", parameters=(1, 0, 0)),
         ),
         ("1,025 nodes under FULL", Parts(tuple((node, 0, 0) for node in range(1025)), ()), settings_of("full")),
-        ("72 nodes under LDM, of which two have the codes of the 64th and of the 65th before them", CANDIDATES, settings_of("ldm", parameters=(1, 16, 0))),
-        ("73 nodes under LDM, of which the last fits two and less well the later one", BETWEEN, settings_of("ldm", parameters=(1, 16, 2))),
+        (
+            "72 nodes under LDM, of which two have the codes of the 64th and of the 65th before them",
+            CANDIDATES,
+            settings_of("ldm", parameters=(1, 16, 0)),
+        ),
+        (
+            "73 nodes under LDM, of which the last fits two and less well the later one",
+            BETWEEN,
+            settings_of("ldm", parameters=(1, 16, 2)),
+        ),
         ("65 landmarks of 72 nodes", CANDIDATES, settings_of("ldm", parameters=(65, 2, 0))),
         ("64 landmarks of 72 nodes", CANDIDATES, settings_of("ldm", parameters=(64, 2, 0))),
         (
@@ -260,6 +287,7 @@ def make_publications() -> Iterator[Case]:
         ),
         ("2,049 borders under HYP", zigzag(2049), settings_of("hyp", parameters=(2, 1, 0))),
         ("2,051 borders under HYP, and 3 nodes more", zigzag(2051, 3), settings_of("hyp", parameters=(2, 1, 0))),
+        ("1,024 nodes under FULL", Parts(tuple((node, 0, 0) for node in range(1024)), ()), settings_of("full")),
     ]
     return answered(
         run_publication,
@@ -301,7 +329,9 @@ def run_install(given: Fields) -> Fields:
 def make_installs() -> Iterator[Case]:
     held = books()
     publication, text = held["dij"].publication, held["dij"].publication.octets()
-    settings_at, nodes_at = 110 + 1292, 110 + 1292 + 32
+    header_at = layout.IN_PUBLICATION
+    settings_at = header_at + layout.SIGNATURE + 1292
+    nodes_at = settings_at + layout.SETTINGS
     roads_at = nodes_at + 4 + 5 * 12
     yield from answered(
         run_install,
@@ -313,9 +343,9 @@ def make_installs() -> Iterator[Case]:
     rows = [
         ("no octets", b""),
         ("the first octets", put(text, 3, b"2")),
-        ("a header's first octets", put(text, 7, b"2")),
-        ("method 0", put(text, 8, u8(0))),
-        ("a length of the signature above the greatest", put(text, 108, b"\x05\xad")),
+        ("a header's first octets", put(text, header_at + 3, b"2")),
+        ("method 0", put(text, header_at + layout.METHOD, u8(0))),
+        ("a length of the signature above the greatest", put(text, header_at + layout.HEADER, b"\x05\xad")),
         ("65,537 nodes counted", put(text, nodes_at, u32(65_537))),
         ("262,145 roads counted", put(text, roads_at, u32(262_145))),
         ("a node more counted than there is", put(text, nodes_at, u32(6))),
@@ -325,12 +355,12 @@ def make_installs() -> Iterator[Case]:
         ("an octet less", text[:-1]),
         ("no signature, which no server tests", replace(publication, signature=b"").octets()),
         ("another signature, which no server tests", replace(publication, signature=bytes(7)).octets()),
-        ("another version, which is the header's alone", turned(text, 19)),
+        ("another version, which is the header's alone", turned(text, header_at + layout.NODES - 1)),
         ("another seed, under an order that draws none", put(text, settings_at, u64(9))),
-        ("another root", turned(text, 24)),
-        ("another order", put(text, 9, u8(1))),
-        ("another fan-out", put(text, 10, u8(3))),
-        ("another count of nodes", put(text, 20, u32(6))),
+        ("another root", turned(text, header_at + layout.NODE_ROOT)),
+        ("another order", put(text, header_at + layout.ORDER, u8(1))),
+        ("another fan-out", put(text, header_at + layout.FAN, u8(3))),
+        ("another count of nodes", put(text, header_at + layout.NODES, u32(6))),
         ("another length of a road", put(text, len(text) - 4, u32(8))),
         ("another place of a node", put(text, nodes_at + 8, u32(1))),
         ("a first parameter under DIJ", put(text, settings_at + 8, u64(1))),
@@ -381,7 +411,10 @@ def make_installs() -> Iterator[Case]:
     drawn = published(STREETS, settings_of("dij", "shuffled", seed=GREATEST)).publication.octets()
     rows += [
         ("the greatest seed, under an order that is drawn", drawn),
-        ("another seed, whose last 32 bits are the same, under an order that is drawn", put(drawn, settings_at, u64(2**32 - 1))),
+        (
+            "another seed, whose last 32 bits are the same, under an order that is drawn",
+            put(drawn, settings_at, u64(2**32 - 1)),
+        ),
     ]
     yield from answered(run_install, [(why, {"publication": one.hex()}) for why, one in rows])
 
@@ -398,12 +431,14 @@ INSTALLS = Family(
 
 def all_routes(chart: Map, start: int, end: int) -> list[tuple[int, ...]]:
     """All shortest routes that meet no node twice."""
-    found, waiting = [], [(start,)]
+    found: list[tuple[int, ...]] = []
+    waiting: list[tuple[int, ...]] = [(start,)]
     while waiting:
         way = waiting.pop()
+        length = chart.length_of(way)
         if way[-1] == end:
             found.append(way)
-        elif chart.length_of(way) <= chart.distances(start)[end]:
+        elif length is not None and length <= chart.distances(start)[end]:
             waiting += [(*way, there) for there, _ in chart.arcs[way[-1]] if there not in way]
     return sorted(way for way in found if chart.is_shortest(start, end, way))
 
@@ -416,7 +451,7 @@ def run_reply(given: Fields) -> Fields:
     held, start, end = held_in(given), given["from"], given["to"]
     version = held.publication.header.version
     joined = servers.is_known(held, start) and end in held.book.chart.distances(start)
-    ways = all_routes(held.book.chart, start, end) if joined else [None]
+    ways: list[tuple[int, ...] | None] = [*all_routes(held.book.chart, start, end)] if joined else [None]
     replies = [servers.answer(held, start, end, way) for way in ways]
     return {
         "replies": [reply.hex() for reply in replies],
@@ -427,7 +462,7 @@ def run_reply(given: Fields) -> Fields:
 def line_of(public: bytes, reply: bytes, start: int, end: int, least: int) -> str:
     try:
         return accepted_line(clients.check(public, (), reply, start, end, least))
-    except clients.Refused as refused:
+    except Refused as refused:
         return refused.line()
 
 
@@ -491,7 +526,10 @@ def make_replies() -> Iterator[Case]:
         yield from answered(
             run_reply,
             [
-                (f"nodes as far as the end, and one farther, {method} {parameters[0]}, from {start} to {end}", query(held, start, end))
+                (
+                    f"nodes as far as the end, and one farther, {method} {parameters[0]}, from {start} to {end}",
+                    query(held, start, end),
+                )
                 for start, end in ((1, 2), (2, 1), (1, 6), (6, 1), (4, 6))
             ],
         )
@@ -534,7 +572,16 @@ def make_radii() -> Iterator[Case]:
     ]
     rows += [
         (f"five nodes, within {radius} of {start}", books()["dij"], start, radius)
-        for start, radius in ((1, 0), (1, 3), (1, 9), (1, GREATEST), (5, GREATEST), (9, 4), (1, 2**32 + 3), (1, 2**63))
+        for start, radius in (
+            (1, 0),
+            (1, 3),
+            (1, 9),
+            (1, GREATEST),
+            (5, GREATEST),
+            (9, 4),
+            (1, 2**32 + 3),
+            (1, 2**63),
+        )
     ]
     plain = published(PLAIN, settings_of("ldm", "kd", fan=3, parameters=(3, 6, 2)))
     rows += [
@@ -647,7 +694,7 @@ def make_services() -> Iterator[Case]:
     wrong_header = put(second.publication.octets(), 30, u8(second.publication.octets()[30] ^ 1))
     bad_map = replace(second.publication, parts=Parts(SIX.nodes, ((1, 1, 1),))).octets()
     bad_plan = replace(second.publication, p1=1025).octets()
-    runs = [
+    runs: list[tuple[str, list[bytes]]] = [
         ("no frame", []),
         ("begin, ask, finish", [begin(0), ask(0, 1, 3), finish(0)]),
         (
@@ -659,7 +706,10 @@ def make_services() -> Iterator[Case]:
         ("a session that is begun", [begin(3), begin(3)]),
         ("session 16", [begin(16), ask(16, 1, 3), finish(255)]),
         ("a finished session leaves others", [begin(0), begin(1), finish(0), ask(1, 1, 3), ask(0, 1, 3)]),
-        ("a query on a radius, which an open service has no form for", [begin(0), bytes([5, 0]) + u32(1) + u64(4), ask(0, 1, 3)]),
+        (
+            "a query on a radius, which an open service has no form for",
+            [begin(0), bytes([5, 0]) + u32(1) + u64(4), ask(0, 1, 3)],
+        ),
         ("finished, and begun anew", [begin(3), finish(3), finish(3), begin(3)]),
         (
             "bodies of no form",
@@ -707,7 +757,10 @@ def make_services() -> Iterator[Case]:
     yield from answered(
         run_service,
         [
-            (why, {"publication": publication, "input": front.hex(), "again": [piece, times], "then": framed(then).hex()})
+            (
+                why,
+                {"publication": publication, "input": front.hex(), "again": [piece, times], "then": framed(then).hex()},
+            )
             for why, front, piece, times, then in long
         ],
     )
@@ -717,7 +770,9 @@ SERVICES = Family(
     "services",
     "What the service writes over frames of an input, from a first publication, and how the input ends; where octets come again, the SHA-256 of what it writes.",
     record({"publication": HEX, "input": HEX}, {"again": AGAIN, "then": HEX}),
-    record({"end": one_of("End", "TruncatedFrame", "FrameTooLong", "TooManyFrames")}, {"output": HEX, "digest": DIGEST}),
+    record(
+        {"end": one_of("End", "TruncatedFrame", "FrameTooLong", "TooManyFrames")}, {"output": HEX, "digest": DIGEST}
+    ),
     run_service,
     make_services,
 )
@@ -755,19 +810,37 @@ def make_guarded() -> Iterator[Case]:
     turned_one = replace(signed[0], signature=turned(signed[0].signature, 900))
     wrong_header = put(signed[0].octets(), 30, u8(signed[0].octets()[30] ^ 1))
     runs = [
-        ("queries on a radius", [b"\x01\x00", near(0, 1, 0), near(0, 1, 7), near(0, 5, GREATEST), near(0, 1, 2**32 + 1), b"\x02\x00" + u32(1) + u32(3)]),
+        (
+            "queries on a radius",
+            [
+                b"\x01\x00",
+                near(0, 1, 0),
+                near(0, 1, 7),
+                near(0, 5, GREATEST),
+                near(0, 1, 2**32 + 1),
+                b"\x02\x00" + u32(1) + u32(3),
+            ],
+        ),
         ("a start that is no node", [b"\x01\x00", near(0, 9, 7)]),
         ("a query on a radius without a begin, and of session 16", [near(0, 1, 7), near(16, 1, 7)]),
-        ("queries on a radius of a wrong length", [b"\x01\x00", b"\x05", b"\x05\x00", near(0, 1, 7)[:-1], near(0, 1, 7) + b"\x00"]),
+        (
+            "queries on a radius of a wrong length",
+            [b"\x01\x00", b"\x05", b"\x05\x00", near(0, 1, 7)[:-1], near(0, 1, 7) + b"\x00"],
+        ),
         ("signed installs", [newer, b"\x01\x00", newest, b"\x01\x01", near(0, 5, 5), near(1, 1, 20)]),
         ("an install with another signature", [put_in(turned_one), b"\x01\x00"]),
-        ("an install whose signature is none", [put_in(replace(signed[0], signature=b"")), put_in(replace(signed[0], signature=bytes(1292)))]),
+        (
+            "an install whose signature is none",
+            [put_in(replace(signed[0], signature=b"")), put_in(replace(signed[0], signature=bytes(1292)))],
+        ),
         ("an older version is told before its signature", [newer, put_in(replace(first, signature=b""))]),
         ("a signature is told before a wrong header", [b"\x04" + wrong_header]),
         ("and before a map that is none", [put_in(replace(turned_one, parts=Parts(SIX.nodes, ((1, 1, 1),))))]),
         ("a map that is none, under its signature", [put_in(replace(signed[0], parts=Parts(SIX.nodes, ((1, 1, 1),))))]),
     ]
-    rows = [(why, first, chain, bodies) for why, bodies in runs]
+    rows: list[tuple[str, Publication, tuple[Link, ...], list[bytes]]] = [
+        (why, first, chain, bodies) for why, bodies in runs
+    ]
     rows += [
         ("without the chain the later key's map is not taken", first, (), [newest, newer]),
         ("from the later key's map on", signed[1], chain, [b"\x01\x00", near(0, 1, 20), newer]),

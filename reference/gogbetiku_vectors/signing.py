@@ -239,7 +239,7 @@ def run_turned(given: Fields, stride: int = 1) -> Fields:
 
 def with_bit(given: Fields, bit: int) -> str:
     signature = turned(octets(given["signature"]), bit // 8, 128 >> bit % 8)
-    return run_signature({**given, "signature": signature.hex()})["verdict"]
+    return str(run_signature({**given, "signature": signature.hex()})["verdict"])
 
 
 def make_turned() -> Iterator[Case]:

@@ -37,7 +37,8 @@ class Wrong:
         source = source_of(self.module)
         if source.count(self.old) != 1:
             raise ValueError(f"{self.name()}: {self.module}.py has its text {source.count(self.old)} times")
-        return compile(source.replace(self.old, self.new), f"{self.module}.py", "exec")
+        code: CodeType = compile(source.replace(self.old, self.new), f"{self.module}.py", "exec")
+        return code
 
 
 def source_of(module: str) -> str:
@@ -49,7 +50,9 @@ WRONG: list[Wrong] = [Wrong(part, *row) for part, rows in TABLES.items() for row
 
 
 def loaded() -> list[ModuleType]:
-    return [module for name, module in sys.modules.items() if name.startswith(("gogbetiku_reference", "gogbetiku_vectors"))]
+    return [
+        module for name, module in sys.modules.items() if name.startswith(("gogbetiku_reference", "gogbetiku_vectors"))
+    ]
 
 
 def replaced(old: dict[str, object], new: dict[str, object]) -> Iterator[tuple[dict[object, object], object, object]]:

@@ -1,4 +1,4 @@
-"""Which answer an ask gets. Frames are written here and in children alone: nothing that a client sends becomes one."""
+"""Makes the answer to a request. Only this file and children.py write frames: no octets of a client become a frame."""
 
 import asyncio
 import concurrent.futures
@@ -8,29 +8,46 @@ import json
 import pathlib
 import re
 import struct
+import time
 from collections.abc import Callable
 from typing import Protocol
 
 from .counts import Counts
-from .keeper import Keeper, Missing
-from .limits import Buckets, Limited, Shares, asker_of
+from .keeper import NO_MAP, Keeper, Missing
+from .limits import Buckets, Limited, Octets, Shares, Spare, asker_of
 from .log import tell
 from .publications import Publication, pack
 
 Headers = list[tuple[str, str]]
 TYPES = {
-    ".html": "text/html; charset=utf-8", ".css": "text/css; charset=utf-8", ".mjs": "text/javascript; charset=utf-8",
-    ".wasm": "application/wasm", ".svg": "image/svg+xml", ".key": "text/plain; charset=utf-8",
+    ".html": "text/html; charset=utf-8",
+    ".css": "text/css; charset=utf-8",
+    ".mjs": "text/javascript; charset=utf-8",
+    ".wasm": "application/wasm",
+    ".svg": "image/svg+xml",
+    ".key": "text/plain; charset=utf-8",
 }
 OCTETS, TEXT = "application/octet-stream", "text/plain; charset=utf-8"
 TITLES = {
-    400: "Bad Request", 404: "Not Found", 405: "Method Not Allowed", 410: "Gone", 429: "Too Many Requests",
-    431: "Request Header Fields Too Large", 500: "Internal Server Error", 501: "Not Implemented", 503: "Service Unavailable",
+    400: "Bad Request",
+    404: "Not Found",
+    405: "Method Not Allowed",
+    410: "Gone",
+    429: "Too Many Requests",
+    431: "Request Header Fields Too Large",
+    500: "Internal Server Error",
+    501: "Not Implemented",
+    503: "Service Unavailable",
 }
 REASONS = {200: "OK", 204: "No Content", 304: "Not Modified", 307: "Temporary Redirect", **TITLES}
-FOR_EVER, A_MOMENT, A_MINUTE, NEVER = "public, max-age=31536000, immutable", "public, max-age=5", "public, max-age=60", "no-store"
+FOR_EVER, A_MOMENT, A_MINUTE, NEVER = (
+    "public, max-age=31536000, immutable",
+    "public, max-age=5",
+    "public, max-age=60",
+    "no-store",
+)
 ALLOWED = "GET, HEAD, OPTIONS"
-NO_NODE = "The server says, and does not prove, that an end of the query is no node of this publication."
+NO_NODE = "The server says, without proof, that an end of the query is no node of this publication."
 NUMBER = "(0|[1-9][0-9]{0,19})"
 QUERIES: dict[str, tuple[str, tuple[int, ...]]] = {
     "route": (f"from={NUMBER}&to={NUMBER}", (2**32, 2**32)),
@@ -38,14 +55,16 @@ QUERIES: dict[str, tuple[str, tuple[int, ...]]] = {
     "publication": ("", ()),
 }
 ASKED = re.compile("/v1/(?:p/([^/]*)/)?(route|reach|publication)")
-# what a monitor or a balancer asks is answered whatever else is asked
+# requests of a monitor or a balancer are answered whatever the load
 UNLIMITED = ("/v1/health", "/v1/ready", "/metrics")
-# beyond this an answer is packed by another thread; below it costs less than to hand it over
+# another thread compresses larger answers; for smaller ones the handover would cost more
 AT_ONCE = 65_536
+# the share of a processor that compression may take; when it is used up, answers are sent uncompressed
+PACKING = 0.1
 
 
 class Settings(Protocol):
-    """What the command says of answers."""
+    """The command's settings for answers."""
 
     page: str | None
     name: str
@@ -54,6 +73,8 @@ class Settings(Protocol):
     proxies: frozenset[str]
     asks_per_second: float
     burst: float
+    octets_per_second: int
+    burst_octets: int
     asks: int
     asks_by_address: int
     log_requests: bool
@@ -62,16 +83,16 @@ class Settings(Protocol):
 
 
 class Problem(Exception):
-    """What a request gets that has no answer."""
+    """Raised for a request that gets an error."""
 
-    def __init__(self, status: int, detail: str, retry: int | None = None) -> None:
+    def __init__(self, status: int, detail: str, retry: int | None = None, kind: str = "about:blank") -> None:
         super().__init__(detail)
-        self.status, self.retry = status, retry
+        self.status, self.retry, self.kind = status, retry, kind
 
 
 @dataclasses.dataclass(slots=True)
 class Request:
-    """What a client asks."""
+    """A client's request."""
 
     method: str
     target: str
@@ -84,7 +105,7 @@ class Request:
 
 @dataclasses.dataclass(slots=True)
 class Answer:
-    """What goes back. `packed` has the octets in gzip, where that pays; `tag` names them."""
+    """The answer to a client. `packed` has the octets in gzip, if that makes them shorter; `tag` names them."""
 
     octets: bytes = b""
     kind: str = OCTETS
@@ -96,27 +117,29 @@ class Answer:
 
 
 def problem(why: Problem) -> Answer:
-    """A page that says why there is no answer."""
-    page = {"type": "about:blank", "title": TITLES[why.status], "status": why.status, "detail": str(why)}
+    """A page that says why a request has no answer."""
+    page = {"type": why.kind, "title": TITLES[why.status], "status": why.status, "detail": str(why)}
     more = [("Retry-After", str(why.retry))] if why.retry else []
     more += [("Allow", ALLOWED)] * (why.status == 405)
     return Answer(json.dumps(page).encode() + b"\n", "application/problem+json", NEVER, why.status, more)
 
 
 def numbers(kind: str, query: str, more: str = "") -> list[int]:
-    """The numbers of a query, in their one spelling."""
+    """The numbers of a query, which must be in their only allowed spelling."""
     form, bounds = QUERIES[kind]
     found = re.fullmatch(form + more, query, re.ASCII)
     if not found:
-        raise Problem(400, f"The query must be {form.replace(NUMBER, 'N') or 'empty'}, with numbers without leading zeros.")
+        raise Problem(
+            400, f"The query must be {form.replace(NUMBER, 'N') or 'empty'}, with numbers without leading zeros."
+        )
     given = [int(word) for word in found.groups() if word]
     if any(number >= bound for number, bound in zip(given, (*bounds, 2**64))):
-        raise Problem(400, "A number is too great.")
+        raise Problem(400, "A number is too large.")
     return given
 
 
 def takes_gzip(accepted: str) -> bool:
-    """Whether a client takes gzip."""
+    """Whether a client accepts gzip."""
     for word in accepted.lower().split(","):
         name, _, quality = word.partition(";")
         if name.strip() in ("gzip", "*"):
@@ -125,17 +148,22 @@ def takes_gzip(accepted: str) -> bool:
 
 
 def is_known(given: str, tag: str) -> bool:
-    """Whether a client has the answer already."""
+    """Whether a client already has the answer."""
     return given.strip() == "*" or f'"{tag}"' in [word.strip().removeprefix("W/") for word in given.split(",")]
 
 
-def made(octets: bytes, is_packed: bool) -> tuple[str, bytes | None]:
-    """The name of octets, and they in gzip where that is wanted and pays."""
-    return hashlib.sha256(octets).hexdigest()[:32], pack(octets) if is_packed else None
+def made(octets: bytes, is_packed: bool) -> tuple[str, bytes | None, float]:
+    """Returns the name of octets, the octets in gzip if that is wanted and makes them shorter, and the seconds that
+    compression took.
+
+    BLAKE2b takes a third of SHA-256's time."""
+    began = time.thread_time()
+    packed = pack(octets) if is_packed else None
+    return hashlib.blake2b(octets, digest_size=16).hexdigest(), packed, time.thread_time() - began if is_packed else 0
 
 
 def page_files(folder: str | None) -> dict[str, Answer]:
-    """The files of a page, for trials: a page and its key come from the owner, and not from a server."""
+    """The files of a page, for trials. In use, a page and its key come from the owner and not from a server."""
     files = {}
     for file in sorted(pathlib.Path(folder).iterdir()) if folder else []:
         if file.is_file() and file.suffix in TYPES:
@@ -146,34 +174,48 @@ def page_files(folder: str | None) -> dict[str, Answer]:
 
 
 def described(publication: Publication) -> dict[str, object]:
-    """What /v1/info says of a publication."""
-    return {"id": publication.id, "version": str(publication.version), "method": publication.method, "nodes": publication.nodes, "octets": len(publication.octets)}
+    """The entry of a publication in /v1/info."""
+    sizes = {"nodes": publication.nodes, "octets": len(publication.octets)}
+    return {
+        "id": publication.id,
+        "version": str(publication.version),
+        "age": publication.age(),
+        "method": publication.method,
+        **sizes,
+    }
 
 
 class Answers:
-    """Answers requests. What costs no time is answered at once, whatever else is asked."""
+    """Answers requests. A request that costs no time is answered at once, whatever the load."""
 
     def __init__(self, options: Settings, keeper: Keeper, counts: Counts) -> None:
         self.options, self.keeper, self.counts = options, keeper, counts
-        self.buckets, self.shares = Buckets(options.asks_per_second, options.burst), Shares(options.asks_by_address, options.asks)
+        self.buckets, self.shares = Buckets(options.asks_per_second, options.burst), Shares(
+            options.asks_by_address, options.asks
+        )
+        self.octets = Octets(options.octets_per_second, options.burst_octets)
         self.files = page_files(options.page)
-        self.packers = concurrent.futures.ThreadPoolExecutor(2, "pack")
+        self.packers, self.spare = concurrent.futures.ThreadPoolExecutor(2, "pack"), Spare(PACKING)
         self.gauges: Callable[[], dict[str, int]] = dict
         self.pages: dict[str, Callable[[], Answer]] = {
-            "/v1/info": self.info, "/v1/chain": self.chain, "/v1/health": self.health, "/v1/ready": self.ready, "/metrics": self.metrics,
+            "/v1/info": self.info,
+            "/v1/chain": self.chain,
+            "/v1/health": self.health,
+            "/v1/ready": self.ready,
+            "/metrics": self.metrics,
         }
 
-    # ---- where a request goes
+    # ---- routing
 
     def name(self, path: str) -> str:
-        """The name of a path, for counts and log."""
+        """The name of a path, for the counts and the log."""
         found = ASKED.fullmatch(path)
         if found:
             return path if found[1] is None else f"/v1/p/ID/{found[2]}"
         return path if path in self.pages else "page" if path in self.files else "other"
 
     def at_once(self, request: Request, path: str, query: str) -> Answer | None:
-        """The answer to what asks no child; nothing where it may take time."""
+        """The answer to a request that needs no child, or None if the answer may take time."""
         try:
             return self._at_once(request, path, query)
         except Problem as why:
@@ -190,7 +232,7 @@ class Answers:
         if request.method == "OPTIONS":
             return self.options_of()
         if request.method not in ("GET", "HEAD"):
-            raise Problem(405, "GET, HEAD and OPTIONS are answered.")
+            raise Problem(405, "Only GET, HEAD and OPTIONS are answered.")
         if path not in UNLIMITED:
             self.buckets.take(self.asker(request))
         if found:
@@ -206,11 +248,11 @@ class Answers:
     def _limited(self, limited: Limited) -> Answer:
         self.counts.add("road_gateway_limited_total")
         if limited.of_all:
-            return problem(Problem(503, "Too many asks are under way.", max(1, round(limited.wait))))
-        return problem(Problem(429, "This address asks too often, or too much at once.", max(1, round(limited.wait + 0.5))))
+            return problem(Problem(503, "Too many requests are in progress.", max(1, round(limited.wait))))
+        return problem(Problem(429, f"This address {limited.what}.", max(1, round(limited.wait + 0.5))))
 
     async def later(self, request: Request, path: str, query: str) -> Answer:
-        """The answer to what may ask a child."""
+        """The answer to a request that may need a child."""
         try:
             found = ASKED.fullmatch(path)
             assert found
@@ -222,32 +264,40 @@ class Answers:
         except Limited as limited:
             return self._limited(limited)
         except Missing as missing:
-            return problem(Problem(410, str(missing)) if missing.for_good else Problem(503, str(missing), self.options.retry))
-        except Exception as error:  # a fault of this program: it is told, and the next request is answered
+            self.counts.add("road_gateway_none_as_new_total", count=missing.kind == NO_MAP)
+            return problem(
+                Problem(410, str(missing))
+                if missing.for_good
+                else Problem(503, str(missing), self.options.retry, missing.kind)
+            )
+        except Exception as error:  # an error of this program: it is logged, and the next request is answered
             tell(f"{type(error).__name__}: {error}")
-            return problem(Problem(500, "The gateway has a fault."))
+            return problem(Problem(500, "The gateway has an internal error."))
 
-    # ---- what is asked
+    # ---- requests
 
     async def of_publication(self, request: Request, name: str, kind: str, query: str) -> Answer:
         if not re.fullmatch("[0-9a-f]{16}", name):
             raise Problem(400, "A publication is named by 16 lower-case hex digits.")
-        given = numbers(kind, query)
+        given, asker = numbers(kind, query), self.asker(request)
+        self.octets.take(asker)
         if kind == "publication":
             found = await self.keeper.held(name)
+            self.octets.spend(asker, len(found.octets))
             return Answer(found.octets, cache=FOR_EVER, tag=found.tag, packed=found.packed)
         code, words = (2, struct.pack(">II", *given)) if kind == "route" else (5, struct.pack(">IQ", *given))
-        asker = self.asker(request)
         self.shares.enter(asker)
         try:
             octets = await self.keeper.ask(name, code, words, asker)
+            self.octets.spend(asker, len(octets))
             if octets == b"\1":
                 raise Problem(404, NO_NODE)
-            is_packed = takes_gzip(request.header(b"accept-encoding"))
+            is_packed = takes_gzip(request.header(b"accept-encoding")) and self.spare.is_left()
             if is_packed and len(octets) > AT_ONCE:
-                tag, packed = await asyncio.get_running_loop().run_in_executor(self.packers, made, octets, True)
+                tag, packed, took = await asyncio.get_running_loop().run_in_executor(self.packers, made, octets, True)
             else:
-                tag, packed = made(octets, is_packed)
+                tag, packed, took = made(octets, is_packed)
+            self.spare.spend(took)
         finally:
             self.shares.leave(asker)
         return Answer(octets, cache=FOR_EVER, tag=tag, packed=packed)
@@ -263,7 +313,11 @@ class Answers:
         return Answer(cache=A_MOMENT if least is None else NEVER, status=307, more=[("Location", where)])
 
     def options_of(self) -> Answer:
-        allowed = [("Access-Control-Allow-Methods", ALLOWED), ("Access-Control-Allow-Headers", "Cache-Control, If-None-Match"), ("Access-Control-Max-Age", "86400")]
+        allowed = [
+            ("Access-Control-Allow-Methods", ALLOWED),
+            ("Access-Control-Allow-Headers", "Cache-Control, If-None-Match"),
+            ("Access-Control-Max-Age", "86400"),
+        ]
         return Answer(status=204, more=[("Allow", ALLOWED), *allowed])
 
     def info(self) -> Answer:
@@ -286,7 +340,7 @@ class Answers:
 
     def ready(self) -> Answer:
         if not self.keeper.is_ready():
-            raise Problem(503, "Asks are not answered now.", self.options.retry)
+            raise Problem(503, "Requests are not answered now.", self.options.retry)
         return Answer(b"ready\n", TEXT)
 
     def metrics(self) -> Answer:
@@ -300,14 +354,21 @@ class Answers:
             "road_gateway_ready": int(keeper.is_ready()),
             **self.gauges(),
         }
+        age = keeper.announced.age() if keeper.announced else None
+        if age is not None:
+            gauges["road_gateway_newest_age_seconds"] = age
         return Answer(self.counts.page(gauges).encode(), "text/plain; version=0.0.4; charset=utf-8")
 
     # ---- the answer's headers
 
     def finished(self, request: Request, answer: Answer) -> tuple[int, Headers, bytes]:
-        """The status, the headers and the octets behind them."""
+        """The status, the headers and the body."""
         octets, status = answer.octets, answer.status
-        headers = [("Access-Control-Allow-Origin", "*"), ("X-Content-Type-Options", "nosniff"), ("Cache-Control", answer.cache)]
+        headers = [
+            ("Access-Control-Allow-Origin", "*"),
+            ("X-Content-Type-Options", "nosniff"),
+            ("Cache-Control", answer.cache),
+        ]
         headers += [("Access-Control-Expose-Headers", "ETag, Location, Retry-After"), *answer.more]
         if self.options.name:
             headers.append(("X-Replica", self.options.name))
@@ -325,7 +386,7 @@ class Answers:
         return status, headers, octets
 
     def told(self, request: Request, path: str, answer: Answer, status: int, seconds: float) -> None:
-        """Counts a request, and writes its line where that is wanted."""
+        """Counts a request, and writes its log line if that is wanted."""
         name = self.name(path)
         self.counts.add("road_gateway_requests_total", f'{{path="{name}",status="{status}"}}')
         self.counts.add("road_gateway_reply_octets_total", f'{{path="{name}"}}', len(answer.octets))

@@ -1,4 +1,4 @@
-"""`serve` at the other end of two pipes, and several of them over the same publications. No thread waits for a pipe."""
+"""Runs `serve` behind two pipes, and several of them over the same publications. No thread waits for a pipe."""
 
 import asyncio
 import collections
@@ -16,24 +16,29 @@ from .publications import Publication, Refused, in_memory
 MOST_FRAMES, SPARE_FRAMES = 1_000_000, 100_000
 MOST_REPLY = 1 << 27
 SESSIONS = 16
-# one that is worked on, and one behind it, so that a child never waits for its gateway
+# one frame in progress and one that waits, so that a child never waits for its gateway
 ASKS_AT_ONCE = 2
 PIPE_OCTETS = 1 << 20
 ENDING_SECONDS = 1.0
-NOT_INSTALLED = {1: "it is no publication", 2: "it holds no map", 3: "its method makes no book of its map", 4: "its header is not that of its map"}
+NOT_INSTALLED = {
+    1: "it is no publication",
+    2: "it holds no map",
+    3: "its method cannot take its map",
+    4: "its header is not that of its map",
+}
 NOT_SIGNED = {1: "BadKey", 2: "BadForm", 3: "NoMatch"}
 
 
 class Ended(Exception):
-    """`serve` has ended, or does not answer in time, or answers what it never should."""
+    """`serve` has ended, does not answer in time, or sends an answer that it never should."""
 
 
-# what is called with the reply to a body, or with why there is none
+# the function that gets the reply to a body, or the reason why there is none
 Heard = Callable[[bytes | Ended], None]
 
 
 class Child(asyncio.SubprocessProtocol):
-    """One `serve PUB PUBKEY CHAIN`. It answers frames in the order in which they came."""
+    """One process `serve PUB PUBKEY CHAIN`. It answers frames in the order of their arrival."""
 
     def __init__(self, lost: "Callable[[Child], None] | None" = None) -> None:
         self.lost, self.frames, self.why, self.is_retired = lost, 0, "", False
@@ -45,12 +50,20 @@ class Child(asyncio.SubprocessProtocol):
 
     @classmethod
     async def start(cls, program: str, *files: bytes) -> "Child":
-        """Starts it over the octets of these files."""
+        """Starts `serve` over the octets of these files."""
         held = [in_memory(octets) for octets in files]
         words = [f"/proc/self/fd/{file}" for file in held]
         try:
             _, child = await asyncio.get_running_loop().subprocess_exec(
-                cls, program, "serve", *words, stdin=asyncio.subprocess.PIPE, stdout=asyncio.subprocess.PIPE, stderr=None, pass_fds=held, start_new_session=True,
+                cls,
+                program,
+                "serve",
+                *words,
+                stdin=asyncio.subprocess.PIPE,
+                stdout=asyncio.subprocess.PIPE,
+                stderr=None,
+                pass_fds=held,
+                start_new_session=True,
             )
         except OSError as error:
             raise Ended(f"{program} does not start: {error.strerror}") from None
@@ -59,14 +72,16 @@ class Child(asyncio.SubprocessProtocol):
                 os.close(file)
         return child
 
-    # ---- what asyncio calls
+    # ---- callbacks of asyncio
 
     def connection_made(self, transport: asyncio.BaseTransport) -> None:
         self.transport = cast(asyncio.SubprocessTransport, transport)
         for number in (0, 1):
             pipe = self.transport.get_pipe_transport(number)
             if pipe is not None:
-                with contextlib.suppress(OSError, ValueError):  # beyond what a user may hold in pipes, or closed already
+                with contextlib.suppress(
+                    OSError, ValueError
+                ):  # the user may have no more memory in pipes, or the pipe is already closed
                     fcntl.fcntl(pipe.get_extra_info("pipe").fileno(), fcntl.F_SETPIPE_SZ, PIPE_OCTETS)
 
     def pipe_data_received(self, fd: int, data: bytes) -> None:
@@ -74,7 +89,7 @@ class Child(asyncio.SubprocessProtocol):
         while len(self.back) >= 4 and not self.why:
             (size,) = struct.unpack_from(">I", self.back)
             if size > MOST_REPLY:
-                # it says in words why it ends, and then ends
+                # it writes why it ends, and then ends
                 del self.back[200:]
                 return
             if len(self.back) < 4 + size:
@@ -82,7 +97,7 @@ class Child(asyncio.SubprocessProtocol):
             body = bytes(memoryview(self.back)[4 : 4 + size])
             del self.back[: 4 + size]
             if not self.waiting:
-                self._end(f"serve answers what nobody asked: {body[:16].hex()}")
+                self._end(f"serve sends an answer without a query: {body[:16].hex()}")
                 return
             heard, _ = self.waiting.popleft()
             self._wind()
@@ -101,10 +116,10 @@ class Child(asyncio.SubprocessProtocol):
         self._end(f"serve has ended with status {status}")
         self.transport.close()
 
-    # ---- for those who ask
+    # ---- calls for requests
 
     def tell(self, body: bytes, seconds: float, heard: Heard) -> None:
-        """Has a body answered, within so many seconds from when it is the first to be answered."""
+        """Sends a body. Its answer must come within this many seconds after it has become the first in the queue."""
         pipe = self.transport.get_pipe_transport(0)
         if self.why or pipe is None:
             heard(Ended(self.why or "serve has ended"))
@@ -125,13 +140,17 @@ class Child(asyncio.SubprocessProtocol):
         return reply
 
     def _wind(self) -> None:
-        """Begins the time of the first that waits."""
+        """Starts the timer of the first body in the queue."""
         if self.timer is not None:
             self.timer.cancel()
-        self.timer = self.loop.call_later(self.waiting[0][1], self._end, "serve does not answer in time") if self.waiting else None
+        self.timer = (
+            self.loop.call_later(self.waiting[0][1], self._end, "serve does not answer in time")
+            if self.waiting
+            else None
+        )
 
     def _end(self, why: str, patience: float = 0) -> None:
-        """It is of no use from now on. It is killed, at once or where it has not ended by itself by then."""
+        """Stops using the child. Kills it, at once or if it has not ended by itself after some time."""
         if self.why:
             return
         self.why = why
@@ -148,30 +167,30 @@ class Child(asyncio.SubprocessProtocol):
             heard(Ended(why))
 
     def fail(self, why: str) -> None:
-        """Ends it, since it answers what it never should."""
+        """Ends the child, since it sent an answer that it never should."""
         self._end(why)
 
     def end(self) -> None:
-        """Ends it; that is no loss."""
+        """Ends the child, whose end is not a loss."""
         self.lost = None
         self._end("serve was ended")
 
     def is_alive(self) -> bool:
-        """Whether its process runs, although nothing has come from its pipes yet."""
+        """Whether its process runs, even if nothing has come from its pipes yet."""
         try:
             return os.waitid(os.P_PID, self.transport.get_pid(), os.WEXITED | os.WNOHANG | os.WNOWAIT) is None
         except ChildProcessError:
             return False
 
     async def status(self) -> str:
-        """With which status it ended."""
+        """The status with which it ended."""
         try:
             return f"status {await asyncio.wait_for(asyncio.shield(self.gone), 10)}"
         except asyncio.TimeoutError:
             return "no end"
 
     def resident(self) -> int:
-        """Octets of memory that it takes."""
+        """The octets of memory that it uses."""
         with contextlib.suppress(OSError, ValueError):
             with open(f"/proc/{self.transport.get_pid()}/statm", encoding="ascii") as it:
                 return int(it.read().split()[1]) * os.sysconf("SC_PAGE_SIZE")
@@ -179,7 +198,7 @@ class Child(asyncio.SubprocessProtocol):
 
 
 def not_installed(publication: Publication, reply: bytes) -> str:
-    """What a refused install says, in words."""
+    """The reason of a refused install, in words."""
     code = reply[1] if len(reply) > 1 else 0
     if reply[:1] == b"\xe5":
         why = NOT_INSTALLED.get(code, f"code {code}")
@@ -193,7 +212,7 @@ def not_installed(publication: Publication, reply: bytes) -> str:
 
 
 class Ask:
-    """A query that waits or is being answered, and all who wait for it."""
+    """A query that waits or is being answered, and all requests that wait for its answer."""
 
     def __init__(self, body: bytes, address: str) -> None:
         self.body, self.address, self.trials = body, address, 0
@@ -210,9 +229,17 @@ class Ask:
 
 
 class Crew:
-    """Children over the same publications, each of which is pinned by a session of its own."""
+    """Children over the same publications. A session of its own pins each publication."""
 
-    def __init__(self, program: str, key: bytes, publications: list[Publication], chain: bytes, ask_seconds: float, install_seconds: float) -> None:
+    def __init__(
+        self,
+        program: str,
+        key: bytes,
+        publications: list[Publication],
+        chain: bytes,
+        ask_seconds: float,
+        install_seconds: float,
+    ) -> None:
         self.program, self.key, self.held, self.chain = program, key, publications, chain
         self.ask_seconds, self.install_seconds = ask_seconds, install_seconds
         self.sessions = {it.id: session for session, it in enumerate(publications)}
@@ -221,10 +248,10 @@ class Crew:
         self.wanted, self.is_leaving = 1, False
         self.on_loss: Callable[[str], None] = lambda why: None
 
-    # ---- children come and go
+    # ---- starting and ending children
 
     async def pinned(self) -> Child:
-        """A child that holds all the publications; Refused where it takes one of them not."""
+        """Starts a child that holds all the publications. Raises Refused if the child does not accept one of them."""
         first, *later = self.held
         child = await Child.start(self.program, first.octets, self.key, *([self.chain] if self.chain else []))
         try:
@@ -255,7 +282,7 @@ class Crew:
         self._feed()
 
     def retire(self, child: Child) -> None:
-        """Takes a child out; what it is at is still answered."""
+        """Removes a child; it still answers its queries in progress."""
         self.children.remove(child)
         child.lost, child.is_retired = None, True
         if not child.waiting:
@@ -267,16 +294,16 @@ class Crew:
         self.on_loss(child.why)
 
     def spent(self) -> Child | None:
-        """A child that is near its last frame."""
+        """Returns a child that is near its last frame, if there is one."""
         return next((it for it in self.children if it.frames > MOST_FRAMES - SPARE_FRAMES), None)
 
     def leave(self) -> None:
-        """Ends it behind the asks that it is at."""
+        """Ends the child after its queries in progress."""
         self.is_leaving = True
         self._feed()
 
     def end(self) -> None:
-        """Ends the children, and what is still asked."""
+        """Ends the children and all queries in progress."""
         children, self.children = self.children, []
         for child in children:
             child.end()
@@ -284,10 +311,11 @@ class Crew:
             ask.answered(Ended("serve was ended"))
         self.under_way.clear()
 
-    # ---- asks
+    # ---- queries
 
     async def ask(self, publication: str, code: int, words: bytes, address: str) -> bytes:
-        """The reply to a query. Whoever asks the same while it is under way gets the same octets, or the same end."""
+        """The reply to a query. A request for the same query, while it is in progress, gets the same octets or the same
+        error."""
         body = bytes([code, self.sessions[publication]]) + words
         waiter: asyncio.Future[bytes] = asyncio.get_running_loop().create_future()
         ask = self.under_way.get(body)
@@ -301,18 +329,18 @@ class Crew:
         return await waiter
 
     def _feed(self) -> None:
-        """Gives children what is next."""
+        """Gives the next queries to the children."""
         while self.turns and self.children:
             child = min(self.children, key=lambda it: len(it.waiting))
             if len(child.waiting) >= ASKS_AT_ONCE:
                 return
             ask = self.turns.take()
             if all(it.done() for it in ask.waiters):
-                # nobody waits for it any more
+                # no request waits for it any more
                 self.under_way.pop(ask.body, None)
                 continue
             if ask.trials and not child.is_alive():
-                # several may have died at once, and no more than the first is known yet
+                # several may have died at once, and only the first death is known so far
                 self.turns.add_first(ask.address, ask)
                 child.fail("serve has ended")
                 continue

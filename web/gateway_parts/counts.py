@@ -1,4 +1,4 @@
-"""What /metrics says. No query is in it."""
+"""Makes the content of /metrics. It contains no query."""
 
 import collections
 from collections.abc import Iterator
@@ -8,23 +8,34 @@ HELP = {
     "road_gateway_requests_total": ("counter", "Requests by path and status."),
     "road_gateway_request_seconds": ("histogram", "Time from a request to its answer."),
     "road_gateway_reply_octets_total": ("counter", "Octets of answers, before compression."),
-    "road_gateway_limited_total": ("counter", "Requests of addresses that ask too often."),
-    "road_gateway_closed_total": ("counter", "Connections that were closed for taking too long, or for others, by cause."),
-    "road_gateway_refused_publications_total": ("counter", "Publications and chains that were not taken."),
+    "road_gateway_limited_total": ("counter", "Requests from addresses that ask too often."),
+    "road_gateway_none_as_new_total": (
+        "counter",
+        "Asks for a newer publication than is here, which says nothing of this gateway.",
+    ),
+    "road_gateway_closed_total": (
+        "counter",
+        "Connections closed for taking too long, or to make room for others, by cause.",
+    ),
+    "road_gateway_refused_publications_total": ("counter", "Publications and chains that were refused."),
     "road_gateway_serve_starts_total": ("counter", "Starts of serve."),
     "road_gateway_serves": ("gauge", "Children that answer."),
-    "road_gateway_serve_frames": ("gauge", "Frames that the child with the most has taken; it is replaced before 1000000."),
-    "road_gateway_asks": ("gauge", "Asks that are under way."),
+    "road_gateway_serve_frames": (
+        "gauge",
+        "Frames that the child with the most has taken; it is replaced before 1000000.",
+    ),
+    "road_gateway_asks": ("gauge", "Requests in progress."),
     "road_gateway_waiting_octets": ("gauge", "Octets of answers that wait for their readers."),
     "road_gateway_publications": ("gauge", "Publications that are served."),
-    "road_gateway_newest_version": ("gauge", "The version of the newest publication that is announced."),
+    "road_gateway_newest_version": ("gauge", "The version of the newest announced publication."),
+    "road_gateway_newest_age_seconds": ("gauge", "How long ago it was signed, if its version is a date."),
     "road_gateway_connections": ("gauge", "Open connections."),
     "road_gateway_ready": ("gauge", "Whether asks are answered."),
 }
 
 
 class Counts:
-    """Counters and times."""
+    """The counters and times."""
 
     def __init__(self) -> None:
         self.values: collections.Counter[tuple[str, str]] = collections.Counter()

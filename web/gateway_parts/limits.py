@@ -1,4 +1,5 @@
-"""What one address may take: how often it asks, how many of its asks are under way, and whose turn it is."""
+"""Limits each address: the rate of its requests, and the number of its requests in progress. Gives turns to the
+addresses."""
 
 import collections
 import functools
@@ -11,16 +12,16 @@ Thing = TypeVar("Thing")
 
 
 class Limited(Exception):
-    """An address asks for more than its share, or there is no room for anybody."""
+    """An address exceeds its share, or there is no room for any request."""
 
-    def __init__(self, of_all: bool, wait: float) -> None:
+    def __init__(self, of_all: bool, wait: float, what: str = "asks too often, or too much at once") -> None:
         super().__init__(wait)
-        self.of_all, self.wait = of_all, wait
+        self.of_all, self.wait, self.what = of_all, wait, what
 
 
 @functools.lru_cache(maxsize=10_000)
 def share_of(address: str) -> str:
-    """Whose share an address counts against: one of IPv4, or the first 64 bits of IPv6."""
+    """The part of an address that has one share: an IPv4 address, or the first 64 bits of an IPv6 address."""
     try:
         found = ipaddress.ip_address(address.strip("[]").partition("%")[0])
     except ValueError:
@@ -33,7 +34,7 @@ def share_of(address: str) -> str:
 
 
 def asker_of(peer: str, forwarded: str, proxies: frozenset[str]) -> str:
-    """Who asks: the peer, or of a proxy that is named, whom it asks for."""
+    """The address of the client: the peer or, if the peer is the named proxy, the address that the proxy names."""
     if peer not in proxies:
         return share_of(peer)
     named = [it.strip() for it in forwarded.split(",")]
@@ -41,29 +42,74 @@ def asker_of(peer: str, forwarded: str, proxies: frozenset[str]) -> str:
 
 
 class Buckets:
-    """How often each address may ask: so many asks at once, and so many a second."""
+    """Limits the rate of requests of each address: this many at once, and this many a second."""
 
-    def __init__(self, rate: float, burst: float, most: int = 10_000, clock: Callable[[], float] = time.monotonic) -> None:
+    def __init__(
+        self, rate: float, burst: float, most: int = 10_000, clock: Callable[[], float] = time.monotonic
+    ) -> None:
         self.rate, self.burst, self.most, self.clock = rate, burst, most, clock
         self.left: collections.OrderedDict[str, tuple[float, float]] = collections.OrderedDict()
 
     def take(self, address: str) -> None:
-        """Counts an ask, or raises Limited."""
+        """Counts a request, or raises Limited."""
         if not self.rate:
             return
-        now = self.clock()
-        tokens, then = self.left.pop(address, (self.burst, now))
-        tokens = min(self.burst, tokens + (now - then) * self.rate)
+        tokens, now = self._now(address)
         is_taken = tokens >= 1
-        self.left[address] = (tokens - is_taken, now)
-        if len(self.left) > self.most:
-            self.left.popitem(last=False)
+        self._keep(address, tokens - is_taken, now)
         if not is_taken:
             raise Limited(False, (1 - tokens) / self.rate)
 
+    def _now(self, address: str) -> tuple[float, float]:
+        """The present balance of an address, and the present time."""
+        now = self.clock()
+        tokens, then = self.left.get(address, (self.burst, now))
+        return min(self.burst, tokens + (now - then) * self.rate), now
+
+    def _keep(self, address: str, tokens: float, now: float) -> None:
+        self.left[address] = (tokens, now)
+        self.left.move_to_end(address)
+        if len(self.left) > self.most:
+            self.left.popitem(last=False)
+
+
+class Octets(Buckets):
+    """Limits the octets of answers to each address. An answer of any size is counted when it is made, and an address in
+    debt has to wait."""
+
+    def take(self, address: str) -> None:
+        """Raises Limited if the address is in debt. Counts nothing."""
+        tokens = self._now(address)[0] if self.rate else 0
+        if tokens < 0:
+            raise Limited(
+                False, -tokens / self.rate, "has taken more octets than its share: a smaller radius takes fewer"
+            )
+
+    def spend(self, address: str, octets: int) -> None:
+        if self.rate:
+            tokens, now = self._now(address)
+            self._keep(address, tokens - octets, now)
+
+
+class Spare:
+    """A budget of processor time for optional work: a share of each second, and at most the share of one second in
+    advance."""
+
+    def __init__(self, part: float, clock: Callable[[], float] = time.monotonic) -> None:
+        self.part, self.clock = part, clock
+        self.left, self.then = part, clock()
+
+    def is_left(self) -> bool:
+        now = self.clock()
+        self.left, self.then = min(self.part, self.left + (now - self.then) * self.part), now
+        return self.left > 0
+
+    def spend(self, seconds: float) -> None:
+        self.left -= seconds
+
 
 class Shares:
-    """How many asks are under way, of each address and in all."""
+    """Limits the number of requests in progress, for each address and in total."""
 
     def __init__(self, by_address: int, of_all: int) -> None:
         self.by_address, self.of_all = by_address, of_all
@@ -86,7 +132,7 @@ class Shares:
 
 
 class Turns(Generic[Thing]):
-    """What waits, one address after the other: who asks much waits for itself."""
+    """A queue that serves the addresses in turn, so that an address with many requests delays only itself."""
 
     def __init__(self) -> None:
         self.rows: collections.OrderedDict[str, collections.deque[Thing]] = collections.OrderedDict()
@@ -98,12 +144,12 @@ class Turns(Generic[Thing]):
         self.rows.setdefault(address, collections.deque()).append(thing)
 
     def add_first(self, address: str, thing: Thing) -> None:
-        """Puts back what had its turn already."""
+        """Puts an item back that has already had its turn."""
         self.rows.setdefault(address, collections.deque()).appendleft(thing)
         self.rows.move_to_end(address, last=False)
 
     def take(self) -> Thing:
-        """The next one in turn; there must be one."""
+        """Returns the next item in turn. There must be one."""
         address, row = self.rows.popitem(last=False)
         thing = row.popleft()
         if row:
@@ -112,7 +158,7 @@ class Turns(Generic[Thing]):
 
 
 class Connected(Generic[Thing]):
-    """Open connections by address, the oldest first, with room for addresses that have few."""
+    """The open connections by address, the oldest first. There is always room for addresses with few connections."""
 
     def __init__(self, most: int, by_address: int, proxies: frozenset[str], is_idle: Callable[[Thing], bool]) -> None:
         self.most, self.by_address, self.proxies, self.is_idle = most, by_address, proxies, is_idle
@@ -120,7 +166,7 @@ class Connected(Generic[Thing]):
         self.total = 0
 
     def add(self, peer: str, thing: Thing) -> Thing | None:
-        """Adds one, and tells which is to be closed for it, where there is no room: it may be itself."""
+        """Adds a connection. If there is no room, returns the connection to close for it, which may be the new one."""
         share = peer if peer in self.proxies else share_of(peer)
         row = self.held.setdefault(share, {})
         row[thing] = None
@@ -129,7 +175,8 @@ class Connected(Generic[Thing]):
             return self._first_idle(row) or thing
         if self.total <= self.most:
             return None
-        # the address with the most makes room, of several the one that came first; a proxy, behind which many stand, only for itself
+        # the address with the most connections makes room, the first of several such; a proxy, which has many clients,
+        # only for itself
         others = [it for name, it in self.held.items() if name not in self.proxies]
         greatest = max(others, key=len, default=row)
         return self._first_idle(greatest) or thing

@@ -1,4 +1,5 @@
-"""Lines for whoever operates the gateway. Where they cannot be written at once they are lost, and nothing else is."""
+"""Writes lines for the operator of the gateway. A line that cannot be written at once is lost; nothing else is lost
+with it."""
 
 import contextlib
 import logging
@@ -9,13 +10,17 @@ LONGEST = 2_000
 
 
 def plain(text: str) -> str:
-    """A text in one line of printable ASCII, whatever is in it."""
-    line = text if text.isascii() and text.isprintable() else text.encode("unicode_escape", "surrogatepass").decode("ascii")
+    """Any text as one line of printable ASCII."""
+    line = (
+        text
+        if text.isascii() and text.isprintable()
+        else text.encode("unicode_escape", "surrogatepass").decode("ascii")
+    )
     return line if len(line) <= LONGEST else line[:LONGEST] + ".."
 
 
 def tell(text: str) -> None:
-    """Writes one line. A log that stands still holds nobody up: a pipe that is full gets no line."""
+    """Writes one line. A log that does not respond delays nobody: a full pipe gets no line."""
     with contextlib.suppress(OSError):
         poll = select.poll()
         poll.register(2, select.POLLOUT)
@@ -24,7 +29,7 @@ def tell(text: str) -> None:
 
 
 class Lines(logging.Handler):
-    """What asyncio logs, as lines like the others."""
+    """Writes the log of asyncio in the same form."""
 
     def emit(self, record: logging.LogRecord) -> None:
         tell(record.getMessage())

@@ -1,4 +1,5 @@
-"""Rolls a publication over replicas in two steps: all take it in, and only then it is announced. No client trusts this."""
+"""Rolls a publication over replicas in two steps: all replicas install it, and only then it is announced. No client
+trusts this."""
 
 import dataclasses
 import http.client
@@ -13,19 +14,19 @@ from .publications import Publication
 
 
 class Failed(Exception):
-    """The roll has stopped. Where nothing was announced, each replica goes on as before."""
+    """The roll has stopped. If nothing was announced, each replica continues as before."""
 
 
 @dataclasses.dataclass
 class Replica:
-    """A gateway: the file that it serves, and where it listens."""
+    """A gateway: the file that it serves, and the address where it listens."""
 
     file: pathlib.Path
     host: str
     port: int
 
     def ask(self, path: str, method: str = "GET") -> tuple[int, bytes]:
-        """Status and octets; status 0 where it does not answer."""
+        """The status and the octets of an answer. The status is 0 if the gateway does not answer."""
         connection = http.client.HTTPConnection(self.host, self.port, timeout=5)
         try:
             connection.request(method, path)
@@ -52,7 +53,7 @@ class Replica:
 
 
 def put(file: pathlib.Path, octets: bytes) -> None:
-    """Puts octets into a file's place at once."""
+    """Replaces a file atomically by one with these octets."""
     fresh = file.with_name(f"{file.name}.fresh")
     with open(fresh, "wb") as it:
         it.write(octets)
@@ -61,8 +62,10 @@ def put(file: pathlib.Path, octets: bytes) -> None:
     fresh.rename(file)
 
 
-def roll(octets: bytes, replicas: list[Replica], seconds: float, tell: Callable[[str], None] = lambda line: None) -> str:
-    """Has all replicas take a publication in, then announce it. Gives its id."""
+def roll(
+    octets: bytes, replicas: list[Replica], seconds: float, tell: Callable[[str], None] = lambda line: None
+) -> str:
+    """Lets all replicas install a publication, and then announce it. Returns its id."""
     name = Publication(octets).id
     before = {it.port: it.refused() for it in replicas}
     until = time.monotonic() + seconds

@@ -1,7 +1,9 @@
-"""HTTP over connections, parsed by h11. One connection has one request at a time, and what it does not take is dropped.
+"""Speaks HTTP over connections, with h11 as the parser. A connection has one request at a time. If a client does not
+read, its answer is dropped.
 
-A request has no body here, so that its octets end where its head does: what has one is refused, and its connection closed.
-Heads are refused before the parser where two readers could part them otherwise: bare line feeds, folded lines."""
+No request has a body here, so a request ends with its head. A request with a body is refused, and its connection is
+closed. A head that two readers could split differently, with bare line feeds or folded lines, is refused before it is
+parsed."""
 
 import asyncio
 import email.utils
@@ -22,13 +24,13 @@ MOST_HEAD = 8_192
 PIECE = 1 << 16
 LINGER_SECONDS = 2.0
 SEND_OCTETS = 1 << 18
-# an end of line that is not CR LF, or a line that begins with a blank
+# a line end that is not CR LF, or a line that begins with a blank
 ODD = re.compile(rb"(?<!\r)\n|\r(?!\n)|\n[ \t]|\0")
 AUTHORITY = re.compile(r"https?://[^/?#]*", re.I)
 
 
 class Settings(Protocol):
-    """What the command says of connections."""
+    """The command's settings for connections."""
 
     host: str
     port: int
@@ -47,9 +49,9 @@ def date_of(second: int) -> str:
 
 
 class Connection(asyncio.BufferedProtocol):
-    """One connection. It reads a head, works on it, sends the answer, and only then reads on."""
+    """One connection. It reads a head, makes the answer, sends it, and only then reads on."""
 
-    # what comes is copied at once, so that all connections take turns with one buffer
+    # received octets are copied at once, so that all connections can share one buffer
     buffer = bytearray(16_384)
 
     def __init__(self, server: "Server") -> None:
@@ -57,11 +59,11 @@ class Connection(asyncio.BufferedProtocol):
         self.task: asyncio.Task[None] | None = None
         self.left, self.is_sending, self.is_lingering, self.is_paused = memoryview(b""), False, False, False
         self.until, self.peer, self.began = 0.0, "", 0.0
-        # whether another request may follow, and whether the client has ended its side
+        # whether another request may follow, and whether the client has closed its side
         self.keeps, self.is_ended = True, False
         self.transport: asyncio.Transport
 
-    # ---- what asyncio calls
+    # ---- callbacks of asyncio
 
     def connection_made(self, transport: asyncio.BaseTransport) -> None:
         assert isinstance(transport, asyncio.Transport)
@@ -84,7 +86,7 @@ class Connection(asyncio.BufferedProtocol):
         if self.is_lingering:
             return
         if not self.is_idle():
-            # what follows waits until this answer is out, and what follows that waits at the client
+            # the next octets wait here until this answer is sent; further ones wait at the client
             self.transport.pause_reading()
         elif not self.head:
             self.until = time.monotonic() + self.server.options.request_seconds
@@ -92,7 +94,7 @@ class Connection(asyncio.BufferedProtocol):
         self._next()
 
     def eof_received(self) -> bool:
-        """Ends its side too, behind the answer that is under way."""
+        """Closes this side too, after the answer in progress."""
         self.is_ended = True
         return not self.is_idle()
 
@@ -111,11 +113,11 @@ class Connection(asyncio.BufferedProtocol):
         self.until = time.monotonic() + (options.request_seconds if self.head else options.idle_seconds)
 
     def is_idle(self) -> bool:
-        """Whether it has no request that is whole, and no answer under way."""
+        """Whether it has no complete request and no answer in progress."""
         return self.task is None and not self.is_sending
 
     def _next(self) -> None:
-        """Takes the next head, where all of it is here."""
+        """Takes the next head, if it is complete."""
         if not self.is_idle() or self.is_lingering or self.transport.is_closing():
             return
         if self.head.startswith(b"\r\n"):
@@ -123,7 +125,7 @@ class Connection(asyncio.BufferedProtocol):
         end = self.head.find(b"\r\n\r\n")
         whole = bytes(self.head[: end + 4] if end >= 0 else self.head)
         if ODD.search(whole.removesuffix(b"\r")):
-            self._refuse(Problem(400, "A line of the request ends in no CR LF, or is folded."))
+            self._refuse(Problem(400, "A line of the request does not end in CR LF, or is folded."))
         elif len(whole) > MOST_HEAD:
             self._refuse(Problem(431, f"The request's head has more than {MOST_HEAD} octets."))
         elif end >= 0:
@@ -151,7 +153,14 @@ class Connection(asyncio.BufferedProtocol):
         self.keeps = event.http_version == b"1.1" and b"close" not in headers.get(b"connection", b"").lower()
         if has_body:
             status = 400 if request.method in ("GET", "HEAD", "OPTIONS") else 405
-            self._refuse(Problem(status, "A request with a body is not answered." if status == 400 else "GET, HEAD and OPTIONS are answered."))
+            self._refuse(
+                Problem(
+                    status,
+                    "A request with a body is not answered."
+                    if status == 400
+                    else "Only GET, HEAD and OPTIONS are answered.",
+                )
+            )
             return
         path, _, query = AUTHORITY.sub("", request.target, count=1).partition("?")
         answer = self.server.answers.at_once(request, path, query)
@@ -173,7 +182,7 @@ class Connection(asyncio.BufferedProtocol):
         self._send(status, headers, b"" if request.method == "HEAD" else octets)
 
     def _refuse(self, why: Problem) -> None:
-        """Answers octets that are no request, and closes."""
+        """Answers octets that are not a request, and closes the connection."""
         answer = problem(why)
         request = Request("GET", "", self.peer, {})
         status, headers, octets = self.server.answers.finished(request, answer)
@@ -185,7 +194,11 @@ class Connection(asyncio.BufferedProtocol):
     def _send(self, status: int, headers: Headers, octets: bytes) -> None:
         if self.transport.is_closing():
             return
-        lines = [f"HTTP/1.1 {status} {REASONS[status]}", *(f"{name}: {value}" for name, value in headers), f"Date: {date_of(int(time.time()))}"]
+        lines = [
+            f"HTTP/1.1 {status} {REASONS[status]}",
+            *(f"{name}: {value}" for name, value in headers),
+            f"Date: {date_of(int(time.time()))}",
+        ]
         lines += ["Connection: close"] * (not self.keeps) + ["", ""]
         head = "\r\n".join(lines).encode("latin-1")
         self.is_sending = True
@@ -199,7 +212,7 @@ class Connection(asyncio.BufferedProtocol):
         self._send_on()
 
     def _send_on(self) -> None:
-        """Sends what is left, piece by piece, as the client takes it."""
+        """Sends the rest piece by piece, as the client reads it."""
         while not self.is_paused and self.left and not self.transport.is_closing():
             self.transport.write(self.left[:PIECE])
             self._sent_so_far(max(0, len(self.left) - PIECE))
@@ -219,11 +232,11 @@ class Connection(asyncio.BufferedProtocol):
         self.left = self.left[len(self.left) - left :]
 
     def waits(self) -> int:
-        """Octets that wait for its reader."""
+        """The number of octets that wait for its reader."""
         return len(self.left) + self.transport.get_write_buffer_size()
 
     def _read_on(self) -> None:
-        """Goes on with what has come behind a request."""
+        """Continues with the octets that came after a request."""
         if self.transport.is_closing() or not self.is_idle():
             return
         self._next()
@@ -234,7 +247,8 @@ class Connection(asyncio.BufferedProtocol):
                 self.transport.resume_reading()
 
     def _linger(self) -> None:
-        """Ends its side, and lets what still comes run out for a while, so that the answer is not lost to a reset."""
+        """Closes this side, and reads and drops the client's octets for a while, so that no reset destroys the
+        answer."""
         self.is_lingering = True
         self.until = time.monotonic() + LINGER_SECONDS
         self.head.clear()
@@ -246,22 +260,29 @@ class Connection(asyncio.BufferedProtocol):
 
 
 class Server:
-    """All connections, and what bounds them."""
+    """All connections and their limits."""
 
     def __init__(self, options: Settings, answers: Answers, counts: Counts) -> None:
         self.options, self.answers, self.counts = options, answers, counts
         self.open: set[Connection] = set()
-        self.by_address = Connected[Connection](options.connections, options.connections_by_address, options.proxies, Connection.is_idle)
+        self.by_address = Connected[Connection](
+            options.connections, options.connections_by_address, options.proxies, Connection.is_idle
+        )
         self.waiting, self.is_stopping = 0, False
         self.listening: asyncio.Server | None = None
-        answers.gauges = lambda: {"road_gateway_connections": len(self.open), "road_gateway_waiting_octets": self.waiting}
+        answers.gauges = lambda: {
+            "road_gateway_connections": len(self.open),
+            "road_gateway_waiting_octets": self.waiting,
+        }
 
     async def listen(self) -> None:
         loop = asyncio.get_running_loop()
         loop.set_exception_handler(lambda _, found: tell(f"{found.get('message')}: {found.get('exception')!r}"))
-        self.listening = await loop.create_server(lambda: Connection(self), self.options.host, self.options.port, backlog=1024, family=socket.AF_UNSPEC)
+        self.listening = await loop.create_server(
+            lambda: Connection(self), self.options.host, self.options.port, backlog=1024, family=socket.AF_UNSPEC
+        )
         for it in self.listening.sockets:
-            # what the system holds for a slow reader is bounded too
+            # the system's buffer for a slow reader is limited too
             it.setsockopt(socket.SOL_SOCKET, socket.SO_SNDBUF, SEND_OCTETS)
 
     def came(self, connection: Connection) -> None:
@@ -275,14 +296,14 @@ class Server:
         self.by_address.drop(connection.peer, connection)
 
     def close(self, connection: Connection, why: str) -> None:
-        """Closes a connection now, and gives its octets back."""
+        """Closes a connection now, and frees its octets."""
         self.counts.add("road_gateway_closed_total", f'{{why="{why}"}}')
         connection.transport.abort()
-        # it counts no more, although asyncio calls back later
+        # it does not count any more, although asyncio calls back later
         self.went(connection)
 
     def hold(self, _: Connection) -> None:
-        """Where more octets wait than may, those of the address with the most are dropped."""
+        """If too many octets wait, drops those of the address with the most."""
         if self.waiting <= self.options.most_waiting:
             return
         sums: dict[str, int] = {}
@@ -296,7 +317,7 @@ class Server:
             self.close(it, "waiting")
 
     async def sweep(self) -> None:
-        """Closes connections that take too long: idle ones, requests that never end, answers that nobody reads."""
+        """Closes connections that take too long: idle ones, incomplete requests, unread answers."""
         while True:
             now = time.monotonic()
             for it in [it for it in self.open if it.task is None and it.until < now]:
@@ -308,7 +329,7 @@ class Server:
         return any(not it.is_idle() for it in self.open)
 
     def stop(self) -> None:
-        """Takes no new connection, and closes each once its answer is out."""
+        """Accepts no new connection, and closes each connection after its answer."""
         self.is_stopping = True
         if self.listening is not None:
             self.listening.close()

@@ -1,9 +1,9 @@
 /**
- * Compares the map that a server shows, which nobody proved, with the leaves of an accepted reply. Whoever taps chooses
- * places of that map: where it shows one leaf otherwise it may have led the choice astray, and is shown no more.
+ * Compares the unproved map that a server shows with the leaves of an accepted reply. Users tap places on that map; if
+ * it differs from a leaf, it may have misled a choice, so it is no longer shown.
  */
 
-/** What of the first such leaf is otherwise, in words, or nothing where each leaf has the map's place and roads. */
+/** Returns how the first differing leaf differs, in words, or nothing if every leaf has the map's place and roads. */
 export async function differenceOf(leaves, map, pauses) {
     const shown = new Map();
     for (const { id } of leaves) {
@@ -28,7 +28,7 @@ export async function differenceOf(leaves, map, pauses) {
     return "";
 }
 
-/** Of parallel roads the least length counts. */
+/** Of parallel roads only the least length counts. */
 function addRoad(roads, to, length) {
     if (roads && !(roads.get(to) <= length)) roads.set(to, length);
 }
@@ -37,6 +37,6 @@ function differs({ id, x, y, arcs }, { place, roads }) {
     if (!place) return `it has no node ${id}`;
     if (place.x !== x || place.y !== y) return `it has node ${id} at another place`;
     const other = arcs.find(({ to, length }) => roads.get(to) !== length);
-    if (other) return `it has another road between the nodes ${id} and ${other.to}, or none`;
+    if (other) return `it has another road between the nodes ${id} and ${other.to}, or no road`;
     return arcs.length === roads.size ? "" : `it has more roads at node ${id}`;
 }

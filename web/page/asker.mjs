@@ -1,6 +1,6 @@
 /**
- * Asks, has the proved client check, and asks again where that may help: past caches, and with a chain of keys that is
- * fetched anew. What it gives, the client accepted; nobody trusts the server whom it asks.
+ * Sends requests, has the proved client check the replies, and retries where that may help: bypassing caches, and with
+ * a newly fetched chain of keys. It returns only what the client accepted; the server is not trusted.
  */
 const TRIALS = 3;
 const CHAIN_FAULTS = ["BadSignature", "BadChain", "MalformedChain"];
@@ -16,12 +16,12 @@ export class Asker {
         this.#least = least;
     }
 
-    /** A reply that is accepted. A refused one may be a cache's: it is asked for again, past all caches. */
+    /** Returns an accepted reply. A refused one may come from a cache, so it is requested again, bypassing all caches. */
     async answered(asked, id) {
         let refused = null;
         for (let trial = 0; trial < TRIALS; trial++) {
-            const octets = await this.#server.reply(asked, { id, least: this.#least.version, pastCaches: trial > 0 }).catch((error) => {
-                throw refused ?? error;
+            const octets = await this.#server.reply(asked, { id, least: this.#least.asked(), pastCaches: trial > 0 }).catch((error) => {
+                throw refused ?? this.#told(error);
             });
             if (refused && isSame(refused.octets, octets)) break;
             try {
@@ -34,7 +34,16 @@ export class Asker {
         throw refused;
     }
 
-    /** A verdict on a reply. Where the owner may have another key the chain is fetched again, and the reply checked again. */
+    /** A server without a map as new as requested does not ask to wait. */
+    #told(error) {
+        const lack = this.#least.lack(error.problem);
+        return lack ? Object.assign(error, { message: lack }) : error;
+    }
+
+    /**
+     * Returns the verdict on a reply. If the owner may have another key, fetches the chain again and checks the reply
+     * again.
+     */
     async checked(asked, octets, version) {
         try {
             return await this.#checker.check(asked, octets, version);
@@ -44,7 +53,7 @@ export class Asker {
         }
     }
 
-    /** A chain that does not help is not kept: a server could give any. */
+    /** A chain that does not help is not kept: a server could send any. */
     async #againByChain(asked, octets, version, before) {
         const [chain, known] = [await this.#server.chain().catch(() => null), this.#checker.chain];
         if (!chain || !this.#checker.follow(chain)) throw before;

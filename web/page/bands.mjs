@@ -1,9 +1,9 @@
 /**
- * A radius as bands of equal cost: the pieces of proved roads whose places cost more than one bound and at most another,
- * by the signed lengths from both ends of each road. Nobody trusts this file for a verdict.
+ * A radius as bands of equal cost: the pieces of proved roads that cost more than one bound and at most another, by the
+ * signed lengths from both ends of each road. Nobody trusts this file for a verdict.
  */
 
-/** For each band the pieces of roads in it, each a list of places. `ends` are the bands' greatest costs, ascending. */
+/** Returns the pieces of roads in each band, each a list of places. `ends` are the bands' greatest costs, ascending. */
 export async function piecesOf(nodes, leaves, ends, shapes, pauses) {
     const [costs, places, bands] = [new Map(), new Map(), ends.map(() => [])];
     for (const { id, distance } of nodes) {
@@ -24,7 +24,7 @@ export async function piecesOf(nodes, leaves, ends, shapes, pauses) {
     return bands;
 }
 
-/** A road costs more and more from both of its ends, up to where the two meet. */
+/** A road's cost increases from both of its ends, up to where the two meet. */
 function addRoad(bands, ends, line, { from, to, length }) {
     const meets = length > 0 ? Math.min(1, Math.max(0, (length + to - from) / (2 * length))) : 1;
     for (let band = 0; band < ends.length; band++) {
@@ -32,20 +32,23 @@ function addRoad(bands, ends, line, { from, to, length }) {
         if (Math.min(from, to) > most) continue;
         if (from + meets * length <= least) break;
         const [begins, stops] = shareOf(from, meets, length, least, most);
-        if (stops > begins) bands[band].push(part(line, begins, stops));
+        if (stops > begins) bands[band].push(pieceOf(line, begins, stops));
         const [first, last] = shareOf(to, 1 - meets, length, least, most);
-        if (last > first) bands[band].push(part(line, 1 - last, 1 - first));
+        if (last > first) bands[band].push(pieceOf(line, 1 - last, 1 - first));
     }
 }
 
-/** The share of a road, from one of its ends up to another share, that costs more than `least` and at most `most`. */
+/**
+ * Returns the share of a road, from one of its ends up to another share, that costs more than `least` and at most
+ * `most`.
+ */
 function shareOf(cost, end, length, least, most) {
     const at = (bound) => (length > 0 ? Math.min(end, Math.max(0, (bound - cost) / length)) : bound >= cost ? end : 0);
     return [least < 0 ? 0 : at(least), at(most)];
 }
 
-/** The part of a line between two shares of it. */
-function part(line, begins, stops) {
+/** Returns the part of a line between two shares of it. */
+export function pieceOf(line, begins, stops) {
     if (begins === 0 && stops === 1) return line;
     if (line.length === 2) return [between(...line, begins), between(...line, stops)];
     const longs = line.slice(1).map((point, at) => Math.hypot(point.x - line[at].x, point.y - line[at].y));

@@ -1,5 +1,5 @@
 /**
- * The map behind, as the server shows it: nobody proved it. It is shown as long as the leaves of the last accepted reply
+ * The background map, as the server shows it, unproved. It is shown as long as the leaves of the last accepted reply
  * over the same publication agree with it, and dropped as soon as one does not.
  */
 import { differenceOf } from "./agree.mjs";
@@ -20,12 +20,17 @@ export class Behind {
         [this.#server, this.#picture] = [server, picture];
     }
 
-    /** Whether a publication's map is here. */
+    /** Tests whether a publication's map is present. */
     has(id) {
         return this.#wanted === id && this.#map !== null;
     }
 
-    /** Shows the map of a publication, if nothing differs. Gives the words for what does, or none. */
+    /** Returns the map that is shown, or none. */
+    get map() {
+        return this.#map;
+    }
+
+    /** Shows the map of a publication if nothing differs. Returns the words for the difference, or none. */
     async show(id) {
         if (this.#wanted !== id) {
             this.#take(id, null);
@@ -51,7 +56,7 @@ export class Behind {
         this.#picture.showMap(map);
     }
 
-    /** A server may have no map to show, or show that of another publication: then none is shown. */
+    /** If a server has no map to show, or shows that of another publication, none is shown. */
     async #fetched(id) {
         try {
             const map = await mapOf(await this.#server.publication(id));

@@ -1,11 +1,11 @@
 /**
- * Places as they are said, and metres between them on the ellipsoid of WGS 84. Lengths that are proved are those of the
- * signed roads; what is measured here compares places and drawn lines alone, and nobody trusts it for a verdict.
+ * Places in words, and metres between them on the WGS 84 ellipsoid. Proved lengths are those of the signed roads. What
+ * is measured here only compares places and drawn lines, and nobody trusts it for a verdict.
  */
 const EQUATOR = 6_378_137;
 const SQUARED_ECCENTRICITY = 0.00669437999014;
 
-/** Metres between two places that are near each other, by the ellipsoid's two radii at their middle latitude. */
+/** Returns the metres between two nearby places, by the ellipsoid's two radii at their middle latitude. */
 export function metres(one, two, degree) {
     const radians = (number) => (number / degree / 180) * Math.PI;
     const middle = radians((one.y + two.y) / 2);
@@ -15,14 +15,14 @@ export function metres(one, two, degree) {
     return Math.hypot(north, east);
 }
 
-/** A place in degrees, or in a plane's coordinates where `degree` is nothing. */
+/** Returns a place in degrees, or in a plane's coordinates if `degree` is nothing. */
 export function placeSaid({ x, y }, degree) {
     if (!degree) return `${x}, ${y}`;
     const said = (number, [more, less]) => `${Math.abs(number / degree).toFixed(5)}° ${number < 0 ? less : more}`;
     return `${said(y, "NS")}, ${said(x, "EW")}`;
 }
 
-/** How far two places are apart, in words. */
+/** Returns how far apart two places are, in words. */
 export function apartSaid(one, two, degree) {
     if (!degree) return `${Math.round(Math.hypot(two.x - one.x, two.y - one.y)).toLocaleString("en")} of the map's coordinates`;
     const far = metres(one, two, degree);

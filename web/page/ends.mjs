@@ -1,6 +1,6 @@
 /**
- * The ends of a question: what somebody types or taps, and the nodes that it means. What is tapped is a place of the map
- * that a server shows, and nobody proved: it is kept, to be told beside the proved place. Nobody trusts this file.
+ * The ends of a query: what a user types or taps, and the nodes that this means. A tapped place is one of the unproved
+ * map that a server shows; it is kept, to be reported beside the proved place. Nobody trusts this file.
  */
 import { NoAnswer } from "./server.mjs";
 
@@ -22,13 +22,13 @@ export class Ends {
         return this.#fields.ask.value === "route";
     }
 
-    /** Names a node for an end, by its streets and its id. */
+    /** Returns the name of a node for an end: its streets and its id. */
     put(name, id) {
         const names = this.#streets.get(id);
         this.#fields[name].value = names ? `${names} (${id})` : `${id}`;
     }
 
-    /** Takes a tapped node for the next end. Says whether the question has all ends then. */
+    /** Uses a tapped node as the next end. Returns whether the query then has all its ends. */
     tap({ id, x, y }) {
         const name = this.isRoute ? this.#next : "from";
         this.put(name, id);
@@ -38,7 +38,7 @@ export class Ends {
         return this.#next === "from";
     }
 
-    /** The places that were tapped for the ends, as they stand in the form: for each a place, or nothing. */
+    /** Returns the places tapped for the ends, as they are in the form: a place or nothing for each. */
     get places() {
         return (this.isRoute ? ["from", "to"] : ["from"]).map((name) => this.#tap(name)?.place ?? null);
     }
@@ -48,7 +48,7 @@ export class Ends {
         return tapped?.text === this.#fields[name].value ? tapped : undefined;
     }
 
-    /** The question that the form holds, with what each end was asked by. */
+    /** Returns the query in the form, with how each end was given. */
     asked() {
         this.#next = "from";
         const from = this.#end("from", "where to start");
@@ -61,7 +61,7 @@ export class Ends {
         return { ask: "reach", from: from.id, end: radius, by: [from] };
     }
 
-    /** The node that a field names: as it was tapped, by its id, or by the streets that meet there. */
+    /** Returns the node that a field names: as it was tapped, by its id, or by the streets that meet there. */
     #end(name, what) {
         const text = this.#fields[name].value.trim();
         if (!text) throw new NoAnswer(`say ${what}`);
@@ -74,13 +74,24 @@ export class Ends {
         return { how: "typed", text, id };
     }
 
-    /** The question as the part of a link behind `#`: its ends alone. */
+    /** Returns the start node, as the form has it. */
+    get from() {
+        this.#next = "from";
+        return this.#end("from", "where to start").id;
+    }
+
+    /** Returns the same for a link. */
+    get fromLink() {
+        return idIn(this.#fields.from.value) ?? this.#fields.from.value.trim();
+    }
+
+    /** Returns the query as the part of a link after `#`, with only its ends. */
     get link() {
         const said = (name) => idIn(this.#fields[name].value) ?? this.#fields[name].value.trim();
         return `#${new URLSearchParams({ from: said("from"), ...(this.isRoute ? { to: said("to") } : { within: said("radius") }) })}`;
     }
 
-    /** Fills the form by such a part of a link, and asks nothing. Says whether there was any. */
+    /** Fills the form from such a part of a link, without a request. Returns whether there was any. */
     fill(link) {
         const said = new URLSearchParams(link.replace(/^#/, ""));
         const text = (name) => (said.get(name) ?? "").slice(0, MOST_TEXT);
@@ -94,7 +105,7 @@ export class Ends {
     }
 }
 
-/** The id that a text is, or that stands in brackets at its end. */
+/** Returns the id that a text is, or that it has in brackets at its end. */
 function idIn(text) {
     const [, digits] = /^(?:.*\((\d{1,10})\)|(\d{1,10}))$/.exec(text.trim())?.filter((part) => part !== undefined) ?? [];
     return Number(digits) < 2 ** 32 ? Number(digits) : undefined;

@@ -1,5 +1,5 @@
-"""What the page's test expects, and how it compares: the made town searched by a script of its own, the reference in
-Python over a reply's octets, and a count of what differs. Nobody trusts this file."""
+"""Computes what the page's test expects, by a search of its own over the made-up town and by the Python reference over
+a reply's octets. Counts the differences. Nobody trusts this file."""
 
 from __future__ import annotations
 
@@ -17,16 +17,35 @@ from gogbetiku_reference.faults import Refused  # noqa: E402
 
 SECRETS = (bytes(48), bytes([1]) * 48)
 START, END, ISLAND, RADIUS = 346, 18, 441, 10_000
-# which test refuses a lie about a route, by SPEC's order of tests; where the method decides, by method
+# the test that refuses a lie about a route, by SPEC's order of tests; by method if the method decides
 KINDS: dict[str, Any] = {
-    "unknown": "NotAnswer", "cut": "Malformed", "old": "Stale", "new": "BadSignature", "road": "BadCover", "hop": "BadRoute", "hide": "MissingTuple",
-    "pair": {"full": "MissingPair", "hyp": "MissingPair"}, "round": {"dij": "Shorter", "full": "Disagrees"}, "none": {"full": "Disagrees"},
+    "unknown": "NotAnswer",
+    "cut": "Malformed",
+    "old": "Stale",
+    "new": "BadSignature",
+    "road": "BadCover",
+    "hop": "BadRoute",
+    "hide": "MissingTuple",
+    "pair": {"full": "MissingPair", "hyp": "MissingPair"},
+    "round": {"dij": "Shorter", "full": "Disagrees"},
+    "none": {"full": "Disagrees"},
 }
-REACHED = {"NotAnswer", "Malformed", "Stale", "BadSignature", "BadCover", "BadRoute", "MissingTuple", "MissingPair", "Shorter", "Disagrees"}
+REACHED = {
+    "NotAnswer",
+    "Malformed",
+    "Stale",
+    "BadSignature",
+    "BadCover",
+    "BadRoute",
+    "MissingTuple",
+    "MissingPair",
+    "Shorter",
+    "Disagrees",
+}
 
 
 class Judge:
-    """Counts comparisons, and keeps those that differ."""
+    """Counts comparisons, and keeps the ones that differ."""
 
     def __init__(self) -> None:
         self.faults: list[str] = []
@@ -46,7 +65,7 @@ same, holds = judge.same, judge.holds
 
 
 class Town:
-    """A road file with the table of its streets, searched by this script."""
+    """A road file with its table of streets, searched by this script."""
 
     def __init__(self, owner: Any, roads: str = "town.roads") -> None:
         self.places: dict[int, tuple[int, int]] = {}
@@ -75,19 +94,20 @@ class Town:
         return found
 
     def said(self, node: int) -> str:
-        """A place as the page says it."""
+        """A place in the page's words."""
         x, y = self.places[node]
         return f"{abs(y) / 1e7:.5f}° {'N' if y >= 0 else 'S'}, {abs(x) / 1e7:.5f}° {'E' if x >= 0 else 'W'}"
 
 
 def line_of(owner: Any, octets: bytes, asked: tuple[str, int, int], least: int) -> str:
-    """What the reference says of a reply: the line of its refusal, or of what it accepts."""
+    """The reference's line for a reply: its refusal or the accepted answer."""
     kind, start, end = asked
     public, chain = bytes.fromhex(owner.read("owner.key").decode()), read_chain(owner.read("owner.chain"))
     try:
-        found = (clients.check if kind == "route" else clients.check_near)(public, chain, octets, start, end, least)
+        if kind == "reach":
+            within = clients.check_near(public, chain, octets, start, end, least)
+            return f"within {' '.join(map(str, within.distances))}"
+        found = clients.check(public, chain, octets, start, end, least)
     except Refused as refused:
         return str(refused.line().strip())
-    if kind == "reach":
-        return f"within {' '.join(map(str, found.distances))}"
     return "none" if found.route is None else f"{found.length}: {' '.join(map(str, found.route))}"

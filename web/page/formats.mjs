@@ -1,13 +1,13 @@
 /**
- * Replies and publications by docs/SPEC.md, for what is drawn and told beside a verdict. Nothing here judges, and
- * nobody trusts this file for a verdict: a reply is read once the proved client has accepted it.
+ * Replies and publications by docs/SPEC.md, for what is drawn and reported beside a verdict. Nothing here judges, and
+ * nobody trusts this file for a verdict: a reply is read only after the proved client has accepted it.
  */
 import { Pauses } from "./pauses.mjs";
 import { joined } from "./sha256.mjs";
 
 const METHODS = ["", "DIJ", "FULL", "LDM", "HYP"];
 const ORDERS = ["by id", "breadth first", "depth first", "along Hilbert's curve", "kd", "shuffled"];
-/** First octets of replies with a route, without one, and on a radius. */
+/** The first octets of replies with a route, without one, and on a radius. */
 const ROUTE = 0;
 const NO_ROUTE = 3;
 const RADIUS = [0x52, 0x50, 0x4e, 0x31];
@@ -51,7 +51,7 @@ class Octets {
         return this.octets.subarray(this.skip(count), this.at);
     }
 
-    /** As many items as the number in front of them says; none is made before its octets are there. */
+    /** Reads as many items as the number before them says; none is made before its octets are read. */
     async list(item, pauses) {
         const items = [];
         for (let left = this.u32(); left > 0; left--) {
@@ -62,7 +62,7 @@ class Octets {
     }
 }
 
-/** A header with its signature, and the octets of both. */
+/** Reads a header with its signature, and the octets of both. */
 function header(it) {
     const began = it.at;
     it.skip(4);
@@ -78,8 +78,10 @@ function header(it) {
     return { method, order, fan, version, nodes, pairs, first, second, text, signature, octets: it.octets.subarray(began, it.at) };
 }
 
-/** What a leaf has behind its arcs: its cell; or the node whose codes serve; or codes, and the number of the landmark
- * from which it is not a step away, where there is one. */
+/**
+ * Reads what follows a leaf's arcs: its cell; or the node whose codes replace its own; or codes, of which it returns the
+ * number of the first landmark less than a step away, counted from 1, or 0 if there is none.
+ */
 function extra(it, { method, second }) {
     if (method === "HYP") return { cell: it.u32(), isBorder: it.u8() === 1 };
     if (method !== "LDM") return {};
@@ -110,21 +112,21 @@ function pair(it) {
 
 const digest = (it) => it.take(32);
 
-/** What stands in front of a reply's leaves. */
+/** Reads everything before a reply's leaves. */
 function frontOf(it) {
     const isNear = RADIUS.every((octet, place) => it.octets[place] === octet);
     const first = isNear ? it.skip(4) : it.u8();
     return { isNear, first, head: header(it) };
 }
 
-/** How many leaves a reply on a radius says that it has. */
+/** Returns the number of leaves that a reply on a radius declares. */
 export function leavesIn(octets) {
     const it = new Octets(octets);
     frontOf(it);
     return it.u32();
 }
 
-/** The parts of an accepted reply. */
+/** Returns the parts of an accepted reply. */
 export async function partsOf(octets, pauses = new Pauses()) {
     const it = new Octets(octets);
     const { isNear, first, head } = frontOf(it);
@@ -142,7 +144,7 @@ export function u32(...numbers) {
     return octets;
 }
 
-/** The octets of a reply that has these parts. */
+/** Returns the octets of a reply with these parts. */
 export async function octetsOf({ kind, head, route, leaves, pairs, nodeCover, pairCover }, pauses = new Pauses()) {
     const items = await joinedItems(leaves, 6, ({ index, text }) => [u32(index), u32(text.length).subarray(2), text], pauses);
     const begin = kind === "within" ? RADIUS : [kind === "route" ? ROUTE : NO_ROUTE];
@@ -153,7 +155,7 @@ export async function octetsOf({ kind, head, route, leaves, pairs, nodeCover, pa
     return joined(...front, u32(pairs.length), distances, ...cover, u32(pairCover.length), await joinedItems(pairCover, 0, (one) => [one], pauses));
 }
 
-/** The octets of many items, each with so many in front of its text. */
+/** Returns the octets of many items, each with this many before its text. */
 async function joinedItems(items, more, partsOfItem, pauses) {
     const whole = new Uint8Array(items.reduce((sum, item) => sum + more + (item.text ?? item).length, 0));
     let at = 0;
@@ -167,7 +169,7 @@ async function joinedItems(items, more, partsOfItem, pauses) {
     return whole;
 }
 
-/** The header, the nodes and the roads of a publication, of which nothing is checked but that there are not too many to be drawn. */
+/** Returns the header, the nodes and the roads of a publication. Checks only that there are not too many to draw. */
 export async function mapOf(octets, pauses = new Pauses()) {
     const it = new Octets(octets);
     it.skip(4);

@@ -1,26 +1,32 @@
-"""A server between page and gateway, which the page's test can tell to do wrong. Nobody trusts this file."""
+"""A server between page and gateway that the page's test can make misbehave. Nobody trusts this file."""
 
 from __future__ import annotations
 
 import http.server
+import pathlib
+import sys
 import threading
 import urllib.error
 import urllib.request
 from typing import Any, Callable
+
+sys.path.append(str(pathlib.Path(__file__).resolve().parents[2] / "reference"))
+
+from gogbetiku_reference import layout  # noqa: E402
 
 Headers = list[tuple[str, str]]
 Told = tuple[int, Headers, bytes]
 
 
 class Stay(urllib.request.HTTPRedirectHandler):
-    """Leaves a way to elsewhere to whoever asked."""
+    """Passes redirects on to the client instead of following them."""
 
     def redirect_request(self, *_: Any) -> None:
         return None
 
 
 class Front(http.server.ThreadingHTTPServer):
-    """Passes on what a gateway answers. `wrong` may answer in its place, and `seen` has each path with its Cache-Control."""
+    """Passes on the answers of a gateway. `wrong` may answer instead. `seen` lists each path with its Cache-Control."""
 
     daemon_threads = True
 
@@ -39,7 +45,11 @@ class Front(http.server.ThreadingHTTPServer):
             found = urllib.request.build_opener(Stay).open(self.gateway + path, timeout=60)
         except urllib.error.HTTPError as error:
             found = error
-        kept = [(name, value) for name, value in found.headers.items() if name.lower() not in ("content-length", "connection", "date", "server")]
+        kept = [
+            (name, value)
+            for name, value in found.headers.items()
+            if name.lower() not in ("content-length", "connection", "date", "server")
+        ]
         told = found.status, kept, found.read()
         return (self.wrong and self.wrong(path, headers, *told)) or told
 
@@ -61,26 +71,28 @@ class Passed(http.server.BaseHTTPRequestHandler):
 
 
 def nodes_at(octets: bytes) -> int:
-    """Where the nodes of a publication begin, behind their count."""
-    return 110 + int.from_bytes(octets[108:110], "big") + 36
+    """The offset of a publication's nodes, after their count."""
+    return layout.behind(octets, layout.IN_PUBLICATION) + layout.SETTINGS + 4
 
 
 def far_away(octets: bytes) -> bytes:
-    """A publication whose first node lies at the end of the plane."""
+    """The publication with its first node moved to the end of the plane."""
     at = nodes_at(octets)
     return octets[: at + 4] + (2**31 - 1).to_bytes(4, "big") * 2 + octets[at + 12 :]
 
 
 def turned_about(octets: bytes) -> bytes:
-    """A publication that shows each node at the place of the one that stands as far from the other end of the list."""
+    """The publication with the places of its nodes in reverse order."""
     at = nodes_at(octets)
     count = int.from_bytes(octets[at - 4 : at], "big")
     rows = [octets[at + 12 * row : at + 12 * row + 12] for row in range(count)]
-    return octets[:at] + b"".join(row[:4] + other[4:] for row, other in zip(rows, rows[::-1])) + octets[at + 12 * count :]
+    return (
+        octets[:at] + b"".join(row[:4] + other[4:] for row, other in zip(rows, rows[::-1])) + octets[at + 12 * count :]
+    )
 
 
 def with_shorter_road(octets: bytes, node: int) -> bytes:
-    """A publication that shows the first road of a node as one shorter than it is."""
+    """The publication with the first road of a node shorter by 1."""
     at = nodes_at(octets)
     at += 12 * int.from_bytes(octets[at - 4 : at], "big") + 4
     while node not in (int.from_bytes(octets[at : at + 4], "big"), int.from_bytes(octets[at + 4 : at + 8], "big")):

@@ -1,8 +1,8 @@
 /**
- * What hands do on the drawing: drags, pinches, wheels, keys and taps, by the browser's pointer events alone. Nothing
+ * Gestures on the drawing: drags, pinches, wheels, keys and taps, using only the browser's pointer events. Nothing
  * moves by itself.
  */
-/** A pointer that moves less than so many pixels taps. */
+/** A pointer that moves fewer pixels than this taps. */
 const STILL = 8;
 const STEP = 60;
 const KEYS = {
@@ -17,7 +17,7 @@ export class Gestures {
     #pointers = new Map();
     #isTap = false;
 
-    /** `told` has `moved` for a view that is another one, and `tapped` for a place in pixels of the drawing. */
+    /** `told` has `moved` for a changed view, and `tapped` for a place in pixels of the drawing. */
     constructor(canvas, view, told) {
         [this.#canvas, this.#view, this.#told] = [canvas, view, told];
         const on = (name, does) => canvas.addEventListener(name, (event) => does.call(this, event));
@@ -56,7 +56,7 @@ export class Gestures {
         this.#told.moved();
     }
 
-    /** The middle of all pointers, and how far two are apart. */
+    /** Returns the middle of all pointers, and the distance of two. */
     #spread() {
         const places = [...this.#pointers.values()].map(({ at }) => at);
         const middle = [0, 1].map((axis) => places.reduce((sum, at) => sum + at[axis], 0) / places.length);

@@ -1,16 +1,43 @@
 /**
- * The least version that is taken under a key: the greatest that was accepted, and never below the owner's word. It is
- * kept by the browser, or, where that keeps nothing, as long as the page is open. Nobody trusts this file to keep a
- * map from being older than one that was never seen.
+ * The minimum version accepted under a key: the greatest accepted so far, and never below the owner's minimum. The
+ * browser stores it or, if it stores nothing, the page keeps it while it is open. With a greatest age, set by the
+ * owner, the clock of this device counts too. Nobody relies on this file to keep a map from being older than one never
+ * seen.
  */
+import { NO_MAP, clock, isWrongClock, leastOfAge, noneYoungSaid, timeSaid, wrongClockSaid } from "./age.mjs";
+
 export class Least {
     #name;
     #floor;
     #kept;
+    #maxAge;
 
-    constructor(key, floor) {
+    /** `maxAge` is in seconds, or undefined if a map may have any age. */
+    constructor(key, floor, maxAge) {
         this.#name = `gogbetiku: the greatest version accepted under ${key}`;
         this.#floor = this.#kept = floor;
+        this.#maxAge = maxAge;
+    }
+
+    /** Returns the greatest age in words, or nothing if there is none. */
+    get ageSaid() {
+        return this.#maxAge === undefined ? "" : timeSaid(this.#maxAge);
+    }
+
+    /** Returns the minimum version to request from a server. Throws an error if the clock cannot be right. */
+    asked() {
+        if (this.#maxAge === undefined) return this.version;
+        const now = clock();
+        if (isWrongClock(now)) throw new Error(wrongClockSaid(now).replace(/\.$/, ""));
+        return leastOfAge(this.version, now, this.#maxAge).asked;
+    }
+
+    /** Returns what it means that a server has no map as new as requested, or nothing if it says something else. */
+    lack(problem) {
+        if (problem !== NO_MAP || this.asked() === 0n) return "";
+        const isOld = this.#maxAge !== undefined && this.asked() > this.version;
+        const said = isOld ? noneYoungSaid(this.#maxAge) : `No map of version ${this.version} or later is here.`;
+        return `${said[0].toLowerCase()}${said.slice(1, -1)}`;
     }
 
     get version() {

@@ -1,6 +1,6 @@
 /**
- * What a length is. The owner says its unit, with the page and the key: a server that said it could turn decimetres
- * into minutes. Lengths are told in kilometres or minutes where the unit has them, and by the owner's word where not.
+ * The meaning of a length. The owner gives its unit, with the page and the key: a server that gave it could turn
+ * decimetres into minutes. Lengths are shown in kilometres or minutes if the unit allows it, else in the owner's word.
  */
 const METRES = { millimetres: 1_000, centimetres: 100, decimetres: 10, metres: 1 };
 const SECONDS = { milliseconds: 1_000, seconds: 1 };
@@ -22,18 +22,18 @@ export class Lengths {
         this.#per = this.#isTime ? SECONDS[word] : Object.hasOwn(METRES, word) ? METRES[word] : null;
     }
 
-    /** How many of a length make a metre, or nothing where it is something else. */
+    /** Returns how many of a length make a metre, or nothing if it is something else. */
     get perMetre() {
         return this.#isTime ? null : this.#per;
     }
 
-    /** The unit in which somebody types a radius, and how many lengths it is. */
+    /** Returns the unit in which a user types a radius, and how many lengths it is. */
     get typed() {
         if (this.#per === null) return { name: this.#word, many: 1n };
         return this.#isTime ? { name: "minutes", many: BigInt(MINUTE * this.#per) } : { name: "kilometres", many: BigInt(1_000 * this.#per) };
     }
 
-    /** A radius that is typed, as `1.5`, in whole lengths; nothing where it is none. */
+    /** Parses a typed radius such as `1.5` into whole lengths, or returns nothing if it is not one. */
     read(text) {
         const [, whole, part = ""] = /^(\d{1,20})(?:\.(\d{1,9}))?$/.exec(text.trim()) ?? [];
         if (whole === undefined) return null;
@@ -41,19 +41,26 @@ export class Lengths {
         return found < 2n ** 64n ? found : null;
     }
 
-    /** As a person says it: `1.90 km`, `12 min`. */
+    /** Returns a length for people, such as `1.90 km` or `12 min`. */
     said(number) {
         if (this.#per === null) return this.exact(number);
         const many = Number(number) / this.#per;
         return this.#isTime ? timeOf(many) : farOf(many);
     }
 
-    /** To the last digit. */
+    /** Returns a length as a field of a file: kilometres or minutes, or nothing if it is something else. */
+    field(number) {
+        if (this.#per === null) return {};
+        const many = Number(number) / this.#per;
+        return this.#isTime ? { minutes: Math.round((many / MINUTE) * 100) / 100 } : { kilometres: many / 1_000 };
+    }
+
+    /** Returns a length with all digits. */
     exact(number) {
         return `${big.format(number)}${this.#word ? ` ${this.#word}` : ""}`;
     }
 
-    /** The ends of bands of one width up to a radius, the last one the radius itself. */
+    /** Returns the ends of bands of equal width up to a radius, the last one being the radius itself. */
     bands(radius) {
         const [many, per] = [Number(radius), this.#per ?? 1];
         const width = per * (this.#isTime ? TIMES.find((one) => many / per / one <= MOST_BANDS) ?? many / per : roundWidth(many / per / MOST_BANDS));
@@ -63,7 +70,7 @@ export class Lengths {
     }
 }
 
-/** The least of 1, 2, 2.5 and 5 times a power of ten that is not below a number. */
+/** Returns the least of 1, 2, 2.5 and 5 times a power of ten that is not below a number. */
 function roundWidth(least) {
     const power = 10 ** Math.floor(Math.log10(Math.max(least, 1)));
     return [1, 2, 2.5, 5, 10].map((times) => times * power).find((width) => width >= least);

@@ -1,16 +1,16 @@
 /**
- * What a server could send in place of an accepted reply: the page makes these lies itself, of honest replies, to
- * show that the client refuses them. Nobody trusts this file.
+ * What a server could send in place of an accepted reply. The page makes these lies itself from honest replies, to show
+ * that the client refuses them. Nobody trusts this file.
  */
 import { leavesIn, octetsOf, partsOf } from "./formats.mjs";
 import { Pauses } from "./pauses.mjs";
 import { Graph } from "./shortest.mjs";
 import { Tree } from "./tree.mjs";
 
-/** Over more leaves the page looks for no way, in one reply or in two that it joins. */
+/** Over more leaves the page searches for no way, in one reply or in two that it joins. */
 const MOST_LEAVES = 4_096;
 
-/** Octets with a number changed at a place, by a method of DataView. */
+/** Returns octets with a number changed at a place, by a method of DataView. */
 function edited(octets, at, size, change) {
     const lie = octets.slice();
     const view = new DataView(lie.buffer);
@@ -18,12 +18,15 @@ function edited(octets, at, size, change) {
     return lie;
 }
 
-/** Where a header's version stands in a reply. */
+/** Returns where the version is in a reply's header. */
 function versionAt({ kind }) {
     return (kind === "within" ? 4 : 1) + 8;
 }
 
-/** A longer way than the route over these leaves: the least one that misses a hop, or else there and back at first. */
+/**
+ * Returns a longer way than the route over these leaves: the shortest that misses a hop, or else there and back at
+ * first.
+ */
 async function detour({ route }, leaves) {
     const [goal, graph] = [route.at(-1), new Graph(leaves, new Pauses())];
     const least = (await graph.reached(route[0])).get(goal).distance;
@@ -42,7 +45,10 @@ async function detour({ route }, leaves) {
     return way;
 }
 
-/** The parts with other leaves and pairs, which the parts themselves or more replies brought, and good covers of them. */
+/**
+ * Returns the parts with other leaves and pairs, from the parts themselves or from more replies, and good covers of
+ * them.
+ */
 async function withItems(parts, { leaves = parts.leaves, pairs = parts.pairs, more = [] }) {
     const [{ head }, pauses] = [parts, new Pauses()];
     const [nodes, distances] = [new Tree(head.nodes, head.fan, pauses), new Tree(Math.max(1, head.pairs), head.fan, pauses)];
@@ -51,7 +57,7 @@ async function withItems(parts, { leaves = parts.leaves, pairs = parts.pairs, mo
     return { ...parts, leaves, pairs, nodeCover: await nodes.cover(leaves), pairCover: await distances.cover(pairs) };
 }
 
-/** A leaf that the proof needs: beside the route where the method asks for it, else on it. */
+/** Returns a leaf that the proof needs: beside the route if the method requires it, else on it. */
 async function needed({ kind, head, route, leaves }, { from, end }) {
     const find = (wanted) => leaves.find(({ id }) => id === wanted);
     if (kind === "no route") return find(end);
@@ -64,8 +70,8 @@ async function needed({ kind, head, route, leaves }, { from, end }) {
 }
 
 /**
- * The lies by name: what the server does, and the octets that it then sends for a question, or null where its honest
- * reply gives no room. `server` and `id` ask for more honest replies over the same publication, `older` for one of an
+ * The lies by name: what the server does, and the octets that it then sends for a query, or null if its honest reply
+ * leaves no room for it. `server` and `id` request more honest replies over the same publication, `older` one over an
  * older map.
  */
 export const LIES = {

@@ -1,6 +1,6 @@
 /**
- * The owner's page: asks a server that nobody trusts, has the proved client check what it answers, and shows what was
- * proved. Whoever uses it trusts the owner, from whom page and key come, and nobody else.
+ * The owner's page. It sends requests to an untrusted server, has the proved client check the replies, and shows what
+ * was proved. Its users trust the owner, who publishes page and key, and nobody else.
  */
 import { Asker } from "./asker.mjs";
 import { Checker, taken } from "./checker.mjs";
@@ -16,19 +16,22 @@ const owner = JSON.parse(part("owner").textContent);
 const [form, lying] = [part("question"), part("lie").elements];
 const question = form.elements;
 const server = new Server(owner.gateway);
+owner.maxAge = owner.maxAge ? BigInt(owner.maxAge) : undefined;
 const checker = new Checker(owner.key, owner);
-const least = new Least(owner.key, BigInt(owner.least));
+const least = new Least(owner.key, BigInt(owner.least), owner.maxAge);
 const asker = new Asker(server, checker, least);
 const [streets, lengths] = [new Streets(), new Lengths(owner.lengths)];
 const ends = new Ends(question, streets, lengths);
 
-/** What was accepted last: the question, the reply with its parts, and the verdict. */
+/** What was accepted last: the query, the reply with its parts, and the verdict. */
 let accepted = null;
 let publications = [];
-/** The last of what the user asked for: what is not of it is not shown any more. */
+/** The module of stations, once it is loaded. */
+let stations = null;
+/** The user's last request; results of earlier ones are no longer shown. */
 let turn = 0;
 
-/** What shows a verdict is fetched behind what asks for one. */
+/** What shows a verdict is fetched after what makes requests. */
 const showing = checker.ready().catch(() => {}).then(() => import("./result.mjs")).then(
     ({ Result }) => new Result({ owner, streets, lengths, server, checker, tapped }),
     () => {
@@ -36,13 +39,13 @@ const showing = checker.ready().catch(() => {}).then(() => import("./result.mjs"
     },
 );
 
-// ---- what is shown
+// ---- showing
 
 function showLeast() {
     part("least").textContent = least.version;
 }
 
-/** What is shown as proved is of another question than the form holds now. */
+/** What is shown as proved belongs to a query other than the one now in the form. */
 async function changed() {
     if (sayBefore()) (await showing).picture.showBefore();
 }
@@ -59,7 +62,7 @@ async function showAccepted(one, mine) {
     if (publications.length > 0 && publications[0].version < one.found.version) showPublications().catch(() => {});
 }
 
-/** Only what is accepted is lied about. */
+/** Only accepted replies are lied about. */
 async function showNothing(error, isLie) {
     part("lie").hidden = !isLie;
     try {
@@ -69,16 +72,23 @@ async function showNothing(error, isLie) {
     }
 }
 
-/** Does what the user asked for, and shows how it ends, unless the user went on to something else. Gives the verdict's state. */
-async function doing(words, work, isLie = false) {
+async function showPlan(plan) {
+    least.accept(plan.over.head.version);
+    showLeast();
+    await stations.show(plan, await showing);
+}
+
+/** Runs the user's request and shows how it ends, unless the user has made another. Returns the verdict's state. */
+async function doing(words, work, isLie = false, show = showAccepted) {
     const [mine, verdict] = [++turn, part("verdict")];
+    part("plan").hidden = true;
     verdict.setAttribute("aria-busy", "true");
     if (!isLie) await changed();
     if (!["accepted", "before"].includes(verdict.dataset.state)) say("waiting", "", words);
     hint(words);
     try {
         const one = await work();
-        if (mine === turn) await showAccepted(one, mine);
+        if (mine === turn) await show(one, mine);
     } catch (error) {
         if (mine === turn) await showNothing(error, isLie);
     }
@@ -88,7 +98,7 @@ async function doing(words, work, isLie = false) {
     return verdict.dataset.state;
 }
 
-// ---- questions
+// ---- queries
 
 function asking() {
     return doing("The server is asked, and its reply is checked.", async () => {
@@ -98,16 +108,27 @@ function asking() {
     });
 }
 
+/** Several queries in one: nothing else is shown beside their answer. */
+function planning() {
+    return doing("The server is asked, and its replies are checked.", async () => {
+        history.replaceState(null, "", stations.link);
+        const plan = await stations.planned(question.map.value || undefined);
+        for (const name of ["ends", "ways", "all", "handed", "lie"]) part(name).hidden = true;
+        return plan;
+    }, false, showPlan);
+}
+
 form.addEventListener("submit", (event) => {
     event.preventDefault();
-    asking();
+    if (stations?.isAsked) planning();
+    else asking();
 });
 
-/** Shows the fields of a route, or those of a radius. */
+/** Shows the fields of the query. */
 function showFields() {
     for (const label of form.querySelectorAll("[data-for]")) {
-        label.hidden = label.dataset.for !== question.ask.value;
-        label.querySelector("input").disabled = label.hidden;
+        label.hidden = !label.dataset.for.split(" ").includes(question.ask.value);
+        for (const field of label.querySelectorAll("input, textarea")) field.disabled = label.hidden;
     }
 }
 
@@ -121,8 +142,9 @@ form.addEventListener("input", ({ target }) => {
     if (target.list) part("offers").replaceChildren(...streets.offers(target.value).map((text) => new Option(text, text)));
 });
 
-/** A tap chooses a node of the map that the server shows: the verdict names both ends as they are proved. */
+/** A tap chooses a node of the map that the server shows; the verdict names both ends as they are proved. */
 async function tapped(node) {
+    if (stations?.tap(node)) return hint(`${(await showing).named(node.id)} is a station. Tap another one, or ask.`);
     const [isWhole, result] = [ends.tap(node), await showing];
     await changed();
     result.picture.showAsked(ends.places);
@@ -133,10 +155,10 @@ async function tapped(node) {
 part("forget").addEventListener("click", () => {
     least.forget();
     showLeast();
-    hint(`Maps from version ${least.version} on are taken again.`);
+    hint(`Maps from version ${least.version} on are accepted again.`);
 });
 
-part("print").addEventListener("click", () => print());
+for (const name of ["print", "print-plan"]) part(name).addEventListener("click", () => print());
 
 addEventListener("beforeprint", async () => {
     const { sheet } = await import("./handed.mjs");
@@ -144,12 +166,18 @@ addEventListener("beforeprint", async () => {
 });
 
 addEventListener("hashchange", () => {
-    if (ends.fill(location.hash)) showFields();
+    fillByLink();
 });
+
+/** Fills the form from the part of the address after `#`, without a request. */
+function fillByLink() {
+    const isFilled = ends.fill(location.hash);
+    if (stations?.fill(location.hash) || isFilled) showFields();
+}
 
 // ---- lies
 
-/** A reply over an older publication than the accepted one, where the server has one. */
+/** Returns a reply over an older publication than the accepted one, if the server has one. */
 async function older({ asked, found }) {
     publications = await server.publications().catch(() => publications);
     const old = publications.find(({ version }) => version < found.version);
@@ -159,7 +187,7 @@ async function older({ asked, found }) {
 async function lied(one, name) {
     const { LIES } = await import("./lies.mjs");
     const octets = await LIES[name][1]({ ...one, server, older: () => older(one) });
-    if (!octets) throw new NoAnswer("this reply gives no room for that lie, or is too large for this page to look for it: try another one");
+    if (!octets) throw new NoAnswer("this reply gives no room for that lie, or is too large for this page to look for one: try another lie");
     try {
         return { ...one, octets, ...(await asker.checked(one.asked, octets, one.found.version)) };
     } catch (error) {
@@ -176,9 +204,9 @@ part("lie").addEventListener("submit", (event) => {
     lieing();
 });
 
-// ---- the beginning
+// ---- the start
 
-/** What the server says that it has: the maps to choose from, and the newest one behind. */
+/** Loads what the server says that it has: the maps to choose from, and the newest one as the background. */
 async function showPublications() {
     publications = await server.publications();
     const { map } = question;
@@ -188,8 +216,16 @@ async function showPublications() {
     if (!accepted && publications.length > 0) await (await showing).behind.show(publications[0].id);
 }
 
-/** What the page works without: the lies, the owner's tables, what the server has with its map, and the owner's walk. */
+/**
+ * Loads what the page can do without: the lies, the owner's tables, what the server has with its map, and the owner's
+ * walk.
+ */
 const behind = [
+    async () => {
+        const { Stations } = await import("./stations.mjs");
+        stations = new Stations({ fields: question, ends, lengths, streets, asker });
+        if (stations.fill(location.hash)) showFields();
+    },
     async () => {
         const { LIES } = await import("./lies.mjs");
         lying.lie.replaceChildren(...Object.entries(LIES).map(([name, [words]]) => new Option(words, name)));
@@ -200,7 +236,7 @@ const behind = [
     showWalk,
 ];
 
-/** A table that does not come, or is another one, leaves the nodes without names. */
+/** If a table does not load, or is another one, the nodes have no names. */
 async function showStreets() {
     if (owner.streets) streets.read(new TextDecoder().decode(await taken(owner.streets)));
 }
@@ -216,6 +252,10 @@ async function begin() {
     part("insecure").hidden = isSecureContext;
     part("key").textContent = owner.key;
     part("attribution").textContent = owner.attribution;
+    part("named").textContent = owner.name;
+    part("named").hidden = !owner.name;
+    part("age").textContent = least.ageSaid;
+    part("aged").hidden = !least.ageSaid;
     part("lengths").textContent = lengths.typed.name ? `, in ${lengths.typed.name}` : "";
     ends.fill(location.hash);
     showLeast();

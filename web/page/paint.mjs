@@ -1,6 +1,6 @@
 /** Shapes on a canvas. Nobody trusts this file for a verdict. */
 
-/** A path through lists of places, in coordinates less an origin: it is made once, and drawn under any view. */
+/** Makes a path through lists of places, in coordinates relative to an origin. It is made once and drawn under any view. */
 export function pathOf(lines, origin) {
     const path = new Path2D();
     for (const line of lines) {
@@ -9,7 +9,7 @@ export function pathOf(lines, origin) {
     return path;
 }
 
-/** A path as it stands under a view. */
+/** Returns a path under a view. */
 export function seen(path, view, origin) {
     const found = new Path2D();
     found.addPath(path, view.matrix(origin));
@@ -20,6 +20,12 @@ export function stroke(pen, path, colour, width) {
     pen.strokeStyle = colour;
     pen.lineWidth = width;
     pen.stroke(path);
+}
+
+export function dashes(pen, path, colour, width) {
+    pen.setLineDash([2 * width, 2 * width]);
+    stroke(pen, path, colour, width);
+    pen.setLineDash([]);
 }
 
 /** Fills one shape at each place. */
@@ -49,7 +55,7 @@ export function diamonds(pen, places, colour) {
     });
 }
 
-/** A frame and the number for each cell, around the signed nodes that say that they are in it. */
+/** Draws a frame and the number for each cell, around the signed nodes that are in it. */
 export function cells(pen, leaves, at, colour) {
     const boxes = new Map();
     for (const leaf of leaves) {
@@ -68,7 +74,7 @@ export function cells(pen, leaves, at, colour) {
     pen.setLineDash([]);
 }
 
-/** An end with its letter: full where it is proved, and a ring where somebody asks for it. */
+/** Draws an end with its letter: filled if it is proved, and a ring if it is only requested. */
 export function mark(pen, [x, y], letter, { colour, paper, isProved }) {
     points(pen, [[x, y]], paper, 13);
     points(pen, [[x, y]], colour, 11);
@@ -82,7 +88,7 @@ export function mark(pen, [x, y], letter, { colour, paper, isProved }) {
     pen.textBaseline = "alphabetic";
 }
 
-/** The middle of the drawing, for those who choose by keys. */
+/** Draws the middle of the drawing, for users of the keyboard. */
 export function cross(pen, [x, y], colour) {
     pen.beginPath();
     for (const [right, down] of [[1, 0], [-1, 0], [0, 1], [0, -1]]) {

@@ -1,17 +1,17 @@
 /**
- * Draws on a canvas: in grey what a server shows and nobody proved, in colours what an accepted reply brought, the
- * proof below and the answer last. What is proved sets what is shown as soon as there is any. Nobody trusts this file
- * for a verdict: it shows one.
+ * Draws on a canvas: what a server shows, unproved, in grey; what an accepted reply holds in colours; the proof below
+ * and the answer last. As soon as something is proved, it determines the view. Nobody trusts this file for a verdict:
+ * it shows one.
  */
-import { cells, cross, diamonds, mark, pathOf, points, seen, squares, stroke } from "./paint.mjs";
+import { cells, cross, dashes, diamonds, mark, pathOf, points, seen, squares, stroke } from "./paint.mjs";
 
 const TAP = 40;
 const FAINT = 0.3;
-const COLOURS = ["grey", "route", "leaf", "pair", "cell", "start", "end", "paper", "outline", "band1", "band2", "band3", "band4", "band5"];
-const LETTERS = "AB";
+const COLOURS = ["grey", "route", "leaf", "pair", "cell", "start", "end", "paper", "outline", "lack", "band1", "band2", "band3", "band4", "band5"];
+const LETTERS = "ABCDEFGHIJKLMNOPQRSTUVWXYZ";
 const NOWHERE = { x: 0, y: 0 };
 
-/** Whether cells are of the proof: on a radius no test looks at them. */
+/** Tests whether cells belong to the proof; on a radius no test looks at them. */
 export function hasCells({ head, kind }) {
     return head.method === "HYP" && kind !== "within";
 }
@@ -35,7 +35,7 @@ export class Picture {
         for (const event of ["focus", "blur"]) canvas.addEventListener(event, () => this.draw());
     }
 
-    /** The map as a server shows it, or none. */
+    /** Sets the map as a server shows it, or none. */
     showMap(map) {
         this.#map = map;
         this.#paths.map = null;
@@ -43,26 +43,27 @@ export class Picture {
         this.draw();
     }
 
-    /** The owner's file of shapes has come. */
+    /** The owner's file of shapes is loaded. */
     showShapes() {
         this.#paths = {};
         this.draw();
     }
 
     /**
-     * What was proved: the parts of an accepted reply, the nodes of its verdict, and the ends that were asked for. A
-     * radius has `bands`, the pieces of roads in each.
+     * Sets what was proved: the parts of an accepted reply, the nodes of its verdict, and the requested ends. A radius
+     * has `bands`, the pieces of roads in each; stations have `ways`, the nodes of each, and `lacking`, the lines of
+     * roads that none reaches on the map that a server shows.
      */
-    showProved({ parts, nodes, ends, bands = [] }) {
+    showProved({ parts, nodes, ends, bands = [], ways = parts.kind === "route" ? [nodes.map(({ id }) => id)] : [], lacking = [] }) {
         const places = new Map(parts.leaves.map((leaf) => [leaf.id, leaf]));
         const answer = nodes.length > 0 ? nodes : parts.leaves;
-        this.#proved = { parts, nodes, ends: ends.map((id) => places.get(id)), bands, places };
+        this.#proved = { parts, nodes, ends: ends.map((id) => places.get(id)), bands, ways, lacking, places };
         [this.#asked, this.#isBefore, this.#paths] = [[], false, { map: this.#paths.map }];
         this.#view.fit(answer);
         this.draw();
     }
 
-    /** What is drawn as proved is of another question than the one that is asked now. */
+    /** What is drawn as proved belongs to a query other than the current one. */
     showBefore() {
         this.#isBefore = this.#proved !== null;
         this.draw();
@@ -73,19 +74,19 @@ export class Picture {
         this.draw();
     }
 
-    /** Marks the ends that somebody asks for: for each a place, or nothing. */
+    /** Marks the ends that a user requests: a place or nothing for each. */
     showAsked(ends) {
         this.#asked = ends;
         this.draw();
     }
 
-    /** Whether what proves the answer is drawn below it. */
+    /** Tests whether the proof of the answer is drawn below it. */
     showProof(isShown) {
         this.#hasProof = isShown;
         this.draw();
     }
 
-    /** The drawn node that is nearest to a place of the drawing, or nothing where none is near. */
+    /** Returns the drawn node nearest to a place of the drawing, or nothing if none is near. */
     nearest([left, above]) {
         let [best, least] = [null, TAP];
         for (const node of [...(this.#proved?.parts.leaves ?? []), ...(this.#map?.nodes ?? [])]) {
@@ -96,7 +97,7 @@ export class Picture {
         return best;
     }
 
-    /** Draws before the next picture of the screen. */
+    /** Draws before the next frame of the screen. */
     soon() {
         if (this.#isDue) return;
         this.#isDue = true;
@@ -122,7 +123,7 @@ export class Picture {
         if (this.#canvas.matches(":focus-visible")) cross(pen, this.#view.centre, colour.route);
     }
 
-    /** A pen on an empty canvas as large as the drawing, in pixels of the page. */
+    /** Returns a pen on an empty canvas as large as the drawing, in pixels of the page. */
     #penOn(canvas) {
         const dense = Math.max(devicePixelRatio, matchMedia("print").matches ? 2 : 1);
         canvas.width = Math.round(this.#canvas.clientWidth * dense);
@@ -133,7 +134,10 @@ export class Picture {
         return pen;
     }
 
-    /** A path by its name, made where it is not made yet. What a server shows has another origin than what is proved. */
+    /**
+     * Returns a path by its name, making it on first use. What a server shows has a different origin from what is
+     * proved.
+     */
     #path(name, lines) {
         const origin = name === "map" ? this.#map.nodes[0] ?? NOWHERE : this.#proved.parts.leaves[0];
         this.#paths[name] ??= pathOf(lines(), origin);
@@ -149,7 +153,7 @@ export class Picture {
         stroke(pen, this.#path("map", lines), grey, 1.4);
     }
 
-    /** A radius as a filled outline around the roads that are reached, the band of the least cost last. */
+    /** Draws a radius as a filled outline around the roads that are reached, the band of the least cost last. */
     #drawBands(pen, colour) {
         const { bands, nodes } = this.#proved;
         if (bands.length === 0) return;
@@ -159,7 +163,7 @@ export class Picture {
         paths.toReversed().forEach((path, at) => stroke(pen, path, colour[`band${paths.length - at}`], width));
     }
 
-    /** About as wide as a block between streets, where the nodes that are reached are spread evenly. */
+    /** Returns about the width of a block between streets, if the reached nodes are spread evenly. */
     #bandWidth(count) {
         const [first, ...rest] = this.#proved.nodes.map((node) => this.#view.at(node));
         const box = rest.reduce(([a, b, c, d], [x, y]) => [Math.min(a, x), Math.min(b, y), Math.max(c, x), Math.max(d, y)], [...first, ...first]);
@@ -167,23 +171,27 @@ export class Picture {
     }
 
     #drawProved(pen, colour) {
-        const { parts, nodes, ends, places } = this.#proved;
+        const { ways, lacking, ends, places } = this.#proved;
         if (this.#hasProof) this.#drawProof(pen, colour);
-        if (parts.kind === "route") {
-            const way = this.#path("route", () => nodes.slice(1).map((node, hop) => this.#road(nodes[hop].id, node.id, places)));
+        if (lacking.length > 0) stroke(pen, this.#path("lacking", () => lacking), colour.lack, 2.5);
+        if (ways.length > 0) {
+            const way = this.#path("route", () => ways.flatMap((ids) => ids.slice(1).map((id, hop) => this.#road(ids[hop], id, places))));
             stroke(pen, way, colour.paper, 10);
             stroke(pen, way, colour.route, 6);
+            const pushedOf = (ids) => ids.slice(1).flatMap((id, hop) => (this.#shapes.isPushed(ids[hop], id) ? [this.#road(ids[hop], id, places)] : []));
+            const pushed = () => ways.flatMap(pushedOf);
+            dashes(pen, this.#path("pushed", pushed), colour.paper, 3);
         }
-        ends.forEach((end, at) => end && mark(pen, this.#view.at(end), LETTERS[at], { colour: at === 0 ? colour.start : colour.end, paper: colour.paper, isProved: true }));
+        ends.forEach((end, at) => end && mark(pen, this.#view.at(end), LETTERS[at] ?? "", { colour: at === 0 ? colour.start : colour.end, paper: colour.paper, isProved: true }));
     }
 
-    /** The line of a signed road between two leaves. */
+    /** Returns the line of a signed road between two leaves. */
     #road(from, to, places) {
         const length = places.get(from).arcs.find((arc) => arc.to === to)?.length ?? 0;
         return this.#shapes.line(places.get(from), places.get(to), length);
     }
 
-    /** The signed nodes, roads and distances that prove the answer. */
+    /** Draws the signed nodes, roads and distances that prove the answer. */
     #drawProof(pen, colour) {
         const { parts: { leaves, pairs }, places } = this.#proved;
         const at = (node) => this.#view.at(node);
@@ -200,11 +208,11 @@ export class Picture {
     }
 
     #drawAsked(pen, colour) {
-        this.#asked.forEach((end, at) => end && mark(pen, this.#view.at(end), LETTERS[at], { colour: at === 0 ? colour.start : colour.end, paper: colour.paper, isProved: false }));
+        this.#asked.forEach((end, at) => end && mark(pen, this.#view.at(end), LETTERS[at] ?? "", { colour: at === 0 ? colour.start : colour.end, paper: colour.paper, isProved: false }));
     }
 }
 
-/** Lays what was proved before faintly over a drawing. */
+/** Draws the previous result faintly over a drawing. */
 function laidOver(pen, drawn, width, height) {
     pen.globalAlpha = FAINT;
     pen.drawImage(drawn, 0, 0, width, height);

@@ -1,7 +1,8 @@
 /**
- * Shows what was accepted: the verdict in words, the drawing, the streets, and what is handed on. Nobody trusts this
- * file for a verdict: it shows what the proved client said.
+ * Shows an accepted result: the verdict in words, the drawing, the streets, and the files to pass on. Nobody trusts
+ * this file for a verdict: it shows what the proved client said.
  */
+import { dateSaid } from "./age.mjs";
 import { Behind } from "./behind.mjs";
 import { piecesOf } from "./bands.mjs";
 import { apartSaid, placeSaid } from "./earth.mjs";
@@ -18,7 +19,7 @@ import { View } from "./view.mjs";
 import { waysOf } from "./ways.mjs";
 
 const LETTERS = "AB";
-const ELSEWHERE = "What you tapped lies elsewhere than what is proved: compare both ends.";
+const ELSEWHERE = "The places that you tapped are not those that are proved: compare both ends.";
 
 export class Result {
     #owner;
@@ -27,8 +28,10 @@ export class Result {
     #checker;
     #degree;
     #listed = [];
+    /** What was accepted last, as long as it is shown. */
+    #shown = null;
 
-    /** `tapped` is told each node that somebody taps. */
+    /** `tapped` is called with each node that a user taps. */
     constructor({ owner, streets, lengths, server, checker, tapped }) {
         [this.#owner, this.#streets, this.#lengths, this.#checker] = [owner, streets, lengths, checker];
         this.#degree = UNITS[owner.unit];
@@ -52,19 +55,20 @@ export class Result {
         part("all").addEventListener("toggle", () => this.#list());
     }
 
-    /** A node in words: its streets, or its id where the owner's table has none. */
+    /** Returns a node in words: its streets, or its id if the owner's table has none. */
     named(id) {
         return this.#streets.get(id) || `node ${id}`;
     }
 
-    /** Where somebody relies on bends of roads that nobody signs, the legend says so. */
+    /** If bends of roads that nobody signs are shown, the legend says so. */
     showShapes(text) {
         this.shapes.read(text);
         part("bends").hidden = this.shapes.isEmpty;
         this.picture.showShapes();
+        if (this.#shown) this.#showWays(this.#shown);
     }
 
-    /** Shows an accepted reply. Gives it with its parts. */
+    /** Shows an accepted reply. Returns it with its parts. */
     async accepted(one) {
         const { asked, found } = one;
         const accepted = { ...one, parts: await partsOf(one.octets) };
@@ -89,19 +93,21 @@ export class Result {
         coming.then((said) => part("verdict").dataset.of === id && dropped(said).forEach(warn));
         part("verdict").dataset.of = id;
         this.#showEnds(accepted, places);
+        this.#shown = accepted;
         this.#showWays(accepted);
         this.#showLegend(accepted, bounds);
         this.#listed = found.nodes ?? [];
         part("all").hidden = this.#listed.length === 0;
         this.#list();
         tell({ ...this.ofKey(), ...this.#facts(accepted) });
-        offer(accepted, accepted.octets, { nodes, streets: this.#streets, owner: this.#owner, chain: this.#checker.chain });
-        part("picture").setAttribute("aria-label", `Map. Drawn is what was proved: ${this.#sentence(accepted)}`);
+        offer(accepted, accepted.octets, { nodes, streets: this.#streets, shapes: this.shapes, lengths: this.#lengths, owner: this.#owner, chain: this.#checker.chain });
+        part("picture").setAttribute("aria-label", `Map of what was proved: ${this.#sentence(accepted)}`);
     }
 
-    /** Nothing of what is not accepted is drawn. */
+    /** Nothing that is not accepted is drawn. */
     nothing(error, isLie) {
         this.picture.showNothing();
+        this.#shown = null;
         part("verdict").dataset.of = "";
         part("picture").setAttribute("aria-label", "Map. Nothing is proved.");
         for (const name of ["ends", "ways", "all", "bands"]) part(name).hidden = true;
@@ -114,18 +120,18 @@ export class Result {
 
     ofKey() {
         const key = Uint8Array.from(this.#owner.key.match(/../g), (digits) => parseInt(digits, 16));
-        return { "Owner's key": shortName(key), "Chain of keys": this.#checker.links ? counted(this.#checker.links, "link") : "" };
+        return { "Map": this.#owner.name, "Owner's key": shortName(key), "Chain of keys": this.#checker.links ? counted(this.#checker.links, "link") : "" };
     }
 
     #sentence({ asked, found }) {
-        const map = `in version ${found.version} of the owner's map`;
+        const map = `in version ${found.version} of the owner's map${this.#owner.name ? ` “${this.#owner.name}”` : ""}`;
         const [from, to] = [this.named(asked.from), this.named(asked.end)];
         if (found.kind === "no route") return `no road leads from ${from} to ${to}, ${map}.`;
         if (found.kind === "within") return `${counted(found.nodes.length, "node")}, and no other, within ${this.#lengths.said(asked.end)} of ${from}, ${map}.`;
         return `a shortest route from ${from} to ${to}, ${this.#lengths.said(found.length)} long, ${map}.`;
     }
 
-    /** Both ends: as they were asked for, and as they are proved. */
+    /** Shows both ends, as requested and as proved. */
     #showEnds({ asked }, places) {
         const rows = asked.by.map(({ how, text, id, place }, at) => {
             const leaf = places.get(id);
@@ -142,14 +148,16 @@ export class Result {
         part("ends").hidden = false;
     }
 
-    /** The streets of a route, in order. */
+    /** Shows the streets of a route, in order, and where the owner's file of shapes says that a bicycle is pushed. */
     #showWays({ found, parts }) {
-        const ways = found.kind === "route" ? waysOf(found.nodes.map(({ id }) => id), parts.leaves, this.#streets) : [];
-        const rows = ways.map(({ name, length }) => {
+        const ways = found.kind === "route" ? waysOf(found.nodes.map(({ id }) => id), parts.leaves, this.#streets, this.shapes) : [];
+        const rows = ways.map(({ name, length, push }) => {
             const row = element("li", "");
-            row.append(element("span", name || "a road without a name"), element("small", this.#lengths.said(length)));
+            const pushed = push > 0 ? [element("small", `push ${this.#lengths.said(push)}`, { className: "push" })] : [];
+            row.append(element("span", name || "a road without a name"), ...pushed, element("small", this.#lengths.said(length)));
             return row;
         });
+        part("pushed").hidden = ways.every(({ push }) => push === 0);
         part("ways").querySelector("ol").replaceChildren(...rows);
         part("ways").hidden = rows.length === 0;
     }
@@ -168,7 +176,7 @@ export class Result {
         for (const line of document.querySelectorAll("#legend .proof")) line.classList.toggle("off", !isShown);
     }
 
-    /** All nodes of a verdict, each with its streets and its distance, once somebody opens the fold. */
+    /** Shows all nodes of a verdict, each with its streets and its distance, once a user opens the fold. */
     #list() {
         part("nodes").textContent = part("all").open ? this.#nodesSaid(this.#listed) : "";
     }
@@ -178,12 +186,13 @@ export class Result {
         return nodes.map((node) => [node.id, this.#streets.get(node.id), far(node)].filter(Boolean).join(", ")).join("\n");
     }
 
-    /** What is known of an accepted reply beside its verdict. */
+    /** Shows what is known of an accepted reply besides its verdict. */
     #facts({ parts: { head, leaves, pairs, nodeCover, pairCover }, octets, found, took, id }) {
         const over = { LDM: `${counted(head.second, "landmark")}, `, HYP: `${head.first} by ${head.second} cells, ` }[head.method] ?? "";
         return {
             "Length": found.kind === "route" ? this.#lengths.exact(found.length) : "",
             "Version": `${found.version}`,
+            "Signed": dateSaid(found.version),
             "Publication": id,
             "Method": `${head.method}, ${over}${counted(head.nodes, "node")}, leaves ${head.order}`,
             "Proof": `${counted(leaves.length, "node")}, ${counted(pairs.length, "distance")}, ${counted(nodeCover.length + pairCover.length, "digest")}`,
@@ -193,13 +202,13 @@ export class Result {
     }
 }
 
-/** Whether a tapped place is not the proved one. */
+/** Tests whether a tapped place differs from the proved one. */
 function isApart(place, leaf) {
     return Boolean(place) && (place.x !== leaf.x || place.y !== leaf.y);
 }
 
 function dropped(said) {
-    return said ? [`The server's map is dropped, since what is proved is not as it shows it: ${said}. Who tapped it may have meant other places: compare both ends.`] : [];
+    return said ? [`The server's map is dropped, since it differs from what is proved: ${said}. If you tapped it, you may have meant other places: compare both ends.`] : [];
 }
 
 function octetsSaid(octets) {

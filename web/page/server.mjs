@@ -1,19 +1,22 @@
 /**
- * Asks a gateway (web/openapi.json). Whatever it answers is to be checked: nobody trusts it, nor this file for
- * more than that it asks.
+ * Sends requests to a gateway (web/openapi.json). Every answer must be checked: the gateway is not trusted, and this
+ * file is trusted only to make the requests.
  */
 const SECONDS = 30;
 const MOST_OCTETS = 64 << 20;
 const MOST_PUBLICATIONS = 16;
-/** By these and `Retry-After` a server asks the page to wait; then it is asked once more, after so many seconds at most. */
+/**
+ * The statuses with which a server, by `Retry-After`, asks the page to wait; then it is requested once more, after at
+ * most this many seconds.
+ */
 const WAIT = [429, 503];
 const MOST_WAIT = 3;
 
-/** The server gave no answer; `status` is its own, where it gave one. */
+/** The server gave no answer. `status` is the server's, if it gave one, and `problem` its problem type. */
 export class NoAnswer extends Error {
-    constructor(sentence, status = 0) {
+    constructor(sentence, status = 0, problem = "") {
         super(sentence);
-        this.status = status;
+        Object.assign(this, { status, problem });
     }
 }
 
@@ -25,8 +28,8 @@ export class Server {
     }
 
     /**
-     * The octets of a reply. `id` asks over one publication; else the newest is asked for, which is to have the least
-     * version. `pastCaches` goes past what caches hold.
+     * Returns the octets of a reply. `id` names a publication; otherwise the newest is requested, which must have the
+     * minimum version. `pastCaches` bypasses caches.
      */
     reply({ ask, from, end }, { id, least = 0n, pastCaches = false } = {}) {
         const query = `${ask}?from=${from}&${ask === "route" ? "to" : "radius"}=${end}`;
@@ -38,12 +41,12 @@ export class Server {
         return this.#fetched(id ? `/v1/p/${id}/publication` : "/v1/publication", "default");
     }
 
-    /** The owner's chain file, past all caches. */
+    /** Returns the owner's chain file, bypassing all caches. */
     chain() {
         return this.#fetched("/v1/chain", "reload");
     }
 
-    /** The publications that the server says it has, the newest first, but for those that it has not announced yet. */
+    /** Returns the publications that the server says it has, newest first, without those not yet announced. */
     async publications() {
         const text = new TextDecoder().decode(await this.#fetched("/v1/info", "no-cache"));
         const known = JSON.parse(text).publications.slice(0, MOST_PUBLICATIONS).filter(({ id, announced }) => /^[0-9a-f]{16}$/.test(id) && announced !== false);
@@ -57,7 +60,7 @@ export class Server {
             await new Promise((goOn) => setTimeout(goOn, 1000 * Math.min(MOST_WAIT, Number(wait))));
             found = await this.#response(path, cache);
         }
-        if (!found.ok) throw new NoAnswer(await saidBy(found), found.status);
+        if (!found.ok) throw await noAnswer(found);
         return bounded(found.body);
     }
 
@@ -70,18 +73,15 @@ export class Server {
     }
 }
 
-/** What the server says of a request that it does not answer. */
-async function saidBy(found) {
-    if (WAIT.includes(found.status)) return `the server asks to wait (status ${found.status})`;
-    try {
-        const { detail } = JSON.parse(new TextDecoder().decode(await bounded(found.body)));
-        return `the server answers with status ${found.status}: “${String(detail).slice(0, 200)}”`;
-    } catch {
-        return `the server answers with status ${found.status}`;
-    }
+/** Returns what the server says of a request that it does not answer. */
+async function noAnswer(found) {
+    const { type, detail } = await bounded(found.body).then((octets) => JSON.parse(new TextDecoder().decode(octets)) ?? {}).catch(() => ({}));
+    const words = detail === undefined ? "" : `: “${String(detail).slice(0, 200)}”`;
+    const said = WAIT.includes(found.status) ? `the server asks to wait (status ${found.status})` : `the server answers with status ${found.status}${words}`;
+    return new NoAnswer(said, found.status, `${type}`);
 }
 
-/** All octets of a stream, unless there are too many. */
+/** Returns all octets of a stream, unless there are too many. */
 async function bounded(stream) {
     const pieces = [];
     let length = 0;

@@ -1,9 +1,9 @@
 /**
- * SHA-256 of FIPS 180-4, for pages outside of a secure context too, where the engine's own is not there. It names
- * publications and makes the page's lies; no verdict rests on it. Nobody trusts this file: the proved client checks.
+ * SHA-256 of FIPS 180-4, also for pages outside a secure context, in which the browser's own is missing. It names
+ * publications and makes the page's lies; no verdict depends on it. Nobody trusts this file: the proved client checks.
  */
 
-/** The first 32 bits of the fractions of the `root`-th roots of the first primes. */
+/** Returns the first 32 bits of the fractions of the `root`-th roots of the first primes. */
 function fractions(count, root) {
     const found = [];
     for (let number = 2; found.length < count; number++) {
@@ -21,7 +21,7 @@ function turned(word, by) {
     return (word >>> by) | (word << (32 - by));
 }
 
-/** The state behind a block of 16 words. */
+/** Returns the state after a block of 16 words. */
 function behind(state, block) {
     const words = [...block];
     let [a, b, c, d, e, f, g, h] = state;
@@ -40,7 +40,7 @@ function behind(state, block) {
     return [a, b, c, d, e, f, g, h].map((word, place) => (word + state[place]) | 0);
 }
 
-/** The 32 octets of the digest of some octets. */
+/** Returns the 32 octets of the digest of some octets. */
 export function sha256(...parts) {
     const length = parts.reduce((sum, part) => sum + part.length, 0);
     const padded = joined(...parts, [0x80], new Uint8Array((119 - (length % 64)) % 64), new Uint8Array(8));
@@ -55,7 +55,7 @@ export function sha256(...parts) {
     return digest;
 }
 
-/** Octets one behind the other. */
+/** Joins octets. */
 export function joined(...parts) {
     const whole = new Uint8Array(parts.reduce((sum, part) => sum + part.length, 0));
     let at = 0;
@@ -70,7 +70,7 @@ export function hexOf(octets) {
     return Array.from(octets, (octet) => octet.toString(16).padStart(2, "0")).join("");
 }
 
-/** A key's or a publication's name in short: the front of its SHA-256, in hex. */
+/** Returns the short name of a key or a publication: the front of its SHA-256, in hex. */
 export function shortName(...octets) {
     return hexOf(sha256(...octets)).slice(0, 16);
 }

@@ -1,5 +1,5 @@
 /**
- * Dijkstra's search over the leaves of a reply, for the page's lies. It gives way between its pieces. Nobody trusts
+ * Dijkstra's algorithm over the leaves of a reply, for the page's lies. It pauses between its pieces. Nobody trusts
  * this file: the proved client searches by itself.
  */
 
@@ -28,7 +28,7 @@ class Heap {
         return least;
     }
 
-    /** Puts an item to the top, and down to its place. */
+    /** Puts an item at the top, and moves it down to its place. */
     #sink(item) {
         const items = this.#items;
         let at = 0;
@@ -51,7 +51,10 @@ export class Graph {
         this.#pauses = pauses;
     }
 
-    /** Each node that arcs between leaves lead to, by rising distance, with the node before it; no hop of `barred` is gone. */
+    /**
+     * Yields each node that arcs between leaves reach, by ascending distance, with the node before it; no hop in
+     * `barred` is taken.
+     */
     async reached(start, barred = []) {
         const [open, best, settled] = [new Heap(), new Map([[start, 0]]), new Map()];
         open.push({ distance: 0, here: start, before: null });

@@ -1,6 +1,4 @@
-/**
- * Writes into the page, as text. Nobody trusts this file for a verdict: it says what the proved client said.
- */
+/** Writes text into the page. Nobody trusts this file for a verdict: it says what the proved client said. */
 export const part = (id) => document.getElementById(id);
 const big = new Intl.NumberFormat("en");
 
@@ -8,12 +6,12 @@ export function element(name, text, more = {}) {
     return Object.assign(document.createElement(name), { textContent: text, ...more });
 }
 
-/** A number of things, as `1 node` or `2 nodes`. */
+/** Returns a number of things, such as `1 node` or `2 nodes`. */
 export function counted(count, thing) {
     return `${big.format(count)} ${thing}${count === 1 ? "" : "s"}`;
 }
 
-/** Says something in the live region: words of a verdict in front, a line of code beneath, and warnings. */
+/** Writes into the live region: the words of a verdict first, a line of code below, and warnings. */
 export function say(state, first, text, { line = "", warnings = [] } = {}) {
     const verdict = part("verdict");
     verdict.dataset.state = state;
@@ -21,12 +19,12 @@ export function say(state, first, text, { line = "", warnings = [] } = {}) {
     verdict.replaceChildren(...front, text, ...warnings.map((words) => element("em", words)), ...(line ? [element("code", line)] : []));
 }
 
-/** Adds a warning to what is said. */
+/** Adds a warning to the text. */
 export function warn(words) {
     part("verdict").append(element("em", words));
 }
 
-/** Marks an accepted verdict as one of another question than the form holds now. Says whether there was one. */
+/** Marks an accepted verdict as belonging to a query other than the one now in the form. Returns whether there was one. */
 export function sayBefore() {
     const verdict = part("verdict");
     if (verdict.dataset.state !== "accepted") return false;
@@ -35,7 +33,7 @@ export function sayBefore() {
     return true;
 }
 
-/** What to do next, over the map; nothing where there is nothing to do. */
+/** Writes what to do next, over the map, or nothing if there is nothing to do. */
 export function hint(words) {
     part("hint").textContent = words;
     part("hint").hidden = !words;

@@ -14,18 +14,18 @@ export class Streets {
         for (const row of rows) if (/^\d+$/.test(row[node] ?? "")) this.#names.set(Number(row[node]), row[streets] ?? "");
     }
 
-    /** The streets of a node, or nothing. */
+    /** Returns the streets of a node, or nothing. */
     get(id) {
         return this.#names.get(id);
     }
 
-    /** The nodes at which all streets of a text meet, whose names are parted by `;`. */
+    /** Returns the nodes at which all streets of a text meet; `;` separates their names. */
     nodesAt(text) {
         const wanted = parts(text);
         return [...this.#names].filter(([, streets]) => isAt(parts(streets), wanted)).map(([id]) => id);
     }
 
-    /** What a text may become: streets, and the crossings of one that is written whole. */
+    /** Returns the completions of a text: streets, and the crossings of one that is written in full. */
     offers(text) {
         const typed = text.trim().toLowerCase();
         const found = new Set();
@@ -36,7 +36,7 @@ export class Streets {
         return [...found].sort((one, two) => one.length - two.length).slice(0, MOST_OFFERS);
     }
 
-    /** A street as the table spells it. */
+    /** Returns a street as the table spells it. */
     #spelled(streets, name) {
         return streets.split(";").find((one) => one.trim().toLowerCase() === name).trim();
     }

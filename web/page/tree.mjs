@@ -1,12 +1,12 @@
 /**
- * What is known of a signed tree (docs/SPEC.md, "Trees" and "Covers and folds"), so that the page's lies can bring
- * any leaves that honest replies brought, with a good cover. Nobody trusts this file: the proved client folds.
+ * What is known of a signed tree (docs/SPEC.md, "Trees" and "Covers and folds"), so that the page's lies can use any
+ * leaves from honest replies, with a good cover. Nobody trusts this file: the proved client recomputes roots.
  */
 import { joined, sha256 } from "./sha256.mjs";
 
 export class Tree {
     #fan;
-    /** How many places each level has, from the leaves up. */
+    /** Returns the number of places of each level, from the leaves up. */
     #counts;
     #digests = new Map();
     #pauses;
@@ -18,7 +18,7 @@ export class Tree {
         while (this.#counts.at(-1) > 1) this.#counts.push(Math.ceil(this.#counts.at(-1) / fan));
     }
 
-    /** Takes over what the items and the cover of a reply say of the tree. */
+    /** Learns what the items and the cover of a reply say of the tree. */
     async learn(items, cover) {
         let next = 0;
         for await (const { level, place, isChosen } of this.#spots(items)) {
@@ -30,7 +30,7 @@ export class Tree {
         }
     }
 
-    /** The cover of some items among those that it learnt of; a tree without items has an empty one. */
+    /** Returns the cover of some items among those learnt; a tree without items has an empty one. */
     async cover(items) {
         const digests = [];
         for await (const { level, place, isChosen } of this.#spots(items)) {
@@ -39,7 +39,10 @@ export class Tree {
         return digests;
     }
 
-    /** From the top, each place that a fold of these items comes to, and whether an item is at or below it. */
+    /**
+     * Yields, from the top, each place that recomputing the root from these items visits, and whether an item is at or
+     * below it.
+     */
     async *#spots(items) {
         if (items.length === 0) return;
         const chosen = await this.#chosen(items);
@@ -53,7 +56,7 @@ export class Tree {
         }
     }
 
-    /** For each level, from the leaves up, the places at or below which an item is. */
+    /** Returns, for each level from the leaves up, the places at or below which there is an item. */
     async #chosen(items) {
         const levels = [];
         let places = items.map(({ index }) => index);

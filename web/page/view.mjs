@@ -1,6 +1,6 @@
 /**
- * Which part of a map a drawing shows, and where a place of the map stands on it: y grows upwards on a map, and a degree
- * of longitude is shorter than one of latitude by the cosine of the latitude.
+ * Which part of a map a drawing shows, and where a place of the map is on it. On a map y grows upwards, and a degree of
+ * longitude is shorter than one of latitude by the cosine of the latitude.
  */
 const EDGE = 40;
 const [LEAST_ZOOM, MOST_ZOOM] = [1 / 32, 512];
@@ -16,18 +16,18 @@ export class View {
     #isMoved = false;
     #places = [];
 
-    /** `degree` is how many of a coordinate make a degree, or nothing where the map is of a plane. */
+    /** `degree` is how many of a coordinate make a degree, or nothing if the map is a plane. */
     constructor(degree) {
         this.#degree = degree;
     }
 
-    /** Takes the size of the drawing in pixels of the page. What was fitted into it stays so. */
+    /** Takes the size of the drawing in pixels of the page. Whatever was fitted into it stays fitted. */
     resize(width, height) {
         [this.#width, this.#height] = [width, height];
         if (!this.#isMoved) this.fit(this.#places);
     }
 
-    /** Shows all of some places, or again those that were shown before. */
+    /** Shows all of some places, or again those shown before. */
     fit(places = this.#places) {
         this.#places = places;
         this.#isMoved = false;
@@ -43,29 +43,29 @@ export class View {
         this.#scale = this.#fitted = Math.min(wide / Math.max(1, (right - left) * this.#narrow), high / Math.max(1, top - bottom));
     }
 
-    /** Where a place stands, in pixels from the left and from above. */
+    /** Returns where a place is, in pixels from the left and from above. */
     at({ x, y }) {
         return [this.#width / 2 + (x - this.#middle.x) * this.#narrow * this.#scale, this.#height / 2 - (y - this.#middle.y) * this.#scale];
     }
 
-    /** The step from coordinates, less an origin, to pixels. */
+    /** Returns the step from coordinates, relative to an origin, to pixels. */
     matrix(origin) {
         const [left, above] = this.at(origin);
         return new DOMMatrix([this.#narrow * this.#scale, 0, 0, -this.#scale, left, above]);
     }
 
-    /** The middle of the drawing, in pixels. */
+    /** Returns the middle of the drawing, in pixels. */
     get centre() {
         return [this.#width / 2, this.#height / 2];
     }
 
-    /** Moves what is shown by so many pixels to the right and down. */
+    /** Moves the view by this many pixels to the right and down. */
     pan(right, down) {
         this.#isMoved = true;
         this.#middle = { x: this.#middle.x - right / (this.#narrow * this.#scale), y: this.#middle.y + down / this.#scale };
     }
 
-    /** Shows a place of the drawing so many times as large. */
+    /** Magnifies a place of the drawing this many times. */
     zoom(times, [left, above] = this.centre) {
         const scale = Math.min(this.#fitted * MOST_ZOOM, Math.max(this.#fitted * LEAST_ZOOM, this.#scale * times));
         const [right, down] = [left - this.#width / 2, above - this.#height / 2];

@@ -1,14 +1,15 @@
 /**
- * A walk of two minutes through what the page is for, where the owner gives its places: a proved route, no route, a lie
- * that is refused, and an older map that is refused. Each step does what somebody could do by hand. Nobody trusts this file.
+ * A walk of two minutes through the purpose of the page, if the owner gives its places: a proved route, no route, a lie
+ * that is refused, and an older map that is refused. Each step does what a user could do by hand. Nobody trusts this
+ * file.
  */
 import { element, part } from "./shown.mjs";
 
-/** Title, what to see, the button, the state that the verdict is to have, and what that means. */
+/** Title, what to see, the button, the state that the verdict should have, and what that means. */
 const STEPS = [
     {
         title: "A route, proved", does: "Ask for the way home", wanted: "accepted",
-        text: ({ from, to }) => `Ask for the shortest way from ${from} to ${to}. Nobody trusts the server that answers.`,
+        text: ({ from, to }) => `Ask for the shortest way from ${from} to ${to}. The server that answers is not trusted.`,
         after: "Your browser checked the answer with the map owner's key. The orange dots are signed crossings: they rule out every shorter way.",
     },
     {
@@ -24,7 +25,7 @@ const STEPS = [
     {
         title: "An older map, refused", does: "Let it use last summer's map", wanted: "refused",
         text: () => "In winter the pass is closed, and the owner signed a new map. Let the server answer from the one before.",
-        after: "Its signature is good, and its route was the shortest in summer. Your browser knows a newer map, and takes no older one.",
+        after: "Its signature is good, and its route was the shortest in summer. Your browser knows a newer map, and accepts no older one.",
     },
 ];
 
@@ -33,7 +34,7 @@ export function walk(places, page) {
     const doers = [() => ask(page, places, "to"), () => ask(page, places, "island"), () => lie(page, places), () => ask(page, places, "to", page.publications().at(-1)?.id)];
     const rows = STEPS.map((step, at) => rowOf(step, names, async (button) => {
         const isDone = (await doers[at]()) === step.wanted;
-        rows[at].querySelector(".after").textContent = isDone ? step.after : "That went otherwise than this walk tells.";
+        rows[at].querySelector(".after").textContent = isDone ? step.after : "That went differently than this tour says.";
         rows[at].dataset.state = isDone ? "done" : "otherwise";
         button.textContent = "Again";
         button.setAttribute("aria-label", `${step.does}, again`);
@@ -57,7 +58,7 @@ function rowOf({ title, text, does }, names, go) {
     return row;
 }
 
-/** Asks for the way from the walk's start, over a publication or the newest one. */
+/** Requests the route from the walk's start, over a publication or the newest one. */
 function ask({ question, ends, asking, showFields }, places, to, map = "") {
     question.ask.value = "route";
     showFields();

@@ -1,7 +1,19 @@
-//! Says what the crate says of each case of a file, a line each: cases FILE. bindings/play_more.py writes the file, a case
-//! a line of words: the query, the key and the chain in hex (`-` for none), from, end, least, simple, the reply in hex.
-use gogbetiku::{key_of, Answer, Client, Refused};
+//! Prints the crate's result for each case in a file, one line each: cases FILE. bindings/play_more.py writes the file,
+//! with one case in each line of words: the query, the key and the chain in hex (`-` for none), from, end, least,
+//! simple, the reply in hex, for the nearest nodes the listed ids (`-` for none) and how many are wanted, and, with an
+//! age, the greatest age and a clock in seconds as the 11th and 12th words. With an age, the query `least` is the
+//! version to request from a gateway, and `young` the meaning of its 503.
+use gogbetiku::{key_of, Answer, Client, ReachedNode, Refused};
 use std::error::Error;
+use std::sync::atomic::{AtomicU64, Ordering};
+use std::time::{Duration, SystemTime, UNIX_EPOCH};
+
+static NOW: AtomicU64 = AtomicU64::new(0);
+
+/// Returns the clock of a case.
+fn clock() -> SystemTime {
+    UNIX_EPOCH + Duration::from_secs(NOW.load(Ordering::Relaxed))
+}
 
 fn octets(text: &str) -> Result<Vec<u8>, Box<dyn Error>> {
     if text == "-" {
@@ -13,14 +25,29 @@ fn octets(text: &str) -> Result<Vec<u8>, Box<dyn Error>> {
 
 fn told(case: &str) -> Result<String, Box<dyn Error>> {
     let words: Vec<&str> = case.split(' ').collect();
-    let client = Client::new(&key_of(words[1])?, &octets(words[2])?);
+    let mut client = Client::new(&key_of(words[1])?, &octets(words[2])?);
+    if words.len() > 11 {
+        NOW.store(words[11].parse()?, Ordering::Relaxed);
+        client = client.with_max_age(Duration::from_secs(words[10].parse()?), clock);
+    }
     let (from, least, reply) = (words[3].parse()?, words[5].parse()?, octets(words[7])?);
+    if words[0] == "least" {
+        return Ok(client.least_to_ask(least).map_or_else(|why| refusal(&why), |asked| format!("asked {asked}")));
+    }
+    if words[0] == "young" {
+        return Ok(client.none_young().map_or_else(String::new, |why| refusal(&why)));
+    }
+    if words[0] == "nearest" {
+        let ids: Vec<u32> = words[8].split(',').filter(|id| *id != "-").map(str::parse).collect::<Result<_, _>>()?;
+        return Ok(match client.nearest(&reply, from, words[4].parse()?, &ids, least, words[9].parse()?) {
+            Ok(found) if found.inside == 0 => format!("19 {}", found.version),
+            Ok(found) => format!("1 {} {}{}", found.version, found.inside, reached(&found.nodes)),
+            Err(why) => refusal(&why),
+        });
+    }
     if words[0] == "reach" {
         return Ok(match client.check_reach(&reply, from, words[4].parse()?, least) {
-            Ok(within) => {
-                let nodes: Vec<String> = within.nodes.iter().map(|node| format!("{},{},{},{}", node.id, node.x, node.y, node.distance)).collect();
-                format!("1 {} - {}", within.version, nodes.join(" "))
-            }
+            Ok(within) => format!("1 {} -{}", within.version, reached(&within.nodes)),
             Err(why) => refusal(&why),
         });
     }
@@ -32,6 +59,10 @@ fn told(case: &str) -> Result<String, Box<dyn Error>> {
         Ok(Answer::NoRoute { version }) => format!("2 {version}"),
         Err(why) => refusal(&why),
     })
+}
+
+fn reached(nodes: &[ReachedNode]) -> String {
+    nodes.iter().map(|node| format!(" {},{},{},{}", node.id, node.x, node.y, node.distance)).collect()
 }
 
 fn refusal(why: &Refused) -> String {

@@ -1,4 +1,4 @@
-//! What no case of bindings/play_more.py has: keys, texts, and threads that share a client.
+//! What no case of bindings/play_more.py covers: keys, texts, and threads that share a client.
 use gogbetiku::{key_of, library_version, Client, Kind, NoKey};
 
 #[test]
@@ -11,14 +11,15 @@ fn keys_are_112_hex_digits() {
 }
 
 #[test]
-fn no_octets_are_refused_by_both_calls() {
+fn no_octets_are_refused_by_each_call() {
     let client = Client::new(&[0; 56], &[]);
     let route = client.check_route(&[], 1, 3, 0, false).unwrap_err();
     let reach = client.check_reach(&[], 1, 3, 0).unwrap_err();
-    for refused in [route, reach] {
+    let nearest = client.nearest(&[], 1, 3, &[2, 1], 0, 1).unwrap_err();
+    for refused in [route, reach, nearest] {
         assert_eq!((refused.kind, refused.code, refused.first), (Kind::Malformed, 4, 0));
         assert_eq!(refused.line, "refused Malformed 0");
-        assert_eq!(refused.to_string(), "The octets are no reply: the field at offset 0 can't be read.");
+        assert_eq!(refused.to_string(), "The octets are not a reply: the field at offset 0 can't be read.");
     }
 }
 

@@ -1,4 +1,4 @@
--- What an audit's answer lets the command end with.
+-- How the command ends for the result of an audit.
 use Rattle.std.proofs.Common.{◌≡◌, inl, inr, ℕ, ◌≤◌, true, List, [], Some, refl, subst, ◌∙◌, IfSome, arith}
 use Rattle.std.specs.declared.option.Option.{Option}
 use Rattle.std.specs.declared.option.Option.TheVariants.{None}
@@ -48,13 +48,13 @@ use Rattle.audit_commands.specs.Owners.{IsOwnersKey, look_in, look_everywhere}
 use Rattle.audit_commands.specs.Headline.{AreAllSigned, ClashIn, IsBrought, RestsOn}
 use Rattle.audit_commands.proofs.Steps.{own, own_in, not_own, signed_more, forges_more, later}
 
--- the steps after the owner's key
+-- the steps after the test of the owner's key
 abbrev pub Behind : {Q A X E : Type 0} → ReplyKind Q A X E → (E → List ℕ) → Option (List ℕ) → List ℕ → List Link → List ℕ → Q → Publication → Ending
 Behind kind line content key links octets q p =
     EndsClient kind line key links octets q (λ x a. EndsInstalling p (EndsSigned content key links (kind.header a) (kind.signature a) (EndsSameHeader p (kind.header a) (EndsComparing kind p q x a))))
 
 module _ {D : Type 0} (g : Ghosts D) (old mid new : D) (desk : Desk) (seen : (c : List ℕ) → still_told g old new ≡ Some c → Image g new c) (blocks : HasBlocks (still_told g old new) desk) (fits : Fits g desk mid) where
-  -- ---- what the desk says, of what the disk still tells
+  -- ---- what the desk implies, about the content that the disk still states
 
   module _ (c : List ℕ) (is : still_told g old new ≡ Some c) where
     owns_in : (key : List ℕ) → (look_at g desk mid new).Owns key → (look_in c).Owns key
@@ -72,7 +72,7 @@ module _ {D : Type 0} (g : Ghosts D) (old mid new : D) (desk : Desk) (seen : (c 
   forges_read : (key : List ℕ) (links : List Link) (header signature : List ℕ) (f : Forgery) → Forges (look_at g desk mid new) key links header signature f → ForSome (still_told g old new) (λ c. Forges (look_in c) key links header signature f)
   forges_read key links header signature f h c is = forges_more (look_at g desk mid new) (look_in c) (owns_in c is) (signs_in c is) (lacks_in c is) key links header signature f h
 
-  -- ---- and of every image
+  -- ---- and about every image
 
   module _ (m : AtEachMoment g mid new Stays) where
     owns_all : (key : List ℕ) → (look_at g desk mid new).Owns key → (look_everywhere g new).Owns key
@@ -90,19 +90,19 @@ module _ {D : Type 0} (g : Ghosts D) (old mid new : D) (desk : Desk) (seen : (c 
     forges_all : (key : List ℕ) (links : List Link) (header signature : List ℕ) (f : Forgery) → Forges (look_at g desk mid new) key links header signature f → Forges (look_everywhere g new) key links header signature f
     forges_all key links header signature f h = forges_more (look_at g desk mid new) (look_everywhere g new) owns_all signs_all lacks_all key links header signature f h
 
-  -- ---- what an answer is told as
+  -- ---- the report of an answer
 
   module _ {Q A X E : Type 0} (kind : ReplyKind Q A X E) (line : E → List ℕ) (laws : AreReplies kind) (key : List ℕ) (links : List Link) (octets : List ℕ) (q : Q) (p : Publication) where
-    -- what is found
+    -- the finding
     abbrev IsFound : Result Finding (AuditError E) → Type 0
     IsFound r = Finds kind sha256 sha256 (look_at g desk mid new) (at key links octets q p) r
 
-    -- after the owner's key
+    -- after the test of the owner's key
     behind : IsKeyFrom desk 0 key → (o : Result Conclusion Fault) (t : List ℕ) → Behind kind line (still_told g old new) key links octets q p o t
         → EndsOwnersKey (still_told g old new) key (Behind kind line (still_told g old new) key links octets q p) o t
     behind own_key o t h = inr (own (still_told g old new) desk key blocks fits.sound own_key, h)
 
-    -- after the installing
+    -- after the install
     behind_installed : (i : IsInstalled kind sha256 sha256 (look_at g desk mid new) (at key links octets q p)) → (o : Result Conclusion Fault) (t : List ℕ)
         → EndsSigned (still_told g old new) key links (kind.header i.reply.answer) (kind.signature i.reply.answer) (EndsSameHeader p (kind.header i.reply.answer) (EndsComparing kind p q i.reply.taken i.reply.answer)) o t
         → EndsOwnersKey (still_told g old new) key (Behind kind line (still_told g old new) key links octets q p) o t
@@ -127,17 +127,17 @@ module _ {D : Type 0} (g : Ghosts D) (old mid new : D) (desk : Desk) (seen : (c 
     by_answer (Ok (Collision left right)) o t f tells = behind_installed f.0.installed o t (inr (signed_read links _ f.0.signed, inr (f.0.same, inr (tells.0, record { left = left; right = right }, f.1, tells.1))))
     by_answer (Ok Right) o t f tells = behind_installed f.0.installed o t (inr (signed_read links _ f.0.signed, inr (f.0.same, inl (tells.0, f.1, tells.1))))
 
-    -- after the opened desk
+    -- after the desk was opened
     pub ends_of : ForSome (still_told g old new) IsUsable → (r : Result Finding (AuditError E)) (o : Result Conclusion Fault) (t : List ℕ) → IsFound r → Tells line r o t → EndsAudit kind line (still_told g old new) key links p octets q o t
     ends_of usable r o t f tells = inr (inr (usable, by_answer r o t f tells))
 
-    -- why nothing was written
+    -- the reason why nothing was written
     pub why_not : (DiskFailed : Type 0) → ForSome (still_told g old new) IsUsable → (r : Result Finding (AuditError E)) → (LookFailed r → DiskFailed) → (f : Fault) → IsFound r
         → WhyNot (LookFailed r) (Tells line r) f → WhyNot DiskFailed (EndsAudit kind line (still_told g old new) key links p octets q) f
     why_not DiskFailed usable r failed f finds =
         why_map (LookFailed r) DiskFailed (Tells line r) (EndsAudit kind line (still_told g old new) key links p octets q) failed (λ o t tells. ends_of usable r o t finds tells) f
 
-    -- a look fails only where the disk's count of faults rose
+    -- looking up the texts fails only if the disk's failure count rose
     pub look_failed : desk.is_open ≡ true → g.faults old ≤ g.faults mid → (r : Result Finding (AuditError E)) → IsFound r → LookFailed r → Rose (g.faults old) (g.faults new)
     look_failed opened later r f why = by why.0 (subst IsFound why.1 f).1
       where
@@ -146,7 +146,7 @@ module _ {D : Type 0} (g : Ghosts D) (old mid new : D) (desk : Desk) (seen : (c 
         by DiskFault h = grind (arith, h.1, later)
         by Closed h = absurd (cc)
 
-    -- the accepted answer brings its header
+    -- the accepted answer has its header
     all_signed : AtEachMoment g mid new Stays → (i : IsInstalled kind sha256 sha256 (look_at g desk mid new) (at key links octets q p)) → AreSigned (look_at g desk mid new) links (header_text (kind.header i.reply.answer))
         → AreAllSigned g new (IsBrought kind octets) links
     all_signed m i signed = record {
@@ -156,7 +156,7 @@ module _ {D : Type 0} (g : Ghosts D) (old mid new : D) (desk : Desk) (seen : (c 
       signed = signed_all m links (header_text (kind.header i.reply.answer)) signed;
     }
 
-    -- what a line rests on
+    -- the support of a line
     pub rests_on : AtEachMoment g mid new Stays → (r : Result Finding (AuditError E)) (o : Result Conclusion Fault) (t : List ℕ) → IsFound r → Tells line r o t → RestsOn g new (IsBrought kind octets) (ClashIn kind p octets) key links o t
     rests_on m r (Ok Refused) t f tells = tt
     rests_on m (Err audit.OtherPublication) (Err OtherPublication) t f tells = all_signed m f.installed f.signed
@@ -210,12 +210,12 @@ module _ {D : Type 0} (g : Ghosts D) (old mid new : D) (desk : Desk) (seen : (c 
     rests_on m (Err (audit.Install (install.Memory _))) (Ok Done) t f tells = absurd tells
     rests_on m (Err (audit.Install (install.Memory _))) (Ok Evidence) t f tells = absurd tells
 
-    -- and a fault
+    -- and of a fault
     pub rests_otherwise : AtEachMoment g mid new Stays → (r : Result Finding (AuditError E)) (f : Fault) → IsFound r → WhyNot (LookFailed r) (Tells line r) f → RestsOn g new (IsBrought kind octets) (ClashIn kind p octets) key links (Err f) []
     rests_otherwise m r OtherPublication finds why = rests_on m r (Err OtherPublication) [] finds why
     rests_otherwise m r f finds why = tt
 
--- nothing rests on a desk that doesn't open
+-- if the desk does not open, nothing has to be supported
 pub not_opened_rests : {D : Type 0} (g : Ghosts D) (disk : D) (Brings Hashed : List ℕ → List ℕ → Type 0) (DiskFailed : Type 0) (content : Option (List ℕ)) (key : List ℕ) (links : List Link) (f : Fault) → WhyNot DiskFailed (EndsOpening content NoEnd) f → RestsOn g disk Brings Hashed key links (Err f) []
 not_opened_rests g disk Brings Hashed DiskFailed content key links OtherPublication (inl h) = absurd (cc)
 not_opened_rests g disk Brings Hashed DiskFailed content key links OtherPublication (inr (inl h)) = absurd (cc)
@@ -223,14 +223,14 @@ not_opened_rests g disk Brings Hashed DiskFailed content key links OtherPublicat
 not_opened_rests g disk Brings Hashed DiskFailed content key links f h = tt
 
 module _ {Q A X E : Type 0} (kind : ReplyKind Q A X E) (line : E → List ℕ) where
-  -- a desk that doesn't open
+  -- a desk that does not open
   pub not_opened : (DiskFailed : Type 0) (content : Option (List ℕ)) (key : List ℕ) (links : List Link) (p : Publication) (octets : List ℕ) (q : Q) (f : Fault) → WhyNot DiskFailed (EndsOpening content NoEnd) f → WhyNot DiskFailed (EndsAudit kind line content key links p octets q) f
   not_opened DiskFailed content key links p octets q =
       why_map DiskFailed DiskFailed (EndsOpening content NoEnd) (EndsAudit kind line content key links p octets q) (λ x. x) (shut content (EndsOwnersKey content key (Behind kind line content key links octets q p)))
 
   -- ---- the command
 
-  -- what four files make of an end
+  -- an end, in terms of four files
   module _ (files : Option Folder) (content : Option (List ℕ)) (key_name publication_name reply_name : List ℕ) (chain_name : Option (List ℕ)) (key octets : List ℕ) (links : List Link) (p : Publication) (q : Q)
       (key_read : IfSome files (λ folder. public_key_at folder key_name ≡ Ok key)) (publication_read : IfSome files (λ folder. publication_at folder publication_name ≡ Ok p)) (reply_read : IfSome files (λ folder. octets_at folder reply_name ≡ Ok octets))
       (chain_read : IfSome files (λ folder. chain_at folder chain_name ≡ Ok links)) where
@@ -255,7 +255,7 @@ module _ {Q A X E : Type 0} (kind : ReplyKind Q A X E) (line : E → List ℕ) w
       pub audit_refused : (f : Fault) → WhyNot DiskFailed (EndsAudit kind line content key links p octets q) f → Promises (ends_audit kind line content key_name publication_name reply_name q chain_name) TellsNone DiskFailed files l l' old old k k' (Err f)
       audit_refused f h = refused (ends_audit kind line content key_name publication_name reply_name q chain_name) TellsNone DiskFailed files l l' k k' old (EndsAudit kind line content key links p octets q) calls f h
 
-      -- a line that was told
+      -- a line that was returned
       pub audit_told : (new : Option (List ℕ)) (end o : Result Conclusion Fault) (text : List ℕ) → MayEnd TellsNone end → EndsAudit kind line content key links p octets q end text → Writes end text old new k k' o
           → Promises (ends_audit kind line content key_name publication_name reply_name q chain_name) TellsNone DiskFailed files l l' old new k k' o
       audit_told new end o text may h w = written (ends_audit kind line content key_name publication_name reply_name q chain_name) TellsNone DiskFailed files l l' k k' old (EndsAudit kind line content key links p octets q) calls new end o text may h w

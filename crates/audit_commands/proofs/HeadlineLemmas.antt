@@ -1,4 +1,4 @@
--- The headline, by the ends of an audit and what its lines rest on.
+-- The headline, from the results of an audit and the support of its lines.
 use Rattle.std.proofs.Common.{◌≡◌, ◌≢◌, ◌⊎◌, inl, inr, ℕ, List, [], refl, sym, ap, subst, ◌∙◌, IfSome}
 use Rattle.std.specs.declared.option.Option.{Option}
 use Rattle.std.specs.declared.option.Option.TheVariants.{None, Some}
@@ -37,7 +37,7 @@ use Rattle.command_files.proofs.Written.{failed, read_as}
 abbrev pub ended : Conclusion → Result Conclusion Fault
 ended v = Ok v
 
--- what follows the installing of a publication that can be installed
+-- the steps after the install of a publication that can be installed
 pub installed : OneMaking → (p : Publication) (Next : Ending) (o : Result Conclusion Fault) (t : List ℕ) → HasHeader sha256 sha256 p.parts p.settings p.header → EndsInstalling p Next o t → Next o t
 installed makings p Next o t has h = by (subst (λ (m : Result Header BuildError). AfterBuild (IfInstalled p Next) m o t) same h.follows)
   where
@@ -48,7 +48,7 @@ installed makings p Next o t has h = by (subst (λ (m : Result Header BuildError
     by (inl k) = k.1
     by (inr k) = absurd (k.0 refl)
 
--- evidence by what one relation brings is evidence by what another brings
+-- evidence for what one relation gives is evidence for what another one gives
 pub evidence_by : {D : Type 0} (g : Ghosts D) (disk : D) (One Other Here There : List ℕ → List ℕ → Type 0) (k key : List ℕ) (ls links : List Link) (text : List ℕ) → ((header signature : List ℕ) → One header signature → Other header signature) → ((left right : List ℕ) → Here left right → There left right) → k ≡ key → ls ≡ links
     → IsEvidence g disk One Here k ls text → IsEvidence g disk Other There key links text
 evidence_by g disk One Other Here There k key ls links text by moves same same_links (inl e) = inl (record { left = e.left; right = e.right; collide = e.collide; hashed = moves e.left e.right e.hashed; line = e.line })
@@ -61,13 +61,13 @@ evidence_by g disk One Other Here There k key ls links text by moves same same_l
   line = e.line;
 })
 
--- an audit ends because the accepted header is another's
+-- an audit ends because the accepted header belongs to another publication
 pub record IsOtherEnd (p : Publication) (accepted : Header) (o : Result Conclusion Fault) : Type 0 where
   pub outcome : o ≡ Err OtherPublication
   pub other : accepted ≢ p.header
 
--- how an audit of accepted octets ends: with the right line, and what is taken is true, or with evidence, or
--- otherwise as above
+-- How an audit of accepted octets ends: with the line of a right reply, and the result is true; or with evidence;
+-- or in one of the ways above.
 pub record IsRightEnd (p : Publication) (accepted : Header) (Truth : Type 0) (o : Result Conclusion Fault) (t : List ℕ) : Type 0 where
   pub outcome : o ≡ Ok Done
   pub line : t ≡ right_line
@@ -118,7 +118,7 @@ module _ {Q A X E : Type 0} (kind : ReplyKind Q A X E) (line : E → List ℕ) (
   opening o t (inr (inl h)) = absurd (f.usable.good_block (h.1 f.image f.told).1)
   opening o t (inr (inr h)) = owners o t h.1
 
-  -- over what the files encode
+  -- over the contents that the files encode
   over_files : (o : Result Conclusion Fault) (t : List ℕ) → ends_audit kind line content key_name publication_name reply_name q chain_name folder o t → IsEnd p (kind.taken_header x) Truth o t
   over_files o t h =
       let by_key = read_as (public_key_at folder key_name) key (λ k. EndsReading (publication_at folder publication_name) (λ b. EndsReading (octets_at folder reply_name) (λ octets. EndsReading (chain_at folder chain_name) (λ ls. EndsAudit kind line content k ls b octets q)))) o t f.key_read h in
@@ -134,7 +134,7 @@ module _ {Q A X E : Type 0} (kind : ReplyKind Q A X E) (line : E → List ℕ) (
   no_fault f t (inr (inl e)) none = let same : failed f ≡ Ok Evidence = e in cc
   no_fault f t (inr (inr r)) none = let e : failed f ≡ failed OtherPublication = r.outcome in let same : f ≡ OtherPublication = cc in subst RestsOnNone same none
 
-  -- what the accepted octets bring is the accepted header
+  -- the header of the accepted octets is the accepted header
   brings : (octets header signature : List ℕ) → octets ≡ f.octets → IsBrought kind octets header signature → IsAcceptedHeader (kind.taken_header x) (IsBrought kind f.octets) header signature
   brings octets header signature same b =
       let moved : IsBrought kind f.octets header signature = subst (λ (xs : List ℕ). IsBrought kind xs header signature) same b in
@@ -201,7 +201,7 @@ module _ {Q A X E : Type 0} (kind : ReplyKind Q A X E) (line : E → List ℕ) (
   finds g disk old new (Err Source) lost a w = absurd (no_fault Source a.0 (over_files (Err Source) a.0 a.1) tt)
   finds g disk old new (Err fault) lost a w = absurd (no_fault fault [] (over_files (Err fault) [] a) tt)
 
--- the same where the library may tell its files
+-- the same, if the library may state its files
 pub audits_accepted : {Q A X E : Type 0} (kind : ReplyKind Q A X E) (line : E → List ℕ) → AreReplies kind → OneMaking → {D : Type 0} (g : Ghosts D) (disk : D) (files : Option Folder) (content : Option (List ℕ)) (key publication reply : List ℕ) (q : Q) (chain : Option (List ℕ)) (old new : Option (List ℕ)) (o : Result Conclusion Fault)
     → (o ≡ Err MirrorLost → ⊥) → IfSome files (λ folder. Answered (ends_audit kind line content key publication reply q chain folder) old new o) → WritesFindings g disk (IsBrought kind) (ClashIn kind) key publication reply chain files old new o → AuditsAccepted kind g content disk key publication reply q chain files old new o
 audits_accepted kind line laws makings g disk (Some folder) content key publication reply q chain old new o lost a w =

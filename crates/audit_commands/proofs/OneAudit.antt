@@ -1,4 +1,4 @@
--- Over its files and what the disk holds, an audit has one end.
+-- An audit has one result over its files and the disk's contents.
 use Rattle.std.proofs.Common.{◌≡◌, inl, inr, ℕ, List, refl, sym, subst, ◌∙◌}
 use Rattle.std.specs.declared.option.Option.{Option}
 use Rattle.std.specs.declared.option.Option.TheVariants.{Some}
@@ -24,7 +24,7 @@ use Rattle.audit_commands.specs.Owners.{look_in}
 use Rattle.command_files.specs.declared.fault.Fault.{Fault}
 use Rattle.command_files.specs.declared.ended.Conclusion.{Conclusion}
 
--- what an image has signed is no forgery in it
+-- a text that an image has signed is not a forgery in this image
 not_both : (content key : List ℕ) (links : List Link) (header signature : List ℕ) (f : Forgery) → Forges (look_in content) key links header signature f → AreSigned (look_in content) links header → ⊥
 not_both content key links header signature f forges signed = elim forges.first [
   | inl h ↦ let at = signed.linked h.number h.known in h.unsigned at.0 at.1
@@ -68,7 +68,7 @@ module _ {Q A X E : Type 0} (kind : ReplyKind Q A X E) (line : E → List ℕ) (
     one_comparing p q x a (inr h) (inl k) = absurd (laws.not_both sha256 sha256 p q x a h.1 k.1 h.2)
     one_comparing p q x a (inr h) (inr k) = h.0 ∙ sym k.0
 
-  -- over what a disk holds, an audit has one end
+  -- over the contents of a disk, an audit has one end
   one_audit : OneMaking → (content key : List ℕ) (links : List Link) (b : Publication) (octets : List ℕ) (q : Q) (o e : Result Conclusion Fault) (s t : List ℕ)
       → EndsAudit kind line (Some content) key links b octets q o s → EndsAudit kind line (Some content) key links b octets q e t → o ≡ e
   one_audit makings content key links b octets q o e s t =
@@ -91,7 +91,7 @@ module _ {Q A X E : Type 0} (kind : ReplyKind Q A X E) (line : E → List ℕ) (
           one_installing makings b (Behind x a) o e s t
           (one_signed o e s t content key links (kind.header a) (kind.signature a) (EndsSameHeader b (kind.header a) (EndsComparing kind b q x a)) (one_same o e s t b (kind.header a) (EndsComparing kind b q x a) (one_comparing o e s t b q x a)))
 
-  -- and so over its files
+  -- so it has one end over its files
   pub only_audit : OneMaking → (content key publication reply : List ℕ) (q : Q) (chain : Option (List ℕ)) (folder : Folder) → HasOneEnd (ends_audit kind line (Some content) key publication reply q chain folder)
   only_audit makings content key publication reply q chain folder =
       one_reading (public_key_at folder key) (λ k. EndsReading (publication_at folder publication) (λ p. EndsReading (octets_at folder reply) (λ octets. EndsReading (chain_at folder chain) (λ links. EndsAudit kind line (Some content) k links p octets q))))

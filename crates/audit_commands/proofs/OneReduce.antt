@@ -1,4 +1,4 @@
--- Over its files and what the disk holds, `reduce` has one end.
+-- `reduce` has one result over its files and the disk's contents.
 use Rattle.std.proofs.Common.{◌≡◌, inl, inr, ℕ, ◌+◌, ◌<◌, ◌≤◌, List, length, take, drop, Option, Some, None, refl, sym, ap, ◌∙◌, subst, arith}
 use Rattle.std.proofs.lemmas.Bool.{cases_lt}
 use Rattle.std.proofs.lemmas.List.{length-take, length-drop}
@@ -53,7 +53,7 @@ one_area c a b key other usable at_a at_b same =
       ]
     ]
 
--- ---- a slot has signed one text, or nothing
+-- ---- a slot has signed one text, or no text
 
 one_signed : (c : List ℕ) (slot : SlotId) (s t : Option (List ℕ)) → HasSigned c slot s → HasSigned c slot t → s ≡ t
 one_signed c slot None None h k = refl
@@ -102,7 +102,7 @@ module _ (c public text sig : List ℕ) (usable : IsUsable c) (o e : Result Conc
   one_reducing (inr (a, key, spent, of_key, on_disk, told)) (inr (b, other, spent', of_other, on_disk', told')) =
       one_told key other a b spent spent' of_key of_other (on_disk c refl).0 (on_disk' c refl).0 (on_disk c refl).1 (on_disk' c refl).1 told told'
 
--- what follows an opening, on a disk that can be used
+-- the steps after an opening, on a disk that can be used
 with_usable : (c : List ℕ) (Next : Ending) (o : Result Conclusion Fault) (t : List ℕ) → EndsOpening (Some c) Next o t → EndsOpening (Some c) (λ x l. IsUsable c × Next x l) o t
 with_usable c Next o t (inl h) = inl h
 with_usable c Next o t (inr (inl h)) = inr (inl h)
@@ -114,7 +114,7 @@ one_reduce c public text sig o e s t h k =
     (λ a b. one_reducing c public text sig a.0 o e s t a.1 b.1)
     (with_usable c (EndsReducing (Some c) public text sig) o s h) (with_usable c (EndsReducing (Some c) public text sig) e t k)
 
--- and so over its files
+-- so it has one end over its files
 pub only_reduce : (content key text signature : List ℕ) (folder : Folder) → HasOneEnd (ends_reduce (Some content) key text signature folder)
 only_reduce content key text signature folder =
     one_reading (public_key_at folder key) (λ public. EndsReading (hex_text_at folder text) (λ octets. EndsReading (hex_text_at folder signature) (λ sig. EndsReduce (Some content) public octets sig)))

@@ -1,4 +1,4 @@
--- What a signature comes down to, told of the disk and of its images.
+-- The result of reducing a signature, for the disk and for its images.
 use Rattle.std.proofs.Common.{◌≡◌, ◌≢◌, ◌⊎◌, ◌↔◌, inl, inr, ℕ, ◌+◌, ◌*◌, ◌<◌, ◌≤◌, List, length, take, drop, Option, Some, None, IfSome, refl, sym, ap, ◌∙◌, subst, arith}
 use Rattle.std.specs.Prelude.{slice_index}
 use Rattle.std.specs.declared.result.Result.{Result}
@@ -38,20 +38,20 @@ use Rattle.audit_commands.specs.Reducing.{HasSigned, HasSpent, IsKeyIn, TellsRed
 use Rattle.audit_commands.specs.Unreleased.{ShowsLater, IsUnreleasedLine, IsClashLine, RestsOnReduced, AreSpelled, WritesReduced}
 use Rattle.audit_commands.proofs.SlotLemmas.{key_in, none_in}
 
--- what holds of each image holds of each image afterwards, since none changes
+-- a fact about each image holds about each image afterwards, since no image changes
 later : {D : Type 0} (g : Ghosts D) (mid new : D) (P : List ℕ → Type 0) → AtEachMoment g mid new Stays → EachImage g mid P → EachImage g new P
 later g mid new P m h i now = let w = at_end g mid new Stays m i now in subst P (sym w.2) (h w.0 w.1)
 
--- ---- what an answer tells
+-- ---- the report of an answer
 
--- an answer that was given, and one that was refused
+-- a successful answer, and a refusal
 abbrev given : Reduced → Result Reduced ReduceError
 given r = Ok r
 
 abbrev refusal : ReduceError → Result Reduced ReduceError
 refusal e = Err e
 
--- a signature that is not bad is good
+-- a signature without a fault is valid
 good_else : (v : Result (Unit {0}) SealError) → ((why : SealError) → v ≡ Err why → ⊥) → v ≡ Ok tt
 good_else (Ok tt) none = refl
 good_else (Err why) none = absurd (none why refl)
@@ -72,19 +72,19 @@ module _ (key : KeyOf) (spent : Option (List ℕ)) (text sig line : List ℕ) wh
   pub told_refused : (why : SealError) → ((w : SealError) → (refusal (NotVerified why) ≡ Err (NotVerified w)) ↔ (verified (public_key key) text sig ≡ Err w)) → line ≡ refused_line (BadSignature why) → TellsReduced key spent text sig (Ok Refused) line
   told_refused why bad is = inl (why, (bad why).0 refl, refl, is)
 
--- told of a key and of a slot's text that are these
+-- the result for this key and this text of a slot
 pub told_slot : {D : Type 0} (g : Ghosts D) (disk : D) (area : ℕ) (key key' : KeyOf) (spent spent' : Option (List ℕ)) (text sig : List ℕ) (o : Result Conclusion Fault) (line : List ℕ) → key' ≡ key → spent' ≡ spent
     → EachImage g disk (λ i. HasSpent i area sig spent) → TellsReduced key' spent' text sig o line → TellsSlot g disk area key text sig o line
 told_slot g disk area key key' spent spent' text sig o line same_key same_spent each tells =
     (spent, each, subst (λ (k : KeyOf). TellsReduced k spent text sig o line) same_key (subst (λ (s : Option (List ℕ)). TellsReduced key' s text sig o line) same_spent tells))
 
--- ---- what is told of the disk
+-- ---- the facts about the disk
 
 module _ {D : Type 0} (g : Ghosts D) (old mid new : D) (desk : Desk) (public text sig : List ℕ) (opened : IsOpened g old mid desk) (told : (c : List ℕ) → still_told g old new ≡ Some c → g.content mid ≡ Some c) where
   usable : ForSome (still_told g old new) IsUsable
   usable c still = opened.usable c (told c still)
 
-  -- the line of an area's slot is that of what the disk still tells
+  -- the line of an area's slot is that of the content which the disk still states
   pub told_ends : ((c : List ℕ) → still_told g old new ≡ Some c → Image g new c) → (area : ℕ) (o : Result Conclusion Fault) (line : List ℕ) → area ≤ length desk.earlier → public_key (key_of desk area) ≡ public → TellsSlot g new area (key_of desk area) text sig o line
       → EndsReduce (still_told g old new) public text sig o line
   told_ends seen area o line le is tells = inr (inr (usable, inr (area, key_of desk area, tells.0, sym is, on_disk, tells.2)))
@@ -96,19 +96,19 @@ module _ {D : Type 0} (g : Ghosts D) (old mid new : D) (desk : Desk) (public tex
   pub other_key : (DiskFailed : Type 0) → ((area : ℕ) → area ≤ length desk.earlier → public_key (key_of desk area) ≢ public) → WhyNot DiskFailed (EndsReduce (still_told g old new) public text sig) faults.OtherKey
   other_key DiskFailed none = inr (inr (usable, inl (refl, λ c still. none_in desk c public opened.fits.sound (opened.areas c (told c still)).1 none, refl)))
 
--- a desk that doesn't open
+-- a desk that does not open
 pub not_opened : (DiskFailed : Type 0) (content : Option (List ℕ)) (public text sig : List ℕ) (f : Fault) → WhyNot DiskFailed (EndsOpening content NoEnd) f → WhyNot DiskFailed (EndsReduce content public text sig) f
 not_opened DiskFailed content public text sig =
     why_map DiskFailed DiskFailed (EndsOpening content NoEnd) (EndsReduce content public text sig) (λ x. x) (shut content (EndsReducing content public text sig))
 
--- ---- what evidence rests on
+-- ---- the support of evidence
 
--- what a slot's signatures show of its chains
+-- the values of its chains that a slot's signatures show
 abbrev pub Shows : Type 0
 Shows = (key : KeyOf) (slot at : ℕ) (text : List ℕ) → at < 34 → take 32 (drop (40 + 32 * at) (sealed key slot text)) ≡ own_value key slot at (slice_index (signed_digits key slot text) at)
 
 module _ (shows : Shows) (key : KeyOf) (area : ℕ) (text sig : List ℕ) (spent : Option (List ℕ)) (slot at step : ℕ) (place : at < 34) (of_slot : slot ≡ number_at sig 0) (unreleased : IsUnreleased key slot spent at step) where
-  -- a text that the slot has signed shows the chain at a later step
+  -- a text that the slot has signed shows a later step of the chain
   shown_later : (i signed : List ℕ) → HasSigned i (record { area = area; number = slot }) spent → IsSigned i (record { area = area; number = slot }) signed → ShowsLater key slot signed at step
   shown_later i signed has is = by spent has unreleased
     where
@@ -143,7 +143,7 @@ module _ (shows : Shows) {D : Type 0} (g : Ghosts D) (mid new : D) (desk : Desk)
         shown_later shows (key_of desk area) area text sig spent slot at step reduces.place reduces.of_slot reduces.unreleased i signed (subst (λ (n : ℕ). HasSigned i (record { area = area; number = n }) spent) (sym reduces.of_slot) names) has;
   })
 
-  -- what a told line rests on
+  -- the support of a line that was returned
   pub told_rests : (o : Result Conclusion Fault) (line : List ℕ) → TellsSlot g new area (key_of desk area) text sig o line → RestsOnReduced g new text sig o line
   told_rests o line (spent, each, inl why) = subst (λ x. RestsOnReduced g new text sig x line) (sym why.2) tt
   told_rests o line (spent, each, inr (good, inl signed)) = subst (λ x. RestsOnReduced g new text sig x line) (sym signed.1) tt
@@ -151,11 +151,11 @@ module _ (shows : Shows) {D : Type 0} (g : Ghosts D) (mid new : D) (desk : Desk)
 
 -- ---- the command
 
--- the octets of a hex file, as they are read again
+-- the octets of a hex file, as they are read back
 pub hex_as : (files : Option Folder) (name a b : List ℕ) → a ≡ b → IfSome files (λ folder. hex_text_at folder name ≡ Ok b) → IfSome files (λ folder. hex_text_at folder name ≡ Ok a)
 hex_as files name a b same h = subst (λ xs. IfSome files (λ folder. hex_text_at folder name ≡ Ok xs)) (sym same) h
 
--- what three files make of an end
+-- an end, in terms of three files
 module _ (files : Option Folder) (content : Option (List ℕ)) (key_name text_name sig_name public text sig : List ℕ)
     (key_read : IfSome files (λ folder. public_key_at folder key_name ≡ Ok public)) (text_read : IfSome files (λ folder. hex_text_at folder text_name ≡ Ok text)) (sig_read : IfSome files (λ folder. hex_text_at folder sig_name ≡ Ok sig)) where
   by_shelf : (folder : Folder) → public_key_at folder key_name ≡ Ok public → hex_text_at folder text_name ≡ Ok text → hex_text_at folder sig_name ≡ Ok sig
@@ -174,16 +174,16 @@ module _ (files : Option Folder) (content : Option (List ℕ)) (key_name text_na
       by (Some folder) a b c = by_shelf folder a b c o t h
 
   module _ (DiskFailed : Type 0) (l l' k k' : ℕ) (old : Option (List ℕ)) where
-    -- what wrote nothing
+    -- a run that wrote nothing
     pub reduce_refused : (f : Fault) → WhyNot DiskFailed (EndsReduce content public text sig) f → Promises (ends_reduce content key_name text_name sig_name) TellsNone DiskFailed files l l' old old k k' (Err f)
     reduce_refused f h = refused (ends_reduce content key_name text_name sig_name) TellsNone DiskFailed files l l' k k' old (EndsReduce content public text sig) calls f h
 
-    -- a line that was told
+    -- a line that was returned
     pub reduce_told : (new : Option (List ℕ)) (end o : Result Conclusion Fault) (line : List ℕ) → MayEnd TellsNone end → EndsReduce content public text sig end line → Writes end line old new k k' o
         → Promises (ends_reduce content key_name text_name sig_name) TellsNone DiskFailed files l l' old new k k' o
     reduce_told new end o line may h w = written (ends_reduce content key_name text_name sig_name) TellsNone DiskFailed files l l' k k' old (EndsReduce content public text sig) calls new end o line may h w
 
--- what is written of evidence
+-- the line of evidence that is written
 pub reduced_written : {D : Type 0} (g : Ghosts D) (disk : D) (files : Option Folder) (text_name sig_name text sig : List ℕ) → IfSome files (λ folder. hex_text_at folder text_name ≡ Ok text) → IfSome files (λ folder. hex_text_at folder sig_name ≡ Ok sig)
     → (old new : Option (List ℕ)) (k k' : ℕ) (end o : Result Conclusion Fault) (line : List ℕ) → RestsOnReduced g disk text sig end line → Writes end line old new k k' o → WritesReduced g disk files text_name sig_name old new o
 reduced_written g disk files text_name sig_name text sig text_read sig_read old new k k' end o line rests (inl w) = subst (λ (x : Result Conclusion Fault). WritesReduced g disk files text_name sig_name old new x) (sym w.0) (by end rests)

@@ -24,7 +24,7 @@ key_in desk c area sound areas le = record {
   is = sym (key_is (key_of desk area) (base_of c area) c (areas.keys area le) (sound.named area le));
 }
 
--- a public key that no key of the desk has is that of no key of the image
+-- a public key that does not belong to the desk does not belong to the image
 pub none_in : (desk : Desk) (c public : List ℕ) → IsSound desk → HasAreas desk c → ((area : ℕ) → area ≤ length desk.earlier → public_key (key_of desk area) ≢ public)
     → (area : ℕ) (key : KeyOf) → IsKeyIn c area key → public ≢ public_key key
 none_in desk c public sound areas none area key is same =
@@ -38,7 +38,7 @@ none_in desk c public sound areas none area key is same =
 pub unnamed : (c : List ℕ) (area : ℕ) (sig : List ℕ) → length sig < 4 → HasSpent c area sig None
 unnamed c area sig short = record { named = λ long. absurd (omega (arith, short, long)); unnamed = λ lt. refl }
 
--- nor has a slot signed that its area lacks
+-- nor can a slot have signed that the area does not have
 pub beyond : (desk : Desk) (c : List ℕ) (area number : ℕ) (sig : List ℕ) → HasAreas desk c → area ≤ length desk.earlier → 4 ≤ length sig → number ≡ number_at sig 0 → slots_of (key_of desk area).kind ≤ number
     → HasSpent c area sig None
 beyond desk c area number sig areas le long is high = record {
@@ -50,7 +50,7 @@ beyond desk c area number sig areas le long is high = record {
   unnamed = λ short. refl;
 }
 
--- what a slot was told to have signed
+-- the text that a slot is reported to have signed
 pub told_spent : {D : Type 0} (g : Ghosts D) (disk : D) (area number : ℕ) (sig octets : List ℕ) (found : Option ℕ) → 4 ≤ length sig → number ≡ number_at sig 0 → HasInSlot g disk (record { area = area; number = number }) octets found
     → EachImage g disk (λ i. HasSpent i area sig (option_map (λ n. take n octets) found))
 told_spent g disk area number sig octets None long is told i now = record {
@@ -72,24 +72,24 @@ pub told_short : {D : Type 0} (g : Ghosts D) (disk : D) (slot : SlotId) (octets 
 told_short g disk slot octets None told = tt
 told_short g disk slot octets (Some n) told = told.0
 
--- a number that was found within the slots is the slot that the signature names
+-- a number below the number of slots is the slot that the signature names
 pub named_within : (desk : Desk) (area : ℕ) (sig : List ℕ) (slot : ℕ) (found : Option ℕ) → slot ≡ number_at sig 0 → 4 ≤ length sig → IfSome found (λ n. (n ≡ slot) × (slot < slots_of (key_of desk area).kind)) → IfSome found (IsNamed desk area sig)
 named_within desk area sig slot None is long h = tt
 named_within desk area sig slot (Some n) is long h = record { number = h.0 ∙ is; long = long; known = omega (arith, h.0, h.1) }
 
--- and one that wasn't names none that has signed anything
+-- any other number names no slot that has signed anything
 pub named_beyond : (desk : Desk) (area : ℕ) (sig : List ℕ) (slot : ℕ) (found : Option ℕ) → area ≤ length desk.earlier → slot ≡ number_at sig 0 → 4 ≤ length sig → IfNone found (slots_of (key_of desk area).kind ≤ slot)
     → IfNone found ((i : List ℕ) → HasAreas desk i → HasSpent i area sig None)
 named_beyond desk area sig slot None le is long high = λ i areas. beyond desk i area slot sig areas le long is high
 named_beyond desk area sig slot (Some n) le is long h = tt
 
--- ---- what follows of a result
+-- ---- the consequences of a result
 
 pub ok_then : {T E : Type 0} (r : Result T E) (P Q : T → Type 0) → ((x : T) → P x → Q x) → IfOk r P → IfOk r Q
 ok_then (Ok x) P Q f h = f x h
 ok_then (Err e) P Q f h = tt
 
--- an open desk refuses only where its disk failed
+-- an open desk refuses only if its disk failed
 pub failed_then : {T : Type 0} (r : Result T DeskError) (opened : Bool) (P : Type 0) → opened ≡ true → (r ≡ Err DiskFault → P) → (r ≡ Err Closed) ↔ (opened ≡ false) → r ≢ Err KeysUsedUp → IfErr r (λ e. P)
 failed_then (Ok x) opened P is fault closed used = tt
 failed_then (Err DiskFault) opened P is fault closed used = fault refl

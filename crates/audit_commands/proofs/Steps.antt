@@ -1,4 +1,4 @@
--- What the steps of an audit and their files give, whatever was asked for.
+-- The results of the steps of an audit and of its files, for any request.
 use Rattle.std.proofs.Common.{◌≡◌, ◌⊎◌, inl, inr, ℕ, List, [], Some, length, sym, ap, subst, ◌∙◌, IfSome, IfOk, IfErr, arith}
 use Rattle.std.specs.declared.option.Option.{Option}
 use Rattle.std.specs.declared.option.Option.TheVariants.{None}
@@ -36,7 +36,7 @@ use Rattle.audit_commands.specs.Headline.{RestsOn, WritesFindings}
 
 -- ---- the desk's keys
 
--- a desk's key is one of those on each image that has its areas
+-- a desk's key is a key of each image that has its areas
 pub own_in : (desk : Desk) (c : List ℕ) → IsSound desk → HasAreas desk c → (key : List ℕ) → IsKeyFrom desk 0 key → IsOwnersKey c key
 own_in desk c sound areas key from = record {
   area = from.area;
@@ -44,7 +44,7 @@ own_in desk c sound areas key from = record {
   is = from.is ∙ ap public_key (sym (key_is (key_of desk from.area) (base_of c from.area) c (areas.keys from.area from.upto) (sound.named from.area from.upto)));
 }
 
--- and the other way round
+-- and in the other direction
 owned_by : (desk : Desk) (c : List ℕ) → IsSound desk → HasAreas desk c → (key : List ℕ) → IsOwnersKey c key → IsKeyFrom desk 0 key
 owned_by desk c sound areas key h =
     let upto = open_upto c (length desk.earlier) h.area areas.current h.is_open in
@@ -59,7 +59,7 @@ module _ (content : Option (List ℕ)) (desk : Desk) (key : List ℕ) (blocks : 
 
 -- ---- looks
 
--- what one look says, another that says as much says too
+-- the result of one look is also the result of another look that sees as much
 module _ (look more : Look) (owns : (key : List ℕ) → look.Owns key → more.Owns key) (signs : (text : List ℕ) → look.Signed text → more.Signed text) (lacks : (text : List ℕ) → look.Unsigned text → more.Unsigned text) where
   pub signed_more : (links : List Link) (header : List ℕ) → AreSigned look links header → AreSigned more links header
   signed_more links header h = record { linked = λ n lt. signs _ (h.linked n lt); sealed = signs _ h.sealed }
@@ -75,13 +75,13 @@ module _ (look more : Look) (owns : (key : List ℕ) → look.Owns key → more.
     forgery = record { own = owns _ h.forgery.own; good = h.forgery.good; unsigned = lacks _ h.forgery.unsigned };
   }
 
--- what holds of each image holds of each image afterwards, since none changes
+-- a fact about each image holds about each image afterwards, since no image changes
 pub later : {D : Type 0} (g : Ghosts D) (mid new : D) (P : List ℕ → Type 0) → AtEachMoment g mid new Stays → EachImage g mid P → EachImage g new P
 later g mid new P m h i at = let w = m.each (g.clock new) i m.later (omega arith) at in subst P (sym w.2) (h w.0 w.1)
 
--- ---- what functions give
+-- ---- the results of functions
 
--- what follows of a value follows where there is one
+-- a consequence of a value holds if the value exists
 pub if_ok : {T E : Type 0} (r : Result T E) (P Q : T → Type 0) → ((x : T) → P x → Q x) → IfOk r P → IfOk r Q
 if_ok (Ok x) P Q f h = f x h
 if_ok (Err e) P Q f h = tt
@@ -92,21 +92,21 @@ if_err (Err e) P Q f h = f e h
 
 -- ---- the files
 
--- the octets of a reply, as they are read again
+-- the octets of a reply, as they are read back
 pub reply_as : (before files : Option Folder) (name a b : List ℕ) → Narrows before files → a ≡ b → IfSome before (λ folder. octets_at folder name ≡ Ok b) → IfSome files (λ folder. octets_at folder name ≡ Ok a)
 reply_as before files name a b narrows same h =
     subst (λ xs. IfSome files (λ folder. octets_at folder name ≡ Ok xs)) (sym same) (moved before files (λ folder. octets_at folder name ≡ Ok b) narrows h)
 
--- the links of a chain, as they are read again
+-- the links of a chain, as they are read back
 pub chain_as : (files : Option Folder) (name : Option (List ℕ)) (a b : List Link) → a ≡ b → IfSome files (λ folder. chain_at folder name ≡ Ok b) → IfSome files (λ folder. chain_at folder name ≡ Ok a)
 chain_as files name a b is h = subst (λ (xs : List Link). IfSome files (λ folder. chain_at folder name ≡ Ok xs)) (sym is) h
 
--- nothing that is appended is nothing that is written
+-- if nothing is appended, nothing is written
 appends_none : (old : Option (List ℕ)) → Appends old old []
 appends_none None = tt
 appends_none (Some xs) = sym (append-nil xs)
 
--- the ends that rest on nothing
+-- the ends that need no support
 abbrev pub RestsOnNone : Fault → Type 0
 RestsOnNone OtherPublication = ⊥
 RestsOnNone fault = Unit {0}
@@ -122,7 +122,7 @@ pub files_rest_on_none : (f : Fault) → IsOfFiles f → RestsOnNone f
 files_rest_on_none OtherPublication h = absurd h
 files_rest_on_none f h = tt
 
--- what the line rests on
+-- the support of the line
 module _ (files : Option Folder) (key_name publication_name reply_name : List ℕ) (chain_name : Option (List ℕ)) (key octets : List ℕ) (links : List Link) (publication : Publication)
     (key_read : IfSome files (λ folder. public_key_at folder key_name ≡ Ok key)) (publication_read : IfSome files (λ folder. publication_at folder publication_name ≡ Ok publication)) (reply_read : IfSome files (λ folder. octets_at folder reply_name ≡ Ok octets)) (chain_read : IfSome files (λ folder. chain_at folder chain_name ≡ Ok links)) where
   pub found : {D : Type 0} (g : Ghosts D) (disk : D) (Brings : List ℕ → List ℕ → List ℕ → Type 0) (Hashed : Publication → List ℕ → List ℕ → List ℕ → Type 0) (old new : Option (List ℕ)) (k k' : ℕ) (end o : Result Conclusion Fault) (t : List ℕ) → RestsOn g disk (Brings octets) (Hashed publication octets) key links end t → MayEnd TellsNone end → Writes end t old new k k' o

@@ -1,4 +1,4 @@
--- What the words of the headline say at some ends, so that a weaker word is seen.
+-- The definitions of the headline, evaluated for some results. A weakened definition fails here.
 use Rattle.std.proofs.Common.{◌≡◌, ◌≢◌, ◌<◌, ◌≤◌, ℕ, List, length, arith}
 use Rattle.std.specs.Prelude.{slice_index}
 use Rattle.std.specs.declared.option.Option.{Option}
@@ -23,14 +23,14 @@ use Rattle.route_audit.specs.Kinds.{ReplyKind}
 
 -- ---- evidence
 
--- one text twice is no collision
+-- two equal texts are not a collision
 one_text_is_no_collision : (Hashed : List ℕ → List ℕ → Type 0) (text : List ℕ) (c : IsCollisionLine Hashed text) → c.left ≡ c.right → ⊥
 one_text_is_no_collision Hashed text c same = c.collide.differ same
 
 one_digest : (Hashed : List ℕ → List ℕ → Type 0) (text : List ℕ) (c : IsCollisionLine Hashed text) → sha256 c.left ≡ sha256 c.right
 one_digest Hashed text c = c.collide.one_digest
 
--- nor is a list with a number that is no octet one
+-- nor is a list a text of octets if it has a number that is not an octet
 numbers_are_no_collision : (Hashed : List ℕ → List ℕ → Type 0) (text : List ℕ) (c : IsCollisionLine Hashed text) (at : ℕ) → 256 ≤ slice_index c.left at → ⊥
 numbers_are_no_collision Hashed text c at great = let small : slice_index c.left at < 256 = c.collide.left_octets at in omega (arith, great, small)
 
@@ -39,7 +39,7 @@ module _ {D : Type 0} (g : Ghosts D) (disk : D) (Brings : List ℕ → List ℕ 
   signed_is_not_forged : (i : List ℕ) → g.image_at disk (g.clock disk) i → (slot : SlotId) → IsSigned i slot f.forgery.text → ⊥
   signed_is_not_forged i now slot signed = f.forges.forgery.unsigned i now slot signed
 
-  -- its signature is good, under a key of an open area of every image
+  -- its signature is valid under the key of an open area of every image
   good : verified f.forgery.key f.forgery.text f.forgery.signature ≡ Ok tt
   good = f.forges.forgery.good
 
@@ -50,14 +50,14 @@ module _ {D : Type 0} (g : Ghosts D) (disk : D) (Brings : List ℕ → List ℕ 
   line : text ≡ forged_line f.forgery.text f.forgery.signature
   line = f.line
 
--- the header of the evidence is the accepted one, with what the reply brings
+-- the header of the evidence is the accepted one, as the reply gives it
 accepted_header : (accepted : Header) (Brings : List ℕ → List ℕ → Type 0) (header signature : List ℕ) → IsAcceptedHeader accepted Brings header signature → (header ≡ header_text accepted) × Brings header signature
 accepted_header accepted Brings header signature h = h
 
--- ---- what an end rests on
+-- ---- the support of an end
 
 module _ {D : Type 0} (g : Ghosts D) (disk : D) (Brings Hashed : List ℕ → List ℕ → Type 0) (key : List ℕ) (links : List Link) (text : List ℕ) where
-  -- a right reply's links and header stand in slots, each in one of every image
+  -- the links and the header of a right reply are in slots, each in one slot of every image
   right_is_signed : (r : RestsOn g disk Brings Hashed key links (Ok Done) text) → (slot : SlotId) × EachImage g disk (λ i. IsSigned i slot r.header)
   right_is_signed r = r.signed.sealed
 
@@ -82,7 +82,7 @@ module _ {D : Type 0} (g : Ghosts D) (disk : D) (Brings Hashed : List ℕ → Li
   other_is_signed : FindsTruth g disk Brings Hashed key links p accepted Truth old new (Err OtherPublication) → (slot : SlotId) × EachImage g disk (λ i. IsSigned i slot (header_text accepted))
   other_is_signed h = h.signed
 
-  -- what is accepted is not refused, nor is its key another, nor a file missing
+  -- an accepted reply is not refused, its key belongs to the owner, and no file is missing
   never_refused : FindsTruth g disk Brings Hashed key links p accepted Truth old new (Ok Refused) → ⊥
   never_refused h = h
 
@@ -92,7 +92,7 @@ module _ {D : Type 0} (g : Ghosts D) (disk : D) (Brings Hashed : List ℕ → Li
   never_missing : FindsTruth g disk Brings Hashed key links p accepted Truth old new (Err Missing) → ⊥
   never_missing h = h
 
--- what is true holds in the map, has the accepted header, and that is signed
+-- a true result is true of the map, has the accepted header, and this header is signed
 module _ {Q A X E : Type 0} (kind : ReplyKind Q A X E) {D : Type 0} (g : Ghosts D) (disk : D) (p : Publication) (q : Q) (x : X) (t : IsTrue kind g disk p q x) where
   holds : kind.IsTrue p q x
   holds = t.truth

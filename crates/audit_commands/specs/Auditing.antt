@@ -1,5 +1,5 @@
--- What an audit writes: its steps in their order, each followed by the next. They are those of
--- every kind of replies.
+-- The output of an audit: its steps in order, each followed by the rest of the audit. Every kind of replies has the
+-- same steps.
 use Rattle.std.specs.Prelude.{◌≡◌, ◌≢◌, ◌⊎◌, ℕ, List, []}
 use Rattle.std.specs.declared.option.Option.{Option}
 use Rattle.std.specs.declared.result.Result.{Result}
@@ -34,14 +34,14 @@ use Rattle.audit_commands.specs.Owners.{IsOwnersKey, look_in}
 
 -- ---- the steps
 
--- the public key is one of the owner's, and this follows, or it is none
+-- the public key belongs to the owner, and the rest of the audit follows; or it does not
 abbrev pub EndsOwnersKey : Option (List ℕ) → List ℕ → Ending → Ending
 EndsOwnersKey content key Next outcome text =
     ((outcome ≡ Err OtherKey) × ForSome content (λ c. ¬ IsOwnersKey c key) × (text ≡ [])) ⊎
     (ForSome content (λ c. IsOwnersKey c key) × Next outcome text)
 
--- the client accepts the reply under the key and the links, of any version, and this follows, or it
--- refuses it, and the line says why
+-- the client accepts the reply under the key and the links, whatever its version, and the rest of the audit
+-- follows; or it refuses the reply, and the line gives the reason
 abbrev pub EndsClient : {Q A X E : Type 0} → ReplyKind Q A X E → (E → List ℕ) → List ℕ →
     List Link → List ℕ → Q → (X → A → Ending) → Ending
 EndsClient {Q} {A} {X} {E} kind line key links octets q Next outcome text =
@@ -49,8 +49,8 @@ EndsClient {Q} {A} {X} {E} kind line key links octets q Next outcome text =
     (text ≡ line e))
     ⊎ ((x : X) × (a : A) × kind.Accepts sha256 key links octets q 0 x a × Next x a outcome text)
 
--- the owner signed the text of each link and the header, and this follows, or never did, and the
--- line has the first of these texts that is not signed, and its signature
+-- the owner signed the text of each link and the header, and the rest of the audit follows; or the line has the
+-- first of these texts that the owner never signed, and its signature
 abbrev pub EndsSigned : Option (List ℕ) → List ℕ → List Link → Header → List ℕ → Ending → Ending
 EndsSigned content key links header signature Next outcome text =
     ((outcome ≡ Ok Evidence) × (f : Forgery) × ForSome content
@@ -58,24 +58,24 @@ EndsSigned content key links header signature Next outcome text =
     × (text ≡ forged_line f.text f.signature))
     ⊎ (ForSome content (λ c. AreSigned (look_in c) links (header_text header)) × Next outcome text)
 
--- the header is the publication's, and this follows, or it is another's
+-- the header is the publication's, and the rest of the audit follows; or it is another header
 abbrev pub EndsSameHeader : Publication → Header → Ending → Ending
 EndsSameHeader p header Next outcome text =
     ((outcome ≡ Err OtherPublication) × (header ≢ p.header) × (text ≡ [])) ⊎
     ((header ≡ p.header) × Next outcome text)
 
--- what the reply brings is of the publication's trees, and what is taken holds in its map, or two
--- texts have one digest
+-- the contents of the reply come from the publication's trees, and the result is true of its map; or two texts have
+-- the same digest
 abbrev pub EndsComparing : {Q A X E : Type 0} → ReplyKind Q A X E → Publication → Q → X → A → Ending
 EndsComparing kind p q x a outcome text =
     ((outcome ≡ Ok Done) × kind.IsRight sha256 sha256 p q x a × (text ≡ right_line))
     ⊎ ((outcome ≡ Ok Evidence) × (two : TwoTexts) × kind.Collides sha256 sha256 p a two ×
     (text ≡ collision_line two.left two.right))
 
--- ---- all of them
+-- ---- the whole audit
 
--- an audit over a public key, links from it, a publication and the octets of a reply: the desk
--- opens first
+-- an audit over a public key, links from it, a publication and the octets of a reply; it opens the desk
+-- first
 abbrev pub EndsAudit : {Q A X E : Type 0} → ReplyKind Q A X E → (E → List ℕ) → Option (List ℕ) →
     List ℕ → List Link → Publication → List ℕ → Q → Ending
 EndsAudit kind line content key links p octets q =
@@ -87,7 +87,7 @@ EndsAudit kind line content key links p octets q =
     (EndsSameHeader p (kind.header a)
     (EndsComparing kind p q x a))))))
 
--- the same over the files of these names
+-- the same over the files with these names
 abbrev pub ends_audit : {Q A X E : Type 0} → ReplyKind Q A X E → (E → List ℕ) → Option (List ℕ) →
     List ℕ → List ℕ → List ℕ → Q → Option (List ℕ) → Folder → Ending
 ends_audit kind line content key publication reply q chain folder =
@@ -97,9 +97,9 @@ ends_audit kind line content key publication reply q chain folder =
     (λ octets. EndsReading (chain_at folder chain)
     (λ links. EndsAudit kind line content k links p octets q))))
 
--- ---- what functions give of it
+-- ---- the results of functions
 
--- how a finding lets the command end, and what is then written
+-- how the command ends for a finding, and the text that it then writes
 abbrev pub TellsFinding : Finding → Ending
 TellsFinding Right outcome text = (outcome ≡ Ok Done) × (text ≡ right_line)
 TellsFinding (Collision left right) outcome text = (outcome ≡ Ok Evidence) ×
@@ -107,7 +107,7 @@ TellsFinding (Collision left right) outcome text = (outcome ≡ Ok Evidence) ×
 TellsFinding (Forged key forged signature) outcome text = (outcome ≡ Ok Evidence) ×
     (text ≡ forged_line forged signature)
 
--- how an audit's answer does, where this line tells why a reply is refused
+-- how the command ends for the result of an audit; this line gives the reason why a reply is refused
 abbrev pub Tells : {E : Type 0} → (E → List ℕ) → Result Finding (AuditError E) → Ending
 Tells line (Ok finding) outcome text = TellsFinding finding outcome text
 Tells line (Err (audit.Refused e)) outcome text = (outcome ≡ Ok Refused) × (text ≡ line e)
@@ -121,6 +121,6 @@ Tells line (Err audit.OtherPublication) outcome text = (outcome ≡ Err OtherPub
     (text ≡ [])
 Tells line (Err e) outcome text = ⊥
 
--- the desk could not look
+-- the desk could not look up the texts
 abbrev pub LookFailed : {E : Type 0} → Result Finding (AuditError E) → Type 0
 LookFailed answer = (e : DeskError) × (answer ≡ Err (audit.Desk e))

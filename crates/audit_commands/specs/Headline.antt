@@ -1,4 +1,4 @@
--- The headline: what an accepted reply is worth.
+-- The headline: the guarantee for an accepted reply.
 use Rattle.std.specs.Prelude.{◌≡◌, ◌≢◌, ◌⊎◌, ℕ, List, ◌∷◌}
 use Rattle.std.specs.declared.option.Option.{Option}
 use Rattle.std.specs.declared.option.Option.TheVariants.{None, Some}
@@ -35,9 +35,9 @@ use Rattle.command_files.specs.declared.ended.Conclusion.TheVariants.{Done, Evid
 use Rattle.audit_commands.specs.Auditing.{ends_audit}
 use Rattle.audit_commands.specs.Owners.{IsOwnersKey, look_everywhere}
 
--- ---- what a reply brings
+-- ---- the contents of a reply
 
--- the octets of the header, and the signature, of the answer that octets encode
+-- the octets of the header, and the signature, in the answer that octets encode
 pub record IsBrought {Q A X E : Type 0} (kind : ReplyKind Q A X E)
     (octets header signature : List ℕ) : Type 0 where
   pub answer : A
@@ -45,16 +45,16 @@ pub record IsBrought {Q A X E : Type 0} (kind : ReplyKind Q A X E)
   pub header_is : header ≡ header_text (kind.header answer)
   pub signature_is : signature ≡ kind.signature answer
 
--- two texts that collide where the answer that octets encode is not of the trees of the publication's
--- book: the tree hashes the left one, and the root recomputed of what the answer brings the right one
+-- two texts that collide, if the answer that octets encode does not come from the trees of the publication's book:
+-- the tree hashes the left text, and the root recomputed from the answer hashes the right one
 pub record ClashIn {Q A X E : Type 0} (kind : ReplyKind Q A X E) (publication : Publication)
     (octets left right : List ℕ) : Type 0 where
   pub answer : A
   pub spelled : kind.Spells octets answer
   pub collides : kind.Collides sha256 sha256 publication answer (two_texts left right)
 
--- Brings says which header, by its octets, and which signature a reply brings: the texts of the
--- links and that header stand in slots, each in one of every image
+-- Brings gives the header of a reply and its signature, from the reply's octets. The texts of the links and this
+-- header are in slots, each in one slot of every image.
 pub record AreAllSigned {D : Type 0} (g : Ghosts D) (disk : D)
     (Brings : List ℕ → List ℕ → Type 0) (links : List Link) : Type 0 where
   pub header : List ℕ
@@ -64,8 +64,8 @@ pub record AreAllSigned {D : Type 0} (g : Ghosts D) (disk : D)
 
 -- ---- evidence
 
--- The line of two different texts of equal SHA-256. They are octets, so the line has them. Hashed
--- says where they are hashed.
+-- The line of two different texts with the same SHA-256 digest. Both consist of octets, so the line holds them in
+-- full. Hashed tells where they are hashed.
 pub record IsCollisionLine (Hashed : List ℕ → List ℕ → Type 0) (text : List ℕ) : Type 0 where
   pub left : List ℕ
   pub right : List ℕ
@@ -73,10 +73,9 @@ pub record IsCollisionLine (Hashed : List ℕ → List ℕ → Type 0) (text : L
   pub hashed : Hashed left right
   pub line : text ≡ collision_line left right
 
--- The line of a text that the owner never signed, in no slot of any image, and of its signature,
--- which is verified on it under one of the owner's keys, that of an open area of every image: it is
--- the first link text of the chain that is not signed, or, where each is signed, the header that
--- the reply brings.
+-- The line of a text that the owner never signed, which is in no slot of any image, and of its signature, which
+-- verifies under a key of the owner: the key of an open area of every image. The text is the first link text of the
+-- chain that is not signed or, if each is signed, the reply's header.
 pub record IsForgedLine {D : Type 0} (g : Ghosts D) (disk : D) (Brings : List ℕ → List ℕ → Type 0)
     (key : List ℕ) (links : List Link) (text : List ℕ) : Type 0 where
   pub header : List ℕ
@@ -91,7 +90,7 @@ abbrev pub IsEvidence : {D : Type 0} → Ghosts D → D → (List ℕ → List �
 IsEvidence g disk Brings Hashed key links text = IsCollisionLine Hashed text ⊎
     IsForgedLine g disk Brings key links text
 
--- ---- what an audit's end rests on, in every image that a crash may leave
+-- ---- the support of an audit's result, in every image that a crash may leave
 
 abbrev pub RestsOn : {D : Type 0} → Ghosts D → D → (List ℕ → List ℕ → Type 0) →
     (List ℕ → List ℕ → Type 0) → List ℕ → List Link → Result Conclusion Fault → List ℕ → Type 0
@@ -102,8 +101,7 @@ RestsOn g disk Brings Hashed key links (Err OtherPublication) text = AreAllSigne
     links
 RestsOn g disk Brings Hashed key links outcome text = Unit {0}
 
--- the files of a key, a publication, a reply and a chain, what was written, and what the end rests
--- on
+-- the files of a key, a publication, a reply and a chain, the octets written, and the support of the result
 pub record WritesFinding {D : Type 0} (g : Ghosts D) (disk : D)
     (Brings : List ℕ → List ℕ → List ℕ → Type 0)
     (Hashed : Publication → List ℕ → List ℕ → List ℕ → Type 0) (folder : Folder)
@@ -135,8 +133,7 @@ WritesFindings g disk Brings Hashed key publication reply chain files old new ou
 
 -- ---- the headline
 
--- what is taken holds in the signed map: the accepted header is that of the map, and stands in one
--- slot of every image
+-- the result is true of the signed map: the accepted header is that of the map, and is in one slot of every image
 pub record IsTrue {Q A X E : Type 0} (kind : ReplyKind Q A X E) {D : Type 0} (g : Ghosts D) (disk : D)
     (p : Publication) (q : Q) (x : X) : Type 0 where
   pub of_map : HasHeader sha256 sha256 p.parts p.settings p.header
@@ -144,20 +141,20 @@ pub record IsTrue {Q A X E : Type 0} (kind : ReplyKind Q A X E) {D : Type 0} (g 
   pub signed : (look_everywhere g disk).Signed (header_text p.header)
   pub truth : kind.IsTrue p q x
 
--- the accepted header is another publication's: it stands in one slot of every image
+-- the accepted header belongs to another publication, and is in one slot of every image
 pub record IsOthers {D : Type 0} (g : Ghosts D) (disk : D) (p : Publication)
     (accepted : Header) : Type 0 where
   pub other : accepted ≢ p.header
   pub signed : (look_everywhere g disk).Signed (header_text accepted)
 
--- the octets of the accepted header, and the signature that the reply brings with it
+-- the octets of the accepted header, and its signature in the reply
 abbrev pub IsAcceptedHeader : Header → (List ℕ → List ℕ → Type 0) → List ℕ → List ℕ → Type 0
 IsAcceptedHeader accepted Brings header signature = (header ≡ header_text accepted) ×
     Brings header signature
 
--- what was accepted is true, or there is evidence, by a link of the chain or by the accepted header
--- and the reply's own signature where the line is the forged one, or its header is another
--- publication's, unless memory was short or an object outside failed
+-- The accepted result is true; or there is evidence; or its header belongs to another publication; or memory ran
+-- out; or an outside object failed. The evidence of a forged line is a link of the chain, or the accepted header
+-- with the reply's own signature.
 abbrev pub FindsTruth : {D : Type 0} → Ghosts D → D → (List ℕ → List ℕ → Type 0) →
     (List ℕ → List ℕ → Type 0) → List ℕ → List Link → Publication → Header → Type 0 →
     Option (List ℕ) → Option (List ℕ) → Result Conclusion Fault → Type 0
@@ -174,10 +171,9 @@ FindsTruth g disk Brings Hashed key links p accepted Truth old new (Err Sink) = 
 FindsTruth g disk Brings Hashed key links p accepted Truth old new (Err Disk) = Unit {0}
 FindsTruth g disk Brings Hashed key links p accepted Truth old new outcome = ⊥
 
--- The files encode a public key, a chain of links, a publication, of whatever header, that can be
--- installed, as its header is that of its parts and settings, and octets that the client accepts
--- under the key and the chain, whatever they are; and the key is one of those on the owner's disk,
--- which can be used.
+-- The files encode a public key, a chain of links, a publication that can be installed (its header is that of its
+-- parts and settings), and any octets that the client accepts under the key and the chain. The key is on the
+-- owner's disk, and all keys of this disk can be used.
 pub record IsAcceptedFile {Q A X E : Type 0} (kind : ReplyKind Q A X E)
     (content : Option (List ℕ)) (folder : Folder)
     (key_name publication_name reply_name : List ℕ) (q : Q) (chain_name : Option (List ℕ))
@@ -196,8 +192,8 @@ pub record IsAcceptedFile {Q A X E : Type 0} (kind : ReplyKind Q A X E)
   pub usable : IsUsable image
   pub owners : IsOwnersKey image key
 
--- whatever octets the client accepts, the audit finds that they are true, or of another
--- publication, or writes evidence
+-- for all octets that the client accepts, the audit finds that they are true or belong to another publication, or
+-- it writes evidence
 abbrev pub AuditsAccepted : {Q A X E : Type 0} → ReplyKind Q A X E → {D : Type 0} → Ghosts D →
     Option (List ℕ) → D → List ℕ → List ℕ → List ℕ → Q → Option (List ℕ) → Option Folder →
     Option (List ℕ) → Option (List ℕ) → Result Conclusion Fault → Type 0
@@ -211,10 +207,9 @@ AuditsAccepted kind g content disk key publication reply q chain None old new ou
 
 -- ---- the command
 
--- what the command promises over its files, its sink and the owner's disk: its end is one that they
--- call for, what its line rests on, the headline, that no image of the disk changes, that a fault
--- of the disk is always answered, that a prefix of its names is asked for, and that a failure of the
--- library or the sink is swallowed by no other end
+-- The guarantees of the command over its files, its sink and the owner's disk: its result is one that these
+-- require; the line has its support; the headline holds; no image of the disk changes; a disk error is always
+-- returned; it loads a prefix of its names; and no other result hides a failure of the library or the sink.
 pub record AuditsFiles {Q A X E : Type 0} (kind : ReplyKind Q A X E) (line : E → List ℕ) {D : Type 0}
     (g : Ghosts D) (disk new_disk : D) (key publication reply : List ℕ) (q : Q)
     (chain : Option (List ℕ)) (files : Option Folder) (asked new_asked : List (List ℕ))

@@ -1,4 +1,4 @@
--- What `reduce` writes: its steps in their order, each followed by the next.
+-- The output of `reduce`: its steps in order, each followed by the rest of the command.
 use Rattle.std.specs.Prelude.{◌≡◌, ◌≢◌, ◌⊎◌, ◌<◌, ◌≤◌, ℕ, List, [], length}
 use Rattle.std.specs.declared.option.Option.{Option}
 use Rattle.std.specs.declared.option.Option.TheVariants.{None, Some}
@@ -24,7 +24,7 @@ use Rattle.command_files.specs.declared.ended.Conclusion.TheVariants.{Done, Refu
 use Rattle.command_desks.specs.Opening.{EndsOpening}
 use Rattle.audit_commands.specs.ReduceLine.{reduced_line, signed_line}
 
--- ---- what the disk holds
+-- ---- the disk's contents
 
 -- the key of an open area
 pub record IsKeyIn (image : List ℕ) (area : ℕ) (key : KeyOf) : Type 0 where
@@ -35,18 +35,18 @@ pub record IsKeyIn (image : List ℕ) (area : ℕ) (key : KeyOf) : Type 0 where
 abbrev pub slot_named : ℕ → List ℕ → SlotId
 slot_named area sig = record { area = area; number = number_at sig 0 }
 
--- a slot has signed this text, or nothing
+-- the slot has signed this text, or no text
 abbrev pub HasSigned : List ℕ → SlotId → Option (List ℕ) → Type 0
 HasSigned image slot (Some text) = IsSigned image slot text
 HasSigned image slot None = (text : List ℕ) → ¬ IsSigned image slot text
 
--- what the slot has signed that a signature names; a shorter one than its number names none
+-- the text signed by the slot that a signature names; a signature that is too short for a number names no slot
 pub record HasSpent (image : List ℕ) (area : ℕ) (sig : List ℕ) (spent : Option (List ℕ)) :
     Type 0 where
   pub named : 4 ≤ length sig → HasSigned image (slot_named area sig) spent
   pub unnamed : length sig < 4 → spent ≡ None
 
--- the number of a slot of a desk's area is the one that a signature names
+-- the number of a slot of a desk's area is the one that the signature names
 pub record IsNamed (desk : Desk) (area : ℕ) (sig : List ℕ) (slot : ℕ) : Type 0 where
   pub number : slot ≡ number_at sig 0
   pub long : 4 ≤ length sig
@@ -54,8 +54,8 @@ pub record IsNamed (desk : Desk) (area : ℕ) (sig : List ℕ) (slot : ℕ) : Ty
 
 -- ---- the steps
 
--- The line of what a signature on a text comes down to under a key whose slot has signed this, or
--- nothing: why it is not good, that the slot has signed the text, or evidence.
+-- The line for a signature of a text, under a key whose slot has signed this text, or no text: the reason why the
+-- signature is invalid, or that the slot has signed the same text, or evidence.
 abbrev pub TellsReduced : KeyOf → Option (List ℕ) → List ℕ → List ℕ → Ending
 TellsReduced key spent text sig outcome line =
     ((why : SealError) × (verified (public_key key) text sig ≡ Err why) × (outcome ≡ Ok Refused) ×
@@ -65,14 +65,14 @@ TellsReduced key spent text sig outcome line =
     ⊎ ((spent ≢ Some text) × (reduced : Reduced) × Reduces key spent text sig reduced ×
     (outcome ≡ Ok Evidence) × (line ≡ reduced_line reduced))))
 
--- the same where the slot has signed this, or nothing, in every image
+-- the same, if in every image the slot has signed this text, or no text
 abbrev pub TellsSlot : {D : Type 0} → Ghosts D → D → ℕ → KeyOf → List ℕ → List ℕ → Ending
 TellsSlot g disk area key text sig outcome line =
     (spent : Option (List ℕ)) × EachImage g disk (λ i. HasSpent i area sig spent) ×
     TellsReduced key spent text sig outcome line
 
--- the public key is that of none of the disk's keys, or of the key of one of its open areas, and
--- what the signature comes down to is told by this key and by what its slot has signed on the disk
+-- the public key does not belong to the disk; or it is that of an open area, and the line reduces the signature by
+-- this key and by the text that the key's slot on the disk has signed
 abbrev pub EndsReducing : Option (List ℕ) → List ℕ → List ℕ → List ℕ → Ending
 EndsReducing content public text sig outcome line =
     ((outcome ≡ Err OtherKey) × ForSome content (λ c. (area : ℕ) (key : KeyOf) →
@@ -81,11 +81,11 @@ EndsReducing content public text sig outcome line =
     ForSome content (λ c. IsKeyIn c area key × HasSpent c area sig spent) ×
     TellsReduced key spent text sig outcome line)
 
--- `reduce` over a public key, a text and a signature: the desk opens first
+-- `reduce` over a public key, a text and a signature; it opens the desk first
 abbrev pub EndsReduce : Option (List ℕ) → List ℕ → List ℕ → List ℕ → Ending
 EndsReduce content public text sig = EndsOpening content (EndsReducing content public text sig)
 
--- the same over the hex files of these names
+-- the same over the hex files with these names
 abbrev pub ends_reduce : Option (List ℕ) → List ℕ → List ℕ → List ℕ → Folder → Ending
 ends_reduce content key text signature folder =
     EndsReading (public_key_at folder key)

@@ -1,4 +1,4 @@
--- What the evidence of `reduce` is worth: a collision, or a value that the desk never released.
+-- The value of the evidence of `reduce`: a collision, or a value that the desk never released.
 use Rattle.std.specs.Prelude.{◌≡◌, ◌⊎◌, ◌+◌, ◌*◌, ◌<◌, ℕ, List, take, drop, slice_index, IfSome}
 use Rattle.std.specs.declared.option.Option.{Option}
 use Rattle.std.specs.declared.result.Result.{Result}
@@ -20,17 +20,17 @@ use Rattle.command_files.specs.declared.ended.Conclusion.TheVariants.{Evidence}
 use Rattle.audit_commands.specs.ReduceLine.{chain_line}
 use Rattle.audit_commands.specs.Reducing.{IsKeyIn}
 
--- the signature of a text by a slot of a key shows the key's own value of this chain after more
--- steps than so many
+-- a slot of a key signs a text; the signature shows the key's own value of this chain after more than this many
+-- steps
 pub record ShowsLater (key : KeyOf) (slot : ℕ) (text : List ℕ) (at step : ℕ) : Type 0 where
   pub more : ℕ
   pub later : step < more
   pub shows : take 32 (drop (40 + 32 * at) (sealed key slot text)) ≡ own_value key slot at more
 
--- The line of a value of a chain that a signature on a text shows and the desk never released: the
--- slot is the one that the signature names, the step is the chain's digit of the text, and the value
--- stands at the chain's place in the signature. In every image it is that of an open area's own key,
--- and each text that the slot has signed shows the chain at a later step.
+-- The line of a value of a chain that a signature of a text shows and the desk never released. The slot is the one
+-- that the signature names, the step is the chain's digit of the text, and the value is at the chain's position in
+-- the signature. In every image, the value belongs to the key of an open area, and each text that the slot has
+-- signed shows a later step of the chain.
 pub record IsUnreleasedLine {D : Type 0} (g : Ghosts D) (disk : D) (text sig line : List ℕ) :
     Type 0 where
   pub key : KeyOf
@@ -48,27 +48,27 @@ pub record IsUnreleasedLine {D : Type 0} (g : Ghosts D) (disk : D) (text sig lin
   pub never : EachImage g disk (λ i. (signed : List ℕ) → IsSigned i slot signed →
       ShowsLater key slot.number signed at step)
 
--- The line of two different texts of equal SHA-256. They are octets, so the line has them.
+-- The line of two different texts with the same SHA-256 digest. Both consist of octets, so the line holds them in
+-- full.
 pub record IsClashLine (line : List ℕ) : Type 0 where
   pub left : List ℕ
   pub right : List ℕ
   pub collide : AreCollision sha256 left right
   pub line_is : line ≡ collision_line left right
 
--- what the line of evidence of a signature on a text rests on
+-- the support of the line of evidence about a signature of a text
 abbrev pub RestsOnReduced : {D : Type 0} → Ghosts D → D → List ℕ → List ℕ →
     Result Conclusion Fault → List ℕ → Type 0
 RestsOnReduced g disk text sig (Ok Evidence) line =
     IsClashLine line ⊎ IsUnreleasedLine g disk text sig line
 RestsOnReduced g disk text sig outcome line = Unit {0}
 
--- the hex files of these names encode the text and the signature
+-- the hex files with these names encode the text and the signature
 pub record AreSpelled (folder : Folder) (text_name sig_name text sig : List ℕ) : Type 0 where
   pub text_is : hex_text_at folder text_name ≡ Ok text
   pub signature_is : hex_text_at folder sig_name ≡ Ok sig
 
--- what was written of evidence is such a line, of the text and the signature that the files of these
--- names encode
+-- a line written as evidence is such a line, for the text and the signature in the files with these names
 abbrev pub WritesReduced : {D : Type 0} → Ghosts D → D → Option Folder → List ℕ → List ℕ →
     Option (List ℕ) → Option (List ℕ) → Result Conclusion Fault → Type 0
 WritesReduced g disk files text_name sig_name old new (Ok Evidence) =

@@ -1,4 +1,4 @@
-//! The command `audit`, and what it does for every kind of replies.
+//! The command `audit`, and the code that it shares with every kind of replies.
 
 ghost use Rattle.std.specs.Prelude.{◌≡◌, ◌<◌, ◌≤◌, ◌^◌, List, [], length, Err, IfOk, IfErr, ◌≢◌, ◌∷◌, ◌++◌};
 ghost use Rattle.std.specs.Option.{option_map};
@@ -27,8 +27,8 @@ use route_audit::{Replies, audit_reply};
 use route_server::server_laws;
 use std::alloc::Global;
 
-/// Writes what a reply on a route is evidence of, by the owner's disk and a publication, under a public key and
-/// the chain of links of a file, where one is named.
+/// Writes what a reply for a route is evidence of, using the owner's disk and a publication, under a public key
+/// and, if given, the chain of links in a file.
 pub fn audit<L: Library, K: Sink, D: Disk>(
     alloc: Global,
     library: &mut L,
@@ -59,7 +59,7 @@ pub fn audit<L: Library, K: Sink, D: Disk>(
     )
 }
 
-/// The same of a reply of any kind.
+/// Does the same for a reply of any kind.
 pub(crate) fn audit_files<T: Telling, L: Library, K: Sink, D: Disk>(
     alloc: Global,
     library: &mut L,
@@ -92,7 +92,7 @@ pub(crate) fn audit_files<T: Telling, L: Library, K: Sink, D: Disk>(
     )
 }
 
-// The same without what is concluded from it of accepted replies.
+// Does the same, but without the conclusions about accepted replies.
 fn write_findings<T: Telling, L: Library, K: Sink, D: Disk>(
     alloc: Global,
     library: &mut L,
@@ -138,7 +138,7 @@ fn write_findings<T: Telling, L: Library, K: Sink, D: Disk>(
     write_told(sink, &told)
 }
 
-// What a reply is evidence of, by the keys on the disk.
+// Returns what a reply is evidence of, using the keys on the disk.
 fn find<T: Telling, D: Disk>(
     alloc: Global,
     disk: &mut D,

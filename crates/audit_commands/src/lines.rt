@@ -1,4 +1,4 @@
-//! The lines of what a forgery comes down to.
+//! The lines of reduced forgeries.
 
 ghost use Rattle.std.specs.Prelude.{◌≡◌, IfOk, string_bytes};
 ghost use Rattle.audit_commands.specs.ReduceLine.{chain_line, reduced_line, signed_line};
@@ -8,7 +8,7 @@ use octet_text::{Digest32, NoMemory, hex_of, print};
 use road_line::line_of_collision;
 use std::alloc::Global;
 
-/// The line of a collision, or of a chain's value.
+/// Returns the line of a collision, or of a value of a hash chain.
 pub fn line_of_reduced(alloc: Global, reduced: &Reduced) -> Result<Vec<u8>, NoMemory>
     ensures { IfOk result (λ line. line.items ≡ reduced_line reduced.now) }
 {
@@ -25,7 +25,7 @@ pub fn line_of_reduced(alloc: Global, reduced: &Reduced) -> Result<Vec<u8>, NoMe
     }
 }
 
-/// The line of a slot that has signed the text itself.
+/// Returns the line of a slot that has signed the same text.
 pub fn line_of_signed(alloc: Global, slot: u32) -> Result<Vec<u8>, NoMemory>
     ensures { IfOk result (λ line. line.items ≡ signed_line slot) }
 {
@@ -33,7 +33,7 @@ pub fn line_of_signed(alloc: Global, slot: u32) -> Result<Vec<u8>, NoMemory>
     Ok(text.into_bytes())
 }
 
-/// The line of a value of a chain.
+/// Returns the line of a value of a one-time key's hash chain.
 fn line_of_chain(
     alloc: Global,
     slot: u32,

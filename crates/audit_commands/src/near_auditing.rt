@@ -17,7 +17,7 @@ use route_audit::Radii;
 use route_client::NearError;
 use std::alloc::Global;
 
-// How `audit-reach` tells of range queries.
+// How `audit-reach` reports on range queries.
 struct RadiusTelling;
 
 impl Telling for RadiusTelling {
@@ -32,9 +32,8 @@ impl Telling for RadiusTelling {
     }
 }
 
-/// Writes what a reply to a range query is evidence of, by the owner's disk and a publication, under a public key
-/// and the
-/// chain of links of a file, where one is named.
+/// Writes what a reply to a range query is evidence of, using the owner's disk and a publication, under a public
+/// key and, if given, the chain of links in a file.
 pub fn audit_reach<L: Library, K: Sink, D: Disk>(
     alloc: Global,
     library: &mut L,

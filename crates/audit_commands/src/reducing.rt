@@ -26,9 +26,9 @@ use road_line::line_of_refused;
 use route_client::CheckError;
 use std::alloc::Global;
 
-/// Writes what a signature on a text comes down to, by the owner's disk: a collision of SHA-256, or a
-/// value of a chain that the desk never released, unless the signature is not good, or its slot has
-/// signed that text.
+/// Reduces a signature of a text, using the owner's disk, and writes the result: a collision of SHA-256, or a value
+/// of a chain that the desk never released. Instead writes that the signature is invalid, or that its slot has
+/// signed the same text, if this is so.
 pub fn reduce<L: Library, K: Sink, D: Disk>(
     alloc: Global,
     library: &mut L,
@@ -59,7 +59,7 @@ pub fn reduce<L: Library, K: Sink, D: Disk>(
     write_told(sink, &told)
 }
 
-/// What a signature comes down to, by the desk over the keys on the disk.
+/// Returns the result of reducing a signature, given the desk over the keys on the disk.
 fn find<D: Disk>(
     alloc: Global,
     disk: &mut D,
@@ -87,7 +87,7 @@ fn find<D: Disk>(
     }
 }
 
-/// What a signature comes down to under the key of an open area.
+/// Returns the result of reducing a signature under the key of an open area.
 fn find_in<D: Disk>(
     alloc: Global,
     desk: &mut Desk,
@@ -122,7 +122,7 @@ fn find_in<D: Disk>(
     }
 }
 
-/// The prefix of some octets, where its length is told.
+/// Returns the prefix of some octets, if its length is given.
 fn front(found: Option<u32>, octets: &[u8; 126]) -> Option<&[u8]>
     requires { IfSome found (λ n. n ≤ 126) }
     ensures { option_copied result ≡ option_map (λ n. take n octets.now) found }
@@ -133,8 +133,7 @@ fn front(found: Option<u32>, octets: &[u8; 126]) -> Option<&[u8]>
     }
 }
 
-/// The line of what a signature comes down to, by the key and by what the signature's slot has
-/// signed.
+/// Returns the line of a reduced signature, given the key and the text that the signature's slot has signed.
 fn tell(
     alloc: Global,
     key: &Key,

@@ -1,4 +1,4 @@
-//! The keys of a desk, and what their slots have signed.
+//! The keys of a desk, and the texts that their slots have signed.
 
 ghost use Rattle.std.specs.Prelude.{◌≡◌, ◌≢◌, ◌<◌, ◌≤◌, ℕ, List, None, true, length, take, IfOk, IfErr, IfSome, IfNone};
 ghost use Rattle.std.specs.Option.{option_map};
@@ -15,7 +15,7 @@ use key_desk::{AreaError, Desk, DeskError};
 use octet_text::array_at;
 use road_io::Disk;
 
-/// The open area whose key has this public key.
+/// Returns the open area that has this public key, if any.
 pub fn area_of(desk: &Desk, public: &[u8; 56]) -> Option<u32>
     ensures found { IfSome result (λ area. (area ≤ length desk.now.earlier) ×
         (public_key (key_of desk.now area) ≡ public.now)) }
@@ -30,7 +30,7 @@ pub fn area_of(desk: &Desk, public: &[u8; 56]) -> Option<u32>
     None
 }
 
-/// How many slots an open area has.
+/// Returns the number of slots of an open area.
 fn slots_in(desk: &Desk, area: u32) -> u32
     requires opened { desk.now.is_open ≡ true }
     requires area { area ≤ length desk.now.earlier }
@@ -42,7 +42,7 @@ fn slots_in(desk: &Desk, area: u32) -> u32
     }
 }
 
-/// The number of the slot that a signature names in its first four octets.
+/// Returns the number of the slot that a signature names in its first four octets.
 #[tactic(auto, unfolding(lms_tree::specs::Signatures::number_at))]
 fn number(sig: &[u8]) -> Option<u32>
     ensures some { IfSome result (λ slot. (slot ≡ number_at sig.now 0) × (4 ≤ length sig.now)) }
@@ -54,7 +54,7 @@ fn number(sig: &[u8]) -> Option<u32>
     Some(u32::from_be_bytes(array_at(sig, 0)))
 }
 
-/// A slot's number, where there are as many slots.
+/// Returns a slot's number if it is less than the number of slots.
 fn within(slot: u32, slots: u32) -> Option<u32>
     ensures some { IfSome result (λ number. (number ≡ slot) × (slot < slots)) }
     ensures none { IfNone result (slots ≤ slot) }
@@ -62,7 +62,7 @@ fn within(slot: u32, slots: u32) -> Option<u32>
     if slot < slots { Some(slot) } else { None }
 }
 
-/// The slot of an open area that a signature names.
+/// Returns the slot of an open area that a signature names, if it exists.
 fn slot_of(desk: &Desk, area: u32, sig: &[u8]) -> Option<u32>
     requires opened { desk.now.is_open ≡ true }
     requires area { area ≤ length desk.now.earlier }
@@ -76,8 +76,8 @@ fn slot_of(desk: &Desk, area: u32, sig: &[u8]) -> Option<u32>
     }
 }
 
-/// How many octets the slot of an area has signed that a signature names, where it has signed some:
-/// they are put at the front of `into`.
+/// Copies the text that the slot named by a signature has signed to the front of `into`, and returns its number of
+/// octets. Returns `None` if the slot has signed no text.
 pub fn spent_of<D: Disk>(
     desk: &mut Desk,
     disk: &mut D,

@@ -1,4 +1,4 @@
-//! What an audit's answer is told as.
+//! Reporting the result of an audit.
 
 ghost use Rattle.std.specs.Prelude.{◌≡◌, ℕ, List, Err, IfOk, IfErr};
 ghost use Rattle.command_files.specs.Endings.{TellsNone, MayEnd, WhyNot};
@@ -14,7 +14,7 @@ use route_client::CheckError;
 use route_server::InstallError;
 use std::alloc::Global;
 
-/// How a command tells what an audit of one kind of replies finds: the kind, and the line of its refusals.
+/// How a command reports the findings of an audit of one kind of replies: the kind, and the line of its refusals.
 pub trait Telling {
     /// The kind.
     type Kind: Replies;
@@ -22,7 +22,7 @@ pub trait Telling {
     // The line of a refused reply.
     ghost refused: { Self.Kind.Refusal → List ℕ };
 
-    /// The line of a refused reply.
+    /// Returns the line of a refused reply.
     fn line_of_refused(
         alloc: Global,
         why: <Self::Kind as Replies>::Refusal,
@@ -30,7 +30,7 @@ pub trait Telling {
         ensures { IfOk result (λ line. line.items ≡ refused why) };
 }
 
-/// How `audit` tells of routes.
+/// How `audit` reports on routes.
 pub struct RouteTelling;
 
 impl Telling for RouteTelling {
@@ -45,7 +45,7 @@ impl Telling for RouteTelling {
     }
 }
 
-/// What an audit's answer is told as.
+/// Returns the report about an audit's result.
 pub(crate) fn tell<T: Telling>(
     alloc: Global,
     answer: Result<Finding, AuditError<<T::Kind as Replies>::Refusal>>,
@@ -75,7 +75,7 @@ pub(crate) fn tell<T: Telling>(
     }
 }
 
-// The line of a finding.
+// Returns the line of a finding.
 fn line_of(alloc: Global, finding: &Finding) -> Result<Told, NoMemory>
     ensures told { IfOk result (λ told. TellsFinding finding.now told.end told.text.items) }
     ensures verdict { IfOk result (λ told. MayEnd TellsNone told.end) }
@@ -100,7 +100,7 @@ fn line_of(alloc: Global, finding: &Finding) -> Result<Told, NoMemory>
     }
 }
 
-// The line of a refused reply.
+// Returns the line of a refused reply.
 fn refusal<T: Telling>(alloc: Global, why: <T::Kind as Replies>::Refusal) -> Result<Told, NoMemory>
     ensures told { IfOk result (λ told.
         Tells T.refused (Err (AuditError.Refused why)) told.end told.text.items) }

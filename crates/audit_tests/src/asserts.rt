@@ -1,14 +1,14 @@
-//! Assertions in functions of their own, so that the proof of a test has one call for each.
+//! Assertions as functions. The proof of a test then has one call for each assertion.
 
 use std::fmt::Debug;
 use std::process::Abort;
 
-/// Asserts that what was found is what is wanted.
+/// Asserts that the actual value is the expected one.
 pub(crate) fn assert_same<T: Debug + PartialEq>(rt: &impl Abort, found: &T, wanted: &T) {
     assert_eq!(rt; found, wanted);
 }
 
-/// The same of octets.
+/// Asserts that the actual octets are the expected ones.
 pub(crate) fn assert_octets(rt: &impl Abort, found: &[u8], wanted: &[u8]) {
     assert_eq!(rt; found, wanted);
 }

@@ -1,5 +1,5 @@
-//! What no clause says: a reply over a map of five nodes is right, of another publication, refused,
-//! forged, or shows two leaves with one digest.
+//! Facts that no clause states: a reply over a map of five nodes is right, belongs to another publication, is
+//! refused, is forged, or shows two leaves with the same digest.
 ghost use Rattle.std.specs.Prelude.{◌≤◌, length};
 ghost use Rattle.key_desk.specs.Desk.{Fits};
 
@@ -23,10 +23,10 @@ use std::test::Fail;
 
 const ASKED: Query = Query { from: 1, to: 3 };
 
-/// What an audit answers.
+/// The result of an audit.
 type Found = Result<Finding, AuditError<CheckError>>;
 
-/// The octets of the reply over what is held.
+/// Returns the octets of the reply over the held book.
 fn answer(alloc: Global, held: &Held<Toy>) -> Result<Vec<u8>, Fail> {
     if held.signature().len() > 1452 {
         return Err(Fail::from("a long signature"));
@@ -34,13 +34,13 @@ fn answer(alloc: Global, held: &Held<Toy>) -> Result<Vec<u8>, Fail> {
     Ok(held.answer(alloc, ASKED)?)
 }
 
-/// The octets of the reply over the publication of a version with this signature.
+/// Returns the octets of the reply over the publication of a version with this signature.
 pub(crate) fn reply(alloc: Global, version: u64, signature: Vec<u8>) -> Result<Vec<u8>, Fail> {
     let held = installed(alloc, version, signature)?;
     answer(alloc, &held)
 }
 
-/// The same, signed by the desk.
+/// Returns the same reply, signed by the desk.
 pub(crate) fn signed_reply<D: Disk>(
     alloc: Global,
     desk: &mut Desk,
@@ -54,7 +54,7 @@ pub(crate) fn signed_reply<D: Disk>(
     reply(alloc, version, signature)
 }
 
-/// Octets that are audited under a key and along a chain, against the publication of a version.
+/// Octets to be audited under a key and along a chain, against the publication of a version.
 #[derive(Clone, Copy)]
 pub(crate) struct Case<'a> {
     pub key: [u8; 56],
@@ -63,7 +63,7 @@ pub(crate) struct Case<'a> {
     pub version: u64,
 }
 
-/// Octets under a key alone, against the publication of version 3.
+/// Makes the case of octets under a key without links, against the publication of version 3.
 fn alone(key: [u8; 56], octets: &[u8]) -> Case<'_> {
     Case {
         key,
@@ -73,7 +73,7 @@ fn alone(key: [u8; 56], octets: &[u8]) -> Case<'_> {
     }
 }
 
-/// The audit of a case.
+/// Audits a case.
 fn audited<D: Disk>(
     alloc: Global,
     desk: &mut Desk,
@@ -96,7 +96,7 @@ fn audited<D: Disk>(
     Ok(audit::<Toy, D>(alloc, &key, chain, octets, ASKED, publication, desk, disk))
 }
 
-/// Asserts that a case is right.
+/// Asserts that the reply of a case is right.
 pub(crate) fn assert_right<D: Disk>(
     rt: &impl Abort,
     alloc: Global,
@@ -112,7 +112,7 @@ pub(crate) fn assert_right<D: Disk>(
     Ok(())
 }
 
-/// Asserts that a case is refused for this reason.
+/// Asserts that the reply of a case is refused for this reason.
 pub(crate) fn assert_refused<D: Disk>(
     rt: &impl Abort,
     alloc: Global,
@@ -129,7 +129,7 @@ pub(crate) fn assert_refused<D: Disk>(
     Ok(())
 }
 
-/// Asserts that a finding is this signature of this text under this key.
+/// Asserts that a finding is a forgery with this key, this text and this signature.
 fn assert_forgery(rt: &impl Abort, found: &Found, key: &[u8; 56], text: &[u8], signature: &[u8]) {
     match found {
         Ok(
@@ -147,7 +147,7 @@ fn assert_forgery(rt: &impl Abort, found: &Found, key: &[u8; 56], text: &[u8], s
     }
 }
 
-/// Asserts that a case is forged by this signature of this text under its key.
+/// Asserts that the reply of a case is forged, with the case's key and this text and signature.
 pub(crate) fn assert_forged<D: Disk>(
     rt: &impl Abort,
     alloc: Global,
@@ -189,7 +189,7 @@ fn a_reply_is_right_or_of_another_publication(rt: HostRuntime) -> Result<(), Fai
     )
 }
 
-/// The reply without the leaf of node 4, whose digest stands in the cover.
+/// Returns the reply without the leaf of node 4; the digest of this leaf is in the cover instead.
 fn without_four(alloc: Global, octets: &[u8]) -> Result<Vec<u8>, Fail> {
     let mut cover = [0; 36];
     cover[3] = 2;
@@ -210,7 +210,7 @@ fn a_reply_without_a_leaf_is_refused(rt: HostRuntime) -> Result<(), Fail> {
     assert_refused(&rt, alloc, &mut desk, &mut disk, case, why)
 }
 
-/// Asserts that a finding is the two texts of node 2.
+/// Asserts that a finding consists of the two texts of node 2.
 fn assert_second(rt: &impl Abort, found: &Found) {
     match found {
         Ok(Finding::Collision { left, right }) => {

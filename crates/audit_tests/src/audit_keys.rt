@@ -1,6 +1,6 @@
-//! What no clause says: each key of an owner is audited along its chain, a link that was signed
-//! past the desk is forged, and on a disk of before, whose last one-time key signed a header, that
-//! header is signed.
+//! Facts that no clause states: replies under each key of an owner are audited along the key's chain; a link that
+//! was signed without the desk is forged; on an older disk, whose last one-time key signed a header, that header is
+//! signed.
 ghost use Rattle.std.specs.Prelude.{IfOk};
 ghost use Rattle.key_desk.specs.Desk.{Fits};
 
@@ -17,14 +17,14 @@ use std::alloc::Global;
 use std::process::Abort;
 use std::test::Fail;
 
-/// The first public key of an owner, and a reply that it signed.
+/// Returns the first public key of an owner, and a reply that it signed.
 fn first_reply(alloc: Global, disk: &mut MemDisk) -> Result<([u8; 56], Vec<u8>), Fail> {
     let mut desk = Desk::create(alloc, disk, 5, &[0; 48])?;
     let reply = signed_reply(alloc, &mut desk, disk, 3)?;
     Ok((desk.public(), reply))
 }
 
-/// The desk over the next key of an owner.
+/// Opens the desk over the next key of an owner.
 fn next_desk(alloc: Global, disk: &mut MemDisk) -> Result<Desk, SucceedError>
     ensures { IfOk result (λ desk. Fits ⟦<MemDisk as Disk>⟧ desk disk.new) }
 {
@@ -99,8 +99,7 @@ fn a_link_past_the_desk_is_forged(rt: HostRuntime) -> Result<(), Fail> {
     )
 }
 
-/// 32 slots whose gates are open, with a header in each, the last octet of whose version is the
-/// slot's number.
+/// Returns 32 slots with open gates, each with a header whose version has the slot's number as its last octet.
 fn slots(alloc: Global, mut header: [u8; 104]) -> Result<Vec<u8>, Fail> {
     let mut octets = Vec::new(alloc);
     for slot in 0..32u8 {
@@ -112,7 +111,7 @@ fn slots(alloc: Global, mut header: [u8; 104]) -> Result<Vec<u8>, Fail> {
     Ok(octets)
 }
 
-/// A disk of before, whose key of zero octets signed a header in each of its slots.
+/// Returns an older disk, whose key of zero octets has signed a header in each of its slots.
 fn disk_of_before(rt: &impl Abort, alloc: Global, header: [u8; 104]) -> Result<MemDisk, Fail> {
     let (_, mut disk) = owner(alloc)?;
     let len = disk.len()?;

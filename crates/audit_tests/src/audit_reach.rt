@@ -1,5 +1,5 @@
-//! What no clause says: a reply to a range query over a map of five nodes is right, of another
-//! publication, refused, or shows two leaves with one digest.
+//! Facts that no clause states: a reply to a range query over a map of five nodes is right, belongs to another
+//! publication, is refused, or shows two leaves with the same digest.
 ghost use Rattle.std.specs.Prelude.{◌≤◌, length};
 ghost use Rattle.key_desk.specs.Desk.{Fits};
 
@@ -17,10 +17,10 @@ use std::test::Fail;
 
 const ASKED: NearQuery = NearQuery { from: 1, radius: 4 };
 
-/// What an audit answers.
+/// The result of an audit.
 type Found = Result<Finding, AuditError<NearError>>;
 
-/// The octets of the reply over what is held.
+/// Returns the octets of the reply over the held book.
 fn answer(alloc: Global, held: &Held<Toy>) -> Result<Vec<u8>, Fail> {
     if held.signature().len() > 1452 {
         return Err(Fail::from("a long signature"));
@@ -28,13 +28,13 @@ fn answer(alloc: Global, held: &Held<Toy>) -> Result<Vec<u8>, Fail> {
     Ok(answer_near(alloc, held, ASKED)?)
 }
 
-/// The octets of the reply over the publication of version 3 with this signature.
+/// Returns the octets of the reply over the publication of version 3 with this signature.
 fn reply(alloc: Global, signature: Vec<u8>) -> Result<Vec<u8>, Fail> {
     let held = installed(alloc, 3, signature)?;
     answer(alloc, &held)
 }
 
-/// The same, signed by the desk.
+/// Returns the same reply, signed by the desk.
 fn signed_reply<D: Disk>(alloc: Global, desk: &mut Desk, disk: &mut D) -> Result<Vec<u8>, Fail>
     requires { Fits D.Disk desk.old disk.old }
     ensures { Fits D.Disk desk.new disk.new }
@@ -43,7 +43,7 @@ fn signed_reply<D: Disk>(alloc: Global, desk: &mut Desk, disk: &mut D) -> Result
     reply(alloc, signature)
 }
 
-/// The audit of octets under the desk's key, against the publication of a version.
+/// Audits octets under the desk's key, against the publication of a version.
 fn audited<D: Disk>(
     alloc: Global,
     desk: &mut Desk,
@@ -98,7 +98,7 @@ fn a_reply_is_right_or_refused_or_of_another_publication(rt: HostRuntime) -> Res
     )
 }
 
-/// Asserts that a finding is the two texts of node 2.
+/// Asserts that a finding consists of the two texts of node 2.
 fn assert_second(rt: &impl Abort, found: &Found) {
     match found {
         Ok(Finding::Collision { left, right }) => {

@@ -1,6 +1,6 @@
-//! What no clause says: an answer that an owner's second key signed is refused under the first one
-//! alone, and accepted with the chain that leads to it; an answer of the first key is accepted both
-//! ways.
+//! Facts that no clause states: an answer that an owner's second key signed is refused under the first key alone,
+//! and accepted with the chain that leads to the second key; an answer that the first key signed is accepted in
+//! both cases.
 use crate::asserts::{assert_octets, assert_same};
 use crate::octets::octets_of;
 use crate::owners::signed_past;
@@ -15,8 +15,7 @@ use std::test::Fail;
 
 const ASKED: Query = Query { from: 1, to: 3 };
 
-/// The public key of the key whose secret is one octet again and again, and the link from it to
-/// another key.
+/// Returns the public key whose secret repeats one octet, and the link from it to another key.
 pub(crate) fn link_to(alloc: Global, secret: u8, next: [u8; 56]) -> Result<([u8; 56], Link), Fail> {
     let (key, signature) = signed_past(alloc, secret, &link_text(&next))?;
     let link = Link {
@@ -26,7 +25,7 @@ pub(crate) fn link_to(alloc: Global, secret: u8, next: [u8; 56]) -> Result<([u8;
     Ok((key, link))
 }
 
-// Why octets are refused under a key and a chain, where they are.
+// Returns why octets are refused under a key and a chain, if they are refused.
 fn refusal(
     alloc: Global,
     public: &[u8],
@@ -39,7 +38,7 @@ fn refusal(
     Ok(check::<Sha>(alloc, public, chain, octets, ASKED, 3).err())
 }
 
-// Asserts how octets are refused under a key and a chain, or that they are accepted.
+// Asserts that octets are refused under a key and a chain for this reason, or that they are accepted.
 fn assert_ends(
     rt: &impl Abort,
     alloc: Global,
@@ -72,7 +71,7 @@ fn the_first_key_is_accepted_both_ways(rt: HostRuntime) -> Result<(), Fail> {
     assert_ends(&rt, alloc, &public, &[link], &reply, None)
 }
 
-// The key that leads to the public key, and a chain from it to that key and back.
+// Returns a key that leads to the public key, and a chain from this key to the public key and back.
 fn there_and_back(alloc: Global) -> Result<([u8; 56], [Link; 2]), Fail> {
     let (first, there) = link_to(alloc, 1, PUBLIC)?;
     let (_, back) = link_to(alloc, 0, first)?;

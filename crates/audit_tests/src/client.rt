@@ -1,5 +1,5 @@
-//! What no clause says: signed answers of another program are accepted, and changed ones are
-//! refused. The reference is that program (`checks/sources.py`).
+//! Facts that no clause states: signed answers of another program, the reference (`checks/sources.py`), are
+//! accepted, and altered ones are refused.
 use crate::asserts::{assert_octets, assert_same};
 use crate::octets::{octets_of, spliced};
 use crate::signed_answers::{
@@ -21,10 +21,10 @@ const ASKED: Query = Query { from: 1, to: 3 };
 
 const LONG: Query = Query { from: 3, to: 5 };
 
-// What a client answers of octets.
+// The result of a client's check.
 type Answered = Result<Checked, CheckError>;
 
-// The check of octets under the first so many octets of the public key.
+// Checks octets under a prefix of the public key; its length is given.
 fn checked<H: Hasher>(
     alloc: Global,
     key: usize,
@@ -39,18 +39,19 @@ fn checked<H: Hasher>(
     Ok(check::<H>(alloc, public, &[], octets, query, least))
 }
 
-// The version and the length that a client takes from a reply: the example of the crate `route_client`.
+// Returns the version and the length that a client takes from a reply. This is the example of the crate
+// `route_client`.
 fn version_and_length(
     rt: &impl Abort,
     alloc: Global,
     public: &[u8],
     reply: &[u8],
 ) -> Result<(u64, Option<u64>), Fail> {
-    // The reply may come from anywhere: the owner's public key is all that is trusted.
+    // The reply may come from anywhere. The client trusts only the owner's public key.
     assert!(rt; reply.len() < 1_000_000);
     let query = Query { from: 1, to: 3 };
     let (version, length) = match check::<Sha>(alloc, public, &[], reply, query, 3)? {
-        // In the map of this version, 3 or later, no walk from 1 to 3 is shorter than the route.
+        // In the map of this version, which is at least 3, no walk from 1 to 3 is shorter than the route.
         Checked::Route(it) => (it.version, Some(it.length)),
         Checked::Apart { version, .. } => (version, None),
     };
@@ -65,7 +66,7 @@ fn a_signed_answer_has_a_version_and_a_length(rt: HostRuntime) -> Result<(), Fai
     Ok(())
 }
 
-// The route that is accepted.
+// Returns the accepted route.
 fn route_in(checked: Checked) -> Result<Accepted, Fail> {
     match checked {
         Checked::Route(accepted) => Ok(accepted),
@@ -73,7 +74,7 @@ fn route_in(checked: Checked) -> Result<Accepted, Fail> {
     }
 }
 
-// Asserts that octets are no answer to a query, for this reason.
+// Asserts that octets are refused as an answer to a query, for this reason.
 fn assert_no_answer(
     rt: &impl Abort,
     alloc: Global,
@@ -87,7 +88,7 @@ fn assert_no_answer(
     Ok(())
 }
 
-// The same of any version.
+// Asserts the same, whatever the version.
 fn assert_refused(
     rt: &impl Abort,
     alloc: Global,
@@ -97,7 +98,7 @@ fn assert_refused(
     assert_no_answer(rt, alloc, octets, ASKED, 0, why)
 }
 
-// Asserts that a reply with other octets from an offset up to another is refused for this reason.
+// Asserts that a reply in which the octets of a range are replaced is refused for this reason.
 fn assert_found(
     rt: &impl Abort,
     alloc: Global,
@@ -111,7 +112,7 @@ fn assert_found(
     assert_refused(rt, alloc, &octets, why)
 }
 
-// Asserts that the reply in hex is accepted as an answer to a query, with this length and route.
+// Asserts that the reply in hex is accepted as an answer to a query, with this length and this route.
 fn assert_accepted(
     rt: &impl Abort,
     alloc: Global,
@@ -139,7 +140,7 @@ fn a_signed_answer_is_accepted(rt: HostRuntime) -> Result<(), Fail> {
     Ok(())
 }
 
-// The check of octets that are handed over.
+// Checks octets that are passed by value.
 fn checked_owned(
     alloc: Global,
     octets: Vec<u8>,
@@ -200,7 +201,7 @@ fn a_changed_octet_is_found(rt: HostRuntime) -> Result<(), Fail> {
     let differs = CheckError::BadCover(1, CoverFault::Differs);
     let no_place = CheckError::BadCover(1, CoverFault::Place);
     let shorter = CheckError::Judged(Refusal::Shorter(9));
-    // One bit of the root of the nodes, which begins with 1a.
+    // One bit of the node root, which begins with 1a.
     assert_found(&rt, alloc, &reply, 21, 22, &[0x1b], no_match)?;
     assert_found(&rt, alloc, &reply, 108, 109, &[1], bad_form)?;
     assert_found(&rt, alloc, &reply, 1474, 1475, &[1], differs)?;
@@ -208,7 +209,7 @@ fn a_changed_octet_is_found(rt: HostRuntime) -> Result<(), Fail> {
     assert_found(&rt, alloc, &reply, 1410, 1411, &[4], shorter)
 }
 
-// Asserts that the reply with a route of two ids is broken at this index.
+// Asserts that the reply with a route of these two ids has its first fault at this index.
 fn assert_broken(
     rt: &impl Abort,
     alloc: Global,
@@ -230,7 +231,7 @@ fn a_broken_route_is_found(rt: HostRuntime) -> Result<(), Fail> {
     assert_broken(&rt, alloc, &reply, (1, 2), 2)
 }
 
-// A count and the digests after it.
+// Returns a count, followed by the digests.
 fn counted(alloc: Global, count: u8, digests: &[u8]) -> Result<Vec<u8>, Fail> {
     spliced(alloc, &[0, 0, 0, count], 4, 4, digests)
 }
@@ -308,7 +309,8 @@ fn signed_answers_of_each_method_are_accepted(rt: HostRuntime) -> Result<(), Fai
     Ok(())
 }
 
-// Asserts that a reply in hex, with others after its signature up to an offset, is judged so.
+// Asserts the judgement of a reply in hex, in which the octets from the end of the signature up to an offset are
+// replaced.
 fn assert_judged(
     rt: &impl Abort,
     alloc: Global,
@@ -364,7 +366,7 @@ fn refusals_are_whole_sentences(rt: HostRuntime) -> Result<(), Fail> {
     Ok(())
 }
 
-// The answer without a route that follows another reply's signature.
+// Returns the answer without a route that these octets make after another reply's signature.
 fn apart_reply(alloc: Global, signed: &str, rest: &str) -> Result<Vec<u8>, Fail> {
     let reply = octets_of(alloc, signed)?;
     let rest = octets_of(alloc, rest)?;
@@ -372,10 +374,10 @@ fn apart_reply(alloc: Global, signed: &str, rest: &str) -> Result<Vec<u8>, Fail>
     spliced(alloc, &whole, 0, 1, &[3])
 }
 
-// What a client says of an answer without a route, without what a header has: its version.
+// The verdict on an answer without a route, reduced to its version.
 type Said = Result<Option<u64>, CheckError>;
 
-// What is said of such a reply to a query, and none where it has a route.
+// Returns the verdict on such a reply to a query, or none if the reply has a route.
 fn apart_version(alloc: Global, octets: &[u8], query: Query) -> Result<Said, Fail> {
     match checked::<Sha>(alloc, 56, octets, query, 3)? {
         Ok(Checked::Route(_)) => Ok(Ok(None)),
@@ -384,7 +386,7 @@ fn apart_version(alloc: Global, octets: &[u8], query: Query) -> Result<Said, Fai
     }
 }
 
-// Asserts what is said of such a reply to a query.
+// Asserts the verdict on such a reply to a query.
 fn assert_apart(
     rt: &impl Abort,
     alloc: Global,

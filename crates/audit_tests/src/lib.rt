@@ -1,5 +1,5 @@
-//! Tests of the client and of the audits: worked rows over one map, and signed answers of another program.
-//! Each shows what no clause says.
+//! Tests of the client and of the audits: worked examples over one map, and signed answers of another program. Each
+//! test shows facts that no clause states.
 #![tactic(auto)]
 
 #[cfg(test)]

@@ -3,12 +3,12 @@
 use std::alloc::Global;
 use std::test::Fail;
 
-/// The octets of hex text.
+/// Returns the octets of hex text.
 pub(crate) fn octets_of(alloc: Global, text: &str) -> Result<Vec<u8>, Fail> {
     Ok(hex::decode(alloc, text)?)
 }
 
-/// The octets with others from an offset up to another.
+/// Returns the octets with a range replaced by others.
 pub(crate) fn spliced(
     alloc: Global,
     octets: &[u8],

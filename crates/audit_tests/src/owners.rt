@@ -1,6 +1,6 @@
-//! An owner of the five nodes, in memory: what it publishes, what its desk signs, and what is
-//! signed past it. The hash sums octets, so that two leaves have one digest where their octets are
-//! in another order.
+//! An owner of the five nodes, in memory: its publications, the signatures of its desk, and signatures without the
+//! desk. The hash is the sum of the octets, so two leaves have the same digest if they have the same octets in
+//! another order.
 ghost use Rattle.std.specs.Prelude.{IfOk};
 ghost use Rattle.key_desk.specs.Desk.{Fits};
 
@@ -16,30 +16,30 @@ use std::alloc::Global;
 use std::test::Fail;
 use test_maps::{DIJ, NODES, ROADS, parts_of};
 
-/// The text that is hashed for the leaf of node 2, which stands at (10, 0).
+/// The text that is hashed for the leaf of node 2, which has the coordinates (10, 0).
 pub(crate) const SECOND: [u8; 32] = [
     0, 0x4e, 0, 0, 0, 2, 0, 0, 0, 10, 0, 0, 0, 0, 0, 2, 0, 0, 0, 1, 0, 0, 0, 4, 0, 0, 0, 3, 0, 0,
     0, 5,
 ];
 
-/// The same where node 2 stands at (0, 10).
+/// The same text with node 2 at (0, 10).
 pub(crate) const SECOND_MOVED: [u8; 32] = [
     0, 0x4e, 0, 0, 0, 2, 0, 0, 0, 0, 0, 0, 0, 10, 0, 2, 0, 0, 0, 1, 0, 0, 0, 4, 0, 0, 0, 3, 0, 0,
     0, 5,
 ];
 
-/// DIJ in a version.
+/// Returns settings with method DIJ and this version.
 fn settings(version: u64) -> Settings {
     Settings { version, ..DIJ }
 }
 
-/// The header of a version.
+/// Returns the header of a version.
 pub(crate) fn header_of(alloc: Global, version: u64) -> Result<Header, Fail> {
     let held = Held::<Toy>::build(alloc, parts_of(alloc, &NODES, &ROADS)?, &settings(version))?;
     Ok(held.header())
 }
 
-/// The publication of a version with this signature.
+/// Returns the publication of a version with this signature.
 pub(crate) fn publication(
     alloc: Global,
     version: u64,
@@ -53,7 +53,7 @@ pub(crate) fn publication(
     })
 }
 
-/// The publication of a version with this signature, installed.
+/// Installs the publication of a version with this signature.
 pub(crate) fn installed(
     alloc: Global,
     version: u64,
@@ -63,7 +63,7 @@ pub(crate) fn installed(
     Ok(Held::install(alloc, publication)?)
 }
 
-/// The desk over a new key of zero octets, and its disk.
+/// Makes the desk over a new key of zero octets, and its disk.
 pub(crate) fn owner(alloc: Global) -> Result<(Desk, MemDisk), Fail>
     ensures { IfOk result (λ both. Fits ⟦<MemDisk as Disk>⟧ both.0 both.1) }
 {
@@ -72,7 +72,7 @@ pub(crate) fn owner(alloc: Global) -> Result<(Desk, MemDisk), Fail>
     Ok((desk, disk))
 }
 
-/// The desk's signature of the header of a version.
+/// Returns the desk's signature of the header of a version.
 pub(crate) fn sealed<D: Disk>(
     alloc: Global,
     desk: &mut Desk,
@@ -88,8 +88,7 @@ pub(crate) fn sealed<D: Disk>(
     Ok(signature)
 }
 
-/// The public key of the key whose secret is one octet again and again, and the signature of a text
-/// by its last one-time key.
+/// Returns the public key whose secret repeats one octet, and the signature of a text by its last one-time key.
 pub(crate) fn signed_past(
     alloc: Global,
     secret: u8,

@@ -1,6 +1,6 @@
-//! Signed answers as hex text, worked out by the reference (`checks/sources.py`): each is signed with a
-//! one-time key, the first to the eighth in turn, of the key of height 5 whose secret is 48 zeros. The order is
-//! by id and the fan-out 2.
+//! Signed answers as hex text, computed by the reference (`checks/sources.py`). They are signed with the first
+//! eight one-time keys, in turn, of the key of height 5 whose secret is 48 zeros. The order is by id, and the
+//! fan-out is 2.
 
 /// The public key.
 pub const PUBLIC: [u8; 56] = [
@@ -9,8 +9,8 @@ pub const PUBLIC: [u8; 56] = [
     0xe7, 0x34, 0x97, 0x9f, 0x53, 0x51, 0x39, 0xca, 0xbe, 0x33, 0xcd, 0x69, 0x4f,
 ];
 
-/// Over the five nodes under DIJ, version 3: the answer to a query from 1 to 3, the route 1 2 3 with the
-/// leaves of the nodes 1 to 4.
+/// Over the five nodes under DIJ, version 3. The answer to a query from 1 to 3 is the route 1 2 3 with the leaves
+/// of the nodes 1 to 4.
 pub const REPLY: &str =
     "0052504631010002000000000000000003000000051adff7e4b827b0aea5b991da79e10f3f31e279841406199d0999\
      aa32db8e63ed0000000000000000000000000000000000000000000000000000000000000000000000000000000000\
@@ -51,9 +51,9 @@ pub const REPLY: &str =
 /// The digest of the leaf of node 4.
 pub const FOURTH_DIGEST: &str = "150b4fd8558b3b359df5a46e187c8eecad89db19ce4b5ae6dd1d6eae0e69ff2b";
 
-/// Over the five nodes under HYP with three columns, version 3: the answer to a query from 1 to 3, the
-/// route 1 2 3 with the leaves of the nodes 1 to 4 and of the pairs 2, 3 and 3, 4. The nodes 1, 2 and 4
-/// are in the first cell, 3 in the second and 5 in the third, so the borders are 2, 3 and 4.
+/// Over the five nodes under HYP with three columns, version 3. The answer to a query from 1 to 3 is the route 1 2
+/// 3 with the leaves of the nodes 1 to 4 and of the pairs 2, 3 and 3, 4. Nodes 1, 2 and 4 are in the first cell, 3
+/// in the second and 5 in the third, so the border nodes are 2, 3 and 4.
 pub const BORDER_REPLY: &str =
     "0052504631040002000000000000000003000000056ab24778db3680bc83f48649aca3752d1260975f0ad7c33e1f9e\
      0db15c4d4f3600000003afe5ad651c714de043f490934abeab8e639743332de2d10cb0c1e6bd1e4966420000000000\
@@ -93,13 +93,13 @@ pub const BORDER_REPLY: &str =
      4352d97750cb1247dcc653817493c5ac2bf27f7b2a175ce10000000122c534900f8945685ecd57d053477f6063f39a\
      30475f5eb0eb9c7734bf01d541";
 
-/// The cover of that pair tree where only its first leaf is chosen, after its count.
+/// The cover of that pair tree if only its first leaf is chosen, preceded by its count.
 pub const ONE_PAIR_COVER: &str =
     "0000000222c534900f8945685ecd57d053477f6063f39a30475f5eb0eb9c7734bf01d541f892f40994591ea6b9d85c\
      12f26bdbfedc2d6452a8e2c103071bab4859cf6311";
 
-/// Over the five nodes under FULL, version 3: the answer to a query from 1 to 3, the route 1 2 3 with the
-/// leaves of its nodes and of the pair 1, 3, which stands at index 1 of ten.
+/// Over the five nodes under FULL, version 3. The answer to a query from 1 to 3 is the route 1 2 3 with the leaves
+/// of its nodes and of the pair 1, 3, which is at index 1 of ten.
 pub const FULL_REPLY: &str =
     "0052504631020002000000000000000003000000051adff7e4b827b0aea5b991da79e10f3f31e279841406199d0999\
      aa32db8e63ed0000000a50dc530a08b9f7666ebe4e6556ba27ffecd7a1fe70354b2f5c9d4126cf6b45890000000000\
@@ -140,7 +140,7 @@ pub const FULL_REPLY: &str =
      cf4249f0c2a77451f222bbab344d9bf9b7aec74e395ce00f7d8b31ba01a93a670d5d7801bbd0c4399091cebb7a7707\
      3acbbc566b3a41650bac44a0f898975c";
 
-/// What follows that signature where the route is 1 4 3, with the leaves of its nodes.
+/// The octets after that signature if the route is 1 4 3, with the leaves of its nodes.
 pub const FULL_DETOUR: &str =
     "000000030000000100000004000000030000000300000000001f4e0000000100000000000000000002000000020000\
      0004000000040000000300000002001f4e000000030000001400000000000200000002000000050000000400000007\
@@ -151,7 +151,7 @@ pub const FULL_DETOUR: &str =
      d2a6b5f86564115faeee81cf4249f0c2a77451f222bbab344d9bf9b7aec74e395ce00f7d8b31ba01a93a670d5d7801\
      bbd0c4399091cebb7a77073acbbc566b3a41650bac44a0f898975c";
 
-/// What follows that signature where the leaf of the pair is left out, and the pairs' cover is empty.
+/// The octets after that signature without the leaf of the pair, with an empty cover of the pairs.
 pub const FULL_WITHOUT_PAIR: &str =
     "000000030000000100000002000000030000000300000000001f4e0000000100000000000000000002000000020000\
      0004000000040000000300000001001f4e000000020000000a00000000000200000001000000040000000300000005\
@@ -159,10 +159,9 @@ pub const FULL_WITHOUT_PAIR: &str =
      4fd8558b3b359df5a46e187c8eecad89db19ce4b5ae6dd1d6eae0e69ff2b3c7fce7127daa236ebe34fb16e6f67272f\
      c96e3a3b4b3b395bfbf3e348a3200200000000";
 
-/// Over five nodes in a line at x = 0, 10, 20, 30 and 40, and the roads 1-2, 2-3, 3-4 and 4-5 of length
-/// 10, under LDM with one landmark, codes of 16 bits and threshold 0, version 3: the answer to a query
-/// from 3 to 5, the route 3 4 5 with the leaves of the nodes 2 to 5. The step is 1, and the codes are 0,
-/// 10, 20, 30 and 40.
+/// Over five nodes in a line at x = 0, 10, 20, 30 and 40, and the roads 1-2, 2-3, 3-4 and 4-5 of length 10, under
+/// LDM with one landmark, codes of 16 bits and threshold 0, version 3. The answer to a query from 3 to 5 is the
+/// route 3 4 5 with the leaves of the nodes 2 to 5. The step is 1, and the codes are 0, 10, 20, 30 and 40.
 pub const LDM_REPLY: &str =
     "0052504631030002000000000000000003000000059bb6fe165b41afc3bd9959aa51ff88741a4c167689795bbbebd9\
      957b9aa4cefd0000000000000000000000000000000000000000000000000000000000000000000000000000000000\
@@ -200,15 +199,15 @@ pub const LDM_REPLY: &str =
      000028000000000001000000040000000a0000280000000000000001e1001ae09b024aaeb21191e49416ba20f9b4e4\
      344c8e17e6b248af80ff7f6ba900000000";
 
-/// What follows that signature where the leaf of node 2 is left out.
+/// The octets after that signature without the leaf of node 2.
 pub const LDM_WITHOUT_2: &str =
     "00000003000000030000000400000005000000030000000200224e0000000300000014000000000002000000020000\
      000a000000040000000a0000140000000300224e000000040000001e000000000002000000030000000a0000000500\
      00000a00001e00000004001a4e0000000500000028000000000001000000040000000a000028000000000000000113\
      9395f7dca224c62f846e85ea94d3f3ad037ad0614a564b366107d0ef36769100000000";
 
-/// Over three nodes in a line at x = 0, 1 and 2, and the roads 1-2 and 2-3 of length 0, under DIJ, version
-/// 1: the answer to a query from 1 to 3, the route 1 2 3 with the leaves of its nodes.
+/// Over three nodes in a line at x = 0, 1 and 2, and the roads 1-2 and 2-3 of length 0, under DIJ, version 1. The
+/// answer to a query from 1 to 3 is the route 1 2 3 with the leaves of its nodes.
 pub const ZERO_DIJ_REPLY: &str =
     "00525046310100020000000000000000010000000318a4b978c8f3e2ed11563804f7d0515636d2da8304f8ca8c68ba\
      6d7d8c35da910000000000000000000000000000000000000000000000000000000000000000000000000000000000\
@@ -282,7 +281,7 @@ pub const ZERO_FULL_REPLY: &str =
      29756f879bc007050bb51cc95a07885c6a2eb6d7de4c3093de5662ec4ec63be323fb0bca9cc4e11afee25f2531583b\
      035dee14b4c0ee2f671263cbb5";
 
-/// The same under LDM with one landmark, codes of two bits and threshold 0: the nodes 2 and 3 refer to 1.
+/// The same under LDM with one landmark, codes of two bits and threshold 0. Nodes 2 and 3 refer to node 1.
 pub const ZERO_LDM_REPLY: &str =
     "005250463103000200000000000000000100000003bbab2f18d4be6fc64060e26d0e03177ced635ccc3bff78797004\
      937d5cbdd07f0000000000000000000000000000000000000000000000000000000000000000000000000000000000\
@@ -318,7 +317,7 @@ pub const ZERO_LDM_REPLY: &str =
      4e0000000200000001000000000002000000010000000000000003000000000100000001000000000002001e4e0000\
      000300000002000000000001000000020000000001000000010000000000000000000000000000";
 
-/// The same under HYP with two columns: the borders are 2 and 3.
+/// The same under HYP with two columns. The border nodes are 2 and 3.
 pub const ZERO_HYP_REPLY: &str =
     "005250463104000200000000000000000100000003046ee05469267080ad3c05f7d98c5a54e9bf576ded4cf059755f\
      0186679b56790000000132eea1287fe3b211e3fb3d675ab8077547795b3d5afde683a6ce2c33ba389e690000000000\
@@ -354,7 +353,7 @@ pub const ZERO_HYP_REPLY: &str =
      00244e000000020000000100000000000200000001000000000000000300000000000000000100000002001c4e0000\
      00030000000200000000000100000002000000000000000101000000000000000000000000";
 
-/// What follows the signature in the reply that no walk joins 1 and 5: all five nodes.
+/// The octets after the signature in the reply that no walk joins 1 and 5, with the leaves of all five nodes.
 pub const APART: &str =
     "0000000500000000001f4e00000001000000000000000000020000000200000004000000040000000300000001\
      001f4e000000020000000a0000000000020000000100000004000000030000000500000002001f4e0000000300\
@@ -362,21 +361,21 @@ pub const APART: &str =
      020000000100000003000000030000000700000004000f4e000000050000003200000032000000000000000000\
      0000000000";
 
-/// The same from 5 to 1: the nodes 1 and 5.
+/// The same from 5 to 1, with the leaves of the nodes 1 and 5.
 pub const APART_BACK: &str =
     "0000000200000000001f4e00000001000000000000000000020000000200000004000000040000000300000004\
      000f4e00000005000000320000003200000000000000000002e0c642bd1eb7c749adc0fedcb03086fdfe61a58d\
      caad1ff4cbbc44deb29f302d1cd06211f10270e884573d3f2559504a5a7b1faa1a73faf5735b9c087411f81300\
      000000";
 
-/// The nodes 1, 2, 3 and 5, with the cover of the node 4.
+/// The leaves of the nodes 1, 2, 3 and 5, with a cover for node 4.
 pub const APART_WITHOUT_4: &str =
     "0000000400000000001f4e00000001000000000000000000020000000200000004000000040000000300000001\
      001f4e000000020000000a0000000000020000000100000004000000030000000500000002001f4e0000000300\
      0000140000000000020000000200000005000000040000000700000004000f4e00000005000000320000003200\
      000000000000000001150b4fd8558b3b359df5a46e187c8eecad89db19ce4b5ae6dd1d6eae0e69ff2b00000000";
 
-/// What follows the signature under FULL: the nodes 1 and 5, and their pair.
+/// The octets after the signature under FULL: the leaves of the nodes 1 and 5, and of their pair.
 pub const FULL_APART: &str =
     "0000000200000000001f4e00000001000000000000000000020000000200000004000000040000000300000004\
      000f4e00000005000000320000003200000000000100000003500000000100000005ffffffffffffffff000000\
@@ -386,7 +385,7 @@ pub const FULL_APART: &str =
      4249f0c2a77451f222bbab344d9bf9b7aec74e395ce00f7d8b31ba01a93a670d5d7801bbd0c4399091cebb7a77\
      073acbbc566b3a41650bac44a0f898975c";
 
-/// The nodes 1 and 3, and their pair, which says how far apart they are.
+/// The leaves of the nodes 1 and 3, and of their pair, which has their distance.
 pub const FULL_APART_JOINED: &str =
     "0000000200000000001f4e00000001000000000000000000020000000200000004000000040000000300000002\
      001f4e000000030000001400000000000200000002000000050000000400000007000000010000000150000000\
@@ -397,7 +396,7 @@ pub const FULL_APART_JOINED: &str =
      ee81cf4249f0c2a77451f222bbab344d9bf9b7aec74e395ce00f7d8b31ba01a93a670d5d7801bbd0c4399091ce\
      bb7a77073acbbc566b3a41650bac44a0f898975c";
 
-/// What follows the signature under HYP: the nodes 1, 2, 4 and 5, and no pair.
+/// The octets after the signature under HYP: the leaves of the nodes 1, 2, 4 and 5, and no pair.
 pub const BORDER_APART: &str =
     "000000040000000000244e00000001000000000000000000020000000200000004000000040000000300000000\
      000000000100244e000000020000000a0000000000020000000100000004000000030000000500000000010000\
@@ -405,8 +404,8 @@ pub const BORDER_APART: &str =
      144e0000000500000032000000320000000000020000000000000000013dfe07e285e8a1d541324fdb1c0cbc22\
      cb5a1b3012d62bbaccdc0a13f77adf9000000000";
 
-/// The reply that no walk joins 1 and 5 under HYP with three columns, where 5 has a road to a sixth node and both
-/// are borders: the nodes 1, 2, 4 and 5, and the pairs of 2 and 5 and of 4 and 5.
+/// The reply that no walk joins 1 and 5 under HYP with three columns. A road joins 5 to a sixth node, so both are
+/// border nodes. The reply has the leaves of the nodes 1, 2, 4 and 5, and of two pairs: 2 and 5, and 4 and 5.
 pub const SIX_APART: &str =
     "03525046310400020000000000000000030000000692ba44a47f70cbf981b7ad15d3ac5f52a1e0d473e27e244377\
      00e0e807e584690000000a5ad340244b0d39dc931debe7590a4f670c527bd5f178fcbc08debc8d6f748fff000000\
@@ -450,7 +449,7 @@ pub const SIX_APART: &str =
      e3e033b032606e730ca0330d9d3c7cabf3530ca866f3170ad193a939f2eb5ae1a247c8d260da410f97ffcd928f42\
      55";
 
-/// What follows its signature without the pair of 4 and 5.
+/// The octets after its signature without the pair of 4 and 5.
 pub const SIX_APART_WITHOUT_PAIR: &str =
     "000000040000000000244e0000000100000000000000000002000000020000000400000004000000030000000000\
      0000000100244e000000020000000a00000000000200000001000000040000000300000005000000000100000003\

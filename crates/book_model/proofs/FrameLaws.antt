@@ -1,4 +1,4 @@
--- The least and the greatest coordinates, and places in a span.
+-- The least and the greatest coordinates, and the parts of a range.
 use Rattle.std.proofs.Common.{◌≡◌, ℕ, zero, suc, ◌+◌, ◌*◌, ◌/◌, ◌<◌, ◌≤◌, Bool, true, false, cond, List, [], ◌∷◌, ℤ, pos, ◌-ℤ◌, ◌≤ℤ◌, refl, arith, ap, sym, ◌∙◌, subst, map, length, get_or, take, take_all, SFits, w32, w64, to_z, of_z}
 use Rattle.std.specs.List.{All, fold}
 use Rattle.std.specs.Prelude.{int_lt, unsigned_abs}
@@ -14,7 +14,7 @@ use Rattle.book_model.specs.Orders.{int_least, int_greatest, frame_of}
 use Rattle.book_model.specs.Frames.{IsFrame, InFrame}
 use Rattle.book_model.specs.declared.frame.Frame.{Frame}
 
--- a loop's step
+-- the step of a loop
 pub fold_step : (h : ℤ → Node → ℤ) (start : ℤ) (xs : List Node) (i : ℕ) (d : Node) (z next : ℤ) → i < length xs → z ≡ fold h start (take i xs) → next ≡ h z (get_or xs i d) → next ≡ fold h start (take (i + 1) xs)
 fold_step h start xs i d z next lt is step = step ∙ (ap (λ t. h t (get_or xs i d)) is ∙ sym (fold_more h start xs i d lt))
 
@@ -49,7 +49,7 @@ share_below offset span parts some le =
 pub abs_le : (low z high : ℤ) → low ≤ℤ z → z ≤ℤ high → unsigned_abs (z -ℤ low) ≤ unsigned_abs (high -ℤ low)
 abs_le low z high le ge = grind (arith, ints)
 
--- what was passed is what was meant
+-- the arguments have the intended meaning
 pub passed : (low z : ℤ) (n : ℕ) → SFits w32 low → SFits w32 z → n ≡ unsigned_abs (to_z w32 (of_z w32 z) -ℤ to_z w32 (of_z w32 low)) → n ≡ unsigned_abs (z -ℤ low)
 passed low z n a b is = is ∙ (ap (λ t. unsigned_abs (t -ℤ to_z w32 (of_z w32 low))) (to_z-of_z w32 z b) ∙ ap (λ t. unsigned_abs (z -ℤ t)) (to_z-of_z w32 low a))
 

@@ -1,4 +1,4 @@
--- Settings and counts at their limits, and one beyond.
+-- Settings and counts at their limits, and one beyond them.
 use Rattle.std.proofs.Common.{◌≡◌, ℕ, None, Some, length, refl}
 use Rattle.road_map.specs.declared.parts.Parts.{Parts}
 use Rattle.book_model.specs.declared.settings.Settings.{Settings}
@@ -25,14 +25,14 @@ fan_of_33 = refl
 fan_of_one : plan_fault (kind_of 1) five_nodes (ordered 0 1) ≡ Some (plan.Settings 2)
 fan_of_one = refl
 
--- FULL: 1,024 nodes, and one more
+-- FULL: 1,024 nodes, and one node more
 full_of_1024_nodes : (parts : Parts) → length parts.nodes ≡ 1024 → plan_fault (kind_of 2) parts (with 2 0 0 0) ≡ None
 full_of_1024_nodes parts h = rw h refl
 
 full_of_1025_nodes : (parts : Parts) → length parts.nodes ≡ 1025 → plan_fault (kind_of 2) parts (with 2 0 0 0) ≡ Some (plan.TooManyNodes 1025)
 full_of_1025_nodes parts h = rw h refl
 
--- LDM: 64 landmarks, and one more whatever the map; codes of 1 to 16 bits; the greatest threshold
+-- LDM: 64 landmarks, and one landmark more whatever the map; codes of 1 to 16 bits; the greatest threshold
 landmarks_of_64 : (parts : Parts) → length parts.nodes ≡ 65 → plan_fault (kind_of 3) parts (with 3 64 16 65534) ≡ None
 landmarks_of_64 parts h = rw h refl
 
@@ -71,7 +71,7 @@ rows_of_1025 = refl
 hyp_wants_no_third : plan_fault (kind_of 4) five_nodes (with 4 3 1 1) ≡ Some (plan.Settings 5)
 hyp_wants_no_third = refl
 
--- 2,048 borders in a grid of 3 columns and 2 rows, and one more
+-- 2,048 border nodes in a grid of 3 columns and 2 rows, and one border node more
 hyp_of_2048_borders : (parts : Parts) → length (borders parts 3 2) ≡ 2048 → plan_fault (kind_of 4) parts (with 4 3 2 0) ≡ None
 hyp_of_2048_borders parts h = rw h refl
 

@@ -1,4 +1,4 @@
--- What a frame of the code is.
+-- The frame that the code computes.
 use Rattle.std.specs.Prelude.{◌≡◌, ◌≤ℤ◌}
 use Rattle.road_map.specs.declared.parts.Node.{Node}
 use Rattle.book_model.specs.Orders as orders

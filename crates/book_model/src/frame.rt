@@ -1,11 +1,11 @@
-//! The frame of a map, and where a number stands in a span.
+//! The frame of a map, and the bucket of a number in a range.
 ghost use Rattle.std.specs.Prelude.{◌≡◌, ◌<◌, ◌≤◌, ◌^◌, ◌-ℤ◌, ◌≤ℤ◌, unsigned_abs, length, All};
 ghost use Rattle.book_model.specs.Orders.{frame_of, slot};
 ghost use Rattle.book_model.specs.Frames.{IsFrame, InFrame};
 
 use road_map::Node;
 
-/// The least and the greatest of the coordinates of some nodes.
+/// The least and the greatest coordinates of some nodes.
 #[derive(Clone, Copy, Debug, PartialEq, Eq)]
 pub struct Frame {
     pub low_x: i32,
@@ -14,7 +14,7 @@ pub struct Frame {
     pub high_y: i32,
 }
 
-/// The frame of one node or more.
+/// Returns the frame of the given nodes, of which there must be at least one.
 pub fn frame_of(nodes: &[Node]) -> Frame
     requires { 0 < length nodes.now }
     ensures frame { IsFrame (frame_of nodes.now) result }
@@ -37,7 +37,8 @@ pub fn frame_of(nodes: &[Node]) -> Frame
     }
 }
 
-/// Which of so many equal parts of the span from `low` to `high` has a number of the span.
+/// Splits the range from `low` to `high` into `parts` equal parts. Returns the index of the part that holds
+/// `number`.
 pub fn slot(low: i32, high: i32, parts: u32, number: i32) -> u32
     requires some { 0 < parts }
     requires from { low ≤ℤ number }
@@ -50,7 +51,7 @@ pub fn slot(low: i32, high: i32, parts: u32, number: i32) -> u32
     (offset * u64::from(parts) / (span + 1)) as u32
 }
 
-/// How far two numbers lie apart.
+/// Returns the distance between two numbers.
 fn apart(low: i32, high: i32) -> u64
     ensures value { result ≡ unsigned_abs (high -ℤ low) }
     ensures below { result < 2 ^ 32 }

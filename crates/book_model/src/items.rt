@@ -1,10 +1,10 @@
-//! What a query asks, and what an answer brings.
+//! The parts of a query, and the items of an answer.
 
 use octet_text::List;
 use road_leaf::{NodeLeaves, PairLeaf};
 use road_map::Ids;
 
-/// The two ends that are asked for, by id.
+/// The two ends of a query, by id.
 #[derive(Clone, Copy, Debug, PartialEq, Eq)]
 pub struct Query {
     pub from: u32,
@@ -17,7 +17,7 @@ pub type Places = List<u32>;
 /// A list of the leaves of pairs.
 pub type PairLeaves = List<PairLeaf>;
 
-/// What an answer brings: the ids of a route, and leaves of nodes and of pairs.
+/// The items of an answer: the ids of a route, and leaves of nodes and of pairs.
 #[derive(Debug, Drop)]
 pub struct Items {
     pub route: Ids,

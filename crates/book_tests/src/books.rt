@@ -1,4 +1,4 @@
-//! Books of small maps, and what they gather.
+//! Books of small maps, and the items that they gather.
 
 use crate::same::{assert_row, assert_same};
 use book_model::{PlanError, Query, Settings};
@@ -8,7 +8,7 @@ use std::alloc::Global;
 use std::process::Abort;
 use test_maps::map_of;
 
-/// A method, and its three parameters.
+/// Returns the settings of a method with its three parameters.
 pub(crate) fn settings_of(method: u8, p1: u64, p2: u64, p3: u64) -> Settings {
     Settings {
         method,
@@ -22,7 +22,7 @@ pub(crate) fn settings_of(method: u8, p1: u64, p2: u64, p3: u64) -> Settings {
     }
 }
 
-/// The book of the map of rows, or why the map has none.
+/// Returns the book of the map that these rows list. Fails if the map has no book.
 pub(crate) fn book_of<B: MethodBook>(
     alloc: Global,
     nodes: &[(u32, i32, i32)],
@@ -34,11 +34,11 @@ pub(crate) fn book_of<B: MethodBook>(
     Ok(B::plan(alloc, map, settings, order.as_slice()))
 }
 
-/// Two ends, and what is gathered for them: the ids of the route and of the leaves, and the indices
-/// of the pairs.
+/// Two ends, and the items gathered for them: the ids of the route, the ids of the leaves, and the indices of the
+/// pairs.
 pub(crate) type Gathered = (u32, u32, &'static [u32], &'static [u32], &'static [u32]);
 
-/// Asserts that a book gathers that.
+/// Asserts that a book gathers these items.
 pub(crate) fn assert_gathered<B: MethodBook>(
     rt: &impl Abort,
     alloc: Global,
@@ -53,11 +53,11 @@ pub(crate) fn assert_gathered<B: MethodBook>(
     Ok(())
 }
 
-/// Two ends that no walk joins, and what is gathered for them: the ids of the leaves and the indices
-/// of the pairs.
+/// Two ends that no walk joins, and the items gathered for them: the ids of the leaves, and the indices of the
+/// pairs.
 pub(crate) type Apart = (u32, u32, &'static [u32], &'static [u32]);
 
-/// Asserts that a book gathers that, where it finds no route.
+/// Asserts that a book finds no route and gathers these items.
 pub(crate) fn assert_gathered_apart<B: MethodBook>(
     rt: &impl Abort,
     alloc: Global,

@@ -1,6 +1,5 @@
-//! Verdicts worked out by hand, over a map with two ways from 1 to 3: of length 9 over 2, and of
-//! length 10 over 4. The nodes 1, 2 and 4 are in one cell, and 3 is in another, so that 2, 3 and 4
-//! are borders.
+//! Verdicts worked out by hand, over a map with two routes from 1 to 3: one of length 9 over 2, and one of length
+//! 10 over 4. Nodes 1, 2 and 4 are in one cell and node 3 is in another, so 2, 3 and 4 are border nodes.
 
 use crate::judging::items_of;
 use crate::same::assert_row;
@@ -13,7 +12,7 @@ use std::alloc::Global;
 use std::test::Fail;
 use test_maps::leaf_with;
 
-// The leaf of one of the nodes 1 to 4, with its cell.
+// Returns the leaf of one of the nodes 1 to 4, with its cell.
 fn leaf_of(alloc: Global, id: u32) -> Result<NodeLeaf, NoMemory> {
     let cell = Extra::Cell {
         cell: if id == 3 { 1 } else { 0 },
@@ -30,7 +29,7 @@ fn leaves_of(alloc: Global, ids: &[u32]) -> Result<Vec<NodeLeaf>, NoMemory> {
     Ok(leaves)
 }
 
-// What a judge answers of a route: its length, or the first fault.
+// The verdict of a judge on a route: its length, or the first fault.
 type Verdict = Result<u64, Refusal>;
 
 fn judged(alloc: Global, ids: &[u32], pairs: &[PairLeaf], route: &[u32]) -> Result<Verdict, Fail> {
@@ -55,7 +54,7 @@ const FAR: PairLeaf = PairLeaf {
     distance: 7,
 };
 
-// The ids whose leaves are at hand, the pairs that are, a route, and the verdict.
+// The ids whose leaves are at hand, the pairs at hand, a route, and the verdict.
 type Row = (&'static [u32], &'static [PairLeaf], &'static [u32], Verdict);
 
 const ALL: &[u32] = &[1, 2, 3, 4];
@@ -70,7 +69,7 @@ static ROWS: [Row; 5] = [
         &[1, 2, 3],
         Err(Refusal::MissingTuple(4)),
     ),
-    // A shorter way over two borders is found.
+    // A shorter walk over two border nodes is found.
     (ALL, &[NEAR, FAR], &[1, 4, 3], Err(Refusal::Shorter(9))),
 ];
 

@@ -1,4 +1,4 @@
-//! What no clause says: verdicts worked out by hand, calls that succeed, and texts of refusals.
+//! Facts that no clause states: verdicts worked out by hand, calls that succeed, and texts of refusals.
 
 use crate::judging::items_of;
 use crate::same::{assert_printed, assert_row, assert_same};
@@ -11,7 +11,7 @@ use std::alloc::{AllocError, Global};
 use std::test::Fail;
 use test_maps::leaves_of;
 
-// The length of a route from 1 to 3 over the leaves of some ids, or the first fault.
+// Returns the length of a route from 1 to 3 over the leaves of some ids, or the first fault.
 fn walked(alloc: Global, ids: &[u32], route: &[u32]) -> Result<Result<u64, Refusal>, Fail> {
     let leaves = leaves_of(alloc, ids)?;
     let items = items_of(alloc, route, leaves, &[])?;
@@ -33,7 +33,7 @@ static WALKS: [Walk; 9] = [
     (&[1, 2, 3], &[1, 2], Err(Refusal::BadRoute(2))),
     (&[1, 3], &[1, 2, 3], Err(Refusal::MissingTuple(2))),
     (&[1, 2], &[1, 2, 3], Err(Refusal::MissingTuple(3))),
-    // Of repeated ids the least is refused, and before the route.
+    // The least repeated id is refused, before the route is tested.
     (&[4, 2, 1, 4, 2], &[2, 3], Err(Refusal::RepeatedNode(2))),
 ];
 
@@ -45,7 +45,7 @@ fn a_route_is_walked_over_the_leaves_at_hand(rt: HostRuntime) -> Result<(), Fail
     Ok(())
 }
 
-// The id of the leaf that is found by an id.
+// Returns the id of the leaf that a look-up by id finds.
 fn found_id(by_id: &NodesById<'_>, id: u32) -> Option<u32> {
     match by_id.find(id) {
         None => None,

@@ -1,4 +1,4 @@
-//! What tests give a judge.
+//! The input of a judge in tests.
 ghost use Rattle.std.specs.Prelude.{◌≤◌, length, IfOk};
 
 use book_model::{Items, PairLeaves};
@@ -8,7 +8,7 @@ use road_map::Ids;
 use std::alloc::Global;
 use std::test::Fail;
 
-/// The items of a route and of leaves, as many as a test has of them, and of pairs.
+/// Makes the items from a route, leaves and pairs.
 pub(crate) fn items_of(
     alloc: Global,
     route: &[u32],

@@ -25,8 +25,8 @@ fn own(alloc: Global, code: u16) -> Result<Extra, NoMemory> {
     Ok(Extra::Own(Codes::from_vec(codes)))
 }
 
-// The leaf of one of the nodes 1 to 5 on a line, 10 apart, where node 1 is the landmark and the
-// step is 1.
+// Returns the leaf of one of the nodes 1 to 5 on a line, which are 10 apart. Node 1 is the landmark, and the step
+// is 1.
 fn on_a_line(alloc: Global, id: u32) -> Result<NodeLeaf, NoMemory> {
     match id {
         1 => leaf(alloc, 1, &[Arc { to: 2, length: 10 }], own(alloc, 0)?),
@@ -52,8 +52,8 @@ fn on_a_line(alloc: Global, id: u32) -> Result<NodeLeaf, NoMemory> {
     }
 }
 
-// The leaf of one of the nodes 1 to 4 of a map with two ways from 1 to 3, of lengths 9 over 2 and
-// 10 over 4, where node 1 is the landmark and the step is 4. Node 4 refers to node 1.
+// Returns the leaf of one of the nodes 1 to 4 of a map with two ways from 1 to 3, of lengths 9 over 2 and 10 over
+// 4. Node 1 is the landmark, the step is 4, and node 4 refers to node 1.
 fn on_two_ways(alloc: Global, id: u32) -> Result<NodeLeaf, NoMemory> {
     match id {
         1 => leaf(

@@ -1,4 +1,4 @@
-//! Tests of judges and books: worked rows, and what no clause says.
+//! Tests of judges and books: worked examples, and facts that no clause states.
 #![tactic(auto)]
 
 #[cfg(test)]

@@ -1,4 +1,4 @@
-//! What no clause says: books and gathered ids worked out by hand, at two small maps.
+//! Facts that no clause states: books and gathered ids worked out by hand, for two small maps.
 
 use crate::books::{Gathered, assert_gathered, book_of, settings_of};
 use crate::same::{assert_row, assert_same};
@@ -67,7 +67,7 @@ fn dij_has_no_pairs_and_no_numbers(rt: HostRuntime) -> Result<(), Fail> {
     Ok(())
 }
 
-// Roads of which three have no length.
+// Roads, three of them of length 0.
 const NO_LENGTH: [(u32, u32, u32); 4] = [(1, 2, 0), (2, 3, 0), (1, 4, 1), (4, 3, 0)];
 
 #[test]
@@ -90,7 +90,7 @@ fn dij_has_no_parameter(rt: HostRuntime) -> Result<(), Fail> {
     Ok(())
 }
 
-// A book of FULL, or why there is none.
+// A book of FULL, or the reason why there is none.
 type Planned = Result<FullBook, PlanError>;
 
 fn full_of(alloc: Global, nodes: &[(u32, i32, i32)]) -> Result<Planned, MapError> {
@@ -133,7 +133,7 @@ fn full_gathers_the_pair_of_the_ends(rt: HostRuntime) -> Result<(), Fail> {
     Ok(())
 }
 
-// How many pairs are signed of so many nodes.
+// Returns the number of pairs that are signed for this many nodes.
 fn pairs_of(alloc: Global, count: u32) -> Result<Result<usize, PlanError>, MapError> {
     let nodes = apart(alloc, count)?;
     match full_of(alloc, &nodes)? {

@@ -1,5 +1,4 @@
-//! Where no route exists: verdicts and gathered ids worked out by hand, over a map whose node 5 has
-//! no road.
+//! Verdicts and gathered ids worked out by hand for ends that no route joins, over a map whose node 5 has no road.
 
 use crate::books::{Apart, assert_gathered_apart, book_of, settings_of};
 use crate::judging::items_of;
@@ -20,7 +19,7 @@ const NO_NUMBERS: Numbers = Numbers {
     second: 0,
 };
 
-// The leaf of one of the nodes 1 to 5.
+// Returns the leaf of one of the nodes 1 to 5.
 fn leaf_of(alloc: Global, id: u32) -> Result<NodeLeaf, NoMemory> {
     if id != 5 {
         return leaf_with(alloc, id, Extra::Plain);
@@ -34,7 +33,7 @@ fn leaf_of(alloc: Global, id: u32) -> Result<NodeLeaf, NoMemory> {
     })
 }
 
-// The leaves of some of them.
+// Returns the leaves of some of them.
 fn leaves_of(alloc: Global, ids: &[u32]) -> Result<Vec<NodeLeaf>, NoMemory> {
     let mut leaves = Vec::new(alloc);
     for id in ids {
@@ -43,10 +42,10 @@ fn leaves_of(alloc: Global, ids: &[u32]) -> Result<Vec<NodeLeaf>, NoMemory> {
     Ok(leaves)
 }
 
-// What a judge answers.
+// The verdict of a judge.
 type Verdict = Result<(), Refusal>;
 
-// The verdict of DIJ over the leaves of some ids.
+// Returns the verdict of DIJ over the leaves of some ids.
 fn by_search(alloc: Global, query: Query, ids: &[u32]) -> Result<Verdict, Fail> {
     let leaves = leaves_of(alloc, ids)?;
     let items = items_of(alloc, &[], leaves, &[])?;
@@ -79,7 +78,7 @@ fn dij_judges_apart_by_the_search_over_the_items(rt: HostRuntime) -> Result<(), 
     Ok(())
 }
 
-// The verdict of FULL with some pairs.
+// Returns the verdict of FULL with some pairs.
 fn by_pair(alloc: Global, query: Query, pairs: &[PairLeaf]) -> Result<Verdict, Fail> {
     let leaves = leaves_of(alloc, &[1, 3, 5])?;
     let items = items_of(alloc, &[], leaves, pairs)?;
@@ -99,7 +98,7 @@ const BOTH: [PairLeaf; 2] = [
     },
 ];
 
-// Two ends, the pairs that are at hand, and the verdict.
+// Two ends, the pairs at hand, and the verdict.
 type Pairing = (u32, u32, &'static [PairLeaf], Verdict);
 
 static PAIRINGS: [Pairing; 6] = [

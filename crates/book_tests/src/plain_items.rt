@@ -1,4 +1,4 @@
-//! Verdicts worked out by hand, over a map with two ways from 1 to 3.
+//! Verdicts worked out by hand, over a map with two routes from 1 to 3.
 
 use crate::judging::items_of;
 use crate::same::assert_row;
@@ -15,10 +15,10 @@ const NO_NUMBERS: Numbers = Numbers {
     second: 0,
 };
 
-// What a judge answers of a route: its length, or the first fault.
+// The verdict of a judge on a route: its length, or the first fault.
 type Verdict = Result<u64, Refusal>;
 
-// The verdict of DIJ on a route from 1 to 3, over the leaves of some ids.
+// Returns the verdict of DIJ on a route from 1 to 3, over the leaves of some ids.
 fn by_search(alloc: Global, ids: &[u32], route: &[u32]) -> Result<Verdict, Fail> {
     let leaves = leaves_of(alloc, ids)?;
     let items = items_of(alloc, route, leaves, &[])?;
@@ -49,7 +49,7 @@ fn dij_judges_by_the_search_over_the_items(rt: HostRuntime) -> Result<(), Fail> 
     Ok(())
 }
 
-// The verdict of FULL on a route between its own ends, with some pairs.
+// Returns the verdict of FULL on a route between the route's own ends, with some pairs.
 fn by_pair(alloc: Global, pairs: &[PairLeaf], route: &[u32]) -> Result<Verdict, Fail> {
     let leaves = leaves_of(alloc, &[1, 2, 3, 4])?;
     let items = items_of(alloc, route, leaves, pairs)?;
@@ -71,7 +71,7 @@ const BOTH: [PairLeaf; 2] = [
     },
 ];
 
-// The pairs that are at hand, a route, and the verdict.
+// The pairs at hand, a route, and the verdict.
 type Pairing = (&'static [PairLeaf], &'static [u32], Verdict);
 
 static PAIRINGS: [Pairing; 7] = [

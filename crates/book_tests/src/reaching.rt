@@ -1,4 +1,4 @@
-//! What no clause says: calls that succeed, at a small map, and the texts of what is not gathered.
+//! Facts that no clause states: calls that succeed, on a small map, and the texts of errors in gathering.
 
 use crate::same::{assert_printed, assert_row, assert_same};
 use book_model::Query;

@@ -1,5 +1,5 @@
-//! What LDM and HYP bring where no walk joins two nodes, and what they judge of it, worked out by
-//! hand: over the five nodes, of which 5 has no road.
+//! What LDM and HYP gather for two nodes that no walk joins, and their verdicts on these items. Both are worked out
+//! by hand over the five nodes, of which node 5 has no road.
 
 use crate::books::{Apart, assert_gathered_apart, book_of, settings_of};
 use crate::judging::items_of;
@@ -17,12 +17,12 @@ use std::process::Abort;
 use std::test::Fail;
 use test_maps::{NODES, ROADS};
 
-// One landmark, which is 1, and codes of two bits: the node 4 refers to 1.
+// Makes a book with one landmark, node 1, and codes of two bits. Node 4 refers to node 1.
 fn by_landmark(alloc: Global) -> Result<LdmBook, Fail> {
     Ok(book_of(alloc, &NODES, &ROADS, &settings_of(3, 1, 2, 0))??)
 }
 
-// Three columns: 2, 3 and 4 are borders.
+// Makes a book with three columns. The border nodes are 2, 3 and 4.
 fn by_cells(alloc: Global) -> Result<HypBook, Fail> {
     Ok(book_of(alloc, &NODES, &ROADS, &settings_of(4, 3, 1, 0))??)
 }
@@ -59,7 +59,7 @@ fn inner_walks_from_both_ends_are_gathered(rt: HostRuntime) -> Result<(), Fail> 
 
 const FOUR: [(u32, i32, i32); 4] = [(1, 0, 0), (2, 1, 0), (3, 0, 0), (4, 1, 0)];
 
-// Two roads that nothing joins, each from one column to the other.
+// Two separate roads, each from one column to the other.
 const TWO_ROADS: [(u32, u32, u32); 2] = [(1, 2, 4), (3, 4, 5)];
 
 static OVER_BORDERS: [Apart; 2] = [(1, 3, &[1, 3], &[1]), (4, 1, &[1, 4], &[2])];
@@ -87,10 +87,10 @@ fn leaves_of<B: MethodBook>(
     Ok(leaves)
 }
 
-// What a judge answers.
+// The verdict of a judge.
 type Verdict = Result<(), Refusal>;
 
-// The verdict of a method's judge on the leaves of these ids and on these pairs.
+// Returns the verdict of a method's judge on the leaves of these ids and on these pairs.
 fn judged<B: MethodBook, J: Judge>(alloc: Global, book: &B, row: &Row) -> Result<Verdict, Fail> {
     let (from, to, ids, pairs, _verdict) = *row;
     let leaves = leaves_of(alloc, book, ids)?;
@@ -98,7 +98,7 @@ fn judged<B: MethodBook, J: Judge>(alloc: Global, book: &B, row: &Row) -> Result
     Ok(J::judge_apart(alloc, book.numbers(), &items, Query { from, to }))
 }
 
-// Two ends, the ids whose leaves are at hand, the pairs that are, and the verdict.
+// Two ends, the ids whose leaves are at hand, the pairs at hand, and the verdict.
 type Row = (u32, u32, &'static [u32], &'static [PairLeaf], Verdict);
 
 const ALL: &[u32] = &[1, 2, 3, 4, 5];
@@ -108,7 +108,7 @@ static LDM_ROWS: [Row; 7] = [
     (1, 5, &[1], &[], Err(Refusal::MissingTuple(5))),
     (1, 5, &[5], &[], Err(Refusal::MissingTuple(1))),
     (4, 5, &[1, 4, 5], &[], Ok(())),
-    // Without its reference, nothing says that 4 is apart, and the walk goes on.
+    // Without its reference, no item shows that node 4 is apart, so the walk continues.
     (4, 5, &[4, 5], &[], Err(Refusal::MissingTuple(1))),
     (1, 3, ALL, &[], Err(Refusal::Shorter(9))),
     (1, 1, ALL, &[], Err(Refusal::Shorter(0))),

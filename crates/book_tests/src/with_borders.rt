@@ -1,6 +1,5 @@
-//! Books worked out by hand, over a map with two ways from 1 to 3, in three columns and one row:
-//! the nodes 1, 2 and 4 are in the first, 3 is in the second and 5 in the third, so that 2, 3 and 4
-//! are borders.
+//! Books worked out by hand, over a map with two routes from 1 to 3, in three columns and one row. Nodes 1, 2 and 4
+//! are in the first column, 3 is in the second and 5 in the third, so 2, 3 and 4 are border nodes.
 
 use crate::books::{Gathered, assert_gathered, book_of, settings_of};
 use crate::same::assert_same;
@@ -58,7 +57,7 @@ fn parameters_are_tested_in_turn(rt: HostRuntime) -> Result<(), Fail> {
     Ok(())
 }
 
-// A map, its columns, how many pairs its book has, and what that gathers.
+// A map, its columns, the number of pairs in its book, and the items that the book gathers.
 type Worked = (
     &'static [(u32, i32, i32)],
     &'static [(u32, u32, u32)],
@@ -122,7 +121,7 @@ fn cells_and_ends_of_all_kinds(rt: HostRuntime) -> Result<(), Fail> {
     Ok(())
 }
 
-// So many nodes, each in the other column than the one before.
+// Returns this many nodes, alternating between two columns.
 fn zigzag(alloc: Global, count: u32) -> Result<Vec<(u32, i32, i32)>, NoMemory> {
     let mut places = Vec::new(alloc);
     for id in 0..count {
@@ -132,7 +131,7 @@ fn zigzag(alloc: Global, count: u32) -> Result<Vec<(u32, i32, i32)>, NoMemory> {
     Ok(places)
 }
 
-// The roads of a way through them.
+// Returns the roads of a path through these nodes.
 fn way_of(alloc: Global, count: u32) -> Result<Vec<(u32, u32, u32)>, NoMemory> {
     let mut ways = Vec::new(alloc);
     for id in 1..count {

@@ -1,4 +1,4 @@
-//! Books, gathered ids and verdicts worked out by hand, at two small maps.
+//! Books, gathered ids and verdicts worked out by hand, for two small maps.
 
 use crate::books::{Gathered, assert_gathered, book_of, settings_of};
 use crate::judging::items_of;
@@ -19,12 +19,12 @@ use test_maps::{NODES, ROADS};
 // Nodes on a line, 10 apart.
 const LINE: [(u32, u32, u32); 4] = [(1, 2, 10), (2, 3, 10), (3, 4, 10), (4, 5, 10)];
 
-// A book over these roads with one landmark and codes of so many bits.
+// Makes a book over these roads with one landmark and codes of this many bits.
 fn coded(alloc: Global, roads: &[(u32, u32, u32)], bits: u64) -> Result<LdmBook, Fail> {
     Ok(book_of(alloc, &NODES, roads, &settings_of(3, 1, bits, 0))??)
 }
 
-// A step, and one landmark.
+// Returns the two numbers for a step and one landmark.
 fn numbers_of(step: u64) -> Numbers {
     Numbers {
         first: step,
@@ -54,7 +54,7 @@ fn judged(
     Ok(Ldm::judge(alloc, book.numbers(), &items, query))
 }
 
-// What a leaf says of one landmark: a code of its own, or the node that it refers to and its error.
+// What a leaf states about one landmark: its own code, or the node to which it refers and the error.
 type Saying = (Option<u16>, Option<(u32, u16)>);
 
 fn said(leaf: &NodeLeaf) -> Saying {

@@ -1,4 +1,4 @@
--- What the files of a check call for, whatever its reply is asked about.
+-- What the files of a check require, for every kind of replies.
 use Rattle.std.proofs.Common.{◌≡◌, List, ℕ, subst, refl, IfSome}
 use Rattle.std.specs.declared.option.Option.{Option}
 use Rattle.std.specs.declared.result.Result.{Result}
@@ -19,14 +19,14 @@ use Rattle.client_commands.specs.CheckFiles.{EndsVerdict, over_files}
 -- ---- the verdict
 
 module _ {A E : Type 0} (IsVerdict : Result A E → Type 0) (short : E) (accepted : A → List ℕ) (refused : E → List ℕ) where
-  -- octets have one verdict at most
+  -- octets have at most one verdict
   abbrev pub OneVerdict : Type 0
   OneVerdict = (v w : Result A E) → IsVerdict v → IsVerdict w → v ≡ w
 
   differ : (x : A) (e : E) → Ok x ≡ Err e → ⊥
   differ x e is = cc
 
-  -- and then a check has one end
+  -- so a check has one end
   pub one_end : OneVerdict → HasOneEnd (EndsVerdict IsVerdict short accepted refused)
   one_end one (Ok Done) (Ok Done) s t h k = refl
   one_end one (Ok Done) (Ok Refused) s t h k = absurd (differ h.0 k.0 (one (Ok h.0) (Err k.0) h.1 k.2))
@@ -38,7 +38,7 @@ module _ {A E : Type 0} (IsVerdict : Result A E → Type 0) (short : E) (accepte
 
 -- ---- the files
 
--- Ends says how the check ends over a public key, a chain from it and the octets of a reply
+-- Ends gives how the check ends over a public key, a chain from it and the octets of a reply
 module _ (Ends : List ℕ → List Link → List ℕ → Ending) where
   -- with a reply's octets that were read
   abbrev behind_reply : Option (List ℕ) → Folder → List ℕ → List ℕ → Ending
@@ -48,7 +48,7 @@ module _ (Ends : List ℕ → List Link → List ℕ → Ending) where
   abbrev behind_key : List ℕ → Option (List ℕ) → Folder → List ℕ → Ending
   behind_key reply chain folder key = EndsReading (octets_at folder reply) (behind_reply chain folder key)
 
-  -- where it has one end over what they hold, it has one over the files
+  -- if there is one end over the contents, there is one over the files
   pub one_over_files : ((key : List ℕ) (links : List Link) (octets : List ℕ) → HasOneEnd (Ends key links octets)) → (key reply : List ℕ) (chain : Option (List ℕ)) (folder : Folder)
       → HasOneEnd (over_files Ends key reply chain folder)
   one_over_files one key reply chain folder =
@@ -65,7 +65,7 @@ module _ (Ends : List ℕ → List Link → List ℕ → Ending) where
     abbrev HasChain : Folder → Type 0
     HasChain folder = chain_at folder chain_name ≡ Ok links
 
-    -- what the files of a key, a reply and a chain call for
+    -- what the files of a key, a reply and a chain require
     calls : IfSome files HasKey → IfSome files HasReply → IfSome files HasChain → (o : Result Conclusion Fault) (text : List ℕ) → Ends key links octets o text
         → CallsFor (over_files Ends key_name reply_name chain_name) files o text
     calls key_read reply_read chain_read o text h =
@@ -76,7 +76,7 @@ module _ (Ends : List ℕ → List Link → List ℕ → Ending) where
         (reads (chain_at folder chain_name) links (λ ls. Ends key ls octets) o text both.1 h)))
         key_read (over_both files HasReply HasChain (λ folder. HasReply folder × HasChain folder) (λ folder is_reply is_chain. (is_reply, is_chain)) reply_read chain_read)
 
-    -- an end that was told, and is no fault
+    -- an end that was returned and is not a fault
     pub told_over_files : (first second : Option Folder) (read_octets : List ℕ) (read_links : List Link) (l l' k k' : ℕ) (old new : Option (List ℕ)) (end o : Result Conclusion Fault) (text : List ℕ)
         → MayEnd TellsNone end → Narrows first second → Narrows second files → IfSome first HasKey → IfSome second HasReply → IfSome files HasChain
         → read_octets ≡ octets → read_links ≡ links → Ends key read_links read_octets end text → Writes end text old new k k' o
@@ -86,7 +86,7 @@ module _ (Ends : List ℕ → List Link → List ℕ → Ending) where
         (calls (moved first files HasKey (narrows_on first second files narrows more) key_read) (moved second files HasReply more reply_read) chain_read) new end o text no_fault
         (subst (λ xs. Ends key links xs end text) same (subst (λ ls. Ends key ls read_octets end text) same_links h)) w
 
-  -- where the files hold these, what the files call for is what these call for
+  -- if the files have these contents, the files require what the contents require
   pub of_files : (folder : Folder) (key_name reply_name : List ℕ) (chain_name : Option (List ℕ)) (key : List ℕ) (links : List Link) (octets : List ℕ)
       → public_key_at folder key_name ≡ Ok key → octets_at folder reply_name ≡ Ok octets → chain_at folder chain_name ≡ Ok links
       → (o : Result Conclusion Fault) (text : List ℕ) → over_files Ends key_name reply_name chain_name folder o text → Ends key links octets o text

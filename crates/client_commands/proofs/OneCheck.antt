@@ -1,4 +1,4 @@
--- Over their files, `check` has one end.
+-- `check` has one result over its files.
 use Rattle.std.proofs.Common.{◌≡◌, List, ℕ}
 use Rattle.std.specs.declared.option.Option.{Option}
 use Rattle.std.specs.declared.result.Result.{Result}
@@ -16,7 +16,7 @@ use Rattle.client_commands.specs.Checking.{EndsCheck, ends_check}
 use Rattle.client_commands.proofs.CheckFiles.{one_end, one_over_files}
 use Rattle.octet_text.specs.Want.{no_memory}
 
--- octets have one verdict at most
+-- octets have at most one verdict
 abbrev pub OneVerdict : Type 0
 OneVerdict = (hash : List ℕ → List ℕ) (key : List ℕ) (links : List Link) (octets : List ℕ) (q : Query) (least : ℕ) (v w : Result Checked CheckError)
     → IsVerdict hash key links octets q least v → IsVerdict hash key links octets q least w → v ≡ w

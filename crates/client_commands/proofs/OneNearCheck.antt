@@ -1,4 +1,4 @@
--- Over their files, `check-reach` has one end.
+-- `check-reach` has one result over its files.
 use Rattle.std.proofs.Common.{◌≡◌, List, ℕ}
 use Rattle.std.specs.declared.option.Option.{Option}
 use Rattle.std.specs.declared.result.Result.{Result}
@@ -16,7 +16,7 @@ use Rattle.client_commands.specs.NearChecking.{EndsCheckReach, ends_check_reach}
 use Rattle.client_commands.proofs.CheckFiles.{one_end, one_over_files}
 use Rattle.octet_text.specs.Want.{no_memory}
 
--- octets have one verdict at most
+-- octets have at most one verdict
 abbrev pub OneNearVerdict : Type 0
 OneNearVerdict = (hash : List ℕ → List ℕ) (key : List ℕ) (links : List Link) (octets : List ℕ) (q : NearQuery) (least : ℕ) (v w : Result Within NearError)
     → IsNearVerdict hash key links octets q least v → IsNearVerdict hash key links octets q least w → v ≡ w

@@ -15,8 +15,8 @@ use Rattle.command_files.specs.declared.ended.Conclusion.TheVariants.{Done, Refu
 use Rattle.command_files.specs.declared.fault.Fault.{Fault}
 use Rattle.command_files.specs.declared.fault.Fault.TheVariants.{Sink}
 
--- by its verdict, which is not that memory was short: with the line of what is accepted, or of why
--- nothing is
+-- how a check ends by its verdict, which is not out of memory: with the line of the accepted result or of the
+-- refusal
 abbrev pub EndsVerdict : {A E : Type 0} → (Result A E → Type 0) → E → (A → List ℕ) → (E → List ℕ) →
     Ending
 EndsVerdict {A} {E} IsVerdict short accepted refused (Ok Done) text = (x : A) × IsVerdict (Ok x) ×
@@ -25,7 +25,7 @@ EndsVerdict {A} {E} IsVerdict short accepted refused (Ok Refused) text = (e : E)
     IsVerdict (Err e) × (text ≡ refused e)
 EndsVerdict IsVerdict short accepted refused outcome text = ⊥
 
--- over the files of these names, where a chain's may be named or not: as Ends says of a public key, a
+-- over the files with these names, where the chain's file is optional: Ends gives the result for a public key, a
 -- chain from it and the octets of a reply
 abbrev pub over_files : (List ℕ → List Link → List ℕ → Ending) → List ℕ → List ℕ →
     Option (List ℕ) → Folder → Ending
@@ -34,7 +34,7 @@ over_files Ends key reply chain folder =
     (λ k. EndsReading (octets_at folder reply)
     (λ octets. EndsReading (chain_at folder chain) (λ links. Ends k links octets)))
 
--- a command of a check, over the files of these names: it ends as Ends says of what they hold
+-- a checking command over the files with these names; Ends gives the result for their contents
 pub record ChecksFiles (Ends : List ℕ → List Link → List ℕ → Ending) (key reply : List ℕ)
     (chain : Option (List ℕ)) (files : Option Folder) (asked new_asked : List (List ℕ))
     (loads new_loads : ℕ) (taken new_taken : Option (List ℕ)) (writes new_writes : ℕ)

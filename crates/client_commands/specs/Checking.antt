@@ -1,4 +1,4 @@
--- What `check` writes.
+-- The output of `check`.
 use Rattle.std.specs.Prelude.{ℕ, List}
 use Rattle.std.specs.declared.option.Option.{Option}
 use Rattle.lms_tree.specs.declared.links.Link.{Link}
@@ -18,7 +18,7 @@ abbrev pub EndsCheck : List ℕ → List Link → List ℕ → Query → ℕ →
 EndsCheck key links octets q least =
     EndsVerdict (IsVerdict sha256 key links octets q least) (Memory no_memory) accepted_line refused_line
 
--- the same over the files of these names, where a chain's may be named or not
+-- the same over the files with these names; the chain's file is optional
 abbrev pub ends_check : List ℕ → List ℕ → Query → ℕ → Option (List ℕ) → Folder → Ending
 ends_check key reply q least =
     over_files (λ k links octets. EndsCheck k links octets q least) key reply

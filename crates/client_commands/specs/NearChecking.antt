@@ -1,4 +1,4 @@
--- What `check-reach` writes.
+-- The output of `check-reach`.
 use Rattle.std.specs.Prelude.{ℕ, List}
 use Rattle.std.specs.declared.option.Option.{Option}
 use Rattle.lms_tree.specs.declared.links.Link.{Link}
@@ -19,7 +19,7 @@ EndsCheckReach key links octets q least =
     EndsVerdict (IsNearVerdict sha256 key links octets q least) (Memory no_memory) (λ x. within_line x.nodes)
     refused_near_line
 
--- the same over the files of these names, where a chain's may be named or not
+-- the same over the files with these names; the chain's file is optional
 abbrev pub ends_check_reach : List ℕ → List ℕ → NearQuery → ℕ → Option (List ℕ) → Folder → Ending
 ends_check_reach key reply q least =
     over_files (λ k links octets. EndsCheckReach k links octets q least) key reply

@@ -15,8 +15,7 @@ use road_line::{line_of_accepted, line_of_refused};
 use route_client::{CheckError, check_owned};
 use std::alloc::Global;
 
-/// Writes what a client says of a reply to a query, under a public key,
-/// and along the chain of a file where one is named.
+/// Writes a client's verdict on a reply to a query, under a public key and, if given, along the chain in a file.
 pub fn check<L: Library, K: Sink>(
     alloc: Global,
     library: &mut L,
@@ -36,7 +35,7 @@ pub fn check<L: Library, K: Sink>(
     check_file::<RouteJudging, L, K>(alloc, library, sink, key, reply, query, least, chain)
 }
 
-// What a client says of a route.
+// The verdict on a route.
 struct RouteJudging;
 
 impl Judging for RouteJudging {

@@ -15,8 +15,8 @@ use road_line::{line_of_refused_near, line_of_within};
 use route_client::{NearError, check_near_owned};
 use std::alloc::Global;
 
-/// Writes what a client says of a reply to a range query, under a public key,
-/// and along the chain of a file where one is named.
+/// Writes a client's verdict on a reply to a range query, under a public key and, if given, along the chain in a
+/// file.
 pub fn check_reach<L: Library, K: Sink>(
     alloc: Global,
     library: &mut L,
@@ -36,7 +36,7 @@ pub fn check_reach<L: Library, K: Sink>(
     check_file::<RadiusJudging, L, K>(alloc, library, sink, key, reply, query, least, chain)
 }
 
-// What a client says of the nodes within a radius.
+// The verdict on the nodes within a radius.
 struct RadiusJudging;
 
 impl Judging for RadiusJudging {

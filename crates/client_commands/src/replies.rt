@@ -1,4 +1,4 @@
-//! What a command of a check does, whatever its reply is asked about.
+//! The common work of the checking commands, for every kind of replies.
 
 ghost use Rattle.std.specs.Prelude.{ℕ, List, [], ◌∷◌, ◌++◌, IfOk, length, ◌<◌, ◌≤◌, ◌^◌};
 ghost use Rattle.std.specs.Option.{option_map};
@@ -14,15 +14,15 @@ use octet_text::NoMemory;
 use road_io::{Library, Sink};
 use std::alloc::Global;
 
-/// A kind of replies: what is asked, and what a client says of a reply to it.
+/// A kind of replies: its queries, and a client's verdict on a reply.
 pub(crate) trait Judging {
-    /// What is asked.
+    /// The type of the queries.
     type Query: Copy;
 
-    // How a check over a public key, a chain from it and the octets of a reply ends.
+    // How a check ends, for a public key, a chain from it and the octets of a reply.
     ghost ends: { List ℕ → List Link → List ℕ → Self.Query → ℕ → Ending };
 
-    /// The client's verdict on a reply, whose octets are given back before it is judged.
+    /// Returns the client's verdict on a reply. Frees the octets of the reply before it is judged.
     fn verdict_on(
         alloc: Global,
         key: &[u8],
@@ -38,8 +38,8 @@ pub(crate) trait Judging {
             ends key.now chain.now reply.items query least told.end told.text.items) };
 }
 
-/// Writes what a client says of the reply of a file, under the public key of a file,
-/// and along the chain of a file where one is named.
+/// Writes a client's verdict on the reply in a file, under the public key in a file and, if given, along the chain
+/// in a file.
 pub(crate) fn check_file<J: Judging, L: Library, K: Sink>(
     alloc: Global,
     library: &mut L,

@@ -1,4 +1,4 @@
--- Why a publication is not installed.
+-- Why a publication was not installed.
 use Rattle.std.proofs.Common.{◌≡◌, ◌≢◌, inl, inr, ℕ, List, [], refl}
 use Rattle.std.specs.declared.result.Result.{Result}
 use Rattle.std.specs.declared.result.Result.TheVariants.{Ok, Err}
@@ -16,7 +16,7 @@ use Rattle.command_files.specs.declared.fault.Fault.TheVariants.{HeaderWrong}
 use Rattle.command_files.specs.declared.ended.Conclusion.{Conclusion}
 use Rattle.command_books.specs.Installing.{fault_of_build, AfterBuild, EndsBuilding, IfInstalled, EndsInstalling, IsInstallable}
 
--- parts and settings have no header
+-- parts and settings without a header
 pub no_book : (DiskFailed : Type 0) (parts : Parts) (s : Settings) (Next : Header → Ending) (e : BuildError) → Makes sha256 sha256 parts s (Err e) → WhyNot DiskFailed (EndsBuilding parts s Next) (fault_of_build e)
 no_book DiskFailed parts s Next (build.Map e) h = record { made = Err (build.Map e); makes = h; follows = (refl, refl) }
 no_book DiskFailed parts s Next (build.Plan e) h = record { made = Err (build.Plan e); makes = h; follows = (refl, refl) }
@@ -26,11 +26,11 @@ no_book DiskFailed parts s Next (build.Memory _) h = tt
 pub wrong_header : (p : Publication) (Next : Ending) (h : Header) → HasHeader sha256 sha256 p.parts p.settings h → h ≢ p.header → EndsInstalling p Next (Err HeaderWrong) []
 wrong_header p Next h has other = record { made = Ok h; makes = has; follows = inr (other, refl, refl) }
 
--- after an installing
+-- after an install
 pub installed : (p : Publication) (Next : Ending) (o : Result Conclusion Fault) (text : List ℕ) → IsInstallable p → Next o text → EndsInstalling p Next o text
 installed p Next o text is h = record { made = Ok p.header; makes = is; follows = inl (refl, h) }
 
--- what is not installed ends a command, whatever follows
+-- if a publication is not installed, the command ends, whatever would follow
 pub not_installed : (p : Publication) (Next : Ending) (o : Result Conclusion Fault) (text : List ℕ) → EndsInstalling p NoEnd o text → EndsInstalling p Next o text
 not_installed p Next o text h = record { made = h.made; makes = h.makes; follows = after h.made h.follows }
   where

@@ -1,4 +1,4 @@
--- What parts and settings make is one, and so is each end that rests on it.
+-- Parts and settings have one result, and so does every command that depends on it.
 use Rattle.std.proofs.Common.{◌≡◌, ◌≢◌, inl, inr, ℕ, List, sym, subst, ◌∙◌}
 use Rattle.std.specs.declared.result.Result.{Result}
 use Rattle.std.specs.declared.result.Result.TheVariants.{Ok, Err}
@@ -16,12 +16,12 @@ use Rattle.command_files.specs.declared.fault.Fault.{Fault}
 use Rattle.command_files.specs.declared.ended.Conclusion.{Conclusion}
 use Rattle.octet_text.specs.Want.{no_memory}
 
--- parts and settings make one thing at most
+-- parts and settings have at most one result
 abbrev pub OneMaking : Type 0
 OneMaking = (hash sha : List ℕ → List ℕ) (parts : Parts) (s : Settings) (one other : Result Header BuildError)
     → Makes hash sha parts s one → Makes hash sha parts s other → one ≢ Err (build.Memory no_memory) → other ≢ Err (build.Memory no_memory) → one ≡ other
 
--- what follows is one
+-- the rest of the command has one result
 module _ (Next : Header → Ending) (o p : Result Conclusion Fault) (t u : List ℕ) where
   after_one : ((h : Header) → Next h o t → Next h p u → o ≡ p) → (m : Result Header BuildError) → AfterBuild Next m o t → AfterBuild Next m p u → o ≡ p
   after_one one (Ok h) a b = one h a b
@@ -37,7 +37,7 @@ module _ (Next : Header → Ending) (o p : Result Conclusion Fault) (t u : List 
       (λ e. subst (λ (m : Result Header BuildError). AfterBuild Next m p u) e k.follows) in
       after_one one k.made (subst (λ (m : Result Header BuildError). AfterBuild Next m o t) same h.follows) k.follows
 
--- so is what follows an installing
+-- and so does the part after an install
 pub one_installing : OneMaking → (b : Publication) (Next : Ending) (o p : Result Conclusion Fault) (t u : List ℕ)
     → (Next o t → Next p u → o ≡ p) → EndsInstalling b Next o t → EndsInstalling b Next p u → o ≡ p
 one_installing makings b Next o p t u one =

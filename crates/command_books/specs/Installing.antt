@@ -1,4 +1,4 @@
--- How a book that is built, or can't be, lets a command end.
+-- How a command ends if it builds a book, and if it cannot build one.
 use Rattle.std.specs.Prelude.{◌≡◌, ◌≢◌, ◌⊎◌, ℕ, List, []}
 use Rattle.std.specs.declared.result.Result.{Result}
 use Rattle.std.specs.declared.result.Result.TheVariants.{Ok, Err}
@@ -15,33 +15,33 @@ use Rattle.command_files.specs.declared.fault.Fault.{Fault}
 use Rattle.command_files.specs.declared.fault.Fault.TheVariants.{Map, Plan, HeaderWrong, Memory}
 use Rattle.command_files.specs.declared.ended.Conclusion.{Conclusion}
 
--- why there is no book, as a run says it
+-- the reason why there is no book, as the fault of a run
 abbrev pub fault_of_build : BuildError → Fault
 fault_of_build (build.Map e) = Map e
 fault_of_build (build.Plan e) = Plan e
 fault_of_build (build.Memory none) = Memory none
 
--- what follows a header that was made, or the first reason why there is none
+-- the results that follow a header, or the first reason why there is no header
 abbrev pub AfterBuild : (Header → Ending) → Result Header BuildError → Ending
 AfterBuild Next (Ok h) outcome text = Next h outcome text
 AfterBuild Next (Err (build.Memory _)) outcome text = ⊥
 AfterBuild Next (Err e) outcome text = (outcome ≡ Err (fault_of_build e)) × (text ≡ [])
 
--- parts and settings have a header, and this follows it, or they have none, for the first reason
--- that holds
+-- parts and settings have a header, and the rest of the command follows; or they have none, for the first reason
+-- that applies
 pub record EndsBuilding (parts : Parts) (s : Settings) (Next : Header → Ending)
     (outcome : Result Conclusion Fault) (text : List ℕ) : Type 0 where
   pub made : Result Header BuildError
   pub makes : Makes sha256 sha256 parts s made
   pub follows : AfterBuild Next made outcome text
 
--- the header that was made is the publication's, and this follows, or it is not
+-- the header is the publication's, and the rest of the command follows; or it is another one
 abbrev pub IfInstalled : Publication → Ending → Header → Ending
 IfInstalled p Next h outcome text =
     ((h ≡ p.header) × Next outcome text) ⊎
     ((h ≢ p.header) × (outcome ≡ Err HeaderWrong) × (text ≡ []))
 
--- a publication is installed, and this follows, or the first reason why it is not
+-- a publication is installed, and the rest of the command follows; or the first reason why it is not installed
 abbrev pub EndsInstalling : Publication → Ending → Ending
 EndsInstalling p Next = EndsBuilding p.parts p.settings (IfInstalled p Next)
 

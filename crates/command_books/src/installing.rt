@@ -1,4 +1,4 @@
-//! The installing of a publication.
+//! Installing a publication.
 
 ghost use Rattle.std.specs.Prelude.{◌≡◌, IfOk, IfErr, OnOk};
 ghost use Rattle.sha2.specs.Sha256.{sha256};
@@ -12,7 +12,7 @@ use proof_octets::Publication;
 use route_server::{BuildError, Held, InstallError};
 use std::alloc::Global;
 
-/// The book of a publication, if its header is that of the book.
+/// Builds the book of a publication. Fails if the publication's header is not that of the book.
 pub fn install(alloc: Global, publication: Publication) -> Result<Held<Sha>, Fault>
     ensures held { IfOk result (λ held. publication_in sha256 held ≡ publication) }
     ensures installable { OnOk result (IsInstallable publication) }
@@ -26,7 +26,7 @@ pub fn install(alloc: Global, publication: Publication) -> Result<Held<Sha>, Fau
     }
 }
 
-/// Why there is no book, as a run says it.
+/// Converts the reason why there is no book into the fault of a run.
 pub fn not_built(fault: BuildError) -> Fault
     ensures { result ≡ fault_of_build fault }
 {

@@ -1,4 +1,4 @@
--- A desk that is opened, and the keys that stand on its disk.
+-- An opened desk, and the keys on its disk.
 use Rattle.std.proofs.Common.{◌≡◌, ◌⊎◌, inl, inr, ℕ, ◌≤◌, List, [], ◌++◌, length, take, drop, refl, sym, ap, ◌∙◌, subst, arith}
 use Rattle.std.proofs.Math.Seq.{take-append_seam, drop-append_seam}
 use Rattle.std.specs.declared.option.Option.{Option}
@@ -43,7 +43,7 @@ kind_on desk c areas = let has = key_block desk c areas in has.kind
 pub secret_on : (desk : Desk) (c : List ℕ) → HasAreas desk c → secret_at c (base_of c (length desk.earlier)) ≡ desk.key.i ++ desk.key.seed
 secret_on desk c areas = let has = key_block desk c areas in has.secret
 
--- the desk's key stands in the last open area
+-- the key of the desk is in the last open area
 abbrev pub key_on : (desk : Desk) (c : List ℕ) → IsSound desk → HasAreas desk c → IsKeyOn c desk.key
 key_on desk c sound areas = record {
   area = length desk.earlier;
@@ -57,7 +57,7 @@ key_on desk c sound areas = record {
 abbrev pub opened : {X : Type 0} → X → Result X StartError
 opened desk = Ok desk
 
--- a desk that was opened stands on a disk whose key can be used
+-- the disk of an opened desk has a key that can be used
 pub usable_by : {X : Type 0} (content : Option (List ℕ)) (desk : X) (view : Desk) → HasBlocks content view
     → ForSome content (λ c. IsOpen c → IsBadBlock c → (opened desk ≡ Err start.BadBlock) ⊎ ((opened desk ≡ Err start.DiskFault) ⊎ (opened desk ≡ Err (start.Memory no_memory)))) → ForSome content IsUsable
 usable_by content desk view blocks else_bad c is = record {
@@ -65,14 +65,14 @@ usable_by content desk view blocks else_bad c is = record {
   good_block = λ bad. elim (else_bad c is (blocks c is).0 bad) [ inl e ↦ cc | inr other ↦ elim other [ inl e ↦ cc | inr e ↦ cc ] ];
 }
 
--- two lists whose fronts are as long have the same halves
+-- two lists whose prefixes have equal lengths have equal halves
 append_halves : (a b c d : List ℕ) → length a ≡ length b → a ++ c ≡ b ++ d → (a ≡ b) × (c ≡ d)
 append_halves a b c d long is = (
   sym (take-append_seam a c) ∙ ap (λ n. take n (a ++ c)) long ∙ ap (take (length b)) is ∙ take-append_seam b d,
   sym (drop-append_seam a c) ∙ ap (λ n. drop n (a ++ c)) long ∙ ap (drop (length b)) is ∙ drop-append_seam b d,
 )
 
--- one key stands in the last open area of a disk
+-- the last open area of a disk has one key
 pub same_owner : (c : List ℕ) (a b : KeyOf) → IsKeyOn c a → IsKeyOn c b → a ≡ b
 same_owner c a b h k =
     let here : h.area ≡ k.area = one_current c h.area k.area h.current k.current in
@@ -83,17 +83,17 @@ same_owner c a b h k =
     parts a b e f g =
         ap (λ x. record { kind = x; i = a.i; seed = a.seed }) e ∙ ap (λ x. record { kind = b.kind; i = x; seed = a.seed }) f ∙ ap (λ x. record { kind = b.kind; i = b.i; seed = x }) g
 
--- two calls in turn that change no image
+-- two consecutive calls that change no image
 pub stays_twice : {D : Type 0} (g : Ghosts D) (old mid new : D) → AtEachMoment g old mid Stays → AtEachMoment g mid new Stays → AtEachMoment g old new Stays
 stays_twice g old mid new first second = continued g old mid new Stays Stays Stays first second (λ d i at is. is) (λ d e i at after is step. subst (λ x. Stays x i) is step)
 
--- a desk that doesn't open ends a command, whatever follows an opening
+-- if the desk does not open, the command ends, whatever would follow
 pub shut : (content : Option (List ℕ)) (Next : Ending) (o : Result Conclusion Fault) (text : List ℕ) → EndsOpening content NoEnd o text → EndsOpening content Next o text
 shut content Next o text (inl h) = inl h
 shut content Next o text (inr (inl h)) = inr (inl h)
 shut content Next o text (inr (inr h)) = absurd h.1
 
--- over what a disk holds, a desk opens in one way
+-- over the contents of a disk, a desk opens in exactly one way
 pub one_opening : (content : List ℕ) (Next : Ending) (o e : Result Conclusion Fault) (s t : List ℕ) → (Next o s → Next e t → o ≡ e)
     → EndsOpening (Some content) Next o s → EndsOpening (Some content) Next e t → o ≡ e
 one_opening content Next o e s t one (inl a) (inl b) = a.0 ∙ sym b.0

@@ -1,4 +1,4 @@
--- The desk over what the disk reads.
+-- The desk over the disk's contents.
 use Rattle.std.specs.Prelude.{◌≡◌, ◌⊎◌, true, ℕ, List, [], length, ◌++◌}
 use Rattle.std.specs.declared.option.Option.{Option}
 use Rattle.std.specs.declared.option.Option.TheVariants.{Some}
@@ -16,15 +16,15 @@ use Rattle.key_desk.specs.declared.desk.Desk.{Desk}
 use Rattle.command_files.specs.Endings.{Ending}
 use Rattle.command_files.specs.declared.fault.Fault.TheVariants.{NoKey, BadBlock}
 
--- the desk opens, and this follows, or it doesn't, as the disk holds no key, or none that can be
--- used
+-- the desk opens, and the rest of the command follows; or it does not open, because the disk holds no key or a key
+-- that cannot be used
 abbrev pub EndsOpening : Option (List ℕ) → Ending → Ending
 EndsOpening content Next outcome text =
     ((outcome ≡ Err NoKey) × ForSome content (λ c. ¬ IsOpen c) × (text ≡ []))
     ⊎ (((outcome ≡ Err BadBlock) × ForSome content (λ c. IsOpen c × IsBadBlock c) × (text ≡ [])) ⊎
     (ForSome content IsUsable × Next outcome text))
 
--- the key whose block stands in the last open area of the disk
+-- the key whose block is in the last open area of the disk
 pub record IsKeyOn (image : List ℕ) (key : KeyOf) : Type 0 where
   pub area : ℕ
   pub current : IsCurrent image area
@@ -32,13 +32,12 @@ pub record IsKeyOn (image : List ℕ) (key : KeyOf) : Type 0 where
   pub secret : secret_at image (base_of image area) ≡ key.i ++ key.seed
   pub named : length key.i ≡ 16
 
--- what the disk reads has this desk's open areas
+-- the disk's contents have this desk's open areas
 abbrev pub HasBlocks : Option (List ℕ) → Desk → Type 0
 HasBlocks content desk = ForSome content (λ c. IsOpen c × HasAreas desk c)
 
--- A desk that was opened over the keys on the disk, each slot of whose current area is free or
--- spent. It is over what the disk tells after the opening, and told before it, and each image is
--- that.
+-- A desk opened over the keys on the disk. Each slot of its current area is free or spent. It fits the disk's
+-- contents after the opening, which are those before it, and every image equals these contents.
 pub record IsOpened {D : Type 0} (g : Ghosts D) (old new : D) (desk : Desk) : Type 0 where
   pub fits : Fits g desk new
   pub is_open : desk.is_open ≡ true

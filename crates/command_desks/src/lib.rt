@@ -1,4 +1,4 @@
-//! The owner's desk as commands open it: the keys that stand on the disk.
+//! How commands open the owner's desk, over the keys on the disk.
 #![tactic(auto)]
 
 pub use opening::open_desk;

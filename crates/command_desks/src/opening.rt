@@ -1,4 +1,4 @@
-//! The opening of a desk.
+//! Opening a desk.
 
 ghost use Rattle.std.specs.Prelude.{◌≤◌, IfOk, IfErr, ◌≡◌, ◌≢◌, Err};
 ghost use Rattle.road_io.specs.Causes.{Rose, RoseBy};
@@ -15,7 +15,7 @@ use key_desk::{Desk, StartError};
 use road_io::Disk;
 use std::alloc::Global;
 
-/// Opens the desk over the keys that the disk holds. It changes no image.
+/// Opens the desk over the keys on the disk. Changes no image.
 pub fn open_desk<D: Disk>(alloc: Global, disk: &mut D) -> Result<Desk, Fault>
     ensures opened { IfOk result (IsOpened D.Disk disk.old disk.new) }
     ensures refused { IfErr result

@@ -1,4 +1,4 @@
--- Names that were asked for one after another.
+-- Loading one name after another.
 use Rattle.std.proofs.Common.{◌≡◌, ℕ, ◌≤◌, List, [], ◌∷◌, ◌++◌, length, take, ap, sym, ◌∙◌, append_assoc, arith, refl}
 use Rattle.std.proofs.lemmas.List.{take_at, take_all, length-append}
 use Rattle.command_files.specs.Asking.{AsksFront}
@@ -7,7 +7,7 @@ use Rattle.command_files.specs.Asking.{AsksFront}
 pub then_asked : (old mid new : List (List ℕ)) (name : List ℕ) (names : List (List ℕ)) → mid ≡ old ++ name ∷ [] → new ≡ mid ++ names → new ≡ old ++ name ∷ names
 then_asked old mid new name names first second = second ∙ ap (λ x. x ++ names) first ∙ append_assoc old (name ∷ []) names
 
--- these names alone, of more
+-- only these names of a longer list
 pub asks_front : (names rest old new : List (List ℕ)) → new ≡ old ++ names → AsksFront (names ++ rest) old new
 asks_front names rest old new is = record {
   n = length names;

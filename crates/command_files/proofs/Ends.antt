@@ -1,4 +1,4 @@
--- The two ends of a query: the first unknown one is one, and a shortest route between them is a walk.
+-- The two ends of a query: there is one first unknown end, and a shortest route between known ends is a walk.
 use Rattle.std.proofs.Common.{◌≡◌, ◌≢◌, ℕ, ◌+◌, List, [], ◌∷◌, refl, sym, ap, subst, ◌∙◌, inl, inr}
 use Rattle.std.proofs.lemmas.Bool.{cases_eq}
 use Rattle.road_map.specs.Walks.{Hop, Follows, end_from, total, Knows, Joins}
@@ -9,13 +9,13 @@ use Rattle.road_map.specs.Laws.{ArcLaws, HasRoad}
 use Rattle.road_map.specs.declared.parts.Parts.{Parts}
 use Rattle.command_files.specs.TwoEnds.{IsFirstUnknown}
 
--- the first unknown end is neither of two known ones
+-- two known ends are not the first unknown end
 pub both_known : (parts : Parts) (from to id : ℕ) → Knows parts from → Knows parts to → IsFirstUnknown parts from to id → ⊥
 both_known parts from to id start end h =
     let other : id ≢ from = λ is. h.unknown (subst (Knows parts) (sym is) start) in
     h.unknown (subst (Knows parts) (sym (h.first other).0) end)
 
--- the first unknown end is one
+-- the first unknown end is unknown
 pub one_unknown : (parts : Parts) (from to a b : ℕ) → IsFirstUnknown parts from to a → IsFirstUnknown parts from to b → a ≡ b
 one_unknown parts from to a b h k =
     elim (cases_eq a from) [
@@ -29,7 +29,7 @@ one_unknown parts from to a b h k =
       ]
     ]
 
--- hops over roads, as long as these arcs
+-- hops over roads that are as long as these arcs
 record HopsAlong (roads : List RoadOf) (u : ℕ) (arcs : List Arc) : Type 0 where
   hops : List Hop
   follows : Follows roads u hops

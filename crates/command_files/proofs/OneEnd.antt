@@ -1,4 +1,4 @@
--- Where no object outside failed, a command ends as its files call for.
+-- If no outside object failed, a command ends as its files require.
 use Rattle.std.proofs.Common.{◌≡◌, ◌≢◌, ℕ, List, [], refl, sym, ◌∙◌}
 use Rattle.std.specs.declared.option.Option.{Option}
 use Rattle.std.specs.declared.result.Result.{Result}
@@ -10,17 +10,17 @@ use Rattle.command_files.specs.declared.fault.Fault.TheVariants.{TruncatedFrame,
 use Rattle.command_files.specs.declared.ended.Conclusion.{Conclusion}
 use Rattle.octet_text.specs.Want.{no_memory}
 
--- they call for one outcome at most
+-- the files require at most one outcome
 abbrev pub HasOneEnd : Ending → Type 0
 HasOneEnd Ends = (one other : Result Conclusion Fault) (text other_text : List ℕ) → Ends one text →
     Ends other other_text → one ≡ other
 
--- what a file says, or its first fault, makes the one end
+-- the content of a file, or its first fault, determines the end
 pub one_reading : {X : Type 0} (read : Result X Fault) (E : X → Ending) → ((x : X) → HasOneEnd (E x)) → HasOneEnd (EndsReading read E)
 one_reading (Ok x) E one o p s t h k = one x o p s t h k
 one_reading (Err e) E one o p s t h k = h.0 ∙ sym k.0
 
--- an answer is exact where no object outside failed
+-- a result is exact if no outside object failed
 pub exact_end : (E : Ending) → HasOneEnd E → (old new : Option (List ℕ)) (outcome : Result Conclusion Fault) → Answered E old new outcome
     → (outcome ≡ Err Library → ⊥) → (outcome ≡ Err Sink → ⊥) → (outcome ≡ Err Disk → ⊥) → (outcome ≡ Err MirrorLost → ⊥) → IsExact E outcome
 exact_end E one old new outcome a library sink disk mirror = by_end (called outcome a library sink disk mirror)

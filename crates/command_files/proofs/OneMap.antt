@@ -1,4 +1,4 @@
--- Parts make a map, or have one first reason why they don't.
+-- Parts make a map, or there is one first reason why they do not.
 use Rattle.std.proofs.Common.{◌≡◌}
 use Rattle.road_map.specs.declared.parts.Parts.{Parts}
 use Rattle.road_map.specs.declared.error.MapError.{MapError}
@@ -6,7 +6,7 @@ use Rattle.road_map.specs.Maps.{IsMap}
 use Rattle.road_map.specs.Laws.{FaultLaws}
 use Rattle.command_files.specs.Reading.{IsMapFault}
 
--- the laws of the faults of all parts
+-- the laws about the faults of all parts
 abbrev pub Faults : Type 0
 Faults = (parts : Parts) → FaultLaws parts
 

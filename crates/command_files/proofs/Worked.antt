@@ -1,4 +1,4 @@
--- What the words of ends and files say at some ends, so that a changed word is seen.
+-- The definitions of ends and files, evaluated for some ends. A changed definition fails here.
 use Rattle.std.proofs.Common.{◌≡◌, ◌≢◌, ℕ, ◌≤◌, List, [], length, nat_lt, cond, Bool, true, false, Option, Some, None, Ok, Err, arith, refl}
 use Rattle.std.specs.declared.result.Result.{Result}
 use Rattle.std.specs.Io.KnownBytes.{Appends, Keeps}
@@ -92,7 +92,7 @@ of_other_publication = refl
 of_lost_mirror : status_of (Err MirrorLost) ≡ 15
 of_lost_mirror = refl
 
--- an end without a fault is told by its status
+-- the status tells which end it is, if there is no fault
 told_refused : outcome_of (record { status = 1; fault = None }) ≡ Ok Refused
 told_refused = refl
 
@@ -102,25 +102,25 @@ told_evidence = refl
 told_fault : outcome_of (record { status = 0; fault = Some Disk }) ≡ Err Disk
 told_fault = refl
 
--- ---- what is written
+-- ---- the written text
 
 module _ (E : Ending) (old new : Option (List ℕ)) where
-  -- all of the text of work that was done, and of evidence
+  -- work that was done writes its whole text, and so does evidence
   done_is_written : Answered E old new (Ok Done) → (text : List ℕ) × E (Ok Done) text × Appends old new text
   done_is_written h = h
 
   evidence_is_written : Answered E old new (Ok Evidence) → (text : List ℕ) × E (Ok Evidence) text × Appends old new text
   evidence_is_written h = h
 
-  -- a prefix of some end's where the sink failed
+  -- if the sink failed, a prefix of the text of some end is written
   front_is_written : Answered E old new (Err Sink) → (end : Outcome) × (text : List ℕ) × E end text × AppendsFront old new text
   front_is_written h = h
 
-  -- a lost mirror is work that was done
+  -- a lost mirror counts as work that was done
   lost_is_done : Answered E old new (Err MirrorLost) → (text : List ℕ) × E (Ok Done) text × Appends old new text
   lost_is_done h = h
 
-  -- and a fault of the files is one that they call for
+  -- a fault of the files is one that the files require
   other_key_is_called_for : Answered E old new (Err OtherKey) → E (Err OtherKey) []
   other_key_is_called_for h = h
 
@@ -130,7 +130,7 @@ module _ (E : Ending) (old new : Option (List ℕ)) where
   used_up_is_called_for : Answered E old new (Err KeysUsedUp) → E (Err KeysUsedUp) []
   used_up_is_called_for h = h
 
-  -- nothing is written where a file, the disk or memory fails
+  -- nothing is written if a file, the disk or memory fails
   silent_at_memory : IsSilent TellsNone old new (Err (Memory no_memory)) → Keeps old new
   silent_at_memory h = h (Memory no_memory) refl (λ is. cc) (λ told. told)
 
@@ -149,11 +149,11 @@ module _ (E : Ending) where
   missing_is_exact : IsExact E (Err Missing) → (text : List ℕ) × E (Err Missing) text
   missing_is_exact h = h.called_for (λ is. cc)
 
-  -- an end that is called for comes
+  -- an end that the files require occurs
   no_other : (text : List ℕ) → IsExact E (Ok Done) → E (Err OtherKey) text → ⊥
   no_other text h called = let same : ◌≡◌ {A = Outcome} (Ok Done) (Err OtherKey) = h.only_one (Err OtherKey) text (λ is. cc) called in cc
 
--- no object outside failed
+-- no outside object failed
 library_did_not : (a b c d e f : ℕ) → NoneFailed a b c d e f → Rose a b → ⊥
 library_did_not a b c d e f h = h.library_stays
 
@@ -188,20 +188,20 @@ no_chain_named folder = refl
 where_it_breaks : as_spelled {X = ℕ} (Err 3) ≡ Err (Malformed 3)
 where_it_breaks = refl
 
--- a refusal is the file's
+-- the refusal is about the file
 missing_fails : (read : Result ℕ Fault) → Fails Missing read → read ≡ Err Missing
 missing_fails read h = h
 
 given_is_read : (read : Result ℕ Fault) (n : ℕ) → Gives (λ x. x) (Ok n) read → read ≡ Ok n
 given_is_read read n h = h
 
--- the first fault of a file ends a command, and nothing is written
+-- the first fault of a file ends the command, and nothing is written
 first_fault_ends : (Next : ℕ → Ending) (outcome : Outcome) (text : List ℕ) → EndsReading (Err BadHex) Next outcome text → (outcome ≡ Err BadHex) × (text ≡ [])
 first_fault_ends Next outcome text h = h
 
 -- ---- out of memory
 
--- where memory is said to be short, no fault was counted
+-- if out of memory is reported, no failure was counted
 abbrev short : Outcome
 short = Err (Memory no_memory)
 

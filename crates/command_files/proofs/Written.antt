@@ -1,4 +1,4 @@
--- What a command promises, by what its files call for.
+-- The guarantees of a command, by what its files require.
 use Rattle.std.proofs.Common.{◌≡◌, ◌≢◌, inl, inr, ℕ, List, [], refl, sym, subst, IfSome}
 use Rattle.std.proofs.lemmas.List.{append-nil}
 use Rattle.std.specs.declared.option.Option.{Option}
@@ -16,43 +16,43 @@ use Rattle.command_files.specs.declared.ended.Conclusion.{Conclusion}
 use Rattle.command_files.specs.declared.ended.Conclusion.TheVariants.{Done}
 use Rattle.octet_text.specs.Want.{no_memory}
 
--- a run that met a fault
+-- a run that ended with a fault
 abbrev pub failed : Fault → Result Conclusion Fault
 failed f = Err f
 
--- the files call for this outcome with this text
+-- the files require this outcome with this text
 abbrev pub CallsFor : (Folder → Ending) → Option Folder → Ending
 CallsFor Ends files o text = IfSome files (λ folder. Ends folder o text)
 
--- what follows for each folder follows for a library that may tell its files
+-- a fact that holds for each folder holds for a library that may state its files
 pub over : (files : Option Folder) (P Q : Folder → Type 0) → ((folder : Folder) → P folder → Q folder) → IfSome files P → IfSome files Q
 over None P Q f h = tt
 over (Some folder) P Q f h = f folder h
 
--- the same for two facts
+-- the same, for two facts
 pub over_both : (files : Option Folder) (P Q R : Folder → Type 0) → ((folder : Folder) → P folder → Q folder → R folder) → IfSome files P → IfSome files Q → IfSome files R
 over_both None P Q R f h k = tt
 over_both (Some folder) P Q R f h k = f folder h k
 
--- and for all shelves
+-- and for all libraries
 pub over_any : (files : Option Folder) (P : Folder → Type 0) → ((folder : Folder) → P folder) → IfSome files P
 over_any None P f = tt
 over_any (Some folder) P f = f folder
 
--- what holds of the files that were told holds of those that are still told
+-- a fact about the files stated before holds for the files that are still stated
 pub moved : (before files : Option Folder) (P : Folder → Type 0) → Narrows before files → IfSome before P → IfSome files P
 moved before None P narrows h = tt
 moved before (Some folder) P narrows h = subst (λ (f : Option Folder). IfSome f P) (narrows folder refl) h
 
--- what is told narrows on
+-- the stated files only stay or are no longer stated
 pub narrows_on : (first second third : Option Folder) → Narrows first second → Narrows second third → Narrows first third
 narrows_on first second third once more = λ folder is. once folder (more folder is)
 
--- a file that was read, and what follows it
+-- a file that was read, and what follows
 pub reads : {X : Type 0} (read : Result X Fault) (x : X) (Next : X → Ending) (o : Result Conclusion Fault) (text : List ℕ) → read ≡ Ok x → Next x o text → EndsReading read Next o text
 reads read x Next o text is h = subst (λ r. EndsReading r Next o text) (sym is) h
 
--- the same where it is turned
+-- the same, in the other direction
 pub read_as : {X : Type 0} (read : Result X Fault) (x : X) (Next : X → Ending) (o : Result Conclusion Fault) (text : List ℕ) → read ≡ Ok x → EndsReading read Next o text → Next x o text
 read_as read x Next o text is h = subst (λ r. EndsReading r Next o text) is h
 
@@ -60,12 +60,12 @@ pub keeps_same : (o : Option (List ℕ)) → Keeps o o
 keeps_same None = tt
 keeps_same (Some xs) = refl
 
--- nothing is appended to what stays
+-- nothing is appended to octets that stay unchanged
 pub appends_none : (o : Option (List ℕ)) → Appends o o []
 appends_none None = tt
 appends_none (Some xs) = sym (append-nil xs)
 
--- no file was said to be missing or too long
+-- no file was reported as missing or too long
 pub no_untold : (files : Option Folder) (l l' : ℕ) (o : Result Conclusion Fault) → o ≢ Err Missing → o ≢ Err TooLong → HasUntoldCause files l l' o
 no_untold None l l' o m t = record { missing = λ e. absurd (m e); too_long = λ e. absurd (t e) }
 no_untold (Some folder) l l' o m t = record { missing = tt; too_long = tt }
@@ -146,7 +146,7 @@ module _ (Ends : Folder → Ending) (Tells : Fault → Type 0) (DiskFailed : Typ
         words = λ e. cc;
       }
 
-      -- a text of which a front was written
+      -- a text of which a prefix was written
       front : (o : Result Conclusion Fault) (text : List ℕ) → E o text → AppendsFront old new text → Rose k k' → Promises Ends Tells DiskFailed files l l' old new k k' (Err Sink)
       front o text h app rose = record {
         answered = over files (λ folder. Ends folder o text) (λ folder. Answered (Ends folder) old new (Err Sink)) (λ folder e. (o, text, e, app)) (lift o text h);
@@ -163,7 +163,7 @@ module _ (Ends : Folder → Ending) (Tells : Fault → Type 0) (DiskFailed : Typ
           is_sink : (f : Fault) → failed Sink ≡ failed f → f ≡ Sink
           is_sink f e = cc
 
-      -- a fault that a client is told of
+      -- a fault that is reported to a client
       told : (f : Fault) (text : List ℕ) → ((folder : Folder) → Ends folder (Err f) text → Answered (Ends folder) old new (Err f)) → E (Err f) text → Tells f
           → f ≢ Missing → f ≢ TooLong → f ≢ Library → f ≢ Sink → f ≢ Disk → f ≢ Words → Promises Ends Tells DiskFailed files l l' old new k k' (Err f)
       told f text put h tells missing long library sink disk words = record {
@@ -181,7 +181,7 @@ module _ (Ends : Folder → Ending) (Tells : Fault → Type 0) (DiskFailed : Typ
           same : (g : Fault) → failed f ≡ failed g → f ≡ g
           same g e = cc
 
-      -- a text that was written, where a mirror was lost
+      -- a text that was written although a mirror was lost
       pub lost : (text : List ℕ) → E (Ok Done) text → Tells MirrorLost → Appends old new text → Promises Ends Tells DiskFailed files l l' old new k k' (Err MirrorLost)
       lost text h tells app = record {
         answered = over files (λ folder. Ends folder (Ok Done) text) (λ folder. Answered (Ends folder) old new (Err MirrorLost)) (λ folder e. (text, e, app)) (lift (Ok Done) text h);
@@ -208,16 +208,16 @@ module _ (Ends : Folder → Ending) (Tells : Fault → Type 0) (DiskFailed : Typ
       whole (Err Source) text may h app = told Source text (λ folder e. (text, e, app)) h may (λ x. cc) (λ x. cc) (λ x. cc) (λ x. cc) (λ x. cc) (λ x. cc)
       whole (Err f) text may h app = absurd may
 
-      -- what was told, and written or not
+      -- the output, whether it was written or not
       pub written : (end outcome : Result Conclusion Fault) (text : List ℕ) → MayEnd Tells end → E end text → Writes end text old new k k' outcome → Promises Ends Tells DiskFailed files l l' old new k k' outcome
       written end outcome text may h (inl w) = subst (λ (o : Result Conclusion Fault). Promises Ends Tells DiskFailed files l l' old new k k' o) (sym w.0) (whole end text may h w.1)
       written end outcome text may h (inr w) = subst (λ (o : Result Conclusion Fault). Promises Ends Tells DiskFailed files l l' old new k k' o) (sym w.0) (front end text h w.1 w.2)
 
-      -- a line with which the work is done
+      -- a line that was written when the work was done
       pub written_done : (v : Conclusion) (outcome : Result Conclusion Fault) (text line : List ℕ) → text ≡ line → E (Ok v) line → Writes (Ok v) text old new k k' outcome → Promises Ends Tells DiskFailed files l l' old new k k' outcome
       written_done v outcome text line same h w = written (Ok v) outcome line tt h (subst (λ t. Writes (Ok v) t old new k k' outcome) same w)
 
--- why work was not done, told of other work
+-- the reason why work was not done, as the reason for other work
 pub why_map : (A B : Type 0) (E F : Ending) → (A → B) → ((o : Result Conclusion Fault) (text : List ℕ) → E o text → F o text) → (f : Fault) → WhyNot A E f → WhyNot B F f
 why_map A B E F disk ends (Memory _) h = tt
 why_map A B E F disk ends Disk h = disk h
@@ -230,7 +230,7 @@ why_map A B E F disk ends Sink h = absurd h
 why_map A B E F disk ends MirrorLost h = absurd h
 why_map A B E F disk ends f h = ends (Err f) [] h
 
--- what commands without a disk promise they promise beside any
+-- the guarantees of commands without a disk also hold beside any disk
 pub beside_disk : (Ends : Folder → Ending) (Tells : Fault → Type 0) (DiskFailed : Type 0) (files : Option Folder) (l l' k k' : ℕ) (old new : Option (List ℕ)) (o : Result Conclusion Fault)
     → Promises Ends Tells ⊥ files l l' old new k k' o → Promises Ends Tells DiskFailed files l l' old new k k' o
 beside_disk Ends Tells DiskFailed files l l' k k' old new o h = record {

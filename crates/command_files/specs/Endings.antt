@@ -1,4 +1,4 @@
--- What a command leaves, however it ends.
+-- The effects of a command, by how it ends.
 use Rattle.std.specs.Prelude.{◌≡◌, ◌≢◌, ◌⊎◌, ℕ, List, [], IfSome, IfNone, MatchResult}
 use Rattle.std.specs.declared.option.Option.{Option}
 use Rattle.std.specs.declared.result.Result.{Result}
@@ -11,21 +11,19 @@ use Rattle.command_files.specs.declared.fault.Fault.TheVariants.{Words, Missing,
 use Rattle.command_files.specs.declared.ended.Conclusion.{Conclusion}
 use Rattle.command_files.specs.declared.ended.Conclusion.TheVariants.{Done}
 
--- with which outcome a command ends, and which text it then writes
+-- an outcome with which a command may end, and the text that it then writes
 abbrev pub Ending : Type 1
 Ending = Result Conclusion Fault → List ℕ → Type 0
 
--- what follows a file that was read; the first fault of a file comes before all others, and nothing
--- is written
+-- the results that follow reading a file; the first fault of a file has priority, and nothing is then written
 abbrev pub EndsReading : {X : Type 0} → Result X Fault → (X → Ending) → Ending
 EndsReading read Next outcome text = MatchResult read (λ x. Next x outcome text)
     (λ first. (outcome ≡ Err first) × (text ≡ []))
 
--- Ends says with which outcome the files let a command end, and which text it then writes. The
--- outcome is such a one, or out of memory, or the library's or the disk's failure, and the sink
--- has taken its text, or a prefix of such a text where it failed. Where a mirror was lost, the sink
--- has taken all of the text of work that was done. Only ends that name unknown nodes or no route,
--- or a fault of frames or of their source, may have a text beside a fault.
+-- Ends gives the outcomes that the files allow, and the text of each. The outcome is one of these, or out of
+-- memory, or the failure of the library or the disk. The sink has taken the text or, if the sink failed, a prefix
+-- of such a text. If a mirror was lost, the sink has taken the whole text of work that was done. Only three faults
+-- may come with a text: an unknown node, no route, and a fault of frames or of their source.
 abbrev pub Answered : Ending → Option (List ℕ) → Option (List ℕ) → Result Conclusion Fault → Type 0
 Answered Ends old new (Ok verdict) = (text : List ℕ) × Ends (Ok verdict) text × Appends old new text
 Answered Ends old new (Err (Memory _)) = Unit {0}
@@ -48,30 +46,30 @@ Answered Ends old new (Err TooManyFrames) = (text : List ℕ) × Ends (Err TooMa
     Appends old new text
 Answered Ends old new (Err fault) = Ends (Err fault) []
 
--- a command that tells its client of no fault
+-- no fault is reported to the client by a text
 abbrev pub TellsNone : Fault → Type 0
 TellsNone fault = ⊥
 
--- but for work that was done, what is told to a client, and a sink that failed, nothing is written
+-- nothing is written, with three exceptions: work that was done, a report to a client, and a sink that failed
 abbrev pub IsSilent : (Fault → Type 0) → Option (List ℕ) → Option (List ℕ) →
     Result Conclusion Fault → Type 0
 IsSilent Tells old new outcome = (fault : Fault) → outcome ≡ Err fault → fault ≢ Sink →
     ¬ Tells fault → Keeps old new
 
--- a library that doesn't tell its files has failed where a file is said to be missing or too long
+-- if a library does not state its files, it has failed whenever a file is reported to be missing or too long
 pub record HasUntoldCause (files : Option Folder) (before now : ℕ)
     (outcome : Result Conclusion Fault) : Type 0 where
   pub missing : IfNone files (outcome ≡ Err Missing → Rose before now)
   pub too_long : IfNone files (outcome ≡ Err TooLong → Rose before now)
 
--- what a command's disk has done where it failed: a command without a disk meets no such failure
+-- the effect of a failure of the command's disk; a command without a disk has no such failure
 abbrev pub NoDisk : Type 0
 NoDisk = ⊥
 
--- What a command promises that loads files and writes to the sink. Ends says with which outcome a
--- folder lets it end, and which text it then writes; Tells, of which faults its client is told by a
--- text, as a command that takes frames has told its client where their source failed; DiskFailed,
--- what a disk that failed has done.
+-- The guarantees of a command that loads files and writes to the sink. Ends gives the outcomes that a folder
+-- allows, and the text of each. Tells gives the faults that are reported to the client by a text; for example, a
+-- command that takes frames has answered frames before its source fails. DiskFailed gives the effect of a failure
+-- of the disk.
 pub record Promises (Ends : Folder → Ending) (Tells : Fault → Type 0) (DiskFailed : Type 0)
     (files : Option Folder) (library_before library_now : ℕ)
     (old new : Option (List ℕ)) (sink_before sink_now : ℕ)
@@ -86,7 +84,7 @@ pub record Promises (Ends : Folder → Ending) (Tells : Fault → Type 0) (DiskF
   pub mirror : outcome ≡ Err MirrorLost → Tells MirrorLost
   pub words : outcome ≡ Err Words → ⊥
 
--- what a command promises that loads no file: the same beside any library, on which no call is made
+-- the guarantees of a command that loads no file: the same with any library, which the command does not call
 abbrev pub PromisesWithoutFiles : Ending → Type 0 → Option (List ℕ) → Option (List ℕ) → ℕ → ℕ →
     Result Conclusion Fault → Type 0
 PromisesWithoutFiles Ends DiskFailed old new sink_before sink_now outcome =
@@ -94,13 +92,13 @@ PromisesWithoutFiles Ends DiskFailed old new sink_before sink_now outcome =
     Promises (λ folder. Ends) TellsNone DiskFailed files faults faults old new sink_before
     sink_now outcome
 
--- nothing follows
+-- no consequence
 abbrev pub NoEnd : Ending
 NoEnd outcome text = ⊥
 
--- ---- what functions give of it
+-- ---- the results of functions
 
--- a command's work after its files was not done, as its ends say, unless memory ran out or the
+-- the command loaded its files but did not do its work, for a reason among its ends, unless memory ran out or the
 -- disk failed
 abbrev pub WhyNot : Type 0 → Ending → Fault → Type 0
 WhyNot DiskFailed Ends (Memory _) = Unit {0}
@@ -114,7 +112,7 @@ WhyNot DiskFailed Ends Sink = ⊥
 WhyNot DiskFailed Ends MirrorLost = ⊥
 WhyNot DiskFailed Ends fault = Ends (Err fault) []
 
--- how a command may end whose text was written
+-- how a command may end once its text was written
 abbrev pub MayEnd : (Fault → Type 0) → Result Conclusion Fault → Type 0
 MayEnd Tells (Ok v) = Unit {0}
 MayEnd Tells (Err (UnknownNode id)) = Tells (UnknownNode id)
@@ -125,7 +123,7 @@ MayEnd Tells (Err TooManyFrames) = Tells TooManyFrames
 MayEnd Tells (Err Source) = Tells Source
 MayEnd Tells (Err f) = ⊥
 
--- a text was written whole, and the outcome is the one that was told with it, or the sink failed
+-- a text was written as a whole and the outcome is the one that comes with it, or the sink failed
 abbrev pub Writes : Result Conclusion Fault → List ℕ → Option (List ℕ) → Option (List ℕ) → ℕ → ℕ →
     Result Conclusion Fault → Type 0
 Writes end text old new before now outcome =

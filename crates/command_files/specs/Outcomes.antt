@@ -46,7 +46,7 @@ status_of (Err TooManyFrames) = 13
 status_of (Err OtherPublication) = 14
 status_of (Err MirrorLost) = 15
 
--- the verdict that a status tells where there is no fault
+-- the verdict of a status without a fault
 abbrev pub verdict_of : ℕ → Conclusion
 verdict_of status = if status == 1 then Refused else if status == 10 then Evidence else Done
 
@@ -54,6 +54,6 @@ abbrev pub outcome_by : ℕ → Option Fault → Result Conclusion Fault
 outcome_by status (Some fault) = Err fault
 outcome_by status None = Ok (verdict_of status)
 
--- the outcome that an end tells
+-- the outcome of an end
 abbrev pub outcome_of : Ended → Result Conclusion Fault
 outcome_of ended = outcome_by ended.status ended.fault

@@ -1,4 +1,4 @@
--- Files, and what they say: a value, or the first fault.
+-- Files and their meaning: a value, or the first fault.
 use Rattle.std.specs.Prelude.{◌≡◌, ◌≢◌, ◌≤◌, ℕ, nat_lt, List, [], length, IfSome, IfNone, IfErr, OnOk, if◌then◌else◌}
 use Rattle.std.specs.declared.option.Option.{Option}
 use Rattle.std.specs.declared.option.Option.TheVariants.{None, Some}
@@ -22,14 +22,14 @@ use Rattle.command_files.specs.declared.fault.Fault.{Fault}
 use Rattle.command_files.specs.declared.fault.Fault.TheVariants.{Missing, TooLong, Road, Dimacs, Map, Malformed, BadHex, Library, Memory}
 use Rattle.octet_text.specs.Want.{no_memory}
 
--- ---- what the files say
+-- ---- the contents of files
 
 -- the octets of a file
 abbrev pub octets_in : Option (List ℕ) → Result (List ℕ) Fault
 octets_in None = Err Missing
 octets_in (Some octets) = if nat_lt 268435456 (length octets) then Err TooLong else Ok octets
 
--- the octets of the file of this name
+-- the octets of the file with this name
 abbrev pub octets_at : Folder → List ℕ → Result (List ℕ) Fault
 octets_at folder name = octets_in (folder name)
 
@@ -41,11 +41,11 @@ abbrev pub parts_in : Result (List ℕ) Fault → Result Parts Fault
 parts_in (Ok text) = as_parts (roads_of text)
 parts_in (Err fault) = Err fault
 
--- the parts that the road file of this name lists
+-- the parts in the road file with this name
 abbrev pub parts_at : Folder → List ℕ → Result Parts Fault
 parts_at folder name = parts_in (octets_at folder name)
 
--- what octets encode, or the offset of the first field that can't be read
+-- the value that octets encode, or the offset of the first field that cannot be read
 abbrev pub as_spelled : {X : Type 0} → Result X ℕ → Result X Fault
 as_spelled (Ok x) = Ok x
 as_spelled (Err at) = Err (Malformed at)
@@ -54,40 +54,40 @@ abbrev pub spelled_in : {X : Type 0} → Format X → Result (List ℕ) Fault �
 spelled_in format (Ok text) = as_spelled (whole format text)
 spelled_in format (Err fault) = Err fault
 
--- the publication that the file of this name encodes
+-- the publication in the file with this name
 abbrev pub publication_at : Folder → List ℕ → Result Publication Fault
 publication_at folder name = spelled_in publication (octets_at folder name)
 
--- the links of the chain file of this name; where none is named, there are no links
+-- the links of the chain file with this name; there are none if no name is given
 abbrev pub chain_at : Folder → Option (List ℕ) → Result (List Link) Fault
 chain_at folder None = Ok []
 chain_at folder (Some name) = spelled_in chain_file (octets_at folder name)
 
--- the first reason why parts make no map
+-- the first reason why parts are not a map
 abbrev pub IsMapFault : Parts → MapError → Type 0
 IsMapFault parts fault = FaultOf parts fault × (fault ≢ map_errors.Memory no_memory)
 
--- ---- what functions give of it
+-- ---- the results of functions
 
--- a function that gave no value met this fault, unless memory or the library failed
+-- a function failed with this fault, unless memory ran out or the library failed
 abbrev pub Fails : {Y : Type 0} → Fault → Result Y Fault → Type 0
 Fails (Memory _) read = Unit {0}
 Fails Library read = Unit {0}
 Fails fault read = read ≡ Err fault
 
--- what a function gave, seen by view, is what reading gives, unless memory or the library failed
+-- the value of a function, converted by view, is the result of reading, unless memory ran out or the library failed
 abbrev pub Gives : {X Y : Type 0} → (X → Y) → Result X Fault → Result Y Fault → Type 0
 Gives view (Ok x) read = read ≡ Ok (view x)
 Gives view (Err fault) read = Fails fault read
 
--- a function that gave no map met this fault of the file or of its parts
+-- a function that should make a map failed with this fault of the file or of its parts
 abbrev pub FailsMap : Fault → Result Parts Fault → Type 0
 FailsMap (Memory _) read = Unit {0}
 FailsMap Library read = Unit {0}
 FailsMap (Map fault) read = (parts : Parts) × (read ≡ Ok parts) × IsMapFault parts fault
 FailsMap fault read = read ≡ Err fault
 
--- what a function gave is the map of the parts that were read
+-- the value of a function is the map of the parts that were read
 abbrev pub GivesMap : Result Charted Fault → Result Parts Fault → Type 0
 GivesMap (Ok map) read = (read ≡ Ok map.parts) × IsMap map.parts
 GivesMap (Err fault) read = FailsMap fault read
@@ -104,12 +104,12 @@ IsOfFiles Library = Unit {0}
 IsOfFiles (Memory _) = Unit {0}
 IsOfFiles fault = ⊥
 
--- the same, and those of maps
+-- the same, and the faults of maps
 abbrev pub IsOfMaps : Fault → Type 0
 IsOfMaps (Map fault) = Unit {0}
 IsOfMaps fault = IsOfFiles fault
 
--- what a function promises that loads a file and reads it
+-- the guarantees of a function that loads a file and reads it
 pub record Loads {X Y : Type 0} (view : X → Y) (meaning : Folder → Result Y Fault)
     (files : Option Folder) (before now : ℕ) (result : Result X Fault) : Type 0 where
   pub read : IfSome files (λ folder. Gives view result (meaning folder))
@@ -121,7 +121,7 @@ pub record Loads {X Y : Type 0} (view : X → Y) (meaning : Folder → Result Y 
   pub others : IfErr result IsOfFiles
   pub later : before ≤ now
 
--- what a function promises that loads a road file and makes its map
+-- the guarantees of a function that loads a road file and makes its map
 pub record LoadsMap (meaning : Folder → Result Parts Fault) (files : Option Folder) (before now : ℕ)
     (result : Result Charted Fault) : Type 0 where
   pub read : IfSome files (λ folder. GivesMap result (meaning folder))

@@ -3,7 +3,7 @@ use Rattle.std.specs.Prelude.{◌≡◌, ◌≢◌, ℕ}
 use Rattle.road_map.specs.Walks.{Knows, Joins}
 use Rattle.road_map.specs.declared.parts.Parts.{Parts}
 
--- the first of the two ends that is no node
+-- the first of the two ends that is not a node
 pub record IsFirstUnknown (parts : Parts) (from to id : ℕ) : Type 0 where
   pub unknown : ¬ Knows parts id
   pub first : id ≢ from → (id ≡ to) × Knows parts from

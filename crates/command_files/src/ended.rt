@@ -5,30 +5,30 @@ ghost use Rattle.command_files.specs.Outcomes.{status_of};
 
 use crate::fault::Fault;
 
-/// How a run ends that meets no fault.
+/// How a run ends without a fault.
 #[derive(Clone, Copy, Debug, PartialEq, Eq)]
 pub enum Conclusion {
     /// The work was done.
     Done,
-    /// A reply was refused, which a line says.
+    /// A reply was refused. The output line gives the reason.
     Refused,
-    /// A reply is evidence, which a line holds.
+    /// A reply is evidence. The output line holds the evidence.
     Evidence,
 }
 
-/// The status of a run's end, and the fault if it met one.
+/// The status of a run, and its fault if it had one.
 #[derive(Clone, Copy, Debug, PartialEq, Eq)]
 pub struct Ended {
     /// The status for the shell.
     pub status: u8,
-    /// Why the work was not done.
+    /// The reason why the work was not done, if it was not.
     pub fault: Option<Fault>,
 }
 
 impl Ended {
     ghost use Rattle.command_files.specs.Outcomes.{status_of, outcome_of};
 
-    /// The end of a run with this outcome.
+    /// Returns the end of a run with this outcome.
     pub fn of(outcome: Result<Conclusion, Fault>) -> Ended
         ensures outcome { outcome_of result ≡ outcome }
         ensures status { result.status ≡ status_of outcome }

@@ -7,40 +7,40 @@ use road_map::MapError;
 use road_reader::RoadError;
 use thiserror::Error;
 
-/// Why a run did not do its work. No variant holds a `Memory` of an error inside it.
+/// Why a run did not do its work. Out of memory is never inside another variant.
 #[derive(Clone, Copy, Debug, PartialEq, Eq, Error)]
 pub enum Fault {
     /// The arguments fit no command.
     #[error("The words fit no command.")]
     Words,
-    /// A file isn't there.
+    /// A file does not exist.
     #[error("There is no file of that name.")]
     Missing,
     /// A file has more than 268,435,456 octets.
     #[error("The file has more than 268,435,456 octets.")]
     TooLong,
-    /// A road file's first fault.
+    /// The first fault of a road file.
     #[error("{0}")]
     Road(RoadError),
     /// The first fault of a graph and its coordinates.
     #[error("{0}")]
     Dimacs(DimacsError),
-    /// The first reason why a road file's parts make no map.
+    /// The first reason why a road file's parts are not a map.
     #[error("{0}")]
     Map(MapError),
     /// The first reason why settings and a map have no book.
     #[error("{0}")]
     Plan(PlanError),
-    /// A publication file or a chain file encodes none: the offset of its first field that can't be read.
+    /// A publication file or a chain file cannot be read. The first unreadable field begins at this offset.
     #[error("The file can't be read from offset {0} on.")]
     Malformed(u32),
-    /// A publication's header is not that of its map and settings.
+    /// A publication's header does not match its map and settings.
     #[error("The publication's header is not that of its map and settings.")]
     HeaderWrong,
-    /// A hex file is not exactly its digits and one line end at most.
+    /// A hex file does not consist of the required number of hex digits, optionally followed by a line end.
     #[error("The file is not exactly the hex digits that it should have.")]
     BadHex,
-    /// A public key is none of those on the owner's disk.
+    /// A public key does not belong to the owner's disk.
     #[error("The public key is none of the owner's.")]
     OtherKey,
     /// The input ends within a frame.
@@ -61,43 +61,43 @@ pub enum Fault {
     /// The disk failed.
     #[error("The owner's disk failed.")]
     Disk,
-    /// All one-time keys of the owner's key were used.
+    /// All one-time keys of the owner's key have been used.
     #[error("The owner's key has no one-time key left.")]
     KeysUsedUp,
     /// Out of memory.
     #[error("Out of memory.")]
     Memory(NoMemory),
-    /// The first of the two ends that is no node of the map.
+    /// An end of the query is not a node of the map. This is the first such end.
     #[error("The map has no node {0}.")]
     UnknownNode(u32),
     /// No walk joins the two ends.
     #[error("No route joins the two nodes.")]
     NoRoute,
-    /// The disk holds a key already, which a new one may not replace.
+    /// The disk already holds a key, which a new key may not replace.
     #[error("The owner's disk holds a key already.")]
     Held,
     /// The disk holds no key.
     #[error("The owner's disk holds no key.")]
     NoKey,
-    /// An open area of the disk can't be used.
+    /// An open area of the disk cannot be used.
     #[error("The key on the owner's disk can't be used.")]
     BadBlock,
-    /// The disk has eight keys, the most that it may have.
+    /// The disk has eight keys, which is the maximum.
     #[error("The owner's disk holds eight keys already.")]
     TooManyKeys,
-    /// The current key's last one-time key was used, and not for the next key.
+    /// The last one-time key of the current key was used, but did not sign the next key.
     #[error("The last one-time key of the owner's key was used, so that it can't sign the next key.")]
     NoSuccession,
-    /// A key of this secret stands on the disk.
+    /// The disk already holds a key with this secret.
     #[error("The owner's disk holds a key of this secret already.")]
     SameSecret,
-    /// The input goes on after 1,000,000 frames.
+    /// The input continues after 1,000,000 frames.
     #[error("The input has more than 1,000,000 frames.")]
     TooManyFrames,
-    /// An accepted reply is of another publication of the owner's than the one at hand.
+    /// An accepted reply belongs to another publication of the owner than the given one.
     #[error("The reply is of another publication of the owner's.")]
     OtherPublication,
-    /// All was written, and a mirror that did not take all of it was dropped.
+    /// The whole output was written, but a mirror that did not take all of it was dropped.
     #[error("A mirror did not take all that was written.")]
     MirrorLost,
 }

@@ -1,5 +1,5 @@
-//! What all commands stand on: faults, verdicts and statuses, the files that they load, what they tell,
-//! and the record of what a command promises.
+//! The base of all commands: faults, verdicts and statuses, the files that commands load, their output, and the
+//! definitions with which a command's guarantees are stated.
 #![tactic(auto)]
 
 pub use ended::{Conclusion, Ended};

@@ -1,4 +1,4 @@
--- Where areas begin, which are open, and what a change within one slot leaves of them.
+-- Where areas begin, which of them are open, and which facts about them remain after a change within one slot.
 use Rattle.std.proofs.Common.{◌≡◌, ◌≢◌, ◌⊎◌, ℕ, zero, suc, ◌+◌, ◌-◌, ◌<◌, ◌≤◌, List, get_or, arith, inl, inr, refl, sym, ◌∙◌, ap, subst}
 use Rattle.std.proofs.lemmas.Bool.{cases_lt, cases_eq}
 use Rattle.lms_tree.specs.Links.{IsLink}
@@ -38,11 +38,11 @@ base_up image a (suc b) le = elim (cases_lt b a) [
   | inr below ↦ omega (arith, base_up image a b below, base_next image b)
 ]
 
--- an area ends before the later ones begin
+-- an area ends before later areas begin
 pub area_below : (image : List ℕ) (a b : ℕ) → a < b → place_in (base_of image a) (slots_at image (base_of image a)) ≤ base_of image b
 area_below image a b lt = let le : suc a ≤ b = omega arith in omega (arith, base_next image a, base_up image (suc a) b le)
 
--- two slots lie apart
+-- two slots do not overlap
 pub slots_apart : (image : List ℕ) (s q : SlotId) → s ≢ q → s.number < slots_at image (base_of image s.area) → q.number < slots_at image (base_of image q.area)
     → Apart (place_of image s) (place_of image s + 128) (place_of image q) (place_of image q + 128)
 slots_apart image s q ne known_s known_q = elim (cases_lt s.area q.area) [
@@ -99,11 +99,11 @@ open_down image a (suc b) le is_open = elim (cases_lt b a) [
 -- ---- a change within one slot
 
 module _ (slot : SlotId) (d i : List ℕ) (outside : OutsideSlot slot d i) (known : slot.number < slots_at d (base_of d slot.area)) where
-  -- the slot's range
+  -- the range of the slot
   abbrev from : ℕ
   from = place_of d slot
 
-  -- no key block meets it
+  -- no key block overlaps it
   block_apart : (area : ℕ) → Apart (base_of d area) (base_of d area + 64) (place_of d slot) (place_of d slot + 128)
   block_apart area = elim (cases_lt slot.area area) [
     | inl later ↦ inr (omega (arith, area_below d slot.area area later, known))
@@ -137,7 +137,7 @@ module _ (slot : SlotId) (d i : List ℕ) (outside : OutsideSlot slot d i) (know
   pub lasts : (area : ℕ) → last_slot i area ≡ last_slot d area
   lasts area = let f : ℕ → SlotId = λ n. record { area = area; number = n - 1 } in ap f (slots_same area)
 
-  -- every other slot stays
+  -- every other slot is unchanged
   pub gate_same : (s : SlotId) → s ≢ slot → s.number < slots_at d (base_of d s.area) → gate_of i s ≡ gate_of d s
   gate_same s ne here = ap (λ (p : ℕ). gate_at i p) (places s)
       ∙ gate_apart from (from + 128) d i outside (place_of d s) (apart_within _ _ (place_of d s) (place_of d s + 128) _ _ (omega arith) (omega arith) (slots_apart d s slot ne here known))
@@ -151,7 +151,7 @@ module _ (slot : SlotId) (d i : List ℕ) (outside : OutsideSlot slot d i) (know
     whole = omega (arith, w.whole, places s, outside.long);
   }
 
-  -- the same change, looked at the other way
+  -- the same change, seen in the opposite direction
   pub turned : OutsideSlot slot i d
   turned = subst (λ (p : ℕ). AgreesOutside p (p + 128) i d) (sym (places slot)) (back from (from + 128) d i outside)
 
@@ -168,7 +168,7 @@ module _ (slot : SlotId) (d i : List ℕ) (outside : OutsideSlot slot d i) (know
         link = subst (λ (s : SlotId). IsLink (text_of i s)) at (subst IsLink (sym (text_same (last_slot d area) ne has.place.known)) has.link);
       }
 
-  -- an open area stays open, where the slot holds no link of an area before it
+  -- an open area stays open if the slot holds no link of an earlier area
   pub open_kept : (area : ℕ) → ((a : ℕ) → a < area → HasLink d a → last_slot d a ≢ slot) → IsAreaOpen d area → IsAreaOpen i area
   open_kept zero apart is_open = let gate : get_or i 0 0 ≡ get_or d 0 0 = outside.same 0 (inl (omega arith)) in first_open i (omega (arith, gate, open_first d is_open))
   open_kept (suc area) apart is_open =
@@ -185,11 +185,11 @@ module _ (slot : SlotId) (d i : List ℕ) (outside : OutsideSlot slot d i) (know
     };
   }
 
--- where the slot's gate is closed, it holds no link
+-- if the slot's gate is closed, it holds no link
 pub closed_no_link : (slot : SlotId) (d : List ℕ) → gate_of d slot ≡ 0 → (area : ℕ) → HasLink d area → last_slot d area ≢ slot
 closed_no_link slot d shut area has is = let gate : 0 < gate_of d slot = subst (λ (s : SlotId). 0 < gate_of d s) is has.gate in omega (arith, gate, shut)
 
--- nor does a slot that isn't the last of its area
+-- and a slot that is not the last of its area holds no link
 pub early_no_link : (slot : SlotId) (d : List ℕ) → slot.number + 1 < slots_at d (base_of d slot.area) → (area : ℕ) → HasLink d area → last_slot d area ≢ slot
 early_no_link slot d early area has is =
     let here : area ≡ slot.area = ap (λ (s : SlotId). s.area) is in

@@ -1,4 +1,4 @@
--- Where areas begin, by what is counted in those before them.
+-- Where areas begin, from the numbers of slots of the areas before them.
 use Rattle.std.proofs.Common.{◌≡◌, ◌<◌, List, ℕ, suc, length, get_or, arith, ◌∙◌}
 use Rattle.std.proofs.lemmas.List.{get_or_default}
 use Rattle.desk_areas.specs.Area.{AreaView, area_in, no_area}
@@ -6,7 +6,7 @@ use Rattle.desk_areas.specs.Layout.{place_in, base_of}
 use Rattle.desk_areas.specs.Reading.{IsLaidOut}
 use Rattle.desk_areas.proofs.Areas.{base_next}
 
--- an element is the one at its offset
+-- an element is found at its offset
 pub item_at : (areas : List AreaView) (i : ℕ) (item : AreaView) → i < length areas → item ≡ get_or areas i item → item ≡ area_in areas i
 item_at areas i item lt is = is ∙ get_or_default areas i item no_area lt
 

@@ -1,4 +1,4 @@
--- What the writes of a new key leave.
+-- The octets that the writes of a new key leave on the disk.
 use Rattle.std.proofs.Common.{◌≡◌, ℕ, zero, suc, ◌+◌, ◌*◌, ◌^◌, ◌<◌, ◌≤◌, List, ◌++◌, length, get_or, take, drop, replicate, arith, sym, ◌∙◌, ap, subst}
 use Rattle.std.specs.Int.{w32, to_be_bytes, from_be_bytes}
 use Rattle.std.proofs.lemmas.List.{places, get_or-replicate, get_or-take, get_or-drop, drop-take, take-take, take_all, drop-drop}
@@ -53,7 +53,7 @@ module _ (base : ℕ) (block d : List ℕ) (size : length block ≡ 52) (fits : 
       ∙ ap (λ (l : List ℕ). take 48 l) (sym (drop-take 4 48 (drop (base + 1) image)))
       ∙ ap (λ (l : List ℕ). take 48 (drop 4 l)) inside
 
--- a block over zeros makes a blank area
+-- a block written over zeros makes a blank area
 pub blank_written : (base kind : ℕ) (secret block d : List ℕ) → kind < 2 ^ 32 → length secret ≡ 48 → block ≡ to_be_bytes w32 kind ++ secret
     → IsZero base (place_in 0 (slots_of kind)) d → IsBlankArea (key_from kind secret) base (written (base + 1) block d)
 blank_written base kind secret block d high long_secret is clear =

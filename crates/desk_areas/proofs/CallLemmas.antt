@@ -1,4 +1,4 @@
--- How numbers of calls add up.
+-- Sums of numbers of calls.
 use Rattle.std.proofs.Common.{◌≡◌, ◌≢◌, ℕ, ◌+◌, ◌-◌, false, cond, List, length, take, drop, arith, refl, sym, ap, ◌∙◌, subst}
 use Rattle.std.proofs.lemmas.List.{take-append-drop}
 use Rattle.std.proofs.lemmas.List.Sums.{sum_by-append}
@@ -27,13 +27,13 @@ unspent TheVariants.Out isnt = refl
 unspent TheVariants.Written isnt = refl
 unspent TheVariants.Spent isnt = absurd (isnt refl)
 
--- those before the last slot, and the last
+-- the calls for the slots before the last one, and for the last one
 pub spent_parts : (counts : List Count) → count_by is_spent counts ≡ count_by is_spent (take (length counts - 1) counts) + count_by is_spent (drop (length counts - 1) counts)
 spent_parts counts =
     ap (λ (l : List Count). count_by is_spent l) (sym (take-append-drop (length counts - 1) counts))
     ∙ sum_by-append (λ (x : Count). cond (is_spent x) 1 0) (take (length counts - 1) counts) (drop (length counts - 1) counts)
 
--- all of an area
+-- the calls for a whole area
 pub area_read : (counts : List Count) (a b c : ℕ) → Called (1 + length counts + count_by is_spent (take (length counts - 1) counts)) a b → Called (count_by is_spent (drop (length counts - 1) counts)) b c → Called (area_calls counts) a c
 area_read counts a b c one two =
     let all : 1 + length counts + count_by is_spent (take (length counts - 1) counts) + count_by is_spent (drop (length counts - 1) counts) ≡ area_calls counts = omega (arith, spent_parts counts) in

@@ -1,9 +1,9 @@
--- What stays of an image outside a range in which it changes.
+-- The facts about an image that remain if it changes only within a range.
 use Rattle.std.proofs.Common.{◌≡◌, ◌⊎◌, ℕ, ◌+◌, ◌<◌, ◌≤◌, min, List, length, get_or, take, drop, arith, inl, inr, sym, ◌∙◌, ap, length-drop, length-take}
 use Rattle.std.proofs.lemmas.List.{ext_get_or, get_or-take, get_or-drop}
 use Rattle.desk_areas.specs.Layout.{gate_at, text_at, kind_at, AgreesOutside}
 
--- two ranges lie apart
+-- two ranges do not overlap
 abbrev pub Apart : ℕ → ℕ → ℕ → ℕ → Type 0
 Apart at end from to = (end ≤ from) ⊎ (to ≤ at)
 
@@ -38,7 +38,7 @@ module _ (from to : ℕ) (d i : List ℕ) (outside : AgreesOutside from to d i) 
       let f : get_or i (base + 4) 0 ≡ get_or d (base + 4) 0 = outside.same (base + 4) (elim apart [ inl before ↦ inl (omega arith) | inr after ↦ inr (omega arith) ]) in
       cc
 
--- the text after a gate stays where only the gate changes
+-- if only the gate changes, the text after it is unchanged
 pub text_behind : (p : ℕ) (d i : List ℕ) → AgreesOutside p (p + 1) d i → text_at i p ≡ text_at d p
 text_behind p d i h =
     let len : get_or i (p + 1) 0 ≡ get_or d (p + 1) 0 = h.same (p + 1) (inr (omega arith)) in

@@ -1,17 +1,12 @@
--- What a change after all open areas leaves of an image: the zeros and the key block of a new area.
+-- The facts about an image that remain if it changes only after all open areas: when the zeros and the key block of
+-- a new area are written.
 use Rattle.std.proofs.Common.{◌≡◌, ℕ, zero, suc, ◌+◌, ◌-◌, ◌<◌, ◌≤◌, min, List, length, get_or, take, drop, arith, inl, inr, sym, ◌∙◌, ap, subst, length-take, length-drop}
 use Rattle.std.proofs.lemmas.Bool.{cases_lt}
 use Rattle.std.proofs.lemmas.List.{ext_get_or, get_or-take, get_or-drop}
 use Rattle.road_io.specs.Disk.{Torn}
 use Rattle.lms_tree.specs.Links.{IsLink}
-use Rattle.desk_areas.specs.Layout.{SlotId, slots_of, slots_at, place_in, base_of, place_of, gate_at, text_at, kind_at, secret_at, gate_of, text_of, last_slot, IsWithin, HasLink, IsAreaOpen, IsCurrent, IsSigned, AgreesOutside, SameSigned}
+use Rattle.desk_areas.specs.Layout.{SlotId, slots_of, slots_at, place_in, base_of, place_of, gate_at, text_at, kind_at, secret_at, gate_of, text_of, last_slot, IsWithin, HasLink, IsAreaOpen, IsCurrent, IsSigned, AgreesOutside, SameFront, SameSigned}
 use Rattle.desk_areas.proofs.Areas.{base_first, base_next, area_below, first_open, open_first, next_open, open_before, open_link, open_few, open_down}
-
--- two images have one front
-pub record SameFront (end : ℕ) (d i : List ℕ) : Type 0 where
-  pub long : end ≤ length d
-  pub longer : end ≤ length i
-  pub same : (k : ℕ) → k < end → get_or i k 0 ≡ get_or d k 0
 
 pub front_back : (end : ℕ) (d i : List ℕ) → SameFront end d i → SameFront end i d
 front_back end d i h = record { long = h.longer; longer = h.long; same = λ k lt. sym (h.same k lt) }
@@ -43,7 +38,7 @@ module _ (end : ℕ) (d i : List ℕ) (front : SameFront end d i) where
       let f : get_or i (base + 4) 0 ≡ get_or d (base + 4) 0 = front.same (base + 4) (omega arith) in
       cc
 
--- ---- the areas up to one, where all of them lie in the front
+-- ---- the areas up to one area, all of which lie in the unchanged prefix
 
 module _ (end : ℕ) (d i : List ℕ) (front : SameFront end d i) (current : ℕ) (ends : base_of d (suc current) ≤ end) where
   pub area_in : (area : ℕ) → area ≤ current → place_in (base_of d area) (slots_at d (base_of d area)) ≤ end
@@ -115,7 +110,7 @@ open_upto image current area is is_open = elim (cases_lt current area) [
   | inr le ↦ le
 ]
 
--- one area is the last that is open
+-- exactly one open area is the last
 pub one_current : (image : List ℕ) (a b : ℕ) → IsCurrent image a → IsCurrent image b → a ≡ b
 one_current image a b h k = omega (arith, open_upto image b a k h.is_open, open_upto image a b h k.is_open)
 

@@ -1,4 +1,4 @@
--- The desk's key and that of the trees.
+-- The desk's key and the key of the trees.
 use Rattle.std.proofs.Common.{◌≡◌, ◌⊎◌, ℕ, ◌+◌, ◌*◌, ◌^◌, ◌<◌, true, List, ◌++◌, length, get_or, take, drop, sym, ap, subst, ◌∙◌, arith, inl, inr}
 use Rattle.std.specs.Int.{w32, from_be_bytes}
 use Rattle.std.proofs.lemmas.Bool.{cases_eq}
@@ -13,7 +13,7 @@ use Rattle.desk_areas.specs.Keys.{key_from}
 pub four_octets : (octets : List ℕ) → from_be_bytes w32 octets ≡ ((get_or octets 0 0 * 256 + get_or octets 1 0) * 256 + get_or octets 2 0) * 256 + get_or octets 3 0
 four_octets octets = omega arith
 
--- a kind with slots is known
+-- a kind that has slots is known
 pub known_kind : (kind : ℕ) → 0 < slots_of kind → is_kind kind ≡ true
 unfolding slots_of
 known_kind kind some = grind (arith, nat_tests)
@@ -29,12 +29,12 @@ slot_is_leaf kind q lt = elim (cases_eq kind 5) [
   ]
 ]
 
--- the signature's number
+-- the number in the signature
 pub sealed-number : (key : KeyOf) (q : ℕ) (text : List ℕ) → q < 2 ^ 32 → number_at (sealed key q text) 0 ≡ q
 unfolding sealed number_at
 sealed-number key q text l = from_be_bytes-to_be_bytes_4 q l
 
--- the key of a secret has its 48 octets
+-- the key of a secret has the secret's 48 octets
 pub key_from-secret : (kind : ℕ) (secret : List ℕ) → secret ≡ take 16 secret ++ drop 16 secret
 key_from-secret kind secret = sym (take-append-drop 16 secret)
 
@@ -42,7 +42,7 @@ key_from-secret kind secret = sym (take-append-drop 16 secret)
 pub length-key_from : (kind : ℕ) (secret : List ℕ) → length secret ≡ 48 → length (take 16 secret) ≡ 16
 length-key_from kind secret l = omega (arith, length-take 16 secret, l)
 
--- two parts of a secret make its key
+-- the two parts of a secret make its key
 pub key_of_parts : (kind : ℕ) (secret i seed : List ℕ) → length secret ≡ 48 → i ≡ take 16 (drop 0 secret) → seed ≡ take 32 (drop 16 secret) → record { kind = kind; i = i; seed = seed } ≡ key_from kind secret
 key_of_parts kind secret i seed l is_i is_seed =
     let rest : take 32 (drop 16 secret) ≡ drop 16 secret = take_all 32 (drop 16 secret) (omega (arith, length-drop 16 secret, l)) in

@@ -1,4 +1,4 @@
--- What the octets of one slot sign: nothing behind a closed gate, and their text when the gate opens.
+-- What the octets of one slot sign: no text behind a closed gate, and their text once the gate opens.
 use Rattle.std.proofs.Common.{◌≡◌, ◌≢◌, ◌⊎◌, ℕ, suc, ◌+◌, ◌<◌, ◌≤◌, List, arith, inl, inr, refl, sym, ◌∙◌, ap, subst}
 use Rattle.std.proofs.lemmas.Bool.{cases_lt, cases_eq}
 use Rattle.desk_areas.specs.Layout.{SlotId, slots_at, base_of, place_of, gate_at, text_at, gate_of, text_of, last_slot, HasLink, IsCurrent, IsSigned, AgreesOutside, OutsideSlot, SameSigned, SignsAtMost}
@@ -10,7 +10,7 @@ use Rattle.desk_areas.proofs.Areas.{slot_cases, places, gate_same, slots_same, s
 other_slot : (d : List ℕ) (s slot : SlotId) → 0 < gate_of d s → gate_of d slot ≡ 0 → s ≢ slot
 other_slot d s slot gate shut is = let here : 0 < gate_of d slot = subst (λ (x : SlotId). 0 < gate_of d x) is gate in omega (arith, here, shut)
 
--- a text under a closed gate signs nothing
+-- a text behind a closed gate signs nothing
 pub text_signs_nothing : (slot : SlotId) (from to : ℕ) (d i : List ℕ) → place_of d slot < from → to ≤ place_of d slot + 128 → slot.number < slots_at d (base_of d slot.area)
     → gate_of d slot ≡ 0 → AgreesOutside from to d i → OutsideSlot slot d i × SameSigned d i
 text_signs_nothing slot from to d i low high known shut h =
@@ -23,7 +23,7 @@ text_signs_nothing slot from to d i low high known shut h =
       },
     )
 
--- an opened gate signs the text after it at most
+-- opening a gate signs at most the text after it
 module _ (slot : SlotId) (text d i : List ℕ) (known : slot.number < slots_at d (base_of d slot.area)) (shut : gate_of d slot ≡ 0) (text_is : text_of d slot ≡ text) (h : AgreesOutside (place_of d slot) (place_of d slot + 1) d i) where
   pub gate_outside : OutsideSlot slot d i
   gate_outside = widen (place_of d slot) (place_of d slot + 1) (place_of d slot) (place_of d slot + 128) d i (omega arith) (omega arith) h
@@ -43,7 +43,7 @@ module _ (slot : SlotId) (text d i : List ℕ) (known : slot.number < slots_at d
   back_to : (s : SlotId) (t : List ℕ) → ((a : ℕ) → a < s.area → HasLink i a → last_slot i a ≢ slot) → s ≢ slot → IsSigned i s t → IsSigned d s t
   back_to s t = signed_kept slot i d (turned slot d i gate_outside known) (known_turned slot d i gate_outside known) s t
 
-  -- that of a slot before the last opens no area
+  -- opening the gate of a slot before the last one opens no area
   pub gate_signs_text : slot.number + 1 < slots_at d (base_of d slot.area) → OutsideSlot slot d i × SignsAtMost slot text d i
   gate_signs_text early =
       let early_i : slot.number + 1 < slots_at i (base_of i slot.area) = omega (arith, early, slots_same slot d i gate_outside known slot.area) in (
@@ -51,7 +51,7 @@ module _ (slot : SlotId) (text d i : List ℕ) (known : slot.number < slots_at d
         record { keeps = gate_keeps; adds = λ s t. here_or s t (back_to s t (λ a lt. early_no_link slot i early_i a)) },
       )
 
-  -- that of the last slot of the current area opens an area at most whose gates are all closed
+  -- opening the gate of the current area's last slot opens at most one area, and all gates of that area are closed
   pub gate_signs_link : IsCurrent d slot.area → ((number : ℕ) → number < slots_at d (base_of d (suc slot.area)) → gate_of d (record { area = suc slot.area; number = number }) ≡ 0) → OutsideSlot slot d i × SignsAtMost slot text d i
   gate_signs_link current fresh = (
     gate_outside,

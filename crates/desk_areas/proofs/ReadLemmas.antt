@@ -1,4 +1,4 @@
--- What is read of one area.
+-- The values read from one area.
 use Rattle.std.proofs.Common.{◌≡◌, ℕ, ◌+◌, ◌-◌, ◌<◌, ◌≤◌, List, ◌++◌, length, get_or, take, drop, Option, Some, None, IfSome, IfNone, is_some, true, arith, sym, ◌∙◌, ap, subst}
 use Rattle.std.specs.Int.{w32, from_be_bytes}
 use Rattle.std.proofs.lemmas.List.{get_or-take, get_or-drop, drop-take, take-take, drop-drop, take_all, take-append-drop, length-drop}
@@ -32,7 +32,7 @@ module _ (base : ℕ) (x octets : List ℕ) (is : octets ≡ take 53 (drop base 
   pub secret_read : take 48 (drop 5 octets) ≡ secret_at x base
   secret_read = ap (λ (l : List ℕ). take 48 (drop 5 l)) is ∙ ap (λ (l : List ℕ). take 48 l) (drop-take 5 48 (drop base x)) ∙ take-take 48 48 (drop 5 (drop base x)) (omega arith) ∙ ap (λ (l : List ℕ). take 48 l) (drop-drop 5 base x)
 
--- a link text is the mark and the key that it names
+-- a link text is the mark followed by the key that it names
 pub link_split : (text : List ℕ) → IsLink text → text ≡ link_text (take 56 (drop 4 text))
 link_split text link =
     let rest : take 56 (drop 4 text) ≡ drop 4 text = take_all 56 (drop 4 text) (omega (arith, length-drop 4 text, link.size)) in
@@ -48,7 +48,7 @@ none_then (Some t) P Q h f = h
 
 -- ---- one area
 
--- a spent slot with a link text spoils the area
+-- an area with a link text in a spent slot before the last one cannot be used
 pub stray_bad : (x : List ℕ) (base kind : ℕ) (counts : List Count) → kind ≡ kind_at x base → length counts ≡ slots_of kind → HasGates counts base x → HasStray counts base x → IsBadArea x base
 stray_bad x base kind counts kind_is size gates stray =
     let slots : slots_of kind ≡ slots_at x base = ap (λ (k : ℕ). slots_of k) kind_is in

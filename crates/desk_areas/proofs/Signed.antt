@@ -1,4 +1,4 @@
--- The list of the signed pairs has exactly the pairs that are signed.
+-- The list of the signed pairs has exactly the signed pairs.
 use Rattle.std.proofs.Common.{◌≡◌, ◌⊎◌, ℕ, zero, suc, ◌+◌, ◌<◌, ◌≤◌, ◌==◌, List, [], ◌∷◌, ◌++◌, length, take, arith, inl, inr, refl, sym, ◌∙◌, ap, subst, Bool, true, false, nat_lt, nat_le, ◌&&◌}
 use Rattle.std.specs.Bool.{Decides}
 use Rattle.std.specs.Str.{bytes_eq}
@@ -10,7 +10,7 @@ use Rattle.desk_areas.specs.Layout.{SlotId, slots_at, base_of, place_of, gate_at
 use Rattle.desk_areas.specs.Signed.{is_link, is_within, has_link, is_area_open, is_spent, signed_from, signed_in, signed_before, signed, IsListed}
 use Rattle.desk_areas.proofs.Areas.{slot_eq, first_open, open_first, next_open, open_before, open_link, open_few}
 
--- ---- the tests tell what they test
+-- ---- the tests agree with the statements that they test
 
 untrue : {b : Bool} → b ≡ true → b ≡ false → ⊥
 untrue is isnt = cc
@@ -27,7 +27,7 @@ at_most m n = elim (cases_lt n m) [
   | inr le ↦ (λ is. le, λ h. grind (arith, nat_tests))
 ]
 
--- a test that tells P tells Q, where they are the same
+-- a test for P is a test for an equivalent Q
 same_told : (b : Bool) (P Q : Type 0) → (P → Q) → (Q → P) → Decides b P → Decides b Q
 same_told b P Q to from tells = (λ is. to (tells.0 is), λ h. tells.1 (from h))
 
@@ -90,7 +90,7 @@ module _ (image : List ℕ) (area : ℕ) where
   abbrev at : ℕ → SlotId
   at number = record { area = area; number = number }
 
-  -- a slot that is spent and whole is listed
+  -- a spent slot that lies within the image is listed
   listed : (n first number : ℕ) → first ≤ number → number < first + n → 0 < gate_of image (at number) → place_of image (at number) + 128 ≤ length image → IsListed (signed_from image area first n) (at number) (text_of image (at number))
   listed zero first number from to gate whole = absurd (omega arith)
   listed (suc n) first number from to gate whole = elim (told (is_spent image (at first))) [
@@ -114,7 +114,7 @@ module _ (image : List ℕ) (area : ℕ) where
     whole : place_of image slot + 128 ≤ length image
     text_is : text_of image slot ≡ text
 
-  -- and none else
+  -- and no other slot is listed
   unlisted : (n first : ℕ) (slot : SlotId) (text : List ℕ) → IsListed (signed_from image area first n) slot text → Listed first n slot text
   unlisted zero first slot text h = absurd h
   unlisted (suc n) first slot text h = elim (told (is_spent image (at first))) [
@@ -179,7 +179,7 @@ of_before image (suc n) slot text h = elim (listed_in (signed_before image n) (s
   | inr back ↦ of_area image n slot text back
 ]
 
--- eight areas are open at most
+-- at most eight areas are open
 few_open : (image : List ℕ) (area : ℕ) → IsAreaOpen image area → area < 8
 few_open image zero is_open = omega arith
 few_open image (suc area) is_open = let few = open_few image area is_open in omega arith
@@ -190,7 +190,7 @@ signed_listed image slot text s = before image 8 slot text (few_open image slot.
 pub listed_signed : (image : List ℕ) (slot : SlotId) (text : List ℕ) → IsListed (signed image) slot text → IsSigned image slot text
 listed_signed image slot text h = of_before image 8 slot text h
 
--- where nothing is signed, nothing is listed
+-- if nothing is signed, nothing is listed
 none_in : (pairs : List (SlotId × List ℕ)) → ((slot : SlotId) (text : List ℕ) → IsListed pairs slot text → ⊥) → pairs ≡ []
 none_in [] none = refl
 none_in (pair ∷ pairs) none = absurd (none pair.0 pair.1 (inl (refl, refl)))

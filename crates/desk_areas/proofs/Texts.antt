@@ -1,4 +1,4 @@
--- A slot's text, from the octets after its gate.
+-- A slot's text, found from the octets after its gate.
 use Rattle.std.proofs.Common.{◌≡◌, ℕ, ◌+◌, ◌≤◌, min, List, ◌∷◌, length, get_or, take, drop, arith, sym, ◌∙◌, ap}
 use Rattle.std.proofs.lemmas.List.{get_or-take, get_or-drop, drop-take, drop-drop, take-take}
 use Rattle.road_io.specs.Disk.{written}
@@ -18,7 +18,7 @@ text_of_octets place x octets is =
     ∙ sym (take-take m 126 (drop (place + 2) x) (omega arith))
     ∙ ap (λ (l : List ℕ). take m l) (sym rest)
 
--- a text after its length octet, where they were written behind the gate
+-- a text after its length octet, once they are written behind the gate
 pub text_written : (place : ℕ) (d text octets : List ℕ) → place + 128 ≤ length d → length text ≤ 126 → octets ≡ length text ∷ text → text_at (written (place + 1) octets d) place ≡ text
 text_written place d text octets fits short is =
     let size : length octets ≡ 1 + length text = rw is (omega arith) in

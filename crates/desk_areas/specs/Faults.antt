@@ -1,12 +1,12 @@
--- Why the areas of an image can't be used.
+-- Why the areas of an image cannot be used.
 use Rattle.std.specs.Prelude.{◌≡◌, ◌≢◌, ℕ, suc, ◌+◌, ◌<◌, List, length}
 use Rattle.lms_tree.specs.Signatures.{public_key}
 use Rattle.lms_tree.specs.Links.{IsLink, linked_key}
 use Rattle.desk_areas.specs.Layout.{slots_at, place_in, base_of, gate_at, text_at, text_of, last_slot, HasLink, IsAreaOpen, IsOpen}
 use Rattle.desk_areas.specs.Keys.{key_at}
 
--- The area at a base can't be used: its kind is unknown, its slots are not all within the image, or
--- a spent slot that is not its last holds a link text.
+-- The area at a base cannot be used: its kind is unknown, its slots are not all within the image, or a
+-- spent slot other than its last holds a link text.
 pub data IsBadArea (image : List ℕ) (base : ℕ) : Type 0 where
   UnknownKind : slots_at image base ≡ 0 → IsBadArea image base
   TooShort : length image < place_in base (slots_at image base) → IsBadArea image base
@@ -14,8 +14,8 @@ pub data IsBadArea (image : List ℕ) (base : ℕ) : Type 0 where
       0 < gate_at image (place_in base number) → IsLink (text_at image (place_in base number)) →
       IsBadArea image base
 
--- An area can't be used: by itself, since an area before it has its I, since the link text before
--- it names another key, or since it is the eighth and its last slot is spent with a link text.
+-- An area cannot be used for one of these reasons: the area itself cannot be used; an earlier area has the same I;
+-- the link before it names another key; or it is the eighth, and its last slot is spent with a link text.
 pub data IsFaulty (image : List ℕ) (area : ℕ) : Type 0 where
   Alone : IsBadArea image (base_of image area) → IsFaulty image area
   SameName : (other : ℕ) → other < area →
@@ -26,13 +26,13 @@ pub data IsFaulty (image : List ℕ) (area : ℕ) : Type 0 where
       (key_at image (base_of image area)) → IsFaulty image area
   NinthKey : area ≡ 7 → HasLink image area → IsFaulty image area
 
--- an open area can't be used
+-- an open area cannot be used
 pub record IsBadBlock (image : List ℕ) : Type 0 where
   pub area : ℕ
   pub is_open : IsAreaOpen image area
   pub fault : IsFaulty image area
 
--- the disk holds keys that can be used
+-- the disk holds keys, all of which can be used
 pub record IsUsable (image : List ℕ) : Type 0 where
   pub open_gate : IsOpen image
   pub good_block : ¬ IsBadBlock image

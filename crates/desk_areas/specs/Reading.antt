@@ -1,4 +1,4 @@
--- What is read of the areas of a disk.
+-- The values read from the areas of a disk.
 use Rattle.std.specs.Prelude.{◌≡◌, ℕ, suc, ◌+◌, ◌-◌, ◌<◌, ◌≤◌, List, length, slice_index_or}
 use Rattle.std.specs.declared.option.Option.{Option}
 use Rattle.std.specs.declared.option.Option.TheVariants.{None, Some}
@@ -10,22 +10,22 @@ use Rattle.desk_areas.specs.Layout.{slots_of, slots_at, place_in, base_of, gate_
 use Rattle.desk_areas.specs.Keys.{key_at}
 use Rattle.desk_areas.specs.Area.{AreaView, area_in}
 
--- ---- looking for a text
+-- ---- searching for a text
 
--- the first areas of the image have the slots that these count, and all of them stand within it
+-- the first areas of the image have the slots counted here, and all of these slots lie within the image
 pub record IsLaidOut (areas : List AreaView) (image : List ℕ) : Type 0 where
   pub slots : (area : ℕ) → area < length areas →
       slots_at image (base_of image area) ≡ length (area_in areas area).counts
   pub whole : (area : ℕ) → area < length areas → base_of image (suc area) ≤ length image
 
--- a slot of the area at a base is counted as spent, and has this text
+-- a slot of the area at a base counts as spent, and holds this text
 pub record FindsIn (counts : List Count) (base : ℕ) (text image : List ℕ) : Type 0 where
   pub number : ℕ
   pub known : number < length counts
   pub spent : slice_index_or counts number TheVariants.Spent ≡ TheVariants.Spent
   pub text_is : text_at image (place_in base number) ≡ text
 
--- a slot of one of the first areas is counted as spent, and has this text
+-- a slot of one of the first areas counts as spent, and holds this text
 pub record FindsEarlier (areas : List AreaView) (text image : List ℕ) : Type 0 where
   pub area : ℕ
   pub known : area < length areas
@@ -33,14 +33,14 @@ pub record FindsEarlier (areas : List AreaView) (text image : List ℕ) : Type 0
 
 -- ---- reading one area
 
--- a slot before the last is counted as spent, and holds a link text
+-- a slot before the last one counts as spent, and holds a link text
 pub record HasStray (counts : List Count) (base : ℕ) (image : List ℕ) : Type 0 where
   pub number : ℕ
   pub early : number + 1 < length counts
   pub spent : slice_index_or counts number TheVariants.Spent ≡ TheVariants.Spent
   pub link : IsLink (text_at image (place_in base number))
 
--- the counts are true of the gates in the area at a base
+-- the states agree with the gates in the area at a base
 pub record HasGates (counts : List Count) (base : ℕ) (image : List ℕ) : Type 0 where
   pub free : (number : ℕ) → number < length counts →
       slice_index_or counts number TheVariants.Spent ≡ TheVariants.Free →
@@ -49,7 +49,7 @@ pub record HasGates (counts : List Count) (base : ℕ) (image : List ℕ) : Type
       slice_index_or counts number TheVariants.Spent ≡ TheVariants.Spent →
       0 < gate_at image (place_in base number)
 
--- the key and the counts are those of the area at a base, which can be used by itself
+-- the key and the states are those of the area at a base; the area itself can be used
 pub record IsReadArea (area : AreaView) (base : ℕ) (image : List ℕ) : Type 0 where
   pub key : area.key ≡ key_at image base
   pub known : 0 < slots_of area.key.kind
@@ -62,7 +62,7 @@ pub record IsLinkTo (text key : List ℕ) : Type 0 where
   pub link : IsLink text
   pub is : text ≡ link_text key
 
--- the last slot at a base is counted as spent, and holds the link to a key, or it holds none
+-- the last slot at a base counts as spent and holds the link to a key; or there is no such link
 abbrev pub IsLastLink : List Count → ℕ → Option (List ℕ) → List ℕ → Type 0
 IsLastLink counts base (Some key) image =
     (slice_index_or counts (length counts - 1) TheVariants.Spent ≡ TheVariants.Spent) ×
@@ -73,19 +73,18 @@ IsLastLink counts base None image = slice_index_or counts
 
 -- ---- reading all areas
 
--- the key of an area is the one that the link before it names, and there is none before the first
+-- the link before an area names the area's key; no link comes before the first area
 abbrev pub IsNamed : Option (List ℕ) → KeyOf → Type 0
 IsNamed (Some key) area = public_key area ≡ key
 IsNamed None area = Unit {0}
 
--- the link before the area of a number, if there is an area before it
+-- the link before the area with a number, if an area comes before it
 abbrev pub IsLinkBefore : ℕ → Option (List ℕ) → List ℕ → Type 0
 IsLinkBefore area (Some key) image = (before : ℕ) × (area ≡ suc before) ×
     (text_of image (last_slot image before) ≡ link_text key)
 IsLinkBefore area None image = area ≡ 0
 
--- these are the first areas of the image, and the next one is open, begins at a base and has this
--- link before it
+-- these are the first areas of the image; the next area is open, begins at a base, and this link comes before it
 pub record HasRead (areas : List AreaView) (base : ℕ) (named : Option (List ℕ))
     (image : List ℕ) : Type 0 where
   pub is_open : IsAreaOpen image (length areas)

@@ -10,20 +10,20 @@ use octet_text::array_at;
 use std::alloc::Global;
 use std::marker::Model;
 
-/// How a desk counts a slot.
+/// The state of a slot as a desk counts it.
 #[derive(Clone, Copy, Debug, PartialEq, Eq)]
 pub enum Count {
-    /// No signing has it.
+    /// No signing uses it.
     Free,
-    /// A ticket has it.
+    /// A ticket holds it.
     Out,
-    /// A text stands behind its closed gate.
+    /// A text is stored behind its closed gate.
     Written,
-    /// Its gate is open: it has signed, or may have.
+    /// Its gate is open: the slot has signed, or may have signed.
     Spent,
 }
 
-/// An area of the disk: its key, and how each of its slots is counted.
+/// An area of the disk: its key, and the state of each of its slots.
 #[derive(Drop)]
 pub struct Area {
     key: Key,
@@ -43,7 +43,7 @@ impl Model for Area {
 }
 
 impl Area {
-    /// How each slot is counted.
+    /// Returns the state of each slot.
     pub fn counts(&self) -> &[Count]
         ensures counts { result.now ≡ self.now.counts }
         ensures sized { length result.now ≡ slots_of self.now.key.kind }
@@ -52,14 +52,14 @@ impl Area {
         &self.counts
     }
 
-    /// The key.
+    /// Returns the key.
     pub fn key(&self) -> &Key
         ensures { result.now ≡ self.now.key }
     {
         &self.key
     }
 
-    /// An area of these parts.
+    /// Makes an area from these parts.
     pub fn from_parts(key: Key, counts: Vec<Count>) -> Area
         requires { length counts.items ≡ slots_of key.kind }
         ensures { result ≡ record { key = key; counts = counts.items } }
@@ -67,7 +67,7 @@ impl Area {
         Area { key, counts }
     }
 
-    /// Its parts.
+    /// Returns its parts.
     pub fn into_parts(self) -> (Key, Vec<Count>)
         ensures { (result.0 ≡ self.key) × (result.1.items ≡ self.counts) }
     {
@@ -76,7 +76,7 @@ impl Area {
     }
 }
 
-/// Where a slot of the area at a base begins.
+/// Returns the offset at which a slot begins, in the area at a base.
 pub fn place_in(base: u64, number: u32) -> u64
     requires base { base ≤ 917952 }
     requires number { number ≤ 1024 }
@@ -86,7 +86,7 @@ pub fn place_in(base: u64, number: u32) -> u64
     base + 64 + 128 * number as u64
 }
 
-/// The key of a known kind, from I and SEED.
+/// Builds the key of a known kind, from I and SEED.
 pub fn build_key(alloc: Global, kind: u32, secret: &[u8; 48]) -> Result<Key, StartError>
     requires { 0 < slots_of kind }
     ensures key { IfOk result (λ key. key ≡ key_from kind secret.now) }
@@ -99,7 +99,7 @@ pub fn build_key(alloc: Global, kind: u32, secret: &[u8; 48]) -> Result<Key, Sta
     }
 }
 
-/// How many slots a key of this kind has, and none for an unknown kind.
+/// Returns the number of slots of a key of this kind, or 0 for an unknown kind.
 #[tactic(auto, unfolding(crate::specs::Layout::slots_of))]
 pub fn slots_of(kind: u32) -> u32
     ensures slots { result ≡ slots_of kind }

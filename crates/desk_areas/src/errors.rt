@@ -1,20 +1,20 @@
-//! Why no desk is opened.
+//! Why a desk was not opened.
 
 use octet_text::NoMemory;
 use road_io::Failed;
 use thiserror::Error;
 
-/// Why no desk was opened.
+/// Why a desk was not opened.
 #[derive(Clone, Copy, Debug, PartialEq, Eq, Error)]
 pub enum StartError {
-    /// The disk holds a key already, which a new one may not replace.
+    /// The disk already holds a key, which a new key may not replace.
     #[error("The disk holds a key already.")]
     Held,
     /// The disk holds no key.
     #[error("The disk holds no key.")]
     NoKey,
-    /// An area of the disk can't be used: its kind is unknown, its slots are not all on the disk, or its key is not
-    /// the one that the link before it names.
+    /// An area of the disk cannot be used: its kind is unknown, some of its slots are not on the disk, or the link
+    /// before it names another key.
     #[error("The disk holds a key that can't be used.")]
     BadBlock,
     /// The disk failed.

@@ -1,4 +1,4 @@
-//! The search for a text in the spent slots of areas.
+//! Searching the spent slots of areas for a text.
 ghost use Rattle.std.specs.Prelude.{◌≡◌, ◌≢◌, ◌+◌, ◌*◌, ◌<◌, ◌≤◌, ◌^◌, ◌↔◌, List, ℕ, Some, true, false, length, take, drop, min, IfOk, IsErr, slice_index_or, OnOk};
 ghost use Rattle.std.specs.Option.{ForSome};
 ghost use Rattle.road_io.specs.Causes.{HasCause};
@@ -10,7 +10,7 @@ ghost use Rattle.desk_areas.specs.Reading.{IsLaidOut, FindsIn, FindsEarlier};
 use crate::area::{Area, Count, place_in};
 use road_io::{Disk, Failed};
 
-// Whether the slot at this offset has this text.
+// Tests whether the slot at this offset holds this text.
 fn has_text<D: Disk>(disk: &mut D, place: u64, text: &[u8]) -> Result<bool, Failed>
     requires within { ForSome (D.content disk.old) (λ c. place + 128 ≤ length c) }
     requires place { place < 2 ^ 63 }
@@ -28,7 +28,7 @@ fn has_text<D: Disk>(disk: &mut D, place: u64, text: &[u8]) -> Result<bool, Fail
     Ok(same_text(&octets, text))
 }
 
-// Whether a length octet and a text field hold this text.
+// Tests whether a length octet and a text field hold this text.
 fn same_text(octets: &[u8; 127], text: &[u8]) -> bool
     ensures { (result ≡ true) ↔ (take (min (slice_index_or octets.now 0 0) 126)
         (drop 1 octets.now) ≡ text.now) }
@@ -37,7 +37,7 @@ fn same_text(octets: &[u8; 127], text: &[u8]) -> bool
     &octets[1..len + 1] == text
 }
 
-/// Whether a spent slot of the area at a base has this text.
+/// Tests whether a spent slot of the area at a base holds this text.
 pub fn find_text<D: Disk>(
     base: u64,
     counts: &[Count],
@@ -69,7 +69,7 @@ pub fn find_text<D: Disk>(
     Ok(false)
 }
 
-/// Whether a spent slot of one of the first areas has this text.
+/// Tests whether a spent slot of one of the first areas holds this text.
 pub fn find_earlier<D: Disk>(areas: &[Area], disk: &mut D, text: &[u8]) -> Result<bool, Failed>
     requires laid_out { ForSome (D.content disk.old) (IsLaidOut areas.now) }
     requires few { length areas.now ≤ 7 }
@@ -93,7 +93,7 @@ pub fn find_earlier<D: Disk>(areas: &[Area], disk: &mut D, text: &[u8]) -> Resul
     Ok(false)
 }
 
-/// Reads the text of the slot at this offset, and answers how many octets of what it has put there are the text.
+/// Copies the text of the slot at this offset to the front of a buffer, and returns its length in octets.
 pub fn read_text<D: Disk>(disk: &mut D, place: u64, into: &mut [u8; 126]) -> Result<u32, Failed>
     requires within { ForSome (D.content disk.old) (λ c. place + 128 ≤ length c) }
     requires place { place < 2 ^ 63 }
@@ -113,7 +113,7 @@ pub fn read_text<D: Disk>(disk: &mut D, place: u64, into: &mut [u8; 126]) -> Res
     Ok(len)
 }
 
-/// Where the area of a number begins, by the areas before it.
+/// Returns the offset at which the area with a number begins, given the areas before it.
 pub fn base_of(areas: &[Area], area: u32) -> u64
     requires known { area ≤ length areas.now }
     requires few { length areas.now ≤ 7 }

@@ -1,5 +1,5 @@
-//! The areas of an owner's disk, each a key with its slots: how one is made, what is written to one slot, and what is
-//! read of them.
+//! The areas of an owner's disk, each a key with its slots. The functions make an area, write one slot, and read
+//! areas.
 #![tactic(auto)]
 
 pub use area::{Area, Count, build_key, place_in, slots_of};

@@ -1,4 +1,4 @@
-//! A new key's area: zeros first, then the key block, whose gate is opened last.
+//! Making a new key's area: first the zeros, then the key block. The block's gate is opened last.
 ghost use Rattle.std.specs.Prelude.{◌≡◌, ◌≢◌, ◌⊎◌, ◌+◌, ◌^◌, ◌<◌, ◌≤◌, ◌++◌, Some, Err, length, replicate, IfOk, OnOk, IsErrOf, IsErr};
 ghost use Rattle.std.specs.Int.{w32, to_be_bytes};
 ghost use Rattle.std.specs.Option.{ForSome};
@@ -15,7 +15,7 @@ use crate::writing::{put, store};
 use octet_text::write_array;
 use road_io::{Disk, Failed};
 
-/// Whether a key stands on the disk; and how long the disk is.
+/// Returns the length of the disk. Fails if the disk holds a key.
 pub fn look_for_key<D: Disk>(disk: &mut D) -> Result<u64, StartError>
     ensures shut { IfOk result (λ n.
         EachImage D.Disk disk.new (λ i. (IsOpen i → ⊥) × (length i ≡ n))) }
@@ -52,7 +52,7 @@ pub fn look_for_key<D: Disk>(disk: &mut D) -> Result<u64, StartError>
     Ok(len)
 }
 
-/// Zeros over the whole length of a first key's area, with its gate closed at each moment.
+/// Writes zeros over the whole length of a first key's area. The key's gate is closed at each moment.
 pub fn clear_first<D: Disk>(disk: &mut D, len: u64, zeros: &[u8]) -> Result<(), Failed>
     requires shut { EachImage D.Disk disk.old (λ i. (IsOpen i → ⊥) × (length i ≡ len)) }
     requires zeros { zeros.now ≡ replicate (length zeros.now) 0 }
@@ -72,7 +72,7 @@ pub fn clear_first<D: Disk>(disk: &mut D, len: u64, zeros: &[u8]) -> Result<(), 
     zero_all(disk, zeros)
 }
 
-// Zeros behind a closed gate.
+// Writes zeros behind a closed gate.
 fn zero_all<D: Disk>(disk: &mut D, zeros: &[u8]) -> Result<(), Failed>
     requires shut { EachImage D.Disk disk.old (λ i. (0 < length i) × (gate_at i 0 ≡ 0)) }
     requires zeros { zeros.now ≡ replicate (length zeros.now) 0 }
@@ -87,7 +87,7 @@ fn zero_all<D: Disk>(disk: &mut D, zeros: &[u8]) -> Result<(), Failed>
     put(disk, 1, zeros)
 }
 
-// Octet 0 is there and zero.
+// Sets octet 0 to zero, or appends it to an empty disk.
 fn close<D: Disk>(disk: &mut D) -> Result<(), Failed>
     requires short { EachImage D.Disk disk.old (λ i. length i < 64) }
     ensures moments { AtEachMoment D.Disk disk.old disk.new (λ d i. length i < 64) }
@@ -101,7 +101,7 @@ fn close<D: Disk>(disk: &mut D) -> Result<(), Failed>
     put(disk, 0, &[0])
 }
 
-/// Zeros over a new area after all others.
+/// Writes zeros over a new area, which follows all others.
 pub fn clear_next<D: Disk>(disk: &mut D, base: u64, zeros: &[u8]) -> Result<(), Failed>
     requires within { EachImage D.Disk disk.old (λ i. base ≤ length i) }
     requires zeros { zeros.now ≡ replicate (length zeros.now) 0 }
@@ -115,7 +115,7 @@ pub fn clear_next<D: Disk>(disk: &mut D, base: u64, zeros: &[u8]) -> Result<(), 
     put(disk, base, zeros)
 }
 
-/// The octets 1 to 52 of the key block at a base, behind its closed gate.
+/// Writes octets 1 to 52 of the key block at a base, behind its closed gate.
 pub fn put_block<D: Disk>(
     disk: &mut D,
     base: u64,
@@ -136,7 +136,7 @@ pub fn put_block<D: Disk>(
     store(disk, base + 1, &block)
 }
 
-// The kind in four octets, and the secret.
+// Returns the kind, in four octets, followed by the secret.
 fn block_of(kind: u32, secret: &[u8; 48]) -> [u8; 52]
     ensures { result ≡ to_be_bytes w32 kind ++ secret.now }
 {
@@ -146,7 +146,7 @@ fn block_of(kind: u32, secret: &[u8; 48]) -> [u8; 52]
     block
 }
 
-/// The first key's block, and then its gate.
+/// Writes the first key's block, and then opens its gate.
 pub fn open_first<D: Disk>(disk: &mut D, kind: u32, secret: &[u8; 48]) -> Result<(), Failed>
     requires clear { EachImage D.Disk disk.old (IsZero 0 (place_in 0 (slots_of kind))) }
     ensures moments { AtEachMoment D.Disk disk.old disk.new
@@ -161,7 +161,7 @@ pub fn open_first<D: Disk>(disk: &mut D, kind: u32, secret: &[u8; 48]) -> Result
     open_block(disk)
 }
 
-// The first key's gate.
+// Opens the first key's gate.
 fn open_block<D: Disk>(disk: &mut D) -> Result<(), Failed>
     requires within { EachImage D.Disk disk.old (λ i. 1 ≤ length i) }
     ensures moments { AtEachMoment D.Disk disk.old disk.new (AgreesOutside 0 1) }

@@ -1,4 +1,4 @@
-//! The reading of areas: their blocks, gates and links.
+//! Reading areas: their blocks, gates and links.
 ghost use Rattle.std.specs.Prelude.{◌≡◌, ◌≢◌, ◌+◌, ◌*◌, ◌<◌, ◌≤◌, ◌-◌, ◌^◌, ◌↔◌, List, ℕ, Some, length, take, drop, min, IfOk, OnOk, IfSome, IfNone, IsErrOf, IsErr, Err, ◌⊎◌, true, false, slice_index_or, get_or};
 ghost use Rattle.octet_text.specs.Want.{no_memory};
 ghost use Rattle.std.specs.List.{count_by};
@@ -46,7 +46,7 @@ fn read_block<D: Disk>(disk: &mut D, base: u64) -> Result<Block, Failed>
     })
 }
 
-/// Whether the gate at an offset is open.
+/// Tests whether the gate at an offset is open.
 pub fn read_gate<D: Disk>(disk: &mut D, place: u64) -> Result<bool, Failed>
     requires { ForSome (D.content disk.old) (λ c. place + 1 ≤ length c) }
     ensures shut { IfOk result (λ b. b ≡ false →
@@ -97,7 +97,7 @@ fn read_gates<D: Disk>(
     Ok(counts)
 }
 
-// The key that the slot at this offset names, if its text is a link text.
+// Returns the key that the slot at this offset names, if the slot holds a link text.
 fn read_link<D: Disk>(disk: &mut D, place: u64) -> Result<Option<[u8; 56]>, Failed>
     requires within { ForSome (D.content disk.old) (λ c. place + 128 ≤ length c) }
     requires low { place < 2 ^ 63 }
@@ -116,7 +116,7 @@ fn read_link<D: Disk>(disk: &mut D, place: u64) -> Result<Option<[u8; 56]>, Fail
     Ok(link_in(&octets))
 }
 
-// The key that a length octet and a text field name.
+// Returns the key that a length octet and a text field name.
 fn link_in(octets: &[u8; 127]) -> Option<[u8; 56]>
     ensures some { IfSome result (λ key.
         IsLinkTo (take (min (slice_index_or octets.now 0 0) 126) (drop 1 octets.now)) key) }
@@ -132,7 +132,7 @@ fn link_in(octets: &[u8; 127]) -> Option<[u8; 56]>
     }
 }
 
-// Whether a spent slot before the last holds a link text.
+// Tests whether a spent slot before the last holds a link text.
 fn has_stray<D: Disk>(disk: &mut D, base: u64, counts: &[Count]) -> Result<bool, Failed>
     requires within { ForSome (D.content disk.old)
         (λ c. place_in base (length counts.now) ≤ length c) }
@@ -163,7 +163,7 @@ fn has_stray<D: Disk>(disk: &mut D, base: u64, counts: &[Count]) -> Result<bool,
     Ok(false)
 }
 
-// The key that the last slot names, if it is spent with a link text.
+// Returns the key that the last slot names, if the slot is spent and holds a link text.
 fn last_link<D: Disk>(disk: &mut D, base: u64, counts: &[Count]) -> Result<Option<[u8; 56]>, Failed>
     requires within { ForSome (D.content disk.old)
         (λ c. place_in base (length counts.now) ≤ length c) }
@@ -188,7 +188,7 @@ fn last_link<D: Disk>(disk: &mut D, base: u64, counts: &[Count]) -> Result<Optio
     read_link(disk, place_in(base, last as u32))
 }
 
-// The area at a base, if it can be used by itself.
+// Reads the area at a base. Fails if the area itself cannot be used.
 fn read_area<D: Disk>(alloc: Global, disk: &mut D, base: u64, len: u64) -> Result<Area, StartError>
     requires len { ForSome (D.content disk.old) (λ c. length c ≡ len) }
     requires low { base ≤ 917952 }
@@ -229,7 +229,7 @@ fn read_area<D: Disk>(alloc: Global, disk: &mut D, base: u64, len: u64) -> Resul
     Ok(Area::from_parts(key, counts))
 }
 
-/// Whether one of some areas has a key of this name.
+/// Tests whether a key of some areas has this name.
 pub fn has_name(areas: &[Area], name: &[u8; 16]) -> bool
     ensures yes { result ≡ true → (a : ℕ) × (a < length areas.now) ×
         ((area_in areas.now a).key.i ≡ name.now) }
@@ -244,7 +244,7 @@ pub fn has_name(areas: &[Area], name: &[u8; 16]) -> bool
     false
 }
 
-// Whether a key is the one that the link before it names.
+// Tests whether the link before a key names this key.
 fn is_named(named: &Option<[u8; 56]>, key: &Key) -> bool
     ensures { (result ≡ true) ↔ IsNamed named.now key.now }
 {
@@ -254,14 +254,14 @@ fn is_named(named: &Option<[u8; 56]>, key: &Key) -> bool
     }
 }
 
-/// An area, as read, and the key that its last slot names.
+/// An area as read, and the key that its last slot names.
 #[derive(Drop)]
 pub struct Found {
     pub area: Area,
     pub link: Option<[u8; 56]>,
 }
 
-/// The area after some that were read, and its link. It can be used, or else the block is bad.
+/// Reads the area after those already read, and the area's link. An area that cannot be used is a bad block.
 pub fn read_next<D: Disk>(
     alloc: Global,
     disk: &mut D,

@@ -1,4 +1,4 @@
--- What answers that show a handle to be safe say of every system that gave them.
+-- What answers that show a handle to be safe imply for every file system that gave them.
 use Rattle.std.proofs.Common.{◌≡◌, ℕ, zero, suc, List, [], ◌∷◌, ◌==◌, ◌&&◌, Bool, true, false, length, slice_index, bit_and, refl, sym, ◌∙◌, ap, subst, arith, Some}
 use Rattle.std.specs.Str.{bytes_eq}
 use Rattle.std.proofs.lemmas.Bool.Decides.{nat_tests}

@@ -1,5 +1,4 @@
--- What a file system answered of a desk's file, the latest answer first, and when it was seen to be
--- safe.
+-- What a file system answered about a desk's file, the latest answer first, and when the file was found to be safe.
 use Rattle.std.specs.Prelude.{ℕ, List, [], ◌∷◌, ◌==◌, ◌&&◌, ◌||◌, not, Bool, true, false, slice_index, bit_and}
 use Rattle.std.specs.declared.option.Option.{Option}
 use Rattle.std.specs.declared.option.Option.TheVariants.{None, Some}
@@ -7,8 +6,8 @@ use Rattle.std.specs.Str.{bytes_eq}
 use Rattle.road_io.specs.Shelves.{Note}
 use Rattle.desk_disk.specs.declared.look.Look.{Look}
 
--- a look at a file as it is noted, under a code: what it is (1: a regular file), whose it is, how many names it
--- has, its mode, its device and its number there
+-- a look at a file as it is recorded, under a code: its kind (1: a regular file), its owner, the number of its
+-- names, its mode, its device and its number on the device
 abbrev pub seen_as : ℕ → Look → List ℕ
 seen_as code look = code ∷ look.kind ∷ look.owner ∷ look.names ∷ look.mode ∷ look.device ∷ look.inode ∷ []
 
@@ -21,15 +20,15 @@ part k note = slice_index note.0 k
 abbrev pub is_own : ℕ → Look → Bool
 is_own user look = look.kind == 1 && look.owner == user && look.names == 1
 
--- and others may neither read nor write it
+-- such a file, and others may neither read nor write it
 abbrev pub is_closed : Look → Bool
 is_closed look = bit_and look.mode 0x3f == 0
 
--- or may only read it
+-- such a file, and others may at most read it
 abbrev pub is_unwritable : Look → Bool
 is_unwritable look = bit_and look.mode 0x12 == 0
 
--- of the user, where the system tells who that is
+-- the file belongs to the user and is closed to others, if the system reports the user
 abbrev pub is_safe : Option ℕ → Look → Bool
 is_safe None look = false
 is_safe (Some user) look = is_own user look && is_closed look
@@ -38,14 +37,14 @@ abbrev pub is_safe_but_read : Option ℕ → Look → Bool
 is_safe_but_read None look = false
 is_safe_but_read (Some user) look = is_own user look && is_unwritable look
 
--- what stands under a name is no link but the file of the handle
+-- the name is not a link; it is the name of the handle's file
 abbrev pub is_under : Look → Look → Bool
 is_under named held = named.kind == 1 && named.device == held.device && named.inode == held.inode
 
--- ---- the answers: the user of the process (0), a look at what stands under a name, which is not followed (1),
--- a look at the file of the handle (2), and that others were shut out of that file, through the handle (3)
+-- ---- the recorded answers: 0 the user of the process, 1 a look at the file of a name, without following a link, 2
+-- a look at the file of the handle, 3 that others were denied access to that file, through the handle
 
--- a look as it is noted
+-- a look as it is recorded
 abbrev pub shown : Note → Look
 shown note = record {
   kind = part 1 note;
@@ -61,21 +60,22 @@ abbrev pub are_looks : List ℕ → Note → Note → Note → Bool
 are_looks name user named held = part 0 user == 0 && part 0 named == 1 && part 0 held == 2 &&
     bytes_eq named.1 name
 
--- and what they show is safe
+-- these looks show a safe file
 abbrev pub is_seen : List ℕ → List Note → Bool
 is_seen name (held ∷ named ∷ user ∷ before) = are_looks name user named held &&
     is_under (shown named) (shown held) && is_own (part 1 user) (shown held) &&
     is_closed (shown held)
 is_seen name answers = false
 
--- or safe but that others may read it
+-- these looks show a file that is safe except that others may read it
 abbrev pub is_seen_readable : List ℕ → List Note → Bool
 is_seen_readable name (held ∷ named ∷ user ∷ before) = are_looks name user named held &&
     is_under (shown named) (shown held) && is_own (part 1 user) (shown held) &&
     is_unwritable (shown held)
 is_seen_readable name answers = false
 
--- others were shut out of a file only right behind looks that show it safe but for their reading it
+-- others were denied access to a file only directly after looks which show that it is safe except that others may
+-- read it
 abbrev pub shuts_well : List ℕ → List Note → Bool
 shuts_well name [] = true
 shuts_well name (answer ∷ before) = (not (part 0 answer == 3) || is_seen_readable name before) &&

@@ -1,4 +1,4 @@
--- Whether a desk's file was opened whatever it is.
+-- Whether a desk's file may have been opened without being safe.
 use Rattle.std.specs.Prelude.{Bool, true, false}
 use Rattle.desk_disk.specs.declared.state.State.{State}
 use Rattle.desk_disk.specs.declared.state.State.TheVariants.{Unseen, Absent, Followed, Seen}

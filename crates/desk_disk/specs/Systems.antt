@@ -1,5 +1,5 @@
--- A file system as an outside object: what stands in it at each answer. What others change between
--- two answers is free, and no clause says which system a process is in.
+-- A file system as an outside object: its contents at each answer. Others may change anything between two answers,
+-- and no clause says in which file system a process runs.
 use Rattle.std.specs.Prelude.{◌≡◌, ℕ, zero, suc, List, [], ◌∷◌, length, slice_index, bit_and}
 use Rattle.std.specs.declared.option.Option.{Option}
 use Rattle.std.specs.declared.option.Option.TheVariants.{Some}
@@ -7,29 +7,29 @@ use Rattle.road_io.specs.Shelves.{Note}
 use Rattle.desk_disk.specs.declared.look.Look.{Look}
 use Rattle.desk_disk.specs.Looks.{seen_as}
 
--- a file: which one it is, which no answer shows, and what a look at it shows
+-- a file: its identity, which no answer shows, and the facts that a look at it shows
 pub record Inode : Type 0 where
   pub identity : ℕ
   pub shown : Look
 
--- a file system at one moment: the file of each name, a link not followed, the file of the handle that was
--- opened, and the user of the process
+-- a file system at one moment: the file of each name (links are not followed), the file of the opened handle, and
+-- the user of the process
 pub record Moment : Type 0 where
   pub named : List ℕ → Option Inode
   pub held : Option Inode
   pub user : ℕ
 
--- the system at the first answer, the second, and so on
+-- the file system at the first answer, at the second, and so on
 abbrev pub System : Type 0
 System = ℕ → Moment
 
--- a file is shown so
+-- the record of a look at a file
 pub record IsShown (found : Option Inode) (code : ℕ) (numbers : List ℕ) : Type 0 where
   pub file : Inode
   pub is : found ≡ Some file
   pub shows : numbers ≡ seen_as code file.shown
 
--- an answer is the system's at that moment
+-- an answer is that of the file system at that moment
 abbrev pub AnswersAt : Moment → ℕ → Note → Type 0
 AnswersAt moment zero answer = slice_index answer.0 1 ≡ moment.user
 AnswersAt moment (suc zero) answer = IsShown (moment.named answer.1) 1 answer.0
@@ -41,16 +41,17 @@ Answers system [] = Unit {0}
 Answers system (answer ∷ before) =
     AnswersAt (system (length before)) (slice_index answer.0 0) answer × Answers system before
 
--- THE ASSUMPTION, which only the system can know: a file that stands under a name, and the file of the handle, are
--- one where a look shows one device and one number of both, since no other file has these while a handle is open.
+-- THE ASSUMPTION, which only the system can guarantee: if a look shows the same device and number for the file
+-- under a name and for the file of the handle, they are the same file, since no other file has these while a handle
+-- is open.
 abbrev pub TellsFilesApart : System → Type 0
 TellsFilesApart system = (j k : ℕ) (name : List ℕ) (file held : Inode) →
     (system j).named name ≡ Some file → (system k).held ≡ Some held →
     file.shown.device ≡ held.shown.device → file.shown.inode ≡ held.shown.inode →
     file.identity ≡ held.identity
 
--- at these two moments the name was no link but the handle's own file, and that was a regular file, of the
--- user, with one name, which others may neither read nor write
+-- at these two moments, the name was not a link but the name of the handle's own file, which was a regular file of
+-- the user, with one name, that others could neither read nor write
 pub record IsSafeAt (system : System) (name : List ℕ) (told looked seen : ℕ) : Type 0 where
   pub under : Inode
   pub held : Inode
@@ -63,7 +64,7 @@ pub record IsSafeAt (system : System) (name : List ℕ) (told looked seen : ℕ)
   pub one_name : held.shown.names ≡ 1
   pub closed : bit_and held.shown.mode 0x3f ≡ 0
 
--- the handle was seen to be safe, in each system that gave these answers: at the last three
+-- the handle was found to be safe at the last three answers, in each file system that gave these answers
 abbrev pub WasSafe : List ℕ → List Note → Type 0
 WasSafe name answers = (system : System) → Answers system answers → (told : ℕ) ×
     IsSafeAt system name told (suc told) (suc (suc told))

@@ -1,6 +1,6 @@
 //! The owner's desk as a disk.
-ghost use Rattle.std.specs.Prelude.{◌≡◌, ◌∷◌, ◌&&◌, false, IfOk, OnOk, length};
-ghost use Rattle.road_io.specs.Causes.{HasCause, RoseBy};
+ghost use Rattle.std.specs.Prelude.{◌≡◌, ◌≤◌, [], ◌∷◌, ◌&&◌, false, IfOk, OnOk, length};
+ghost use Rattle.road_io.specs.Causes.{HasCause, Rose, RoseBy};
 ghost use Rattle.road_io.specs.Worlds.{noted_sync, noted_write};
 ghost use Rattle.desk_disk.specs.States.{is_followed};
 
@@ -13,15 +13,16 @@ use std::rt::Files;
 
 /// The file `owner.desk` of the working folder as a disk, for one process at a time.
 ///
-/// The first call opens the file and locks it until the disk is dropped. Where another process has it locked, each call
-/// fails with `ErrorKind::WouldBlock`. Where there is no file, the disk is empty, and the first write makes one that its
-/// owner alone may read and write.
+/// The first call opens the file and locks it until the disk is dropped. If another process has locked the file,
+/// each call fails with `ErrorKind::WouldBlock`. If the file does not exist, the disk is empty, and the first write
+/// creates a file that only its owner may read and write.
 ///
-/// For a command that writes, the file is opened as itself or not at all, and only where it is safe: behind the opening the
-/// handle was seen to be of a regular file that is no link, has one name, is the user's own and closed to others. For a
-/// command that only reads, the file is read whatever it is, and nothing is written.
+/// For a command that writes, the file itself is opened, never a link, and only if the file is safe: after the
+/// opening, the system must answer that the handle is a regular file and not a link, has one name, belongs to the
+/// user and is closed to others. For a command that only reads, any file is read, and nothing is written.
 ///
-/// Each error counts as a fault, and so does a range that doesn't end within the file or a write that starts past it.
+/// Each error counts as a disk error. So does a range that does not end within the file, and a write that starts
+/// past the end of the file.
 #[derive(Drop)]
 pub struct DeskDisk<R: Files<File = File> + Drop> {
     rt: R,
@@ -37,8 +38,14 @@ pub struct DeskDisk<R: Files<File = File> + Drop> {
 }
 
 impl<R: Files<File = File> + Drop> DeskDisk<R> {
-    /// The desk, for a command that writes to it or for one that only reads. It is not looked at yet.
-    pub fn new(rt: R, writes: bool) -> DeskDisk<R> {
+    /// Makes the desk, for a command that writes to it or for one that only reads. Does not look at the file yet. The
+    /// desk may be in any world.
+    pub fn new(rt: R, writes: bool) -> DeskDisk<R>
+        ensures writes { result.writes ≡ writes }
+        ensures history { result.history.events ≡ [] }
+        ensures faults { result.faults ≡ 0 }
+        ensures calls { result.calls ≡ 0 }
+    {
         DeskDisk {
             rt,
             writes,
@@ -52,22 +59,22 @@ impl<R: Files<File = File> + Drop> DeskDisk<R> {
         }
     }
 
-    /// Why the disk failed last, if it has, by the system's word.
+    /// Returns the system's reason for the disk's last failure, if it failed.
     pub fn last_error(&self) -> Option<io::Error> {
         self.last_error
     }
 
-    /// Why the file is not safe as a desk, where it was not opened for that.
+    /// Returns why the file is not safe as a desk, if this is why it was not opened.
     pub fn why_unsafe(&self) -> Option<Unsafe> {
         self.why_unsafe
     }
 
-    /// Whether others could read the file until it was opened. They can't any more.
+    /// Tests whether others could read the file until it was opened. From then on they cannot.
     pub fn was_readable(&self) -> bool {
         self.state.was_readable()
     }
 
-    // Begins a call: counts it, and opens the file where it was not looked at before.
+    // Begins a call: counts the call, and opens the file if it is not open yet.
     fn begin(&mut self) -> Result<(), Failed>
         ensures cause { HasCause self.old.faults self.new.faults result }
         ensures kept { OnOk result (self.new.faults ≡ self.old.faults) }
@@ -83,7 +90,7 @@ impl<R: Files<File = File> + Drop> DeskDisk<R> {
         Ok(())
     }
 
-    // Takes the state that an opening has led to, and counts a fault where it failed.
+    // Stores the state after an opening. Counts a disk error if the opening failed.
     fn take(&mut self, opened: Result<State, NotOpened>) -> Result<(), Failed>
         requires { IfOk opened (λ state. (self.old.writes && is_followed state) ≡ false) }
         ensures cause { HasCause self.old.faults self.new.faults result }
@@ -97,15 +104,15 @@ impl<R: Files<File = File> + Drop> DeskDisk<R> {
                 self.state = state;
                 Ok(())
             }
-            Err(NotOpened::Failed(e)) => self.counted(Err(e)),
+            Err(NotOpened::Failed(e)) => Err(self.failed(e)),
             Err(NotOpened::Unsafe(why)) => {
                 self.why_unsafe = Some(why);
-                self.counted(Err(io::Error::from(io::ErrorKind::PermissionDenied)))
+                Err(self.failed(io::Error::from(io::ErrorKind::PermissionDenied)))
             }
         }
     }
 
-    // Writes, and notes what was answered.
+    // Writes octets. Counts a failure if the write failed.
     fn put(&mut self, at: u64, octets: &[u8]) -> Result<(), Failed>
         ensures noted { self.new.history.events ≡
             noted_write result at octets.now ∷ self.old.history.events }
@@ -114,20 +121,13 @@ impl<R: Files<File = File> + Drop> DeskDisk<R> {
         ensures kept { OnOk result (self.new.faults ≡ self.old.faults) }
         ensures same { self.new.calls ≡ self.old.calls }
     {
-        let answer = self.state.write(at, octets);
-        match self.counted(answer) {
-            Ok(()) => {
-                self.history.note(&[2, at], octets);
-                Ok(())
-            }
-            Err(Failed) => {
-                self.history.note(&[3, at], octets);
-                Err(Failed)
-            }
+        match self.state.write(at, octets, &mut self.history) {
+            Ok(()) => Ok(()),
+            Err(e) => Err(self.failed(e)),
         }
     }
 
-    // Syncs, and notes what was answered.
+    // Syncs. Counts a failure if the sync failed.
     fn settle(&mut self) -> Result<(), Failed>
         ensures noted { self.new.history.events ≡
             noted_sync result ∷ self.old.history.events }
@@ -136,35 +136,23 @@ impl<R: Files<File = File> + Drop> DeskDisk<R> {
         ensures kept { OnOk result (self.new.faults ≡ self.old.faults) }
         ensures same { self.new.calls ≡ self.old.calls }
     {
-        let answer = self.state.sync();
-        match self.counted(answer) {
-            Ok(()) => {
-                self.history.note(&[4], &[]);
-                Ok(())
-            }
-            Err(Failed) => {
-                self.history.note(&[5], &[]);
-                Err(Failed)
-            }
+        match self.state.sync(&mut self.history) {
+            Ok(()) => Ok(()),
+            Err(e) => Err(self.failed(e)),
         }
     }
 
-    // Counts a fault where there was an error.
-    fn counted<T: Drop>(&mut self, answer: io::Result<T>) -> Result<T, Failed>
-        ensures cause { HasCause self.old.faults self.new.faults result }
-        ensures kept { OnOk result (self.new.faults ≡ self.old.faults) }
+    // Counts a failure and keeps its reason.
+    fn failed(&mut self, e: io::Error) -> Failed
+        ensures cause { Rose self.old.faults self.new.faults }
+        ensures later { self.old.faults ≤ self.new.faults }
         ensures same { self.new.calls ≡ self.old.calls }
         ensures noted { self.new.history.events ≡ self.old.history.events }
         ensures world { self.new.world.events ≡ self.old.world.events }
     {
-        match answer {
-            Ok(value) => Ok(value),
-            Err(e) => {
-                self.faults = self.faults.saturating_add(1);
-                self.last_error = Some(e);
-                Err(Failed)
-            }
-        }
+        self.faults = self.faults.saturating_add(1);
+        self.last_error = Some(e);
+        Failed
     }
 }
 
@@ -198,18 +186,18 @@ impl<R: Files<File = File> + Drop> Disk for DeskDisk<R> {
 
     fn len(&mut self) -> Result<u64, Failed> {
         self.begin()?;
-        let answer = self.state.len();
-        let count = self.counted(answer)?;
-        self.history.note(&[0, count], &[]);
-        Ok(count)
+        match self.state.len(&mut self.history) {
+            Ok(count) => Ok(count),
+            Err(e) => Err(self.failed(e)),
+        }
     }
 
     fn read_at(&mut self, at: u64, into: &mut [u8]) -> Result<(), Failed> {
         self.begin()?;
-        let answer = self.state.read(at, into);
-        self.counted(answer)?;
-        self.history.note(&[1, at], into);
-        Ok(())
+        match self.state.read(at, into, &mut self.history) {
+            Ok(()) => Ok(()),
+            Err(e) => Err(self.failed(e)),
+        }
     }
 
     fn write_at(&mut self, at: u64, octets: &[u8]) -> Result<(), Failed> {

@@ -1,4 +1,4 @@
-//! A handle on the desk's file, and what was seen of it before it is used.
+//! A handle of the desk's file, and the system's answers about it before it is used.
 ghost use Rattle.std.specs.Prelude.{◌≡◌, [], ◌∷◌, Ok, Some, None, true, IfOk};
 ghost use Rattle.desk_disk.specs.Looks.{is_seen, is_seen_readable, seen_as, shuts_well};
 ghost use Rattle.desk_disk.specs.declared.look.TheConstants.{DESK};
@@ -11,7 +11,7 @@ use std::io;
 use std::os::unix::fs::{MetadataExt, PermissionsExt};
 use std::rt::Files;
 
-/// The user whose process this is, where the system tells it.
+/// Returns the user of this process, if the system reports the user.
 pub fn user<R: Files>(rt: &R) -> Option<u64> {
     match fs::metadata(rt, "/proc/self") {
         Ok(process) => Some(u64::from(process.uid())),
@@ -19,16 +19,16 @@ pub fn user<R: Files>(rt: &R) -> Option<u64> {
     }
 }
 
-/// Why the desk's file, if there is one, is not safe. Its name is not followed.
-pub fn unsafe_desk<R: Files>(rt: &R) -> Option<Unsafe> {
+/// Returns why the desk's file is not safe, if it exists. Does not follow a link.
+pub fn desk_fault<R: Files>(rt: &R) -> Option<Unsafe> {
     match rt.symlink_metadata(DESK) {
         Ok(named) => fault_of(look_of(&named), user(rt)),
         Err(_) => None,
     }
 }
 
-/// Looks at a name, which is not followed, and at a file that was opened by it, and answers why that is not safe as a
-/// desk. Each answer of the system is noted.
+/// Looks at a name, without following a link, and at the file that was opened by this name. Returns why the file is
+/// not safe as a desk. Records each answer of the system.
 pub fn looked<R: Files, F: OpenFile>(
     rt: &R,
     name: &str,
@@ -50,7 +50,7 @@ pub fn looked<R: Files, F: OpenFile>(
     Ok(fault_of_opened(named, held, user))
 }
 
-/// Notes a look under a code.
+/// Records a look under a code.
 fn note_look(answers: &mut Record, code: u64, look: Look, name: &[u8])
     ensures { answers.new.events ≡ (seen_as code look, name.now) ∷ answers.old.events }
 {
@@ -65,7 +65,7 @@ fn note_look(answers: &mut Record, code: u64, look: Look, name: &[u8])
     answers.note(&[code, kind, owner, names, mode, device, inode], name);
 }
 
-/// Shuts others out of a file through its handle.
+/// Denies others access to a file through its handle.
 fn shut<F: OpenFile>(file: &F, answers: &mut Record) -> io::Result<()>
     ensures { answers.new.events ≡ (3 ∷ [], []) ∷ answers.old.events }
 {
@@ -73,8 +73,8 @@ fn shut<F: OpenFile>(file: &F, answers: &mut Record) -> io::Result<()>
     file.set_permissions(Permissions::from_mode(0o600))
 }
 
-/// Looks at a file that was opened by a name, and answers why it is not safe as a desk, and whether others might read it until
-/// now. Where that alone was wrong, they are shut out of it, and it is looked at again.
+/// Looks at a file that was opened by a name. Returns why it is not safe as a desk, and whether others could read
+/// it until now. If this was the only fault, denies others access and looks again.
 fn settled<R: Files, F: OpenFile>(
     rt: &R,
     name: &str,
@@ -95,9 +95,9 @@ fn settled<R: Files, F: OpenFile>(
     }
 }
 
-/// A handle on the desk's file that was seen to be safe, and what the system answered of it.
+/// A handle of the desk's file that was found to be safe, and the system's answers about it.
 ///
-/// The desk is read and written by such a handle alone, where a command writes to it.
+/// A command that writes to the desk reads and writes it only through such a handle.
 #[derive(Drop)]
 pub struct SeenFile {
     file: File,
@@ -107,8 +107,8 @@ pub struct SeenFile {
 }
 
 impl SeenFile {
-    /// The file that was opened by the desk's name, where it is safe, after others were shut out of it where they might read
-    /// it. Nothing was read or written before.
+    /// Takes the file that was opened by the desk's name, if it is safe. If others could read it, denies them
+    /// access first. Nothing may have been read or written before.
     pub fn of<R: Files>(rt: &R, file: File) -> io::Result<Result<SeenFile, Unsafe>> {
         let mut answers = Record::new();
         let (fault, was_readable) = settled(rt, DESK, &file, &mut answers)?;
@@ -122,17 +122,17 @@ impl SeenFile {
         }
     }
 
-    /// Whether others could read the file until it was opened.
+    /// Tests whether others could read the file until it was opened.
     pub fn was_readable(&self) -> bool {
         self.was_readable
     }
 
-    /// The file.
+    /// Returns the file.
     pub fn file(&self) -> &File {
         &self.file
     }
 
-    /// The file, to be read or written.
+    /// Returns the file, for reading or writing.
     pub fn file_mut(&mut self) -> &mut File {
         &mut self.file
     }

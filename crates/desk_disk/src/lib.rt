@@ -1,7 +1,8 @@
-//! The owner's desk as a disk: a file that is looked at behind its opening, before it is read or written.
+//! The owner's desk as a disk: a file that is inspected after it is opened and before it is read or written.
 #![tactic(auto)]
 
 pub use desk_disk::DeskDisk;
+pub use handle::desk_fault;
 pub use laws::opening_laws;
 pub use unsafe_desk::Unsafe;
 

@@ -1,4 +1,4 @@
-//! What a look at a file shows.
+//! The result of a look at a file.
 
 use std::fs::Metadata;
 use std::os::unix::fs::MetadataExt;
@@ -6,33 +6,33 @@ use std::os::unix::fs::MetadataExt;
 /// The name of the desk's file.
 pub const DESK: &str = "owner.desk";
 
-/// A regular file, as `Look::kind` has it.
+/// The value of `Look::kind` for a regular file.
 pub const REGULAR: u64 = 1;
 
-/// A link, as `Look::kind` has it.
+/// The value of `Look::kind` for a link.
 pub const LINK: u64 = 2;
 
-/// Any other kind of file.
+/// The value of `Look::kind` for any other file.
 const OTHER: u64 = 3;
 
-/// What a look at a file shows.
+/// The result of a look at a file.
 #[derive(Clone, Copy, Debug)]
 pub struct Look {
-    /// What it is: `REGULAR`, `LINK` or another number.
+    /// The kind of the file: `REGULAR`, `LINK` or another number.
     pub kind: u64,
-    /// Whose it is.
+    /// The owner of the file.
     pub owner: u64,
-    /// How many names it has.
+    /// The number of the file's names.
     pub names: u64,
-    /// Who may do what with it.
+    /// The mode of the file: the permissions of each group of users.
     pub mode: u64,
-    /// Its device.
+    /// The device of the file.
     pub device: u64,
-    /// Its number on the device.
+    /// The file's number on the device.
     pub inode: u64,
 }
 
-/// What the system's answer shows.
+/// Returns the look for an answer of the system.
 pub fn look_of(file: &Metadata) -> Look {
     let kind = if file.is_symlink() {
         LINK

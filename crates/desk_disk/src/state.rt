@@ -1,31 +1,33 @@
-//! What is known of the desk's file.
-ghost use Rattle.std.specs.Prelude.{◌≡◌, false, IfOk};
+//! What is known about the desk's file.
+ghost use Rattle.std.specs.Prelude.{◌≡◌, ◌∷◌, [], false, IfOk, OnOk, OnErr};
+ghost use Rattle.road_io.specs.Worlds.{noted_sync, noted_write};
 ghost use Rattle.desk_disk.specs.States.{is_followed};
 
 use crate::handle::{SeenFile, user};
 use crate::look::{DESK, look_of};
 use crate::unsafe_desk::{Unsafe, fault_of};
-use std::fs::{self, File, OpenFile, OpenOptions};
-use std::io::{self, ErrorKind, Read, Seek, SeekFrom, Write};
+use road_io::{Record, length_noted, read_at_noted, sync_noted, write_at_noted};
+use std::fs::{self, File, OpenOptions};
+use std::io::{self, ErrorKind};
 use std::os::unix::fs::OpenOptionsExt;
 use std::rt::Files;
 
-/// What is known of the desk's file.
+/// What is known about the desk's file.
 #[derive(Drop)]
 pub enum State {
-    /// It was not looked at.
+    /// The file has not been looked at.
     Unseen,
-    /// There was none.
+    /// The file did not exist.
     Absent,
-    /// It was opened by a command that only reads, whatever it is.
+    /// A command that only reads has opened it. It may be any file.
     Followed(File),
-    /// It was seen to be safe.
+    /// It was found to be safe.
     Seen(SeenFile),
 }
 
 /// Why a file was not opened.
 pub enum NotOpened {
-    /// The system's reason.
+    /// The system refused it, for this reason.
     Failed(io::Error),
     /// It is not safe as a desk.
     Unsafe(Unsafe),
@@ -37,7 +39,7 @@ impl From<io::Error> for NotOpened {
     }
 }
 
-/// Opens and locks the file for a command that writes to it: as the file itself or not at all, and where it is safe.
+/// Opens and locks the file for a command that writes to it: the file itself, never a link, and only if it is safe.
 pub fn open_seen<R: Files<File = File>>(rt: &R) -> Result<State, NotOpened>
     ensures { IfOk result (λ state. is_followed state ≡ false) }
 {
@@ -53,7 +55,7 @@ pub fn open_seen<R: Files<File = File>>(rt: &R) -> Result<State, NotOpened>
     lock_seen(rt, file)
 }
 
-/// Makes and locks the file. It fails where another process has made it meanwhile.
+/// Creates and locks the file. Fails if another process has created the file in the meantime.
 pub fn make<R: Files<File = File>>(rt: &R) -> Result<State, NotOpened>
     ensures { IfOk result (λ state. is_followed state ≡ false) }
 {
@@ -83,7 +85,8 @@ fn lock(file: &File) -> io::Result<()> {
     Ok(())
 }
 
-/// Opens and locks the file for a command that only reads: for writing, or else for reading, if there is one.
+/// Opens and locks the file, if it exists, for a command that only reads: for writing if possible, or else for
+/// reading.
 pub fn open_followed<R: Files<File = File>>(rt: &R) -> io::Result<State> {
     match OpenOptions::new().read(true).write(true).open(rt, DESK) {
         Ok(file) => {
@@ -101,7 +104,7 @@ pub fn open_followed<R: Files<File = File>>(rt: &R) -> io::Result<State> {
     }
 }
 
-/// Whether a file is there that may not be written.
+/// Tests whether the error means that the file exists but cannot be written.
 fn is_refused(kind: ErrorKind) -> bool {
     matches!(
         kind,
@@ -109,67 +112,76 @@ fn is_refused(kind: ErrorKind) -> bool {
     )
 }
 
-/// The names in the folder outlive a crash.
+/// Syncs the folder, so that the file's name survives a crash.
 fn sync_folder<R: Files<File = File>>(rt: &R) -> io::Result<()> {
     fs::open(rt, ".")?.sync_all()
 }
 
-fn read_part<F: Read + Seek>(file: &mut F, at: u64, into: &mut [u8]) -> io::Result<()> {
-    file.seek(SeekFrom::Start(at))?;
-    file.read_exact(into)
-}
-
-fn write_part<F: Write + Seek + OpenFile>(file: &mut F, at: u64, octets: &[u8]) -> io::Result<()> {
-    if file.metadata()?.len() < at {
-        return Err(io::Error::from(ErrorKind::InvalidInput));
-    }
-    file.seek(SeekFrom::Start(at))?;
-    file.write_all(octets)
-}
-
 impl State {
-    /// How many octets the file has.
-    pub fn len(&self) -> io::Result<u64> {
+    /// Returns the length of the file in octets, and records it.
+    pub fn len(&self, history: &mut Record) -> io::Result<u64>
+        ensures noted { IfOk result (λ n.
+            history.new.events ≡ (0 ∷ n ∷ [], []) ∷ history.old.events) }
+        ensures kept { OnErr result (history.new.events ≡ history.old.events) }
+    {
         match self {
-            State::Unseen | State::Absent => Ok(0),
-            State::Followed(file) => Ok(file.metadata()?.len()),
-            State::Seen(seen) => Ok(seen.file().metadata()?.len()),
+            State::Unseen | State::Absent => {
+                history.note(&[0, 0], &[]);
+                Ok(0)
+            }
+            State::Followed(file) => length_noted(file, history),
+            State::Seen(seen) => length_noted(seen.file(), history),
         }
     }
 
-    /// Reads the octets from an offset on.
-    pub fn read(&mut self, at: u64, into: &mut [u8]) -> io::Result<()>
-        ensures { is_followed self.new ≡ is_followed self.old }
+    /// Reads octets from an offset on, and records them.
+    pub fn read(&mut self, at: u64, into: &mut [u8], history: &mut Record) -> io::Result<()>
+        ensures same { is_followed self.new ≡ is_followed self.old }
+        ensures noted { OnOk result
+            (history.new.events ≡ (1 ∷ at ∷ [], into.new) ∷ history.old.events) }
+        ensures kept { OnErr result (history.new.events ≡ history.old.events) }
     {
         match self {
-            State::Unseen | State::Absent if into.is_empty() => Ok(()),
+            State::Unseen | State::Absent if into.is_empty() => {
+                history.note(&[1, at], into);
+                Ok(())
+            }
             State::Unseen | State::Absent => Err(io::Error::from(ErrorKind::UnexpectedEof)),
-            State::Followed(file) => read_part(file, at, into),
-            State::Seen(seen) => read_part(seen.file_mut(), at, into),
+            State::Followed(file) => read_at_noted(file, at, into, history),
+            State::Seen(seen) => read_at_noted(seen.file_mut(), at, into, history),
         }
     }
 
-    /// Writes octets from an offset on, to a file that was seen to be safe alone.
-    pub fn write(&mut self, at: u64, octets: &[u8]) -> io::Result<()>
-        ensures { is_followed self.new ≡ is_followed self.old }
+    /// Writes octets from an offset on, only to a file that was found to be safe. Records the write or its failure.
+    pub fn write(&mut self, at: u64, octets: &[u8], history: &mut Record) -> io::Result<()>
+        ensures same { is_followed self.new ≡ is_followed self.old }
+        ensures noted { history.new.events ≡
+            noted_write result at octets.now ∷ history.old.events }
+    {
+        let kind = match self {
+            State::Seen(seen) => return write_at_noted(seen.file_mut(), at, octets, history),
+            State::Followed(_) => ErrorKind::PermissionDenied,
+            State::Unseen | State::Absent => ErrorKind::NotFound,
+        };
+        history.note(&[3, at], octets);
+        Err(io::Error::from(kind))
+    }
+
+    /// Makes the writes durable. Records the sync or its failure.
+    pub fn sync(&self, history: &mut Record) -> io::Result<()>
+        ensures noted { history.new.events ≡ noted_sync result ∷ history.old.events }
     {
         match self {
-            State::Unseen | State::Absent => Err(io::Error::from(ErrorKind::NotFound)),
-            State::Followed(_) => Err(io::Error::from(ErrorKind::PermissionDenied)),
-            State::Seen(seen) => write_part(seen.file_mut(), at, octets),
+            State::Unseen | State::Absent => {
+                history.note(&[4], &[]);
+                Ok(())
+            }
+            State::Followed(file) => sync_noted(file, history),
+            State::Seen(seen) => sync_noted(seen.file(), history),
         }
     }
 
-    /// Makes stable what was written.
-    pub fn sync(&self) -> io::Result<()> {
-        match self {
-            State::Unseen | State::Absent => Ok(()),
-            State::Followed(file) => file.sync_all(),
-            State::Seen(seen) => seen.file().sync_all(),
-        }
-    }
-
-    /// Whether others could read the file until it was opened.
+    /// Tests whether others could read the file until it was opened.
     pub fn was_readable(&self) -> bool {
         match self {
             State::Seen(seen) => seen.was_readable(),

@@ -6,10 +6,10 @@ ghost use Rattle.desk_disk.specs.Looks.{is_safe, is_safe_but_read, is_under};
 use crate::look::{LINK, Look, REGULAR};
 use std::fmt::{self, Display, Formatter};
 
-/// Others may do something with a file of such a mode.
+/// The mode bits that grant others any permission.
 const OTHERS: u64 = 0o077;
 
-/// Others may write to a file of such a mode.
+/// The mode bits that grant others permission to write.
 const OTHERS_WRITE: u64 = 0o022;
 
 /// Why a file is not safe as a desk.
@@ -17,19 +17,19 @@ const OTHERS_WRITE: u64 = 0o022;
 pub enum Unsafe {
     /// The name is a link.
     Link,
-    /// It is no regular file.
+    /// It is not a regular file.
     Kind,
-    /// Another file stands under its name than was opened.
+    /// Its name is now the name of another file.
     Changed,
-    /// The system does not say whose process this is.
+    /// The system does not report the user of this process.
     User,
-    /// It is another user's.
+    /// It belongs to another user.
     Owner,
     /// It has more than one name.
     Names,
-    /// Others may write it.
+    /// Others may write to it.
     Mode,
-    /// Others may read it, and not write it.
+    /// Others may read it, but not write to it.
     Readable,
 }
 
@@ -53,7 +53,7 @@ impl Display for Unsafe {
     }
 }
 
-/// Why a file that a look shows is not safe as a desk of a user, by itself.
+/// Returns why a file with this look is not safe as a desk of a user, without regard to its name.
 pub fn fault_of(look: Look, user: Option<u64>) -> Option<Unsafe>
     ensures none { is_none result ≡ is_safe user look }
     ensures readable { result ≡ Some Unsafe.Readable → is_safe_but_read user look ≡ true }
@@ -78,8 +78,8 @@ pub fn fault_of(look: Look, user: Option<u64>) -> Option<Unsafe>
     }
 }
 
-/// Why a file that was opened is not safe as a desk of a user, by a look at its name, which was not followed, and by one at
-/// the file itself.
+/// Returns why an opened file is not safe as a desk of a user. Takes a look at its name, without following a link,
+/// and a look at the file itself.
 pub fn fault_of_opened(named: Look, held: Look, user: Option<u64>) -> Option<Unsafe>
     ensures none { is_none result ≡ (is_under named held && is_safe user held) }
     ensures readable { result ≡ Some Unsafe.Readable →

@@ -1,21 +1,22 @@
-//! What is doubtful about a version.
+//! Doubtful versions.
 ghost use Rattle.std.specs.Prelude.{◌≡◌, ◌+◌, ◌^◌, ◌<◌, ◌≤◌, Some, IfSome, IsSome};
 ghost use Rattle.std.specs.Option.{ForSome};
 ghost use Rattle.desk_guard.specs.Doubts.{IsDoubt};
 
-/// How far a version may rise above the last one without a word.
+/// The greatest increase of a version over the last one that causes no warning.
 const FAR: u64 = 1 << 32;
 
-/// What is doubtful about the version of a map that was signed.
+/// Why the version of a signed map is doubtful.
 #[derive(Clone, Copy, Debug, PartialEq, Eq)]
 pub enum Doubt {
-    /// The desk has signed this version before, the greatest, and the map's is not above it.
+    /// The map's version is not higher than this one, which is the greatest that the desk signed before.
     NotRisen(u64),
-    /// The map's version is more than 2^32 above this one, the last: if clients take it, nothing below it follows.
+    /// The map's version exceeds this one, which is the last, by more than 2^32. Once clients accept it, no lower
+    /// version can follow.
     RisenFar(u64),
 }
 
-/// What is doubtful about a version, by the greatest that the desk has signed before, and by the last.
+/// Returns why a version is doubtful, given the greatest version that the desk signed before, and the last one.
 pub fn doubt_of(version: u64, greatest: Option<u64>, last: Option<u64>) -> Option<Doubt>
     ensures said { IfSome result (IsDoubt version greatest last) }
     ensures not_risen { ForSome greatest (λ before. version ≤ before →

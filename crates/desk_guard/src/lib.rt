@@ -1,22 +1,21 @@
-//! An owner's files, looked at before a command that signs, and what it signs, looked at before it goes out.
+//! Checks of an owner's folder, mirrors and secret, of standard streams, and the message on a signing.
 #![tactic(auto)]
 
-pub use desk_file::{Unsafe, folder_fault, unsafe_desk, unsafe_folder};
-pub use desk_files::DeskFiles;
+pub use beginning::{Unbegun, answer_status};
 pub use doubt::{Doubt, doubt_of};
+pub use folder::{folder_fault, unsafe_folder};
 pub use mirrors::mirrors_for;
 pub use owner_mirror::{OwnerMirror, WhyLost, mirror_of};
 pub use secret_file::{has_few_octets, is_open_to_others};
-pub use signed_sink::SignedSink;
 pub use signing::Signing;
+pub use streams::{Clash, desk_clash, output_clash};
 
-mod desk_file;
-mod desk_files;
+mod beginning;
 mod doubt;
-mod first_key;
+mod folder;
 mod mirrors;
 mod owner_mirror;
 mod secret_file;
-mod signed_sink;
 mod signing;
+mod streams;
 mod user;

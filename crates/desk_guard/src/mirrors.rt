@@ -1,4 +1,4 @@
-//! The owner's mirrors: the files `mirror-1` to `mirror-8` of the working folder that are there.
+//! The owner's mirrors: the existing files among `mirror-1` to `mirror-8` of the working folder.
 ghost use Rattle.std.specs.Prelude.{◌≡◌, [], IfOk};
 ghost use Rattle.road_command.specs.Requests.{request_of};
 ghost use Rattle.desk_guard.specs.Asking.{IsPublish};
@@ -13,8 +13,8 @@ use std::rt::Files;
 /// The greatest label of a mirror.
 const MOST: u32 = 8;
 
-/// A mirror in each of the files that is there, labelled by its number, where words ask to publish. No other command
-/// looks at them. What a mirror takes goes after what the file held.
+/// If the words request `publish`, opens a mirror in each of the existing files, labelled by its number. No other
+/// command looks at these files. The octets that a mirror takes are appended to its file.
 pub fn mirrors_for<R: Files<File = File>>(
     rt: &R,
     alloc: Global,
@@ -29,7 +29,7 @@ pub fn mirrors_for<R: Files<File = File>>(
     }
 }
 
-/// A mirror in each of the files that is there.
+/// Opens a mirror in each of the existing files.
 fn mirrors_there<R: Files<File = File>>(
     rt: &R,
     alloc: Global,

@@ -1,4 +1,4 @@
-//! An owner's mirrors: files that are there, also where they can't be opened.
+//! An owner's mirrors: existing files, including those that cannot be opened.
 
 use crate::user::{is_own, is_same_file, user};
 use mirror_out::FileMirror;
@@ -8,18 +8,18 @@ use std::io::{self, ErrorKind};
 use std::os::unix::fs::FileTypeExt;
 use std::rt::Files;
 
-/// Why a mirror is lost before it is written to.
+/// Why a mirror is lost before anything is written to it.
 #[derive(Clone, Copy)]
 pub enum WhyLost {
-    /// The system did not open it.
+    /// The system refused to open it.
     Refused(io::Error),
-    /// It is a FIFO or a socket, which would wait for a reader.
+    /// It is a FIFO or a socket, so opening it would wait for a reader.
     Waits,
-    /// It is a link, and the link or its target is another user's.
+    /// The name is a link, and the link or its target belongs to another user.
     Owner,
-    /// It leads to the owner's desk.
+    /// The name leads to the owner's desk.
     Desk,
-    /// Another file stood under its name when it was looked at.
+    /// When the file was inspected, its name belonged to another file.
     Changed,
 }
 
@@ -39,15 +39,15 @@ impl Display for WhyLost {
     }
 }
 
-/// A mirror in a file that is there, open or lost already, and in that case why.
+/// A mirror in an existing file, which is open or already lost. If it is lost, the reason is known.
 #[derive(Drop)]
 pub struct OwnerMirror {
     pub mirror: FileMirror,
     pub why_lost: Option<WhyLost>,
 }
 
-/// The mirror of a label in the file of a name, if a file of that name is there. It is looked at without being
-/// followed; `desk` is the name of the desk.
+/// Opens the mirror with a label in the file with a name, if the file exists. Inspects the name without following a
+/// link. `desk` is the name of the desk.
 pub fn mirror_of<R: Files<File = File>>(
     rt: &R,
     label: u32,
@@ -71,7 +71,7 @@ pub fn mirror_of<R: Files<File = File>>(
     })
 }
 
-/// Opens the file of a name that is there.
+/// Opens an existing file by its name.
 fn open<R: Files<File = File>>(
     rt: &R,
     name: &str,
@@ -99,20 +99,20 @@ fn open<R: Files<File = File>>(
     }
 }
 
-/// The file of a name, to be written to behind what it holds, and a look at it.
+/// Opens a file for appending, and looks at it.
 fn opened<R: Files<File = File>>(rt: &R, name: &str) -> io::Result<(File, Metadata)> {
     let file = OpenOptions::new().append(true).open(rt, name)?;
     let looked = file.metadata()?;
     Ok((file, looked))
 }
 
-/// Whether a link and a file that it leads to are this user's. Devices are the system's.
+/// Tests whether a link and its target belong to this user. Devices belong to the system.
 fn is_ours<R: Files>(rt: &R, link: &Metadata, target: &Metadata) -> bool {
     let user = user(rt);
     is_own(link, user) && (!target.is_file() || is_own(target, user))
 }
 
-/// Whether a file is the one of this name.
+/// Tests whether a name is still the name of this file.
 fn is_same<R: Files>(rt: &R, file: &Metadata, name: &str) -> bool {
     match fs::metadata(rt, name) {
         Ok(other) => is_same_file(file, &other),

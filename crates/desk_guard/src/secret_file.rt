@@ -4,10 +4,11 @@ use std::fs;
 use std::os::unix::fs::MetadataExt;
 use std::rt::Files;
 
-/// Fewer different octets than this are no random secret's: of 48 random ones, fewer than 16 differ once in 2^60.
+/// The least number of different octets in a secret that counts as random. Fewer than 16 different octets occur in
+/// 48 random octets with a probability of 2^-60.
 const FEW: u32 = 16;
 
-/// Whether a file of this name is a regular one that others may read.
+/// Tests whether the file with this name is a regular file that others may read.
 pub fn is_open_to_others<R: Files>(rt: &R, name: &str) -> bool {
     match fs::metadata(rt, name) {
         Ok(file) => file.is_file() && file.mode() & 0o077 != 0,
@@ -15,7 +16,7 @@ pub fn is_open_to_others<R: Files>(rt: &R, name: &str) -> bool {
     }
 }
 
-/// Whether the 48 octets that a text's first 96 hex digits encode have fewer than 16 different ones among them.
+/// Tests whether the 48 octets in a text's first 96 hex digits include fewer than 16 different ones.
 pub fn has_few_octets(text: &[u8]) -> bool {
     let Some(digits) = text.get(..96) else {
         return false;

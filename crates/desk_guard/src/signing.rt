@@ -1,25 +1,26 @@
-//! What a signing is told by.
+//! The message about a signing.
 
 use crate::doubt::{Doubt, doubt_of};
 use desk_sight::{Sight, Signed};
 use std::fmt::{self, Display, Formatter};
 
-/// What one signing has used and signed, by the desk before it and by the publication that was written.
+/// The one-time key that one signing used and the header that it signed, from the desk as it was before and from
+/// the publication that was written.
 #[derive(Clone, Copy, Debug, PartialEq, Eq)]
 pub struct Signing {
     /// The one-time key that signed.
     slot: u32,
-    /// How many are left.
+    /// The number of one-time keys left.
     left: u32,
-    /// The last header that the desk had signed.
+    /// The last header that the desk had signed before.
     before: Option<Signed>,
-    /// The greatest version that it had signed.
+    /// The greatest version that the desk had signed before.
     greatest: Option<u64>,
-    /// What was signed.
+    /// The header that was signed.
     now: Signed,
 }
 
-/// The number that four octets encode.
+/// Returns the number that four octets encode.
 fn number(octets: &[u8]) -> Option<u32> {
     match octets {
         [a, b, c, d] => Some(u32::from_be_bytes([*a, *b, *c, *d])),
@@ -28,7 +29,7 @@ fn number(octets: &[u8]) -> Option<u32> {
 }
 
 impl Signing {
-    /// The signing that a publication shows which begins with these octets, by what the desk held before.
+    /// Returns the signing that a publication with these first octets shows, given the contents of the desk before.
     pub fn of(sight: Sight, publication: &[u8]) -> Option<Signing> {
         let header = publication.get(4..108)?;
         let slot = number(publication.get(110..114)?)?;
@@ -47,7 +48,7 @@ impl Signing {
         })
     }
 
-    /// What is doubtful about the version.
+    /// Returns why the version is doubtful.
     pub fn doubt(&self) -> Option<Doubt> {
         let last = match self.before {
             Some(before) => Some(before.version),
@@ -56,7 +57,7 @@ impl Signing {
         doubt_of(self.now.version, self.greatest, last)
     }
 
-    /// What is to be said of the version.
+    /// Writes the message about the version.
     fn version<W: fmt::Write>(&self, f: &mut Formatter<W>) -> fmt::Result {
         let version = self.now.version;
         match self.doubt() {
@@ -67,7 +68,7 @@ impl Signing {
     }
 }
 
-/// What is said of a version that the desk has signed before, or of an earlier one.
+/// Writes the message about a version that the desk has already signed, or about a lower one.
 fn not_risen<W: fmt::Write>(
     f: &mut Formatter<W>,
     slot: u32,
@@ -80,7 +81,7 @@ fn not_risen<W: fmt::Write>(
     )
 }
 
-/// What is said of a version that has risen far above the last one.
+/// Writes the message about a version that is far above the last one.
 fn risen_far<W: fmt::Write>(
     f: &mut Formatter<W>,
     slot: u32,
@@ -93,7 +94,7 @@ fn risen_far<W: fmt::Write>(
     )
 }
 
-/// What is said of a signed header.
+/// Writes the message about a signed header.
 fn header<W: fmt::Write>(f: &mut Formatter<W>, signed: Signed) -> fmt::Result {
     let Signed { version, nodes } = signed;
     write!(f, "{nodes} nodes, version {version}")

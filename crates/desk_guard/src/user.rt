@@ -1,10 +1,10 @@
-//! Whose process this is.
+//! The user of this process.
 
 use std::fs::{self, Metadata};
 use std::os::unix::fs::MetadataExt;
 use std::rt::Files;
 
-/// The user whose process this is, where the system tells it.
+/// Returns the user of this process, if the system reports the user.
 pub fn user<R: Files>(rt: &R) -> Option<u32> {
     match fs::metadata(rt, "/proc/self") {
         Ok(process) => Some(process.uid()),
@@ -12,7 +12,7 @@ pub fn user<R: Files>(rt: &R) -> Option<u32> {
     }
 }
 
-/// Whether a file is this user's, where the user is known.
+/// Tests whether a file belongs to this user, if the user is known.
 pub fn is_own(file: &Metadata, user: Option<u32>) -> bool {
     match user {
         Some(user) => file.uid() == user,
@@ -20,7 +20,7 @@ pub fn is_own(file: &Metadata, user: Option<u32>) -> bool {
     }
 }
 
-/// Whether two looks at a file are at the same one.
+/// Tests whether two looks show the same file.
 pub fn is_same_file(one: &Metadata, other: &Metadata) -> bool {
     one.dev() == other.dev() && one.ino() == other.ino()
 }

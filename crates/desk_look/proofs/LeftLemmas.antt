@@ -1,4 +1,4 @@
--- What is not touched is left.
+-- Everything that is not touched remains.
 use Rattle.std.proofs.Common.{◌≡◌, ◌≤◌, ℕ, true, refl, subst, arith}
 use Rattle.road_io.specs.declared.disk.Disk.{Ghosts}
 use Rattle.key_desk.specs.declared.desk.Desk.{Desk}
@@ -31,7 +31,7 @@ left_alone {D} g desk disk fits = record {
   faults = omega arith;
 }
 
--- a look of an open desk at a disk that does not fail does not fail
+-- if the disk does not fail, the look of an open desk does not fail
 pub works : {D : Type 0} (g : Ghosts D) (desk : Desk) (old new : D) → desk.is_open ≡ true → ¬ Rose (g.faults old) (g.faults new) → (e : DeskError) → ¬ (look_at g desk old new).Fails e
 works g desk old new opened steady KeysUsedUp fails = fails
 works g desk old new opened steady DiskFault fails = steady fails.1

@@ -1,4 +1,4 @@
--- A link text is signed exactly where it names a later key of the desk's.
+-- A link text is signed exactly if it names a later key of the desk.
 use Rattle.std.proofs.Common.{◌≡◌, ◌≢◌, ◌⊎◌, ◌<◌, ◌≤◌, ◌-◌, ◌+◌, inl, inr, ℕ, zero, suc, Bool, true, false, List, [], ◌∷◌, length, take, drop, Result, Option, None, Some, Ok, Err, refl, sym, ap, subst, ◌∙◌, arith}
 use Rattle.road_io.specs.declared.disk.Disk.{Ghosts}
 use Rattle.road_io.specs.Moments.{EachImage}
@@ -25,7 +25,7 @@ is_link key long = record { size = omega (arith, long); mark = refl }
 named_is : (key other : List ℕ) → link_text key ≡ link_text other → key ≡ other
 named_is key other same = ap (drop 4) same
 
--- a later key's area has one before it
+-- an area comes before that of a later key
 before_of : (area : ℕ) → 1 ≤ area → (a : ℕ) × (area ≡ suc a)
 before_of zero le = absurd (omega (arith, le))
 before_of (suc a) le = (a, refl)
@@ -34,7 +34,7 @@ abbrev slot_in : ℕ → ℕ → SlotId
 slot_in area number = record { area = area; number = number - 1 }
 
 module _ {D : Type 0} (g : Ghosts D) (desk : Desk) (disk : D) (fits : Fits g desk disk) where
-  -- the link text of the area after an area is signed in its last slot
+  -- the last slot of an area signs the link text of the next area
   in_last : (a : ℕ) → a < length desk.earlier → EachImage g disk (λ i. IsSigned i (record { area = a; number = slots_of (key_of desk a).kind - 1 }) (link_text (public_key (key_of desk (suc a)))))
   in_last a lt i now =
       let areas = fits.areas i now in
@@ -63,7 +63,7 @@ module _ {D : Type 0} (g : Ghosts D) (desk : Desk) (disk : D) (fits : Fits g des
       sym (areas.linked slot.area last.1) ∙ ap (text_of i) (sym last.0) ∙ signed.spent.text_is in
       other (record { area = suc slot.area; from = omega arith; upto = omega (arith, last.1); is = sym (named_is (public_key (key_of desk (suc slot.area))) key same) })
 
--- ---- what a chain's links are signed under
+-- ---- the keys that sign a chain's links
 
 both : (n : ℕ) (v : Result (Unit {0}) SealError) (r : Result (Unit {0}) (ℕ × SealError)) → after_link n v r ≡ Ok tt → (v ≡ Ok tt) × (r ≡ Ok tt)
 both n (Ok _) r so = (refl, so)
@@ -82,11 +82,11 @@ chained_at m key (first ∷ links) (suc n) so lt =
     let rest = (both m (verified key (link_text first.key) first.signature) (chained_from (m + 1) first.key links) so).1 in
     subst (λ (k : List ℕ). verified k (text_at links n) (link_at links n).signature ≡ Ok tt) (sym (before_next key first links n)) (chained_at (m + 1) first.key links n rest (omega (arith, lt)))
 
--- ---- what is said of a chain and a header
+-- ---- the result for a chain and a header
 
 module _ {D : Type 0} (g : Ghosts D) (desk : Desk) (disk new : D) (fits : Fits g desk new) (key : List ℕ) (links : List Link) (header signature : List ℕ)
     (own : IsKeyFrom desk 0 key) (chain : chained key links ≡ Ok tt) where
-  -- a key to which links lead on is one of the desk's
+  -- a key to which links lead belongs to the desk
   owned : (n : ℕ) → ((m : ℕ) → m < n → IsKeyFrom desk 1 (link_at links m).key) → IsKeyFrom desk 0 (key_before key links n)
   owned zero led = own
   owned (suc n) led = let from = led n (omega arith) in record { area = from.area; from = omega arith; upto = from.upto; is = from.is }
@@ -117,7 +117,7 @@ module _ {D : Type 0} (g : Ghosts D) (desk : Desk) (disk new : D) (fits : Fits g
         };
       }
 
-  -- by what is said of the header, and what the keys show of the links
+  -- from the result for the header, and from what the keys imply about the links
   pub looked : (is_signed : Bool) (found : Option Forgery) → Says (look_at g desk disk new) header (Ok is_signed) → FindsForgery desk key links header signature is_signed found → Looked (look_at g desk disk new) key links header signature (Ok found)
   looked true None says finds = record { linked = λ n lt. linked says.0 n (finds.0 n lt); sealed = says }
   looked false None says finds = absurd cc

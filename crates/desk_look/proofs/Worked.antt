@@ -1,4 +1,4 @@
--- What the words of a look say at some chains and answers, so that a changed word is seen.
+-- The definitions of a look, evaluated for some chains and results. A changed definition fails here.
 use Rattle.std.proofs.Common.{◌≡◌, ℕ, ◌≤◌, List, [], ◌∷◌, length, Some, None, Ok, Err, true, false, arith, refl, ap, ◌∙◌}
 use Rattle.road_io.specs.declared.disk.Disk.{Ghosts}
 use Rattle.road_io.specs.Causes.{Rose}
@@ -36,7 +36,7 @@ module _ (key header signature : List ℕ) (one two : Link) where
   of_the_second = refl
 
   module _ (look : Look) where
-    -- where all is said to be signed, so is each link text, and so is the header
+    -- if all texts are reported as signed, each link text is signed, and so is the header
     first_is_signed : Looked look key chain header signature (Ok None) → look.Signed (link_text one.key)
     first_is_signed h = h.linked 0 (omega arith)
 
@@ -46,7 +46,7 @@ module _ (key header signature : List ℕ) (one two : Link) where
     header_is_signed : Looked look key chain header signature (Ok None) → look.Signed header
     header_is_signed h = h.sealed
 
-    -- what is said to be forged is not signed, and its signature is good under one of the owner's keys
+    -- a text reported as forged is not signed, and its signature is valid under a key of the owner
     found_is_unsigned : (f : Forgery) → Looked look key chain header signature (Ok (Some f)) → look.Unsigned f.text
     found_is_unsigned f h = h.forgery.unsigned
 
@@ -56,15 +56,15 @@ module _ (key header signature : List ℕ) (one two : Link) where
     found_is_owned : (f : Forgery) → Looked look key chain header signature (Ok (Some f)) → look.Owns f.key
     found_is_owned f h = h.forgery.own
 
-    -- a header is found only where each link text is signed
+    -- a header is reported only if each link text is signed
     links_come_first : (f : Forgery) → IsForgedHeader look key chain header signature f → look.Signed (link_text one.key) × look.Signed (link_text two.key)
     links_come_first f h = (h.linked 0 (omega arith), h.linked 1 (omega arith))
 
-    -- the second link is found only where the text of the first is signed
+    -- the second link is reported only if the text of the first link is signed
     first_comes_first : (f : Forgery) → (h : IsForgedLink look key chain f) → h.number ≡ 1 → look.Signed (link_text one.key)
     first_comes_first f h is = h.before 0 (omega (arith, is))
 
-    -- no link after the last is found
+    -- no link after the last one is reported
     none_behind : (f : Forgery) → (h : IsForgedLink look key chain f) → h.number ≤ 1
     none_behind f h = omega (arith, h.known)
 
@@ -100,14 +100,14 @@ module _ {D : Type 0} (g : Ghosts D) (desk : Desk) (old new : D) where
   fault_of_an_open_desk : (look_at g desk old new).Fails DiskFault → desk.is_open ≡ true
   fault_of_an_open_desk h = h.0
 
-  -- one slot holds a signed text in every image, and none does one that isn't
+  -- a signed text is in one slot of every image; an unsigned text is in no slot
   in_one_slot : (text : List ℕ) → (look_at g desk old new).Signed text → (slot : SlotId) × EachImage g new (λ i. IsSigned i slot text)
   in_one_slot text h = h.1
 
   in_no_slot : (text : List ℕ) → (look_at g desk old new).Unsigned text → EachImage g new (λ i. (slot : SlotId) → ¬ IsSigned i slot text)
   in_no_slot text h = h.1
 
-  -- ---- what a look leaves
+  -- ---- what a look leaves unchanged
 
   images_stay : (later : Desk) → IsLeft g desk old later new → AtEachMoment g old new Stays
   images_stay later h = h.moments

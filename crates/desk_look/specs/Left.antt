@@ -1,4 +1,4 @@
--- What an audit leaves as it was.
+-- What an audit leaves unchanged.
 use Rattle.std.specs.Prelude.{◌≡◌, ◌≤◌, true}
 use Rattle.road_io.specs.declared.disk.Disk.{Ghosts}
 use Rattle.road_io.specs.Causes.{Rose}
@@ -8,9 +8,8 @@ use Rattle.key_desk.specs.declared.desk.Desk.{Desk}
 use Rattle.key_desk.specs.Desk.{SameAreas, Fits, KeepsAllKnown}
 use Rattle.key_desk.specs.Stands.{KeepsStanding}
 
--- the desk keeps its areas and its counts and fits its disk, and it stays open unless the disk
--- failed, so that a further audit finds something too; no image of the disk changes, and what was
--- known and what was signed stays so
+-- The desk keeps its areas and its states and fits its disk, and it stays open unless the disk failed. So a later
+-- audit also gives a result. No image of the disk changes, and all known facts and all signed pairs remain.
 pub record IsLeft {D : Type 0} (g : Ghosts D) (old_desk : Desk) (old : D) (new_desk : Desk)
     (new : D) : Type 0 where
   pub areas : SameAreas old_desk new_desk

@@ -1,4 +1,4 @@
--- What a desk says of keys and texts.
+-- What a desk tells about keys and texts.
 use Rattle.std.specs.Prelude.{◌≡◌, ◌≤◌, Bool, true, false, List, ℕ, length, Result, Ok, Err}
 use Rattle.lms_tree.specs.Signatures.{public_key}
 use Rattle.road_io.specs.declared.disk.Disk.{Ghosts}
@@ -10,30 +10,29 @@ use Rattle.key_desk.specs.declared.desk.DeskError.TheVariants.{KeysUsedUp, DiskF
 use Rattle.key_desk.specs.Desk.{key_of}
 use Rattle.desk_areas.specs.Layout.{SlotId, IsSigned}
 
--- what may be said of a key, that it is one of the owner's, and of a text, that it is signed, or
--- that it is not, or why it is not known
+-- what may be known: of a key, that it belongs to the owner; of a text, that it is signed, or that it is not, or
+-- why this is unknown
 pub record Look : Type 1 where
   pub Owns : List ℕ → Type 0
   pub Signed : List ℕ → Type 0
   pub Unsigned : List ℕ → Type 0
   pub Fails : DeskError → Type 0
 
--- the public key of one of the desk's areas, from the area of this number on
+-- the public key of an area of the desk, from the area with this number on
 pub record IsKeyFrom (desk : Desk) (first : ℕ) (key : List ℕ) : Type 0 where
   pub area : ℕ
   pub from : first ≤ area
   pub upto : area ≤ length desk.earlier
   pub is : key ≡ public_key (key_of desk area)
 
--- why a look at the slots fails: a desk that is open meets a fault of the disk, or the desk is
--- closed
+-- why a look at the slots fails: an open desk met a disk error, or the desk is closed
 abbrev pub LookFails : {D : Type 0} → Ghosts D → Desk → D → D → DeskError → Type 0
 LookFails g desk old new KeysUsedUp = ⊥
 LookFails g desk old new DiskFault = (desk.is_open ≡ true) × Rose (g.faults old) (g.faults new)
 LookFails g desk old new Closed = desk.is_open ≡ false
 
--- the look of a desk at its disk: its keys are those of its areas, and a text is signed in one slot
--- of every image, or in no slot of any
+-- the look of a desk at its disk: its keys are those of its areas; a text is signed in one slot of every image, or
+-- in no slot of any image
 abbrev pub look_at : {D : Type 0} → Ghosts D → Desk → D → D → Look
 look_at g desk old new = record {
   Owns = IsKeyFrom desk 0;
@@ -44,7 +43,7 @@ look_at g desk old new = record {
   Fails = LookFails g desk old new;
 }
 
--- what a look answers of a text
+-- the result of searching for a text
 abbrev pub Says : Look → List ℕ → Result Bool DeskError → Type 0
 Says look text (Ok true) = look.Signed text
 Says look text (Ok false) = look.Unsigned text

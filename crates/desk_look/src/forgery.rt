@@ -2,7 +2,7 @@
 
 use octet_text::Octets;
 
-/// A text, and a signature that is verified on it under a key.
+/// A text, and a signature of it that verifies under a key.
 #[derive(Debug, Drop)]
 pub struct Forgery {
     pub key: [u8; 56],

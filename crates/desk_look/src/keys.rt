@@ -1,4 +1,4 @@
-//! A desk's keys, and the keys to which a chain leads.
+//! A desk's keys, and the keys along a chain.
 ghost use Rattle.std.specs.Prelude.{◌≡◌, ◌≢◌, ℕ, ◌<◌, ◌≤◌, length, IfSome, IfNone, Ok};
 ghost use Rattle.std.specs.Bool.{OnTrue, OnFalse};
 ghost use Rattle.lms_tree.specs.Chains.{verified_along};
@@ -8,7 +8,7 @@ ghost use Rattle.desk_look.specs.Looking.{IsFirstStray, IsSealingKey, LeadsOn};
 use key_desk::Desk;
 use lms_tree::{Link, verify};
 
-/// A public key, where it is one of the desk's.
+/// Returns a public key if it belongs to the desk.
 pub fn own_key(desk: &Desk, public: &[u8]) -> Option<[u8; 56]>
     ensures same { IfSome result (λ key. key ≡ public.now) }
     ensures own { IfSome result (IsKeyFrom desk.now 0) }
@@ -17,7 +17,7 @@ pub fn own_key(desk: &Desk, public: &[u8]) -> Option<[u8; 56]>
     key_from(desk, 0, public)
 }
 
-// A public key, where it is that of one of the desk's areas, from the area of this number on.
+// Returns a public key if it belongs to one of the desk's areas, from the area with this number on.
 fn key_from(desk: &Desk, first: u32, public: &[u8]) -> Option<[u8; 56]>
     ensures same { IfSome result (λ key. key ≡ public.now) }
     ensures own { IfSome result (IsKeyFrom desk.now first) }
@@ -32,7 +32,7 @@ fn key_from(desk: &Desk, first: u32, public: &[u8]) -> Option<[u8; 56]>
     None
 }
 
-// Whether a public key is this one.
+// Tests whether a public key is this one.
 fn is_same_key(key: &[u8; 56], public: &[u8]) -> bool
     ensures same { OnTrue result (key.now ≡ public.now) }
     ensures apart { OnFalse result (key.now ≢ public.now) }
@@ -40,7 +40,7 @@ fn is_same_key(key: &[u8; 56], public: &[u8]) -> bool
     key.as_slice() == public
 }
 
-/// The number of the first link that leads to no later key of the desk's.
+/// Returns the number of the first link that does not lead to a later key of the desk.
 pub(crate) fn first_stray(desk: &Desk, chain: &[Link]) -> Option<usize>
     ensures some { IfSome result (IsFirstStray desk.now chain.now) }
     ensures none { IfNone result (LeadsOn desk.now chain.now) }
@@ -53,7 +53,7 @@ pub(crate) fn first_stray(desk: &Desk, chain: &[Link]) -> Option<usize>
     None
 }
 
-/// The first key to which a chain leads that verifies a text's signature.
+/// Returns the first key along a chain under which the signature of a text verifies.
 pub(crate) fn sealing_key(
     public: &[u8; 56],
     chain: &[Link],

@@ -1,5 +1,5 @@
-//! What an owner's desk says of the texts that an accepted reply stands on, the links of its chain and its
-//! header: that it signed them all, or which of them it never did.
+//! Whether an owner's desk signed the texts on which an accepted reply rests: the links of its chain and its
+//! header. The result is that it signed all of them, or the first one that it never signed.
 #![tactic(auto)]
 
 pub use errors::LookError;

@@ -1,4 +1,4 @@
-//! What a desk says of the texts that an accepted reply stands on: the links of its chain, and its header.
+//! Whether a desk signed the texts on which an accepted reply rests: the links of its chain, and its header.
 ghost use Rattle.std.specs.Prelude.{◌≡◌, ◌≢◌, ◌<◌, false, length, IfOk, OnOk, Ok, Err};
 ghost use Rattle.lms_tree.specs.Chains.{chained, verified_along};
 ghost use Rattle.key_desk.specs.Desk.{Fits};
@@ -15,7 +15,7 @@ use octet_text::{NoMemory, Octets, put_octets};
 use road_io::Disk;
 use std::alloc::Global;
 
-// A copy of octets.
+// Copies octets.
 fn copy(alloc: Global, octets: &[u8]) -> Result<Octets, NoMemory>
     ensures { IfOk result (λ copied. copied ≡ octets.now) }
 {
@@ -24,7 +24,7 @@ fn copy(alloc: Global, octets: &[u8]) -> Result<Octets, NoMemory>
     Ok(Octets::from_vec(copied))
 }
 
-// A key, and a text with a signature under it.
+// Makes a forgery from a key, a text, and a signature of the text under the key.
 fn forgery(alloc: Global, key: [u8; 56], text: &[u8], signature: &[u8]) -> Result<Forgery, NoMemory>
     ensures { IfOk result (λ f. f ≡ forgery_with key text.now signature.now) }
 {
@@ -35,7 +35,7 @@ fn forgery(alloc: Global, key: [u8; 56], text: &[u8], signature: &[u8]) -> Resul
     })
 }
 
-// The link of a number: the key before it, its text and its signature.
+// Makes the forgery of the link with a number: the key before the link, the link's text and its signature.
 fn forgery_of_link(
     alloc: Global,
     public: &[u8; 56],
@@ -54,8 +54,8 @@ fn forgery_of_link(
     forgery(alloc, key, &link_text(&link.key), link.signature.as_slice())
 }
 
-// The first text that is not signed, where this is known of the header: that of a link that leads to no later
-// key of the desk's, or the header.
+// Returns the first unsigned text. It is the text of the first link that does not lead to a later key of the desk,
+// or else the header, if the header is not signed.
 fn find_forgery(
     alloc: Global,
     desk: &Desk,
@@ -79,7 +79,7 @@ fn find_forgery(
     Ok(Some(forgery(alloc, key, header, signature)?))
 }
 
-// Whether a text is signed.
+// Tests whether a text is signed.
 fn is_signed<D: Disk>(desk: &mut Desk, disk: &mut D, text: &[u8]) -> Result<bool, DeskError>
     requires { Fits D.Disk desk.old disk.old }
     ensures says { Says (look_at D.Disk desk.old disk.old disk.new) text.now result }
@@ -92,8 +92,9 @@ fn is_signed<D: Disk>(desk: &mut Desk, disk: &mut D, text: &[u8]) -> Result<bool
     desk.signed(disk, text)
 }
 
-/// The first of the texts that an accepted reply stands on that its owner never signed, each link's before the
-/// header's, by the owner's desk: a link text is signed exactly where it names a later key of the desk's.
+/// Returns the first text that its owner never signed, among those on which an accepted reply rests. The owner's
+/// desk tells whether a text is signed. The links come before the header. A link text is signed exactly if it names
+/// a later key of the desk.
 pub fn look<D: Disk>(
     alloc: Global,
     desk: &mut Desk,

@@ -1,10 +1,10 @@
--- What is looked at of a disk, and its front.
+-- The octets that a look reads from a disk, and their prefix.
 use Rattle.std.proofs.Common.{◌≡◌, ℕ, suc, ◌+◌, ◌-◌, ◌<◌, ◌≤◌, min, List, length, get_or, take, arith, refl, sym, ◌∙◌, ap, subst, length-take}
 use Rattle.std.proofs.lemmas.List.{get_or-take}
 use Rattle.lms_tree.specs.Links.{IsLink}
-use Rattle.desk_areas.specs.Layout.{SlotId, slots_at, place_in, base_of, place_of, gate_of, text_of, last_slot}
+use Rattle.desk_areas.specs.Layout.{SlotId, slots_at, place_in, base_of, place_of, gate_of, text_of, last_slot, SameFront}
 use Rattle.desk_areas.proofs.Areas.{base_next}
-use Rattle.desk_areas.proofs.Growth.{SameFront, front_bases, front_slots, front_gate, front_text, front_lasts}
+use Rattle.desk_areas.proofs.Growth.{front_bases, front_slots, front_gate, front_text, front_lasts}
 use Rattle.desk_sight.specs.Images.{seen_of}
 use Rattle.desk_sight.specs.Areas.{IsWhole, IsWaitingLink}
 use Rattle.desk_sight.specs.Looks.{HasClosedLink}

@@ -1,8 +1,16 @@
+pub mod Exclusive
+pub mod FreshSteps
 pub mod FrontSteps
+pub mod LifeSteps
 pub mod LinkSteps
+pub mod LookAnswers
+pub mod LookDisk
 pub mod LookSteps
 pub mod ReadFronts
+pub mod RestedSteps
 pub mod ShortBlocks
 pub mod SightSteps
 pub mod SlotSteps
+pub mod TidySteps
 pub mod ToldSteps
+pub mod Unlinked

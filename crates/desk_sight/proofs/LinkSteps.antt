@@ -69,6 +69,6 @@ spends_after g old mid new end stays closed opens = spends_by g old new (continu
     (λ d i now is. inl is)
     (λ d e i now_d now_e is h. inr (subst (λ (x : List ℕ). OpensLink x i) is (record { end = end; closed = closed e now_e; alone = h }))))
 
--- after a sync what is told is the one image
+-- after a sync the stated content is the only image
 pub closed_everywhere : {D : Type 0} (g : Ghosts D) (old mid : D) (end : ℕ) → ForSome (g.content old) (HasClosedLink end) → g.content mid ≡ g.content old → ((i : List ℕ) → Image g mid i → g.content mid ≡ Some i) → EachImage g mid (HasClosedLink end)
 closed_everywhere g old mid end closed same one i now = closed i (sym same ∙ one i now)

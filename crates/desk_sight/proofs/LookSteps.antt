@@ -1,11 +1,9 @@
--- What a look spends, put together.
+-- The changes that a look makes, taken together.
 use Rattle.std.proofs.Common.{◌≡◌, ◌⊎◌, ℕ, zero, suc, ◌+◌, ◌<◌, ◌≤◌, List, arith, inl, inr, refl, sym, subst}
 use Rattle.road_io.specs.declared.disk.Disk.{Ghosts}
 use Rattle.road_io.specs.Disk.{Stays}
 use Rattle.road_io.specs.Moments.{AtEachMoment}
 use Rattle.road_io.proofs.MomentLaws.{nothing, weaker, continued}
-use Rattle.desk_areas.specs.Layout.{IsAreaOpen}
-use Rattle.desk_areas.proofs.Areas.{open_few}
 use Rattle.key_desk.specs.Spending.{SpendsTexted}
 use Rattle.key_desk.proofs.Spending as texted
 use Rattle.key_desk.proofs.Standing.{standing_same}
@@ -15,10 +13,6 @@ use Rattle.desk_sight.specs.Looks.{MaySpend, Spends, SpendsLink}
 use Rattle.desk_sight.specs.declared.looking.Use.{Use}
 use Rattle.desk_sight.specs.declared.looking.Use.TheVariants.{Key, Publish, Succeed, Links}
 use Rattle.desk_sight.proofs.LinkSteps as linked
-
-pub at_most_seven : (image : List ℕ) (area : ℕ) → IsAreaOpen image area → area ≤ 7
-at_most_seven image zero is = omega arith
-at_most_seven image (suc area) is = let few = open_few image area is in omega (arith, few)
 
 pub may_stay : (what : Use) (d i : List ℕ) → i ≡ d → MaySpend what d i
 may_stay Key d i is = is

@@ -1,4 +1,4 @@
--- What is read from the front of a disk.
+-- Reading the prefix of a disk.
 use Rattle.std.proofs.Common.{◌≡◌, ℕ, ◌≤◌, List, length, take, drop, min, arith, inl, inr, ◌∙◌, ap, sym}
 use Rattle.std.proofs.lemmas.Bool.{cases_lt}
 use Rattle.std.proofs.lemmas.List.{take_all}

@@ -17,7 +17,7 @@ use Rattle.desk_sight.specs.declared.sight.Told.{Told}
 use Rattle.desk_sight.specs.declared.strange.Strange.{Strange}
 use Rattle.desk_sight.specs.declared.strange.Strange.TheVariants.{Gap, Text, Block, Tail, Link, Shut}
 
--- the first area is reached where the first gate is open
+-- the first area is reached if the first gate is open
 pub first_reached : (image : List ℕ) → 0 < gate_at image 0 → IsReached image 0
 first_reached image gate = record { is_open = first_open image gate; plain = λ before lt. absurd (omega arith) }
 
@@ -109,7 +109,7 @@ module _ (image : List ℕ) (area base slots : ℕ) (base_is : base ≡ base_of 
     );
   }
 
--- an area of which the sight is told is plain
+-- an area whose sight is reported is plain
 pub sight_plain : (image : List ℕ) (area : ℕ) (sight : Sight) → IsSightOf image area sight → IsPlain image area
 sight_plain image area sight it = record { whole = it.whole; block = it.block; spent = sight.spent; slots = it.slots }
 
@@ -130,6 +130,7 @@ pub sight_here : (image : List ℕ) (area : ℕ) (sight : Sight) → IsReached i
 sight_here image area sight reached it none = record {
   area = area;
   current = record { is_open = reached.is_open; no_later = λ later. none (open_link image area later) };
+  last = none;
   reached = reached;
   here = it;
 }

@@ -7,7 +7,7 @@ use Rattle.desk_sight.specs.Slots.{IsOrderly, HasNone, IsLastOf, IsGreatestOf, I
 use Rattle.desk_sight.specs.declared.slots.Signed.{Signed}
 use Rattle.desk_sight.specs.declared.slots.Slots.{Slots}
 
--- what holds of each number below one, and of that one
+-- a fact about each number below a bound, and about the bound
 one_more : (P : ℕ → Type 0) (number : ℕ) → ((k : ℕ) → k < number → P k) → P number → (k : ℕ) → k < number + 1 → P k
 one_more P number below here k lt = elim (cases_lt k number) [
   | inl less ↦ below k less
@@ -18,7 +18,7 @@ module _ (image : List ℕ) (base number : ℕ) (tail : IsZeroFrom (place_in bas
   tails_more : (spent : ℕ) → IsOrderly image base spent number → (k : ℕ) → k < number + 1 → IsZeroFrom (place_in base k + 106) (place_in base k + 128) image
   tails_more spent so = one_more (λ k. IsZeroFrom (place_in base k + 106) (place_in base k + 128) image) number so.tails tail
 
-  -- a free one
+  -- a free slot
   pub free_more : (spent : ℕ) → IsOrderly image base spent number → gate_at image (place_in base number) ≡ 0
       → (spent < number → IsZeroFrom (place_in base number + 1) (place_in base number + 106) image) → IsOrderly image base spent (number + 1)
   free_more spent so shut empty = record {
@@ -35,7 +35,7 @@ module _ (image : List ℕ) (base number : ℕ) (tail : IsZeroFrom (place_in bas
     tails = tails_more spent so;
   }
 
-  -- a spent one after spent ones
+  -- a spent slot after spent slots
   pub spent_more : IsOrderly image base number number → 0 < gate_at image (place_in base number) → IsOrderly image base (number + 1) (number + 1)
   spent_more so gate = record {
     few = omega arith;
@@ -46,7 +46,7 @@ module _ (image : List ℕ) (base number : ℕ) (tail : IsZeroFrom (place_in bas
   }
 
   module _ (found : Option Signed) (some : IfSome found (HasHeader image (place_in base number))) (one : (signed : Signed) → HasHeader image (place_in base number) signed → found ≡ Some signed) where
-    -- what waits in the first free one
+    -- the header that waits in the first free slot
     waits : MatchOption found ((signed : Signed) → IsWaitingIn image base number (number + 1) signed → ⊥) (IsWaitingIn image base number (number + 1))
     waits = go found some one
       where
@@ -64,7 +64,7 @@ module _ (image : List ℕ) (base number : ℕ) (tail : IsZeroFrom (place_in bas
       waiting = subst (λ (n : ℕ). MatchOption found ((signed : Signed) → IsWaitingIn image base n (number + 1) signed → ⊥) (IsWaitingIn image base n (number + 1))) (sym is) waits;
     }
 
-  -- a later free one
+  -- a later free slot
   pub later_free_more : (slots : Slots) → slots.spent ≢ number → IsSlots image base number slots → gate_at image (place_in base number) ≡ 0
       → IsZeroFrom (place_in base number + 1) (place_in base number + 106) image → IsSlots image base (number + 1) slots
   later_free_more slots ne so shut empty = record {
@@ -88,7 +88,7 @@ module _ (image : List ℕ) (base number : ℕ) where
   bare_more : AreBare image base number → HasNone image (place_in base number) → AreBare image base (number + 1)
   bare_more so none = one_more (λ k. HasNone image (place_in base k)) number so none
 
-  -- one without a header
+  -- a slot without a header
   pub last_bare : (last : Option Signed) → HasNone image (place_in base number) → MatchOption last (AreBare image base number) (IsLastOf image base number)
       → MatchOption last (AreBare image base (number + 1)) (IsLastOf image base (number + 1))
   last_bare None none so = bare_more so none
@@ -118,7 +118,7 @@ module _ (image : List ℕ) (base number : ℕ) where
   }
 
   module _ (signed : Signed) (has : HasHeader image (place_in base number) signed) (one : (other : Signed) → HasHeader image (place_in base number) other → Some signed ≡ Some other) where
-    -- one with a header
+    -- a slot with a header
     pub last_here : IsLastOf image base (number + 1) signed
     last_here = record { number = number; known = omega arith; header = has; later = λ k low high. absurd (omega arith) }
 
@@ -180,7 +180,7 @@ module _ (image : List ℕ) (base number : ℕ) (tail : IsZeroFrom (place_in bas
     waiting = λ signed is. let free = is.free in omega (arith, free);
   }
 
--- no slot at all
+-- no slot
 pub no_slots : (image : List ℕ) (base : ℕ) → IsSlots image base 0 (record { spent = 0; last = None; greatest = None; waiting = None })
 no_slots image base = record {
   orderly = record {

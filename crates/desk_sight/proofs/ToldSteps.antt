@@ -1,4 +1,4 @@
--- One more area, and what it has signed.
+-- One more area, and the headers that it has signed.
 use Rattle.std.proofs.Common.{◌≡◌, ◌≢◌, ◌⊎◌, ℕ, suc, ◌+◌, ◌<◌, ◌≤◌, List, arith, inl, inr, refl, sym, ◌∙◌, ap, subst, Some, None, Option, MatchOption, IsSomeAnd}
 use Rattle.std.proofs.lemmas.Bool.{cases_lt}
 use Rattle.desk_areas.specs.Layout.{SlotId, place_in, base_of, place_of, gate_at, gate_of}
@@ -20,7 +20,7 @@ module _ (image : List ℕ) (area base count : ℕ) (slots : Slots) (base_is : b
   place_here : (slot : SlotId) → slot.area ≡ area → place_of image slot ≡ place_in base slot.number
   place_here slot is = ap (λ (a : ℕ). place_in (base_of image a) slot.number) is ∙ ap (λ (b : ℕ). place_in b slot.number) (sym base_is)
 
-  -- a spent slot of the area is one of its first
+  -- a spent slot of the area is among its first slots
   number_low : (slot : SlotId) → slot.area ≡ area → slot.number < early_at image slot.area → 0 < gate_of image slot → slot.number < slots.spent
   number_low slot is early gate = elim (cases_lt slot.number slots.spent) [
     | inl less ↦ less
@@ -34,7 +34,7 @@ module _ (image : List ℕ) (area base count : ℕ) (slots : Slots) (base_is : b
   header_there : (slot : SlotId) (signed : Signed) → slot.area ≡ area → HasHeader image (place_of image slot) signed → HasHeader image (place_in base slot.number) signed
   header_there slot signed is has = subst (λ (p : ℕ). HasHeader image p signed) (place_here slot is) has
 
-  -- a slot of this number of the area
+  -- a slot of the area with this number
   abbrev here : ℕ → SlotId
   here number = record { area = area; number = number }
 
@@ -49,7 +49,7 @@ module _ (image : List ℕ) (area base count : ℕ) (slots : Slots) (base_is : b
     header = subst (λ (p : ℕ). HasHeader image p signed) (place_of_here number) has;
   }
 
-  -- what the areas up to this one have signed, an earlier one has, or this one
+  -- a header that the areas up to this one have signed was signed by an earlier area or by this one
   before_or : (slot : SlotId) (signed : Signed) → HasSigned image (area + 1) slot signed
       → HasSigned image area slot signed ⊎ ((slot.area ≡ area) × (slot.number < slots.spent) × HasHeader image (place_in base slot.number) signed)
   before_or slot signed has = elim (cases_lt slot.area area) [

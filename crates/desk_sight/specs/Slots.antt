@@ -1,5 +1,5 @@
--- The slots of an area before its last one, as runs and crashes leave them: the first ones are spent,
--- the others are not, of these only the first may have a text, and no text is longer than a header.
+-- The slots of an area before its last one, as runs and crashes leave them. The first ones are spent, and the
+-- others are not. Of those that are not spent, only the first may hold a text. No text is longer than a header.
 use Rattle.std.specs.Prelude.{◌≡◌, ◌⊎◌, ℕ, ◌+◌, ◌<◌, ◌≤◌, List, MatchOption}
 use Rattle.std.specs.declared.option.Option.{Option}
 use Rattle.std.specs.declared.option.Option.TheVariants.{None, Some}
@@ -10,7 +10,7 @@ use Rattle.desk_sight.specs.declared.slots.Slots.{Slots}
 use Rattle.desk_sight.specs.declared.strange.Strange.{Strange}
 use Rattle.desk_sight.specs.declared.strange.Strange.TheVariants.{Gap, Text, Block, Tail, Link, Shut}
 
--- of so many slots of the area at a base the first ones are spent, and the others as said above
+-- of this many slots of the area at a base, the first ones are spent, and the others satisfy the rule above
 pub record IsOrderly (image : List ℕ) (base spent count : ℕ) : Type 0 where
   pub few : spent ≤ count
   pub used : (k : ℕ) → k < spent → 0 < gate_at image (place_in base k)
@@ -20,11 +20,11 @@ pub record IsOrderly (image : List ℕ) (base spent count : ℕ) : Type 0 where
   pub tails : (k : ℕ) → k < count →
       IsZeroFrom (place_in base k + 106) (place_in base k + 128) image
 
--- no header stands in the slot at a place
+-- the slot at an offset holds no header
 abbrev pub HasNone : List ℕ → ℕ → Type 0
 HasNone image place = (signed : Signed) → HasHeader image place signed → ⊥
 
--- this is the header of the last of the first slots that has one
+-- this is the header of the last of the first slots that have one
 pub record IsLastOf (image : List ℕ) (base spent : ℕ) (signed : Signed) : Type 0 where
   pub number : ℕ
   pub known : number < spent
@@ -41,7 +41,7 @@ pub record IsGreatestOf (image : List ℕ) (base spent version : ℕ) : Type 0 w
   pub most : (k : ℕ) (other : Signed) → k < spent → HasHeader image (place_in base k) other →
       other.version ≤ version
 
--- the greater of two versions, where there is a first
+-- the greater of two versions; the first one is optional
 pub record IsGreater (first : Option ℕ) (second greater : ℕ) : Type 0 where
   pub either : MatchOption first (greater ≡ second) (λ v. (greater ≡ v) ⊎ (greater ≡ second))
   pub second_at_most : second ≤ greater
@@ -51,12 +51,12 @@ pub record IsGreater (first : Option ℕ) (second greater : ℕ) : Type 0 where
 abbrev pub AreBare : List ℕ → ℕ → ℕ → Type 0
 AreBare image base spent = (k : ℕ) → k < spent → HasNone image (place_in base k)
 
--- the first free one of so many slots has this header
+-- the first free one of this many slots has this header
 pub record IsWaitingIn (image : List ℕ) (base spent count : ℕ) (signed : Signed) : Type 0 where
   pub free : spent < count
   pub header : HasHeader image (place_in base spent) signed
 
--- what is told of so many slots of the area at a base is true of them
+-- the reported facts about this many slots of the area at a base are true
 pub record IsSlots (image : List ℕ) (base count : ℕ) (slots : Slots) : Type 0 where
   pub orderly : IsOrderly image base slots.spent count
   pub last : MatchOption slots.last (AreBare image base slots.spent)
@@ -67,8 +67,8 @@ pub record IsSlots (image : List ℕ) (base count : ℕ) (slots : Slots) : Type 
       ((signed : Signed) → IsWaitingIn image base slots.spent count signed → ⊥)
       (IsWaitingIn image base slots.spent count)
 
--- Why the slot of a number is not as the ones before it leave it, which are orderly. Its last octets
--- are looked at first.
+-- Why the slot with a number does not continue the slots before it, which are orderly. Its last octets are tested
+-- first.
 abbrev pub IsWrongAt : List ℕ → ℕ → ℕ → ℕ → Strange → Type 0
 IsWrongAt image base number key (Tail k slot) = (k ≡ key) × (slot ≡ number) × ((spent : ℕ) ×
     IsOrderly image base spent number) ×
@@ -86,7 +86,7 @@ IsWrongAt image base number key (Block k) = ⊥
 IsWrongAt image base number key (Link k) = ⊥
 IsWrongAt image base number key Shut = ⊥
 
--- why so many slots are not orderly: the first that is wrong
+-- why this many slots are not orderly: the fault of the first wrong slot
 abbrev pub IsWrong : List ℕ → ℕ → ℕ → ℕ → Strange → Type 0
 IsWrong image base count key strange = (number : ℕ) × (number < count) ×
     IsWrongAt image base number key strange

@@ -1,4 +1,4 @@
-//! Whether a block is that of a public key.
+//! Whether a key block belongs to a public key.
 ghost use Rattle.std.specs.Prelude.{◌≡◌, ◌+◌, ◌<◌, ◌≤◌, ◌↔◌, true, length, take, drop, IfOk};
 ghost use Rattle.desk_areas.specs.Keys.{key_at};
 ghost use Rattle.desk_areas.specs.Layout.{kind_at, slots_at};
@@ -8,7 +8,7 @@ use desk_areas::{StartError, build_key};
 use octet_text::{NoMemory, array_at};
 use std::alloc::Global;
 
-/// The public key whose 112 hex digits a text begins with.
+/// Returns the public key whose 112 hex digits begin a text.
 pub fn key_in(text: &[u8]) -> Option<[u8; 56]> {
     let mut public = [0u8; 56];
     match hex::decode_to_slice(text.get(..112)?, &mut public) {
@@ -17,7 +17,7 @@ pub fn key_in(text: &[u8]) -> Option<[u8; 56]> {
     }
 }
 
-// The kind that the block at a base names.
+// Returns the kind that the block at a base names.
 pub(crate) fn kind_at(image: &[u8], base: usize) -> u32
     requires { base + 5 ≤ length image.now }
     ensures { result ≡ kind_at image.now base }
@@ -26,7 +26,7 @@ pub(crate) fn kind_at(image: &[u8], base: usize) -> u32
     (high * 256 + image[base + 3] as u32) * 256 + image[base + 4] as u32
 }
 
-// Whether the block at a base makes a public key. It takes as long as making the key.
+// Tests whether the block at a base makes a given public key. Takes as long as making the key.
 pub(crate) fn is_key_at(
     alloc: Global,
     image: &[u8],
@@ -44,7 +44,7 @@ pub(crate) fn is_key_at(
     }
 }
 
-// Whether the first block has the kind and the identifier of a public key. It makes no key.
+// Tests whether the first block has the kind and the identifier of a given public key. Makes no key.
 pub(crate) fn has_name(image: &[u8], public: &[u8; 56]) -> bool
     requires { 64 ≤ length image.now }
     ensures { (result ≡ true) ↔ ((take 4 (drop 1 image.now) ≡ take 4 public.now) ×

@@ -1,4 +1,4 @@
-//! All octets of a disk.
+//! Reading all octets of a disk.
 ghost use Rattle.std.specs.Prelude.{◌≡◌, ◌≢◌, ◌≤◌, Err, IfOk, IsErrOf};
 ghost use Rattle.std.specs.Option.{ForSome};
 ghost use Rattle.road_io.specs.Causes.{Rose};
@@ -10,19 +10,19 @@ use octet_text::{NoMemory, filled};
 use road_io::Disk;
 use std::alloc::Global;
 
-/// The most octets that eight keys take.
+/// The greatest number of octets that eight keys take.
 const MOST: u64 = 1_049_088;
 
-/// Why a disk was not seen.
+/// Why a disk could not be read.
 #[derive(Clone, Copy, Debug, PartialEq, Eq)]
 pub enum Unseen {
     /// The disk failed.
     Failed,
-    /// There was no memory.
+    /// Out of memory.
     Memory(NoMemory),
 }
 
-/// The octets of a disk, as many as eight keys take at most. It changes no image.
+/// Reads the octets of a disk, at most as many as eight keys take. Changes no image.
 pub fn image_of<D: Disk>(alloc: Global, disk: &mut D) -> Result<Vec<u8>, Unseen>
     ensures image { IfOk result
         (λ image. ForSome (D.content disk.new) (λ c. image.items ≡ seen_of c)) }

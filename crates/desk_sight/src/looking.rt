@@ -1,15 +1,15 @@
-//! The look at an owner's desk, before a command that uses its keys.
+//! The look at an owner's desk before a command uses its keys.
 ghost use Rattle.std.specs.Prelude.{◌≡◌, ◌≢◌, ◌-◌, ◌*◌, ◌≤◌, ◌↔◌, true, List, ℕ, Err, Ok, Some, None, IfOk, IsErr, OnOk, MatchOption};
 ghost use Rattle.std.specs.Option.{ForSome};
 ghost use Rattle.road_io.specs.Causes.{HasCause};
 ghost use Rattle.road_io.specs.Disk.{Stays};
-ghost use Rattle.road_io.specs.Moments.{EachImage, AtEachMoment};
+ghost use Rattle.road_io.specs.Moments.{EachImage, AtEachMoment, still_told};
 ghost use Rattle.desk_areas.specs.Layout.{base_of, gate_at};
 ghost use Rattle.desk_sight.specs.Images.{seen_of};
 ghost use Rattle.desk_sight.specs.Areas.{IsShut, IsStrange};
 ghost use Rattle.desk_sight.specs.Sights.{IsSight, IsUntold};
 ghost use Rattle.key_desk.specs.Spending.{HasSpent, SpendsTexted};
-ghost use Rattle.desk_sight.specs.Looks.{HasClosedLink, IsMade, IsOther, IsUnlinked, NothingWaits, Spends, SpendsLink};
+ghost use Rattle.desk_sight.specs.Looks.{AnswersRefusal, HasClosedLink, HasOpened, IsFitFor, IsMade, IsOther, IsRefused, IsUnlinked, IsUntoldTo, NothingWaits, Spends, SpendsLink};
 
 use crate::first_key::{has_name, is_key_at};
 use crate::image::{Unseen, image_of};
@@ -30,7 +30,7 @@ pub enum Use {
     Publish,
     /// It signs the next key.
     Succeed,
-    /// It signs the links from each key to the next anew.
+    /// It signs again the links from each key to the next.
     Links,
 }
 
@@ -41,31 +41,31 @@ pub enum Unfit {
     Disk,
     /// Out of memory.
     Memory(NoMemory),
-    /// An open area of the desk can't be used.
+    /// An open area of the desk cannot be used.
     BadBlock,
-    /// The desk holds what no run and no crash leaves.
+    /// The desk holds something that no run and no crash leaves.
     Strange(Strange),
-    /// Its first key is not the one that was named.
+    /// The desk's first key differs from the named key.
     OtherKey,
 }
 
-/// What the look itself has spent.
+/// The slots that the look itself spent.
 #[derive(Clone, Copy, Debug, PartialEq, Eq)]
 pub enum Spending {
     /// Nothing.
     Nothing,
-    /// The first free one-time key, in which the whole header of a version stood.
+    /// The first free one-time key, which held the whole header of a version.
     Header { slot: u32, version: u64 },
-    /// The last one-time key of a key, in which the link to the key behind it stood.
+    /// The last one-time key of a key, which held the link to the next key.
     Link { key: u32 },
 }
 
-/// What was seen of a desk, and what the look has spent.
+/// The findings of a look at a desk, and what the look spent.
 #[derive(Clone, Copy, Debug, PartialEq, Eq)]
 pub struct Seen {
-    /// What the desk holds; where a header was spent, with that one-time key used.
+    /// The contents of the desk. A one-time key that the look spent on a header counts as used.
     pub sight: Sight,
-    /// What was spent.
+    /// What the look spent.
     pub spending: Spending,
 }
 
@@ -105,9 +105,9 @@ impl From<NoMemory> for Unfit {
     }
 }
 
-// Whether the first block is another key's than the one that was named, where one was and a block of a known kind
-// stands there. Before `Publish` kind and identifier are compared, since what it signs is verified under that key before
-// it goes out, which is much quicker than making the key.
+// Tests whether the first block belongs to a key other than the named one. Returns false if its kind is unknown or
+// no key is named. Before `Publish`, only the kind and the identifier are compared, which is much faster than
+// making the key. The signature is verified under the named key before it is written out.
 fn is_other(
     alloc: Global,
     what: Use,
@@ -128,7 +128,7 @@ fn is_other(
     Ok(!is_key_at(alloc, image, 0, public)?)
 }
 
-// Where the area of a number begins.
+// Returns the offset at which the area with a number begins.
 fn base_of(image: &[u8], area: u32) -> usize
     requires { area ≤ 8 }
     ensures base { result ≡ base_of image.now area }
@@ -141,7 +141,7 @@ fn base_of(image: &[u8], area: u32) -> usize
     base
 }
 
-// Whether the link that waits in the last slot of a key is to the key that stands behind it.
+// Tests whether the link that waits in a key's last slot leads to the next key.
 fn is_made(alloc: Global, image: &[u8], key: u32, link: &[u8; 56]) -> Result<bool, NoMemory>
     requires { key ≤ 8 }
     ensures { IfOk result (λ is. (is ≡ true) ↔ IsMade image.now key link.now) }
@@ -156,7 +156,7 @@ fn is_made(alloc: Global, image: &[u8], key: u32, link: &[u8; 56]) -> Result<boo
     is_key_at(alloc, image, base, link)
 }
 
-// Opens the gate of the last slot of an area that ends here.
+// Opens the gate of the last slot of the area that ends here.
 fn open_link<D: Disk>(disk: &mut D, end: u64) -> Result<(), Failed>
     requires closed { ForSome (D.content disk.old) (HasClosedLink end) }
     requires long { 128 ≤ end }
@@ -169,7 +169,7 @@ fn open_link<D: Disk>(disk: &mut D, end: u64) -> Result<(), Failed>
     open_gate(disk, end - 128)
 }
 
-// Before `Succeed`: opens the gate of the last slot where the link to the key behind stands in it.
+// Before `Succeed`, opens the gate of the last slot if it holds the link to the next key.
 fn spend_link<D: Disk>(
     alloc: Global,
     disk: &mut D,
@@ -181,7 +181,10 @@ fn spend_link<D: Disk>(
     ensures spends { SpendsLink D.Disk disk.old disk.new }
     ensures untouched { IsErr result → result ≢ Err Unfit.Disk →
         AtEachMoment D.Disk disk.old disk.new Stays }
-    ensures strange { (e : Strange) → result ≡ Err (Unfit.Strange e) → IsUnlinked image.now e }
+    ensures strange { (e : Strange) → result ≡ Err (Unfit.Strange e) →
+        (disk.new ≡ disk.old) × IsUnlinked image.now e }
+    ensures unlinked { (e : Strange) → IsUnlinked image.now e →
+        AnswersRefusal (Unfit.Strange e) result }
     ensures not_other { result ≢ Err Unfit.OtherKey }
     ensures nothing { result ≡ Ok Spending.Nothing → (disk.new ≡ disk.old) ×
         NothingWaits Use.Succeed image.now sight }
@@ -205,7 +208,7 @@ fn spend_link<D: Disk>(
     Ok(Spending::Nothing)
 }
 
-// Why no slot could be spent.
+// Returns why no slot could be spent.
 fn why_unfit(e: StartError) -> Unfit
     ensures disk { (result ≡ Unfit.Disk) ↔ (e ≡ StartError.DiskFault) }
     ensures not_strange { (strange : Strange) → result ≢ Unfit.Strange strange }
@@ -218,7 +221,7 @@ fn why_unfit(e: StartError) -> Unfit
     }
 }
 
-// Before `Publish`: spends the first free slot where a whole header stands in it.
+// Before `Publish`, spends the first free slot if it holds a whole header.
 fn spend_header<D: Disk>(alloc: Global, disk: &mut D, sight: Sight) -> Result<Spending, Unfit>
     ensures spends { SpendsTexted D.Disk disk.old disk.new }
     ensures untouched { IsErr result → result ≢ Err Unfit.Disk →
@@ -245,7 +248,7 @@ fn spend_header<D: Disk>(alloc: Global, disk: &mut D, sight: Sight) -> Result<Sp
     }
 }
 
-// Spends what waits, as a command needs it.
+// Spends the slots that wait, as a command requires.
 fn spend<D: Disk>(
     alloc: Global,
     what: Use,
@@ -259,10 +262,10 @@ fn spend<D: Disk>(
     ensures untouched { IsErr result → result ≢ Err Unfit.Disk →
         AtEachMoment D.Disk disk.old disk.new Stays }
     ensures strange { (e : Strange) → result ≡ Err (Unfit.Strange e) →
-        (what ≡ Use.Succeed) × IsUnlinked image.now e }
+        (disk.new ≡ disk.old) × (what ≡ Use.Succeed) × IsUnlinked image.now e }
+    ensures unlinked { (e : Strange) → what ≡ Use.Succeed → IsUnlinked image.now e →
+        AnswersRefusal (Unfit.Strange e) result }
     ensures not_other { result ≢ Err Unfit.OtherKey }
-    ensures content { (e : Strange) → result ≡ Err (Unfit.Strange e) →
-        D.content disk.new ≡ D.content disk.old }
     ensures nothing { result ≡ Ok Spending.Nothing → (disk.new ≡ disk.old) ×
         NothingWaits what image.now sight }
     ensures opened { (key : ℕ) → result ≡ Ok (Spending.Link key) →
@@ -279,7 +282,7 @@ fn spend<D: Disk>(
     }
 }
 
-// The sight after what was spent.
+// Returns the sight after the spending.
 fn seen_after(sight: Sight, spending: Spending) -> Seen
     ensures nothing { spending ≡ Spending.Nothing → result ≡ record { sight = sight; spending = spending } }
     ensures spending { result.spending ≡ spending }
@@ -291,7 +294,7 @@ fn seen_after(sight: Sight, spending: Spending) -> Seen
     Seen { sight, spending }
 }
 
-// Before `Key`: nothing, but where a desk stands whose first gate is closed.
+// Returns `None` before `Key`; otherwise fails because the desk's first gate is closed.
 fn new_desk(image: &[u8]) -> Result<Option<Seen>, Unfit>
     ensures shut { (e : Unfit) → result ≡ Err e → (e ≡ Unfit.Strange Strange.Shut) × IsShut image.now }
     ensures none { IfOk result (λ found. (found ≡ None) × (IsShut image.now → ⊥)) }
@@ -304,7 +307,7 @@ fn new_desk(image: &[u8]) -> Result<Option<Seen>, Unfit>
     Ok(None)
 }
 
-// What a command may begin over, if a key can be told.
+// Returns the sight with which a command may begin, if the desk has a key that can be recognised.
 fn sight_for(
     alloc: Global,
     what: Use,
@@ -315,8 +318,13 @@ fn sight_for(
     ensures not_other { OnOk result (IsOther what public.now image.now → ⊥) }
     ensures strange { (e : Strange) → result ≡ Err (Unfit.Strange e) →
         (IsOther what public.now image.now → ⊥) × IsStrange image.now e }
+    ensures strange_else { (e : Strange) → (IsOther what public.now image.now → ⊥) →
+        IsStrange image.now e → AnswersRefusal (Unfit.Strange e) result }
     ensures other { result ≡ Err Unfit.OtherKey → IsOther what public.now image.now }
+    ensures other_else { IsOther what public.now image.now →
+        AnswersRefusal Unfit.OtherKey result }
     ensures no_disk { result ≢ Err Unfit.Disk }
+    ensures no_block { result ≢ Err Unfit.BadBlock }
 {
     if is_other(alloc, what, public, image)? {
         return Err(Unfit::OtherKey);
@@ -327,12 +335,59 @@ fn sight_for(
     }
 }
 
-/// What a desk holds before a command that uses its keys, and nothing where there is no key that can be told. It refuses
-/// what no run and no crash leaves, and a desk whose first key is not the one that was named.
+// Returns the sight with which a command begins, from the octets of its disk.
+fn look_over<D: Disk>(
+    alloc: Global,
+    what: Use,
+    public: &Option<[u8; 56]>,
+    disk: &mut D,
+    image: &[u8],
+) -> Result<Option<Seen>, Unfit>
+    requires { ForSome (D.content disk.old) (λ c. image.now ≡ seen_of c) }
+    ensures spends { Spends D.Disk what disk.old disk.new }
+    ensures untouched { IsErr result → result ≢ Err Unfit.Disk →
+        AtEachMoment D.Disk disk.old disk.new Stays }
+    ensures strange { (e : Strange) → result ≡ Err (Unfit.Strange e) → (disk.new ≡ disk.old) ×
+        IsRefused what public.now image.now e }
+    ensures strange_else { (e : Strange) → IsRefused what public.now image.now e →
+        AnswersRefusal (Unfit.Strange e) result }
+    ensures other { result ≡ Err Unfit.OtherKey → (disk.new ≡ disk.old) ×
+        IsOther what public.now image.now }
+    ensures other_else { what ≢ Use.Key → IsOther what public.now image.now →
+        AnswersRefusal Unfit.OtherKey result }
+    ensures untold { result ≡ Ok None → (disk.new ≡ disk.old) ×
+        IsUntoldTo what public.now image.now }
+    ensures unspent { (seen : Seen) → result ≡ Ok (Some seen) → seen.spending ≡ Spending.Nothing →
+        (disk.new ≡ disk.old) × IsFitFor what public.now image.now seen.sight }
+    ensures opened { (seen : Seen) (key : ℕ) → result ≡ Ok (Some seen) →
+        seen.spending ≡ Spending.Link key →
+        EachImage D.Disk disk.new (λ i. gate_at i (base_of image.now key - 128) ≡ 1) }
+    ensures spent { (seen : Seen) (slot version : ℕ) → result ≡ Ok (Some seen) →
+        seen.spending ≡ Spending.Header slot version → EachImage D.Disk disk.new
+        (λ i. (c : List ℕ) × (D.content disk.old ≡ Some c) × HasSpent slot c i) }
+    ensures faults { D.faults disk.old ≤ D.faults disk.new }
+{
+    if what == Use::Key {
+        return new_desk(image);
+    }
+    match sight_for(alloc, what, public, image) {
+        Err(unfit) => Err(unfit),
+        Ok(None) => Ok(None),
+        Ok(Some(sight)) => match spend(alloc, what, disk, image, sight) {
+            Err(unspent) => Err(unspent),
+            Ok(spending) => Ok(Some(seen_after(sight, spending))),
+        },
+    }
+}
+
+/// Returns the contents of a desk before a command uses its keys, or `None` if it has no key that can be
+/// recognised. Fails if the desk holds anything that no run and no crash leaves, or if its first key differs from
+/// the named key.
 ///
-/// Before `Publish` a whole header that waits in the first free slot is spent, and before `Succeed` a link that waits in
-/// the last slot for the key behind it: their one-time keys sign nothing else. Nothing else is written, and nothing where
-/// it refuses. Before `Key` it looks for a desk whose first gate something has closed, and answers nothing else.
+/// Before `Publish`, spends the first free slot if a whole header waits in it. Before `Succeed`, spends the last
+/// slot if a link to the next key waits in it. The one-time keys of these slots sign nothing else. Writes nothing
+/// else, and nothing at all if it fails. Before `Key`, it only looks for a desk whose first gate was closed by
+/// something else.
 pub fn look<D: Disk>(
     alloc: Global,
     what: Use,
@@ -342,19 +397,26 @@ pub fn look<D: Disk>(
     ensures spends { Spends D.Disk what disk.old disk.new }
     ensures untouched { IsErr result → result ≢ Err Unfit.Disk →
         AtEachMoment D.Disk disk.old disk.new Stays }
+    ensures strange { (e : Strange) → result ≡ Err (Unfit.Strange e) →
+        ForSome (D.content disk.new) (λ c. IsRefused what public (seen_of c) e) }
+    ensures strange_else { (e : Strange) → ForSome (still_told D.Disk disk.old disk.new)
+        (λ c. IsRefused what public (seen_of c) e → AnswersRefusal (Unfit.Strange e) result) }
     ensures other { result ≡ Err Unfit.OtherKey →
         ForSome (D.content disk.new) (λ c. IsOther what public (seen_of c)) }
+    ensures other_else { what ≢ Use.Key → ForSome (still_told D.Disk disk.old disk.new)
+        (λ c. IsOther what public (seen_of c) → AnswersRefusal Unfit.OtherKey result) }
+    ensures untold { result ≡ Ok None →
+        ForSome (D.content disk.new) (λ c. IsUntoldTo what public (seen_of c)) }
+    ensures unspent { (seen : Seen) → result ≡ Ok (Some seen) → seen.spending ≡ Spending.Nothing →
+        ForSome (D.content disk.new) (λ c. IsFitFor what public (seen_of c) seen.sight) }
+    ensures opened { (seen : Seen) (key : ℕ) → result ≡ Ok (Some seen) →
+        seen.spending ≡ Spending.Link key → EachImage D.Disk disk.new
+        (λ i. (c : List ℕ) × (D.content disk.old ≡ Some c) × HasOpened key c i) }
+    ensures spent { (seen : Seen) (slot version : ℕ) → result ≡ Ok (Some seen) →
+        seen.spending ≡ Spending.Header slot version → EachImage D.Disk disk.new
+        (λ i. (c : List ℕ) × (D.content disk.old ≡ Some c) × HasSpent slot c i) }
     ensures faults { D.faults disk.old ≤ D.faults disk.new }
 {
     let image = image_of(alloc, disk)?;
-    if what == Use::Key {
-        return new_desk(&image);
-    }
-    match sight_for(alloc, what, &public, &image)? {
-        None => Ok(None),
-        Some(sight) => {
-            let spending = spend(alloc, what, disk, &image, sight)?;
-            Ok(Some(seen_after(sight, spending)))
-        }
-    }
+    look_over(alloc, what, &public, disk, &image)
 }

@@ -1,11 +1,11 @@
-//! The octets of an image that are zero, and the texts that its slots have.
+//! The zero octets of an image, and the texts of its slots.
 ghost use Rattle.std.specs.Prelude.{◌≡◌, ◌+◌, ◌<◌, ◌≤◌, ◌↔◌, length, true, ◌≢◌, Some, IfSome};
 ghost use Rattle.desk_sight.specs.Texts.{IsZeroFrom, HasHeader, IsSomeRoot};
 
 use crate::slots::Signed;
 use proof_octets::Header;
 
-/// Whether the octets of an image between two places are zero.
+/// Tests whether the octets of an image from one offset up to another are zero.
 pub(crate) fn is_zero(image: &[u8], from: usize, to: usize) -> bool
     requires { to ≤ length image.now }
     ensures { (result ≡ true) ↔ IsZeroFrom from to image.now }
@@ -18,7 +18,7 @@ pub(crate) fn is_zero(image: &[u8], from: usize, to: usize) -> bool
     true
 }
 
-// Whether some octet is not zero.
+// Tests whether any octet is not zero.
 fn has_some(octets: &[u8; 32]) -> bool
     ensures { (result ≡ true) ↔ IsSomeRoot octets.now }
 {
@@ -30,7 +30,7 @@ fn has_some(octets: &[u8; 32]) -> bool
     false
 }
 
-/// The header that stands in the slot at a place, whole and with a root that is not zeros.
+/// Returns the header in the slot at an offset, if it is whole and its root is not zeros.
 pub(crate) fn header_at(image: &[u8], place: usize) -> Option<Signed>
     requires { place + 128 ≤ length image.now }
     ensures some { IfSome result (HasHeader image.now place) }

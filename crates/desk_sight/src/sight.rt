@@ -1,5 +1,5 @@
-//! What a desk holds that is told of, or that no command signs over.
-ghost use Rattle.std.specs.Prelude.{◌≡◌, ◌+◌, ◌-◌, ◌*◌, ◌<◌, ◌≤◌, ◌↔◌, ◌≢◌, ℕ, true, length, get_or, IfOk, IfErr, IfSome, IfNone, IsSomeAnd, Some, MatchOption, MatchResult};
+//! The contents of a desk: the facts that are reported, and the slots over which no command may sign.
+ghost use Rattle.std.specs.Prelude.{◌≡◌, ◌+◌, ◌-◌, ◌*◌, ◌<◌, ◌≤◌, ◌↔◌, ◌≢◌, ℕ, true, length, get_or, IfOk, IfErr, IfSome, IfNone, IsSomeAnd, Some, MatchOption, MatchResult, Ok, Err, None};
 ghost use Rattle.desk_areas.specs.Layout.{place_in, slots_at, base_of, gate_at, text_at};
 ghost use Rattle.lms_tree.specs.Links.{IsLink};
 ghost use Rattle.desk_sight.specs.Slots.{IsGreater, IsSlots};
@@ -15,30 +15,31 @@ use desk_areas::slots_of as kind_slots;
 use lms_tree::is_link;
 use octet_text::array_at;
 
-/// What a desk holds before a command that signs.
+/// The contents of a desk before a command signs.
 #[derive(Clone, Copy, Debug, PartialEq, Eq)]
 pub struct Sight {
     /// The number of the current key, from 1.
     pub key: u32,
-    /// How many of its one-time keys sign maps.
+    /// The number of the current key's one-time keys that sign maps.
     pub size: u32,
-    /// How many of these are used: the first ones.
+    /// The number of these one-time keys that are used. The first ones are used first.
     pub spent: u32,
-    /// The last header that the desk has signed.
+    /// The last header that the desk signed.
     pub last: Option<Signed>,
-    /// The greatest version that the desk has signed.
+    /// The greatest version that the desk signed.
     pub greatest: Option<u64>,
-    /// A whole header that stands in the first free one-time key: a crash has left it there, or a bit was
-    /// turned after its signature.
+    /// A whole header in the first free one-time key. Either a crash left it there, or a bit was flipped after its
+    /// signature.
     pub waiting: Option<Signed>,
-    /// The key that a whole link text names in the last one-time key, where that is free: so too.
+    /// The key that a whole link text names, if this text is in the last one-time key and that key is free. The
+    /// possible causes are the same.
     pub link: Option<[u8; 56]>,
-    /// Whether the octet where the key behind this one has its first gate is not zero.
+    /// Whether the octet at the first gate of the next key is not zero.
     pub is_followed: bool,
 }
 
 impl Sight {
-    /// The sight where one more one-time key is used.
+    /// Returns the sight with one more used one-time key.
     pub fn with_one_more(self) -> Sight {
         Sight {
             spent: self.spent.saturating_add(1),
@@ -47,13 +48,13 @@ impl Sight {
         }
     }
 
-    /// How many maps the current key can still sign.
+    /// Returns the number of maps that the current key can still sign.
     pub fn left(&self) -> u32 {
         self.size.saturating_sub(self.spent)
     }
 }
 
-/// What some keys of a desk have signed.
+/// The headers that some keys of a desk have signed.
 #[derive(Clone, Copy)]
 pub(crate) struct Told {
     /// The last header.
@@ -63,7 +64,7 @@ pub(crate) struct Told {
 }
 
 impl Told {
-    // What no key has signed.
+    // Starts without any key.
     fn none(image: &[u8]) -> Told
         ensures { IsTold image.now 0 result }
     {
@@ -73,7 +74,7 @@ impl Told {
         }
     }
 
-    // What these keys and one more have signed, with these slots.
+    // Adds one more key, with these slots.
     fn with(self, image: &[u8], area: u32, base: usize, count: u32, slots: Slots) -> Told
         requires told { IsTold image.now area self }
         requires base { base ≡ base_of image.now area }
@@ -88,7 +89,7 @@ impl Told {
     }
 }
 
-// The later of two headers, where there is a later one.
+// Returns the later header if there is one, and otherwise the earlier one.
 fn later(before: Option<Signed>, now: Option<Signed>) -> Option<Signed>
     ensures { MatchOption now (result ≡ before) (λ signed. result ≡ Some signed) }
 {
@@ -98,7 +99,7 @@ fn later(before: Option<Signed>, now: Option<Signed>) -> Option<Signed>
     }
 }
 
-// The greater of two versions, where there are any.
+// Returns the greater of two versions, or the only one, if any.
 fn greatest(before: Option<u64>, now: Option<u64>) -> Option<u64>
     ensures { MatchOption now (result ≡ before)
         (λ version. IsSomeAnd result (IsGreater before version)) }
@@ -109,7 +110,8 @@ fn greatest(before: Option<u64>, now: Option<u64>) -> Option<u64>
     }
 }
 
-// How many slots the area at a base has, and none where its kind is unknown or it does not all stand there.
+// Returns the number of slots of the area at a base, or 0 if its kind is unknown or it does not lie within the
+// image.
 pub(crate) fn whole_slots(image: &[u8], base: usize) -> u32
     requires { base ≤ 1000000 }
     ensures some { 0 < result → (result ≡ slots_at image.now base) ×
@@ -124,7 +126,7 @@ pub(crate) fn whole_slots(image: &[u8], base: usize) -> u32
     slots
 }
 
-// How many slots the kind at a base has.
+// Returns the number of slots of the kind at a base.
 pub(crate) fn block_slots(image: &[u8], base: usize) -> u32
     requires { base ≤ 1200000 }
     ensures slots { result ≡ slots_at image.now base }
@@ -136,7 +138,7 @@ pub(crate) fn block_slots(image: &[u8], base: usize) -> u32
     kind_slots(kind_at(image, base))
 }
 
-// Whether the octets of a block that are always zero are.
+// Tests whether those octets of a block that are always zero are zero.
 fn is_plain_block(image: &[u8], base: usize, area: u32) -> bool
     requires within { base + 64 ≤ length image.now }
     requires base { base ≡ base_of image.now area }
@@ -145,7 +147,7 @@ fn is_plain_block(image: &[u8], base: usize, area: u32) -> bool
     is_zero(image, base + 53, base + 64) && (area == 0 || image[base] == 0)
 }
 
-// The text that a slot has, as far as it may have one.
+// Returns the octets of a slot in which its text may be.
 fn text_of(image: &[u8], place: usize) -> &[u8]
     requires { place + 128 ≤ length image.now }
     ensures { result.now ≡ text_at image.now place }
@@ -154,7 +156,7 @@ fn text_of(image: &[u8], place: usize) -> &[u8]
     &image[place + 2..place + 2 + length]
 }
 
-// The key that the link text in a free last slot names.
+// Returns the key that the link text in a free last slot names.
 fn waiting_link(image: &[u8], place: usize) -> Option<[u8; 56]>
     requires { place + 128 ≤ length image.now }
     ensures some { IfSome result (λ key. (gate_at image.now place ≡ 0) ×
@@ -172,7 +174,7 @@ fn waiting_link(image: &[u8], place: usize) -> Option<[u8; 56]>
     }
 }
 
-// Whether the last slot of an area is spent with a link text.
+// Tests whether the last slot of an area is spent and holds a link text.
 fn is_linked(image: &[u8], place: usize) -> bool
     requires { place + 128 ≤ length image.now }
     ensures { (result ≡ true) ↔ ((0 < gate_at image.now place) × IsLink (text_at image.now place)) }
@@ -180,14 +182,14 @@ fn is_linked(image: &[u8], place: usize) -> bool
     image[place] != 0 && is_link(text_of(image, place))
 }
 
-// Whether an octet is there and not zero.
+// Tests whether an octet exists and is not zero.
 pub(crate) fn is_some(image: &[u8], place: usize) -> bool
     ensures { (result ≡ true) ↔ (0 < gate_at image.now place) }
 {
     place < image.len() && image[place] != 0
 }
 
-// Whether a block stands at a base, of which the secret's octets are not all alike.
+// Tests whether there is a block at a base and the octets of its secret are not all equal.
 fn has_block(image: &[u8], base: usize) -> bool
     requires { base ≤ 1200000 }
     ensures { (result ≡ true) ↔ HasBlock image.now base }
@@ -195,7 +197,7 @@ fn has_block(image: &[u8], base: usize) -> bool
     block_slots(image, base) != 0 && has_secret(image, base + 5)
 }
 
-// Whether the 48 octets at a place are not all alike, where an image may end before them.
+// Tests whether the 48 octets at an offset are not all equal. The image may end before them.
 fn has_secret(image: &[u8], place: usize) -> bool
     requires { place ≤ 1300000 }
     ensures { (result ≡ true) ↔ ((number : ℕ) × (number < 48) ×
@@ -210,14 +212,14 @@ fn has_secret(image: &[u8], place: usize) -> bool
     false
 }
 
-// The octet at a place, and 0 past the end.
+// Returns the octet at an offset, or 0 past the end.
 fn octet_at(image: &[u8], place: usize) -> u8
     ensures { result ≡ get_or image.now place 0 }
 {
     if place < image.len() { image[place] } else { 0 }
 }
 
-// Whether an octet between two places is there and not zero.
+// Tests whether any octet from one offset up to another exists and is not zero.
 fn has_octet(image: &[u8], from: usize, to: usize) -> bool
     ensures { (result ≡ true) ↔ HasOctet image.now from to }
 {
@@ -229,7 +231,8 @@ fn has_octet(image: &[u8], from: usize, to: usize) -> bool
     false
 }
 
-// Whether a desk stands behind a first gate that something has closed.
+// Tests whether there is a desk behind a closed first gate. Something other than a run must then have closed the
+// gate.
 pub(crate) fn is_shut(image: &[u8]) -> bool
     requires { gate_at image.now 0 ≡ 0 }
     ensures { (result ≡ true) ↔ IsShut image.now }
@@ -241,7 +244,7 @@ pub(crate) fn is_shut(image: &[u8]) -> bool
     has_octet(image, 64, end) || has_block(image, end)
 }
 
-// What is told of an area that is reached and whole, after what the areas before it have signed.
+// Returns the sight of an area that is reached and whole, given what the areas before it have signed.
 fn sight_in(image: &[u8], base: usize, area: u32, slots: u32, told: Told) -> Result<Sight, Strange>
     requires base { base ≡ base_of image.now area }
     requires low { base ≤ 917952 }
@@ -277,8 +280,19 @@ fn sight_in(image: &[u8], base: usize, area: u32, slots: u32, told: Told) -> Res
     })
 }
 
-/// What a desk of these octets holds, if it has a key that can be told. What no run and no crash leaves is an error.
+/// Returns the contents of the desk with these octets, or `None` if it has no key that can be recognised. Fails if
+/// the octets hold anything that no run and no crash leaves.
 pub fn sight_of(image: &[u8]) -> Result<Option<Sight>, Strange>
+    ensures told { MatchResult result
+        (λ found. MatchOption found (IsUntold image.now) (IsSight image.now)) (IsStrange image.now) }
+    ensures strange { (e : Strange) → IsStrange image.now e → result ≡ Err e }
+    ensures untold { IsUntold image.now → result ≡ Ok None }
+{
+    sight_found(image)
+}
+
+// Does the same, one area after the other.
+fn sight_found(image: &[u8]) -> Result<Option<Sight>, Strange>
     ensures { MatchResult result (λ found. MatchOption found (IsUntold image.now) (IsSight image.now))
         (IsStrange image.now) }
 {

@@ -7,30 +7,30 @@ ghost use Rattle.desk_sight.specs.Slots.{IsGreater, IsSlots, IsWrong, IsWrongAt}
 use crate::octets::{header_at, is_zero};
 use crate::strange::Strange;
 
-/// A header that a slot has, as far as it is told.
+/// A header in a slot, reduced to the facts that are reported.
 #[derive(Clone, Copy, Debug, PartialEq, Eq)]
 pub struct Signed {
     /// The version of the map.
     pub version: u64,
-    /// How many nodes the map has.
+    /// The number of nodes of the map.
     pub nodes: u32,
 }
 
-/// What some slots of an area hold.
+/// The contents of some slots of an area.
 #[derive(Clone, Copy, Debug, PartialEq, Eq)]
 pub(crate) struct Slots {
-    /// How many are spent: the first ones.
+    /// The number of spent slots. The first slots are spent first.
     pub spent: u32,
-    /// The header of the last one that is spent and has one.
+    /// The header of the last spent slot that has one.
     pub last: Option<Signed>,
-    /// The greatest version of a header in a spent one.
+    /// The greatest version of a header in a spent slot.
     pub greatest: Option<u64>,
-    /// The header that stands in the first free one.
+    /// The header in the first free slot.
     pub waiting: Option<Signed>,
 }
 
 impl Slots {
-    // No slot was seen yet.
+    // Starts without any slot.
     fn none(image: &[u8], base: usize) -> Slots
         ensures { IsSlots image.now base 0 result }
     {
@@ -42,7 +42,7 @@ impl Slots {
         }
     }
 
-    // These slots and one more, of this number.
+    // Adds one more slot, with this number.
     fn with(self, image: &[u8], base: usize, key: u32, number: u32) -> Result<Slots, Strange>
         requires within { place_in base (number + 1) ≤ length image.now }
         requires few { number < 1024 }
@@ -62,7 +62,7 @@ impl Slots {
         }
     }
 
-    // These slots and one more that is not spent.
+    // Adds one more slot that is not spent.
     fn with_free(self, image: &[u8], base: usize, key: u32, number: u32) -> Result<Slots, Strange>
         requires within { place_in base (number + 1) ≤ length image.now }
         requires few { number < 1024 }
@@ -90,7 +90,7 @@ impl Slots {
         }
     }
 
-    // These slots and one more that is spent.
+    // Adds one more slot that is spent.
     fn with_spent(self, image: &[u8], base: usize, key: u32, number: u32) -> Result<Slots, Strange>
         requires within { place_in base (number + 1) ≤ length image.now }
         requires few { number < 1024 }
@@ -124,7 +124,7 @@ impl Slots {
     }
 }
 
-// The greater of two versions, where there is a first.
+// Returns the greater of two versions; the first one is optional.
 pub(crate) fn greater(first: Option<u64>, second: u64) -> u64
     ensures { IsGreater first second result }
 {
@@ -134,7 +134,7 @@ pub(crate) fn greater(first: Option<u64>, second: u64) -> u64
     }
 }
 
-/// What the first slots of the area at a base hold, so many.
+/// Returns the contents of the first `count` slots of the area at a base.
 pub(crate) fn slots_of(image: &[u8], base: usize, key: u32, count: u32) -> Result<Slots, Strange>
     requires within { place_in base count ≤ length image.now }
     requires few { count ≤ 1024 }

@@ -1,21 +1,21 @@
-//! What no run and no crash leaves in a desk.
+//! The contents of a desk that no run and no crash leaves.
 
 use std::fmt::{self, Display, Formatter};
 
-/// What no run and no crash can leave. Keys are counted from 1 and one-time keys from 0.
+/// Contents that no run and no crash can leave. Keys are counted from 1, one-time keys from 0.
 #[derive(Clone, Copy, Debug, PartialEq, Eq)]
 pub enum Strange {
-    /// The one-time key counts as free, and one after it is used.
+    /// The one-time key counts as free, but a later one is used.
     Gap { key: u32, slot: u32 },
-    /// The one-time key counts as free and is not the first such, and has a text.
+    /// The one-time key counts as free, is not the first free one, and holds a text.
     Text { key: u32, slot: u32 },
-    /// The octets that are always zero, in the block of the key, are not.
+    /// In the block of the key, octets that are always zero are not zero.
     Block { key: u32 },
-    /// The octets that are always zero, after the text of the one-time key, are not.
+    /// After the text of the one-time key, octets that are always zero are not zero.
     Tail { key: u32, slot: u32 },
-    /// The key after this one has signed or is whole, and the link to it counts as unsigned and is not whole.
+    /// The next key has signed or is whole, but the link from this key to it counts as unsigned and is not whole.
     Link { key: u32 },
-    /// The first key's gate is closed, and its block, and slots of it or another key, stand behind it.
+    /// The first key's gate is closed, but its block is behind it, together with some of its slots or another key.
     Shut,
 }
 

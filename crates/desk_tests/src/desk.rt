@@ -14,11 +14,11 @@ use test_maps::DIJ;
 /// How a command ends.
 type End = Result<Conclusion, Fault>;
 
-/// The public key of the kind h5 that an independent implementation makes of 48 zero octets.
+/// The public key of kind h5 that an independent implementation makes from 48 zero octets.
 const PUBLIC: &[u8] =
     b"000000050000000400000000000000000000000000000000829887511085dc8b9946d97b20163fe2ab4385e734979f535139cabe33cd694f";
 
-/// The same of 48 octets that are 1.
+/// The same for 48 octets with the value 1.
 const NEXT: &[u8] =
     b"000000050000000401010101010101010101010101010101599d16861dc9aacdc40b4275991c60ebdf9decfb219eb795df51d5c9a347762a";
 
@@ -30,7 +30,7 @@ struct World {
     sink: MemSink,
 }
 
-/// An empty disk, and a map of one node.
+/// Makes an empty disk and a map of one node.
 fn new_world(alloc: Global) -> Result<World, Fail> {
     let mut library = MemLibrary::new(alloc, Vec::new(alloc));
     library.put("map.roads", b"roads 1\nnode 7 -1 2\n")?;
@@ -41,14 +41,14 @@ fn new_world(alloc: Global) -> Result<World, Fail> {
     })
 }
 
-/// Puts the secret of one octet again and again.
+/// Stores a secret in which one octet is repeated.
 fn put_secret(alloc: Global, world: &mut World, octet: u8) -> Result<(), Fail> {
     let digits = hex::encode(alloc, &[octet; 48])?;
     world.library.put("secret", digits.as_bytes())?;
     Ok(())
 }
 
-/// Makes the first key of such a secret.
+/// Makes the first key from such a secret.
 fn make_key(alloc: Global, world: &mut World, octet: u8) -> Result<End, Fail> {
     put_secret(alloc, world, octet)?;
     Ok(key(
@@ -61,7 +61,7 @@ fn make_key(alloc: Global, world: &mut World, octet: u8) -> Result<End, Fail> {
     ))
 }
 
-/// Makes the next key of such a secret.
+/// Makes the next key from such a secret.
 fn follow(alloc: Global, world: &mut World, octet: u8) -> Result<End, Fail> {
     put_secret(alloc, world, octet)?;
     Ok(succeed(
@@ -74,7 +74,7 @@ fn follow(alloc: Global, world: &mut World, octet: u8) -> Result<End, Fail> {
     ))
 }
 
-/// Tells what is left of the key.
+/// Reports how many one-time keys are left.
 fn tell(alloc: Global, world: &mut World) -> End {
     desk(alloc, &mut world.sink, &mut world.disk)
 }
@@ -88,12 +88,13 @@ fn publish_map(alloc: Global, world: &mut World) -> End {
         &mut world.sink,
         &mut world.disk,
         &mut mirrors,
+        &mut Vec::new(alloc),
         "map.roads",
         &DIJ,
     )
 }
 
-/// Pieces of a text, one after the other.
+/// Joins pieces of a text.
 fn joined(alloc: Global, pieces: &[&[u8]]) -> Result<Vec<u8>, Fail> {
     let mut text = Vec::new(alloc);
     for piece in pieces {
@@ -130,7 +131,7 @@ fn a_key_is_followed_by_the_next(rt: HostRuntime) -> Result<(), Fail> {
     Ok(())
 }
 
-/// The chain file of an owner whose second key is made of ones.
+/// Returns the chain file of an owner whose second key is made from octets with the value 1.
 fn chain_of_two(alloc: Global) -> Result<Vec<u8>, Fail> {
     let mut world = new_world(alloc)?;
     make_key(alloc, &mut world, 0)??;

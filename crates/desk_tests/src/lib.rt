@@ -1,4 +1,4 @@
-//! Tests of the owner, of the commands and of the service. Each shows what no clause says.
+//! Tests of the owner, of the commands and of the service. Each test shows facts that no clause states.
 #![tactic(auto)]
 
 #[cfg(test)]

@@ -15,12 +15,12 @@ use test_maps::FIVE_NODES;
 /// How a command ends.
 type End = Result<Conclusion, Fault>;
 
-/// A sink with ample room.
+/// Makes a sink with enough room.
 fn new_sink(alloc: Global) -> Result<MemSink, Fail> {
     Ok(MemSink::new(alloc, 1000, 1000, Vec::new(alloc))?)
 }
 
-/// Asserts what `route` writes of a file and two ids, and how it ends.
+/// Asserts the output of `route` for a file and two ids, and how the command ends.
 fn assert_routed(
     rt: &impl Abort,
     alloc: Global,
@@ -55,7 +55,7 @@ fn routes_over_five_nodes(rt: HostRuntime) -> Result<(), Fail> {
     Ok(())
 }
 
-/// A library whose only file has the five nodes and one more line.
+/// Makes a library with one file, which has the five nodes and one more line.
 fn with_line(alloc: Global, line: &str) -> Result<MemLibrary, Fail> {
     let mut text = FIVE_NODES.to_string(alloc)?;
     text.push_str(line)?;
@@ -133,7 +133,7 @@ fn failing_objects_end_a_command(rt: HostRuntime) -> Result<(), Fail> {
     Ok(())
 }
 
-/// Asserts what `dimacs` writes of two files, and how it ends.
+/// Asserts the output of `dimacs` for two files, and how the command ends.
 fn assert_converted(
     rt: &impl Abort,
     alloc: Global,

@@ -12,7 +12,7 @@ use std::alloc::Global;
 use std::test::Fail;
 use test_maps::{DIJ, NODES, ROADS, parts_of};
 
-/// An owner's disk, its public key, and the octets of the publication that its desk has signed.
+/// An owner's disk, its public key, and the octets of the publication that its desk signed.
 #[derive(Drop)]
 pub(crate) struct Signed {
     pub disk: MemDisk,
@@ -20,7 +20,7 @@ pub(crate) struct Signed {
     pub text: Vec<u8>,
 }
 
-/// The five nodes in this version, which a new desk signs first.
+/// Publishes the five nodes in this version, which is the first one that a new desk signs.
 pub(crate) fn published(alloc: Global, version: u64) -> Result<Signed, Fail> {
     let mut disk = MemDisk::new(alloc, 4160, 100_000, Vec::new(alloc), None)?;
     let mut desk = Desk::create(alloc, &mut disk, 5, &[0; 48])?;

@@ -1,4 +1,4 @@
-//! The command `reduce`: headers that were signed past the desk, and one that the desk has signed.
+//! The command `reduce`, for headers that were signed without the desk, and for a header that the desk signed.
 
 use crate::asserts::{assert_octets, assert_same};
 use crate::owner::published;
@@ -12,7 +12,7 @@ use std::alloc::Global;
 use std::process::Abort;
 use std::test::Fail;
 
-/// The owner's files and disk, and the octets of the publication that the desk has signed.
+/// The owner's files and disk, and the octets of the publication that the desk signed.
 #[derive(Drop)]
 struct World {
     library: MemLibrary,
@@ -20,7 +20,7 @@ struct World {
     publication: Vec<u8>,
 }
 
-/// An owner whose first slot has signed version 3.
+/// Makes an owner whose first slot has signed version 3.
 fn owner(alloc: Global) -> Result<World, Fail> {
     let owner = published(alloc, 3)?;
     let mut library = MemLibrary::new(alloc, Vec::new(alloc));
@@ -32,14 +32,14 @@ fn owner(alloc: Global) -> Result<World, Fail> {
     })
 }
 
-/// Puts some octets' hex file under this name.
+/// Stores the hex file of octets under this name.
 fn put_hex(alloc: Global, library: &mut MemLibrary, name: &str, octets: &[u8]) -> Result<(), Fail> {
     let digits = hex::encode(alloc, octets)?;
     library.put(name, digits.as_bytes())?;
     Ok(())
 }
 
-/// What the command writes of the world's files to a sink, and how it ends.
+/// Runs the command over the world's files with a sink, and returns how the command ends.
 fn reduced(alloc: Global, world: &mut World, sink: &mut MemSink) -> Result<Conclusion, Fault> {
     reduce(
         alloc,
@@ -52,7 +52,7 @@ fn reduced(alloc: Global, world: &mut World, sink: &mut MemSink) -> Result<Concl
     )
 }
 
-/// Asserts the line of what a signature on a text comes down to, and how the command ends.
+/// Asserts the line of a reduced signature of a text, and how the command ends.
 fn assert_told(
     rt: &impl Abort,
     alloc: Global,
@@ -69,7 +69,7 @@ fn assert_told(
     Ok(())
 }
 
-/// The signature of a text by a slot of the owner's key, past the desk.
+/// Signs a text with a slot of the owner's key, without the desk.
 fn signed_past(alloc: Global, slot: u32, text: &[u8]) -> Result<[u8; 1292], Fail> {
     let key = Key::build(alloc, 5, &[0; 16], &[0; 32])?;
     let mut signature = [0; 1292];
@@ -79,7 +79,7 @@ fn signed_past(alloc: Global, slot: u32, text: &[u8]) -> Result<[u8; 1292], Fail
     Ok(signature)
 }
 
-/// The line of the value that a signature of a text shows in one of its chains.
+/// Returns the line of the value that a signature of a text shows in one of its chains.
 fn chain_line(
     alloc: Global,
     slot: u32,
@@ -95,7 +95,7 @@ fn chain_line(
     Ok(format!(in alloc; "chain {slot} {at} {step} {value}\n")?)
 }
 
-/// Asserts that a text that a slot signs past the desk comes down to this chain of the signature.
+/// Asserts that a text, signed by a slot without the desk, reduces to this chain of the signature.
 fn assert_shows(
     rt: &impl Abort,
     alloc: Global,
@@ -117,7 +117,7 @@ fn assert_shows(
     )
 }
 
-/// The first index at which the digits of a text are below those of another that the first slot has
+/// Returns the first index at which a digit of a text is less than that of another text, which the first slot has
 /// signed.
 fn first_below(text: &[u8], own: &[u8]) -> usize {
     let c = randomiser(&[0; 16], 0, &[0; 32]);
@@ -130,7 +130,7 @@ fn first_below(text: &[u8], own: &[u8]) -> usize {
         .unwrap_or(0)
 }
 
-/// The header of a publication.
+/// Returns the header of a publication.
 fn header_in(publication: &[u8]) -> &[u8] {
     publication.get(4..108).unwrap_or(&[])
 }

@@ -1,5 +1,5 @@
-//! What no clause says: worked inputs, from their octets to those of their replies, and calls that
-//! succeed with ample memory.
+//! Facts that no clause states: worked inputs, from their octets to those of their replies, and calls that succeed
+//! with enough memory.
 use crate::asserts::{assert_octets, assert_same};
 use book_model::Settings;
 use mem_io::{MemSink, MemSource};
@@ -16,14 +16,14 @@ const MOST_OCTETS: u32 = 4_194_304;
 
 const MOST_FRAMES: u32 = 1_000_000;
 
-// The header of the five nodes in this version, under DIJ by id.
+// Returns the header of the five nodes in this version, under DIJ by id.
 fn header(alloc: Global, version: u64) -> Result<Header, Fail> {
     let settings = Settings { version, ..DIJ };
     let book = Held::<Sha>::build(alloc, parts_of(alloc, &NODES, &ROADS)?, &settings)?;
     Ok(book.header())
 }
 
-// The service over the five nodes in version 1, without a signature, under a guard.
+// Makes the service over the five nodes in version 1, without a signature, under a guard.
 fn first_service(alloc: Global, guard: Guard) -> Result<Service<Sha>, Fail> {
     let publication = Publication {
         header: header(alloc, 1)?,
@@ -35,7 +35,7 @@ fn first_service(alloc: Global, guard: Guard) -> Result<Service<Sha>, Fail> {
     Ok(Service::new(alloc, guard, held)?)
 }
 
-// The body that installs the five nodes in this version, without a signature.
+// Returns the body that installs the five nodes in this version, without a signature.
 fn install(alloc: Global, version: u64) -> Result<Vec<u8>, Fail> {
     let header = header(alloc, version)?;
     let mut body = Vec::new(alloc);
@@ -79,7 +79,7 @@ fn serve_octets(
     Ok(serve(alloc, &mut service, source, sink, MOST_OCTETS, MOST_FRAMES))
 }
 
-// The numbers of the reads that fail: this one, if any.
+// Returns the numbers of the reads that fail: this number, if it is given.
 fn plan(alloc: Global, fails: Option<u64>) -> Result<Vec<u64>, Fail> {
     let mut planned = Vec::new(alloc);
     if let Some(call) = fails {
@@ -88,8 +88,8 @@ fn plan(alloc: Global, fails: Option<u64>) -> Result<Vec<u64>, Fail> {
     Ok(planned)
 }
 
-// Serves an input whose read of this number fails, if any, compares how it ends, and answers what
-// was written.
+// Serves an input. If a number is given, the read with this number fails. Compares how serving ends, and returns
+// the octets written.
 fn served(
     rt: &impl Abort,
     alloc: Global,
@@ -104,15 +104,15 @@ fn served(
     Ok(sink.taken().to_vec(alloc)?)
 }
 
-// The body that asks for a route from 1 to 3, of a session.
+// Returns the body that asks for a route from 1 to 3 in a session.
 fn ask(session: u8) -> [u8; 10] {
     [2, session, 0, 0, 0, 1, 0, 0, 0, 3]
 }
 
-// A body, and its reply; of an answer its session, its kind 0 and the last octet of its version.
+// A body and its reply. For an answer, only its session, its kind 0 and the last octet of its version are given.
 type Row<'a> = (&'a [u8], &'a [u8]);
 
-// The bodies of rows as frames.
+// Returns the bodies of rows as frames.
 fn framed(alloc: Global, rows: &[Row<'_>]) -> Result<Vec<u8>, Fail> {
     let mut input = Vec::new(alloc);
     for (body, _) in rows {
@@ -121,7 +121,7 @@ fn framed(alloc: Global, rows: &[Row<'_>]) -> Result<Vec<u8>, Fail> {
     Ok(input)
 }
 
-// The first three octets, or zeros.
+// Returns the first three octets, or zeros.
 fn first_three(octets: &[u8]) -> [u8; 3] {
     match octets {
         [first, second, third, ..] => [*first, *second, *third],
@@ -140,7 +140,7 @@ fn assert_reply(rt: &impl Abort, reply: &[u8], wanted: &[u8]) {
     }
 }
 
-// Compares the replies in what was written, one to a row.
+// Compares the replies in the output, one for each row.
 fn assert_replies(rt: &impl Abort, alloc: Global, octets: Vec<u8>, rows: &[Row<'_>]) {
     let mut replies = MemSource::new(octets, 4096, Vec::new(alloc));
     let mut reply = Vec::new(alloc);
@@ -153,7 +153,7 @@ fn assert_replies(rt: &impl Abort, alloc: Global, octets: Vec<u8>, rows: &[Row<'
     assert_same(rt, &is_there, &Ok(false));
 }
 
-// Serves the bodies of rows and three octets more, and compares the replies.
+// Serves the bodies of rows and three more octets, and compares the replies.
 fn assert_served(rt: &impl Abort, alloc: Global, rows: &[Row<'_>]) -> Result<(), Fail> {
     let mut input = framed(alloc, rows)?;
     put_octets(&mut input, &[0, 0, 0])?;
@@ -199,7 +199,7 @@ fn runs_end_with_the_replies_before(rt: HostRuntime) -> Result<(), Fail> {
     Ok(())
 }
 
-// Begins each of the 16 sessions with a version of its own, and asks in each.
+// Returns frames that begin each of the 16 sessions with its own version, and ask a query in each.
 fn sessions(alloc: Global) -> Result<Vec<u8>, Fail> {
     let mut input = Vec::new(alloc);
     for session in 0..16u8 {
@@ -213,8 +213,8 @@ fn sessions(alloc: Global) -> Result<Vec<u8>, Fail> {
     Ok(input)
 }
 
-// Compares the replies to the sessions: 32 to what begins and installs, and an answer to each
-// question.
+// Compares the replies to the sessions: 32 replies to the frames that begin and install, and an answer to each
+// query.
 fn assert_sessions(rt: &impl Abort, alloc: Global, octets: Vec<u8>) {
     let mut replies = MemSource::new(octets, 4096, Vec::new(alloc));
     let mut reply = Vec::new(alloc);
@@ -238,7 +238,7 @@ fn each_session_keeps_its_version(rt: HostRuntime) -> Result<(), Fail> {
     Ok(())
 }
 
-// The reply to a body, which is short enough for a frame.
+// Returns the reply to a body. The reply fits in a frame.
 fn reply_to(rt: &impl Abort, service: &mut Service<Sha>, body: &[u8]) -> Result<Vec<u8>, Fail> {
     assert!(rt; body.len() <= MOST_OCTETS as usize);
     Ok(service.step(body)?)

@@ -1,4 +1,4 @@
-//! Surveys: a line that was made apart, and the four methods over one grid.
+//! Surveys: a line that another program computed, and the four methods over one grid.
 
 use crate::asserts::{assert_octets, assert_same};
 use book_model::PlanError;
@@ -10,7 +10,7 @@ use std::alloc::Global;
 use std::process::Abort;
 use std::test::Fail;
 
-/// Asserts what a survey writes, and how it ends.
+/// Asserts the output of a survey, and how it ends.
 fn assert_surveyed(
     rt: &impl Abort,
     alloc: Global,
@@ -25,7 +25,7 @@ fn assert_surveyed(
     Ok(())
 }
 
-/// The line is that of the reference (`checks/sources.py`): a query from 3 to 4, and one from 4 to 4.
+/// The line is that of the reference (`checks/sources.py`), for a query from 3 to 4 and one from 4 to 4.
 #[test]
 fn surveys_over_grids(rt: HostRuntime) -> Result<(), Fail> {
     let line =

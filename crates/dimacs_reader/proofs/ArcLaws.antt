@@ -1,4 +1,4 @@
--- Walks over roads and directed walks over arcs of which each between two nodes has an arc back.
+-- Walks over roads, and directed walks over arcs if each arc between two nodes has a reverse arc.
 use Rattle.std.proofs.Common.{◌≡◌, ◌≢◌, ℕ, ◌+◌, ◌<◌, ◌≤◌, ◌==◌, ◌&&◌, nat_lt, Bool, true, false, not, cond, Option, None, Some, List, [], ◌∷◌, inl, inr, length, take, slice_get, get_or, count_by, refl, sym, ◌∙◌, ap, subst, ⊎_elim, arith}
 use Rattle.std.specs.List.{Contains, All, filter}
 use Rattle.std.proofs.lemmas.Bool.{cases_lt}
@@ -22,7 +22,7 @@ use Rattle.dimacs_reader.proofs.PairLaws.{is_arc_same}
 use Rattle.dimacs_reader.proofs.NodeLaws.{InRange, Distinct, all_once, each_placed, nodes_of_rise}
 use Rattle.dimacs_reader.proofs.ReadLaws.{Within}
 
--- ---- each arc between two nodes has an arc back
+-- ---- each arc between two nodes has a reverse arc
 
 pub same_arc : (a b : Arc) → is_arc a b ≡ true → a ≡ b
 same_arc a b h = by_fields a.from a.to a.length b.from b.to b.length (grind (arith, h)) (grind (arith, h)) (grind (arith, h))
@@ -44,7 +44,7 @@ apart_test a b h = grind (arith, h)
 not_less : (a b : ℕ) → nat_lt a b ≡ false → b ≤ a
 not_less a b h = grind (arith, h)
 
--- where an arc between two nodes stands, there are as many arcs back in all as such arcs so far
+-- at an arc between two nodes, the number of all reverse arcs is at least that of such arcs so far
 pub paired_at : (arcs : List Arc) → first_unpaired arcs ≡ None → (arc : Arc) → arc.from ≢ arc.to → (k : ℕ) → k < length arcs → get_or arcs k arc ≡ arc → count_by (is_arc arc) (take (k + 1) arcs) ≤ count_by (is_arc (turned arc)) arcs
 unfolding first_unpaired
 paired_at arcs none arc apart k within is =
@@ -111,7 +111,7 @@ of_arc arcs road h =
 
 -- ---- walks
 
--- an arc that goes where a hop does
+-- an arc with the same ends as a hop
 record IsHop (arcs : List Arc) (hop : Hop) : Type 0 where
   pub arc : Arc
   pub among : Contains arcs arc
@@ -127,7 +127,7 @@ module _ (arcs : List Arc) (paired : first_unpaired arcs ≡ None) where
       let apart : a.arc.from ≢ a.arc.to = λ e. absurd (omega (arith, a.less, e)) in
       record { arc = turned a.arc; among = has_turned arcs paired a.arc a.among apart; leaves = ap (λ (r : Road). r.b) a.is; leads = ap (λ (r : Road). r.a) a.is; long = ap (λ (r : Road). r.length) a.is }
 
-  -- a directed walk that goes where hops do
+  -- a directed walk along the same nodes as some hops
   record IsWalk (u t d : ℕ) : Type 0 where
     pub walk : List Arc
     pub follows : Follows arcs u walk
@@ -146,7 +146,7 @@ module _ (arcs : List Arc) (paired : first_unpaired arcs ≡ None) where
         sums = ap (λ l. l + total rest.walk) first.long ∙ ap (λ l. hop.road.length + l) rest.sums;
       }
 
-  -- hops that go where a directed walk does, and are no longer
+  -- hops along the same nodes as a directed walk, which are not longer
   record IsHops (u t most : ℕ) : Type 0 where
     pub hops : List Hop
     pub follows : roads.Follows (roads_of arcs) u hops
@@ -173,12 +173,12 @@ module _ (arcs : List Arc) (paired : first_unpaired arcs ≡ None) where
       (cases_lt arc.to arc.from))
       (cases_lt arc.from arc.to)
 
--- P is meant where Q is, at least as low
+-- P holds of some number wherever Q does, and of one that is not greater
 least_low : (P Q : ℕ → Type 0) (o : Option ℕ) → ((n : ℕ) → P n → Q n) → ((n : ℕ) → Q n → (m : ℕ) × P m × (m ≤ n)) → IsLeast P o → IsLeast Q o
 least_low P Q None to low h = λ n q. h (low n q).0 (low n q).1
 least_low P Q (Some d) to low h = (to d h.0, λ n q. let m : (m : ℕ) × P m × (m ≤ n) = low n q in omega (arith, h.1 m.0 m.1, m.2))
 
--- parts of a graph's nodes and of its arcs' roads
+-- the parts made from a graph's nodes and from the roads of its arcs
 module _ (graph : Graph) (places : List Node) (within : All (Within graph.nodes) graph.arcs) (range : InRange places graph.nodes) (long : length places ≡ graph.nodes) (once : placed_twice graph.nodes places ≡ None) (paired : first_unpaired graph.arcs ≡ None) where
   abbrev parts : Parts
   parts = record { nodes = nodes_of graph.nodes places; roads = roads_of graph.arcs }

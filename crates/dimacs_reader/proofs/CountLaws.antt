@@ -1,4 +1,4 @@
--- Where arcs are paired, at most half of them rise.
+-- If arcs are paired, at most half of them lead to a greater id.
 use Rattle.std.proofs.Common.{◌≡◌, ◌≢◌, ℕ, zero, suc, ◌+◌, ◌<◌, ◌≤◌, ◌==◌, ◌&&◌, nat_lt, Bool, true, false, not, cond, None, List, [], ◌∷◌, length, map, take, get_or, count_by, refl, sym, ◌∙◌, ap, subst, arith}
 use Rattle.std.specs.List.{Contains, filter, remove}
 use Rattle.std.specs.List.Sorted.{IsPermutation}
@@ -10,12 +10,12 @@ use Rattle.dimacs_reader.specs.declared.arc.Arc.{Arc}
 use Rattle.dimacs_reader.specs.Dimacs.{is_arc, turned, first_unpaired, road_of, roads_of}
 use Rattle.dimacs_reader.proofs.ArcLaws.{counted, paired_at, same_arc}
 
--- ---- what is counted of a list
+-- ---- counting in a list
 
 count-cons : (arc x : Arc) (xs : List Arc) → count_by (is_arc arc) (x ∷ xs) ≡ cond (is_arc arc x) 1 0 + count_by (is_arc arc) xs
 count-cons arc x xs = sum_by-cons (λ y. cond (is_arc arc y) 1 0) x xs
 
--- a list that has each item at least as often is at least as long
+-- a list that has each item at least as often as another list is at least as long
 dominated : (xs ys : List Arc) → ((arc : Arc) → count_by (is_arc arc) xs ≤ count_by (is_arc arc) ys) → length xs ≤ length ys
 dominated [] ys h = omega arith
 dominated (x ∷ xs) ys h =
@@ -29,7 +29,7 @@ dominated (x ∷ xs) ys h =
     same : (arc : Arc) → is_arc arc arc ≡ true
     same arc = grind arith
 
--- the same arc passes a test or not
+-- equal arcs pass the same tests
 count_kept : (p : Arc → Bool) (arc : Arc) (xs : List Arc) → count_by (is_arc arc) (filter p xs) ≡ cond (p arc) (count_by (is_arc arc) xs) 0
 count_kept p arc [] = by_test (p arc)
   where
@@ -71,7 +71,7 @@ count_turned arc (x ∷ xs) =
 
 -- ---- paired arcs
 
--- there are as many arcs back as such arcs
+-- there are as many reverse arcs as arcs of this kind
 pub all_paired : (arcs : List Arc) → first_unpaired arcs ≡ None → (arc : Arc) → arc.from ≢ arc.to → count_by (is_arc arc) arcs ≤ count_by (is_arc (turned arc)) arcs
 all_paired arcs none arc apart = subst (λ xs. count_by (is_arc arc) xs ≤ count_by (is_arc (turned arc)) arcs) (take_all (length arcs) arcs (omega arith)) (up_to (length arcs) (omega arith))
   where

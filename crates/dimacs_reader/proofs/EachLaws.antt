@@ -1,9 +1,9 @@
--- What lines say, one after another.
+-- The values of lines, one after another.
 use Rattle.std.proofs.Common.{◌≡◌, ℕ, List, [], ◌∷◌, ◌++◌, Result, Ok, Err, refl, sym, ◌∙◌, ap, append_assoc, append-nil}
 use Rattle.dimacs_reader.specs.declared.error.DimacsError.{DimacsError}
 use Rattle.dimacs_reader.specs.Dimacs.{◌>>=◌, each_of}
 
--- what was said before, with what later lines say
+-- the contents so far, with those of the later lines
 abbrev pub onto : {A : Type 0} → List A → Result (List A) DimacsError → Result (List A) DimacsError
 onto xs (Ok ys) = Ok (xs ++ ys)
 onto xs (Err fault) = Err fault
@@ -16,7 +16,7 @@ onto_next : {A : Type 0} (xs : List A) (x : A) (said : Result (List A) DimacsErr
 onto_next xs x (Ok ys) = ap Ok (sym (append_assoc xs (x ∷ []) ys))
 onto_next xs x (Err fault) = refl
 
--- the first of some lines says this
+-- the first of some lines has this value
 pub record Begins {A : Type 0} (says : ℕ → List (List ℕ) → Result A DimacsError) (lines : List (ℕ × List (List ℕ))) (said : Result A DimacsError) (rest : List (ℕ × List (List ℕ))) : Type 0 where
   pub number : ℕ
   pub words : List (List ℕ)

@@ -1,4 +1,4 @@
--- What a file says, step by step.
+-- The contents of a file, step by step.
 use Rattle.std.proofs.Common.{◌≡◌, ◌≢◌, ◌⊎◌, inl, inr, ℕ, ◌==◌, ◌&&◌, Bool, true, false, arith, List, [], ◌∷◌, length, Result, Ok, Err, sym, ◌∙◌, ap}
 use Rattle.road_map.specs.declared.parts.Node.{Node}
 use Rattle.dimacs_reader.specs.declared.arc.Arc.{Arc}
@@ -10,7 +10,7 @@ use Rattle.dimacs_reader.specs.Told.{told_lines}
 use Rattle.dimacs_reader.specs.Dimacs.{◌>>=◌, where_holds, graph_size_of, arc_of, each_of, graph_from, graph_of, place_count_of, place_of, places_from, places_of}
 use Rattle.octet_text.specs.Want.{no_memory}
 
--- a graph of these arcs, if they are as many as they should
+-- a graph of these arcs, if their number is the declared one
 abbrev pub counted : GraphSize → List Arc → Result Graph DimacsError
 counted size arcs = where_holds (length arcs == size.arcs) (Count 1) (record { nodes = size.nodes; arcs = arcs })
 
@@ -43,7 +43,7 @@ module _ (text : List ℕ) (number : ℕ) (words : List (List ℕ)) (lines : Lis
       let test : (length arcs == size.arcs) ≡ true = grind (arith, same) in
       graph_sized size is ∙ (ap (λ (said : Result (List Arc) DimacsError). said >>= counted size) all ∙ ap (λ b. where_holds b (Count 1) (record { nodes = size.nodes; arcs = arcs })) test)
 
--- places, if they are as many as they should
+-- places, if their number is the declared one
 abbrev pub all_placed : ℕ → ℕ → List Node → Result (List Node) DimacsError
 all_placed nodes count places = where_holds ((count == nodes) && (length places == count)) (Count 2) places
 

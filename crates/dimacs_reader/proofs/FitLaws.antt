@@ -1,4 +1,4 @@
--- Numbers that words write are numbers of their ranges.
+-- Numbers in words are numbers in their ranges.
 use Rattle.std.proofs.Common.{◌≡◌, ℕ, zero, suc, ◌+◌, ◌<◌, ◌^◌, ◌&&◌, nat_lt, Bool, true, false, cond, Option, None, Some, List, length, drop, refl, subst, arith}
 use Rattle.std.specs.Prelude.{ℤ, pos, neg_ℤ, FitsSigned}
 use Rattle.std.specs.Int.{w32}

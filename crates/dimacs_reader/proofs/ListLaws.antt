@@ -1,4 +1,4 @@
--- What two files say can be listed in a road file.
+-- The contents of two files can be listed in one road file.
 use Rattle.std.proofs.Common.{◌≡◌, None, List, get_or, subst, arith}
 use Rattle.std.specs.List.{Contains, All}
 use Rattle.std.proofs.lemmas.List.Elements.{All-contains, Contains-get_or}
@@ -12,7 +12,7 @@ use Rattle.dimacs_reader.proofs.ReadLaws.{Within, Placed, GraphRange}
 use Rattle.dimacs_reader.proofs.ArcLaws.{IsOfArc, of_arc}
 use Rattle.dimacs_reader.proofs.CountLaws.{few_roads}
 
--- what holds of each item of a list
+-- a fact that holds of each item of a list
 all_of : {X : Type 0} (P : X → Type 0) (xs : List X) → ((x : X) → Contains xs x → P x) → All P xs
 all_of P xs f = λ k d within. f (get_or xs k d) (Contains-get_or xs k d within)
 

@@ -1,4 +1,4 @@
--- Nodes by their ids, from places of which none has an id twice.
+-- Nodes by their ids, from places with distinct ids.
 use Rattle.std.proofs.Common.{◌≡◌, ℕ, zero, suc, ◌+◌, ◌-◌, ◌<◌, ◌≤◌, ◌==◌, nat_eq, nat_lt, Bool, true, false, cond, Option, None, Some, List, [], ◌∷◌, inl, inr, length, slice_get, get_or, count_by, refl, sym, ◌∙◌, ap, subst, ⊎_elim, arith}
 use Rattle.std.specs.List.{Contains, All, IsDistinct, AllByRecursion, find, list_any, range_with_len, cons_option, filter_map}
 use Rattle.std.specs.List.Sorted.{IsPermutation, IsNonDecreasingBy, IsStrictlySortedBy}
@@ -23,11 +23,11 @@ use Rattle.road_map.proofs.OrderLaws.{by_id_from_sorted, least_repeated, IsById-
 use Rattle.dimacs_reader.specs.Dimacs.{placed_twice, nodes_of}
 use Rattle.dimacs_reader.proofs.Ranges.{find_some, find_none, none_found}
 
--- each id is 1 to the count of nodes
+-- each id is from 1 to the number of nodes
 abbrev pub InRange : List Node → ℕ → Type 0
 InRange places nodes = All (λ (n : Node). (1 ≤ n.id) × (n.id ≤ nodes)) places
 
--- no id stands twice
+-- no id occurs twice
 abbrev pub Distinct : List Node → Type 0
 Distinct places = (id : ℕ) → StandsTwice places id → ⊥
 
@@ -57,7 +57,7 @@ twice_placed nodes places id within least =
     let high : id < 1 + nodes = omega (arith, range.1) in
     find_some (λ id. nat_lt 1 (count_by (is_at id) places)) 1 nodes id low high (twice_passes places id least.0) (λ k above less. once_fails places k (λ bad. let le : id ≤ k = least.1 k bad in absurd (omega arith)))
 
--- where the range has no id that is placed twice, there is none at all
+-- if the range has no id with two places, no id has two places
 pub all_once : (nodes : ℕ) (places : List Node) → InRange places nodes → placed_twice nodes places ≡ None → Distinct places
 unfolding placed_twice
 all_once nodes places within none id twice =
@@ -68,7 +68,7 @@ all_once nodes places within none id twice =
     let high : id < 1 + nodes = omega (arith, range.1) in
     fails_once (count_by (is_at id) places) (none_found (λ id. nat_lt 1 (count_by (is_at id) places)) 1 nodes none id low high) twice
 
--- ---- what is found
+-- ---- the item found
 
 is_id : (a id : ℕ) → (a == id) ≡ true → a ≡ id
 is_id a id h = grind (arith, h)
@@ -129,7 +129,7 @@ in_range a n k low high =
 listed : List Node → ℕ → ℕ → List Node
 listed places a n = filter_map (λ id. find (is_at id) places) (range_with_len a n)
 
--- each is a place, and its id is in the range
+-- each node is one of the places, and its id is in the range
 from_listed : (places : List Node) (a n : ℕ) (node : Node) → Contains (listed places a n) node → Contains places node × (a ≤ node.id) × (node.id < a + n)
 unfolding listed
 from_listed places a zero node h = absurd (Contains-none node h)
@@ -206,7 +206,7 @@ pub nodes_of_few : (nodes : ℕ) (places : List Node) → length (nodes_of nodes
 unfolding listed nodes_of
 nodes_of_few nodes places = listed_few places 1 nodes
 
--- sorted places of which none has an id twice
+-- sorted places with distinct ids
 pub sorted_nodes_of : (nodes : ℕ) (places sorted : List Node) → InRange places nodes → IsPermutation places sorted → IsNonDecreasingBy (λ (n : Node). n.id) sorted → IsLeast (StandsTwice sorted) None → (placed_twice nodes places ≡ None) × (sorted ≡ nodes_of nodes places)
 sorted_nodes_of nodes places sorted within same rise none =
     let distinct : Distinct places = least_repeated places sorted None same none in
@@ -215,7 +215,7 @@ sorted_nodes_of nodes places sorted within same rise none =
 pub sorted_twice : (nodes : ℕ) (places sorted : List Node) (id : ℕ) → InRange places nodes → IsPermutation places sorted → IsLeast (StandsTwice sorted) (Some id) → placed_twice nodes places ≡ Some id
 sorted_twice nodes places sorted id within same least = twice_placed nodes places id within (least_repeated places sorted (Some id) same least)
 
--- ---- so many places of different ids have each id
+-- ---- this many places with distinct ids have every id
 
 ids_distinct : (places : List Node) → Distinct places → IsDistinct nat_eq (ids places)
 ids_distinct places distinct = IsDistinct-from_apart nat_eq (ids places) (λ i j d less within. not_same (get_or (ids places) i d) (get_or (ids places) j d) (λ e. clash i j d less within e))

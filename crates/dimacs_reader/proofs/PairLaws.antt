@@ -1,4 +1,4 @@
--- Arcs that are paired one after another.
+-- Pairing arcs one after another.
 use Rattle.std.proofs.Common.{◌≡◌, ◌≢◌, ℕ, ◌+◌, ◌<◌, ◌≤◌, ◌==◌, ◌&&◌, ◌||◌, nat_lt, Bool, true, false, not, cond, None, Some, List, length, take, slice_get, get_or, count_by, refl, sym, ◌∙◌, ap, below_more, arith}
 use Rattle.std.proofs.lemmas.List.Sums.{sum_by_more}
 use Rattle.std.proofs.lemmas.Option.{slice_get-get_or}
@@ -7,7 +7,7 @@ use Rattle.dimacs_reader.specs.Dimacs.{is_arc, turned, lacks_back, is_unpaired, 
 use Rattle.dimacs_reader.specs.Left.{has_back, TakesBack}
 use Rattle.dimacs_reader.proofs.Ranges.{find_some, find_none}
 
--- up to an index each arc has taken its arc back, and this many are left
+-- each arc up to an index has taken its reverse arc, and this many arcs are left
 pub record PairedTo (arcs : List Arc) (index : ℕ) (left : Arc → ℕ) : Type 0 where
   pub left_is : (other : Arc) → other.from ≢ other.to → left other + count_by (is_arc (turned other)) (take index arcs) ≡ count_by (is_arc other) arcs
   pub paired : (k : ℕ) → k < index → is_unpaired arcs k ≡ false
@@ -21,7 +21,7 @@ paired_to_none arcs left all = record {
 pub is_arc_same : (arc : Arc) → is_arc arc arc ≡ true
 is_arc_same arc = grind arith
 
--- one arc more is counted
+-- one more arc is counted
 count_next : (arcs : List Arc) (index : ℕ) (arc other : Arc) → index < length arcs → arc ≡ get_or arcs index arc → count_by (is_arc other) (take (index + 1) arcs) ≡ count_by (is_arc other) (take index arcs) + cond (is_arc other arc) 1 0
 count_next arcs index arc other within is =
     sum_by_more (λ x. cond (is_arc other x) 1 0) arcs index arc within ∙ ap (λ x. count_by (is_arc other) (take index arcs) + cond (is_arc other x) 1 0) (sym is)
@@ -64,7 +64,7 @@ module _ (arcs : List Arc) (index : ℕ) (arc : Arc) (left : Arc → ℕ) (so_fa
   one_next : count_by (is_arc arc) (take (index + 1) arcs) ≡ count_by (is_arc arc) (take index arcs) + 1
   one_next = count_next arcs index arc arc within is ∙ ap (λ b. count_by (is_arc arc) (take index arcs) + cond b 1 0) (is_arc_same arc)
 
-  -- an arc that has its arc back
+  -- an arc that has a reverse arc
   paired_here : has_back left arc ≡ true → is_unpaired arcs index ≡ false
   paired_here back =
       ap (lacks_back arcs index) here
@@ -81,7 +81,7 @@ module _ (arcs : List Arc) (index : ℕ) (arc : Arc) (left : Arc → ℕ) (so_fa
     paired = below_more _ index so_far.paired (paired_here back);
   }
 
-  -- an arc that lacks it
+  -- an arc without a reverse arc
   unpaired_here : has_back left arc ≡ false → is_unpaired arcs index ≡ true
   unpaired_here none =
       let both : ((arc.from == arc.to) ≡ false) × (nat_lt 0 (left (turned arc)) ≡ false) = or_false (arc.from == arc.to) (nat_lt 0 (left (turned arc))) none in

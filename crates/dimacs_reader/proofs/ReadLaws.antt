@@ -1,4 +1,4 @@
--- What is known of a graph and of places that were read.
+-- Known facts about a graph and about places after reading.
 use Rattle.std.proofs.Common.{◌≡◌, ℕ, ◌<◌, ◌≤◌, ◌^◌, ◌==◌, ◌&&◌, ◌⊎◌, inl, inr, nat_le, Bool, true, false, cond, Option, None, Some, List, [], ◌∷◌, length, Result, Ok, Err, codes, refl, sym, ◌∙◌, ap, subst, arith}
 use Rattle.std.specs.List.{All}
 use Rattle.std.specs.Option.{ok_or}
@@ -22,7 +22,7 @@ use Rattle.dimacs_reader.proofs.NodeLaws.{InRange}
 use Rattle.dimacs_reader.proofs.FitLaws.{place_fits, arc_fits}
 use Rattle.octet_text.specs.Want.{no_memory}
 
--- what a step that went well went through
+-- the value through which a successful step passed
 bind_ok : {A B : Type 0} (said : Result A DimacsError) (next : A → Result B DimacsError) (y : B) → (said >>= next) ≡ Ok y → (x : A) × (said ≡ Ok x) × (next x ≡ Ok y)
 bind_ok (Ok x) next y h = (x, refl, h)
 bind_ok (Err fault) next y h = cc
@@ -35,7 +35,7 @@ none_ok : {A : Type 0} (o : Option ℕ) (fault : ℕ → DimacsError) (x y : A) 
 none_ok None fault x y h = (refl, cc)
 none_ok (Some n) fault x y h = cc
 
--- what is known of each line's item is known of all
+-- a fact about each line's item holds for all items
 each_ok : {A : Type 0} (P : A → Type 0) (says : ℕ → List (List ℕ) → Result A DimacsError) → ((number : ℕ) (words : List (List ℕ)) (x : A) → says number words ≡ Ok x → P x) → (lines : List (ℕ × List (List ℕ))) (xs : List A) → each_of says lines ≡ Ok xs → All P xs
 each_ok {A} P says good [] xs h = let none : [] ≡ xs = cc in subst (λ (ys : List A). All P ys) none (All-nil P)
 each_ok {A} P says good (line ∷ lines) xs h =
@@ -58,7 +58,7 @@ and_both : (a b : Bool) → (a && b) ≡ true → (a ≡ true) × (b ≡ true)
 and_both true b h = (refl, h)
 and_both false b h = cc
 
--- a node of a line: its id is in the range, and its coordinates are numbers of 32 bits
+-- a node of a line: its id is in the range, and its coordinates are 32-bit numbers
 pub record Placed (nodes : ℕ) (node : Node) : Type 0 where
   pub id : (1 ≤ node.id) × (node.id ≤ nodes)
   pub x : FitsSigned w32 node.x
@@ -124,7 +124,7 @@ size_range number (kind ∷ problem ∷ nodes ∷ arcs ∷ []) size h = by_kind 
 same_number : (a b : ℕ) → (a == b) ≡ true → a ≡ b
 same_number a b e = grind (arith, e)
 
--- the arcs of a graph join its nodes, and are not too many
+-- the arcs of a graph join its nodes, and they are not too many
 pub record GraphRange (graph : Graph) : Type 0 where
   pub within : All (Within graph.nodes) graph.arcs
   pub few : length graph.arcs ≤ most_arcs
@@ -146,7 +146,7 @@ graph_range text graph h = by_lines (told_lines 0 text) h
         let most : (size.0.nodes ≤ most_nodes) × (size.0.arcs ≤ most_arcs) = size_range problem.0 problem.1 size.0 size.1 in
         subst (λ (g : Graph). GraphRange g) is.1 (record { within = within; few = omega (arith, most.1); small = most.0 })
 
--- the places are as many as the nodes, and their ids are those of nodes
+-- there are as many places as nodes, and their ids are those of nodes
 pub record PlacesRange (nodes : ℕ) (places : List Node) : Type 0 where
   pub placed : All (Placed nodes) places
   pub long : length places ≡ nodes
@@ -222,7 +222,7 @@ module _ (text places : List ℕ) (graph : Graph) (read : graph_of text ≡ Ok g
         naming (Ok nodes) named
         ∙ ap (λ o. where_none o (λ index. Unpaired index) (roads_of graph.arcs) >>= (λ roads. Ok (record { nodes = nodes; roads = roads }))) paired
 
--- what two files that are read say
+-- the contents of two files that are read
 pub record Reads (graph : Graph) (text : List ℕ) (parts : Parts) : Type 0 where
   pub places : List Node
   pub placed : places_of graph.nodes text ≡ Ok places
@@ -230,7 +230,7 @@ pub record Reads (graph : Graph) (text : List ℕ) (parts : Parts) : Type 0 wher
   pub paired : first_unpaired graph.arcs ≡ None
   pub is : parts ≡ record { nodes = nodes_of graph.nodes places; roads = roads_of graph.arcs }
 
--- there is a graph
+-- the graph exists
 pub has_graph : (text places : List ℕ) (parts : Parts) → dimacs_of text places ≡ Ok parts → (graph : Graph) × (graph_of text ≡ Ok graph)
 has_graph text places parts all =
     let graph = bind_ok (graph_of text) (with_graph places) parts (sym (dimacs_after text places (graph_of text) refl) ∙ all) in

@@ -1,4 +1,4 @@
--- Roads of arcs, one arc after another.
+-- The roads of arcs, one arc after another.
 use Rattle.std.proofs.Common.{◌≡◌, ℕ, ◌+◌, ◌<◌, ◌≤◌, nat_lt, arith, true, false, List, [], ◌∷◌, ◌++◌, length, take, get_or, map, refl, ap, sym, ◌∙◌}
 use Rattle.std.specs.List.{filter}
 use Rattle.std.proofs.lemmas.Bool.Decides.{nat_tests}
@@ -38,7 +38,7 @@ none arc le =
     let is : nat_lt arc.from arc.to ≡ false = grind (arith, nat_tests, le) in
     rw is refl
 
--- an arc of which the first id is less gives a road
+-- an arc to a greater id gives a road
 pub road_given : (arcs : List Arc) (i : ℕ) (d : Arc) (before after : List Road) (road : Road) → i < length arcs → (get_or arcs i d).from < (get_or arcs i d).to → before ≡ roads_of (take i arcs)
     → road ≡ road_of (get_or arcs i d) → after ≡ before ++ road ∷ [] → after ≡ roads_of (take (i + 1) arcs)
 road_given arcs i d before after road lt less is here pushed =
@@ -46,7 +46,7 @@ road_given arcs i d before after road lt less is here pushed =
     ∙ (ap (λ t. t ++ road ∷ []) is
     ∙ (ap (λ t. roads_of (take i arcs) ++ t) (ap (λ (r : Road). r ∷ []) here ∙ sym (one (get_or arcs i d) less)) ∙ sym (next arcs i d lt)))
 
--- and another gives none
+-- any other arc gives no road
 pub road_withheld : (arcs : List Arc) (i : ℕ) (d : Arc) (before : List Road) → i < length arcs → (get_or arcs i d).to ≤ (get_or arcs i d).from → before ≡ roads_of (take i arcs) → before ≡ roads_of (take (i + 1) arcs)
 road_withheld arcs i d before lt less is =
     is

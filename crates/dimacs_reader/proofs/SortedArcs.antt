@@ -1,4 +1,4 @@
--- Indices of arcs among sorted arcs, and how many are left there.
+-- Indices of arcs among sorted arcs, and the number left there.
 use Rattle.std.proofs.Common.{◌≡◌, ℕ, ◌+◌, ◌-◌, ◌<◌, ◌≤◌, ◌==◌, ◌&&◌, ◌||◌, nat_eq, nat_lt, Bool, true, false, cond, Option, None, Some, IsSome, is_some, List, ◌⊎◌, inl, inr, length, get_or, set, take, count_by, refl, arith, ap, sym, ◌∙◌, subst, get_or-set_other, get_or-set_same}
 use Rattle.std.proofs.lemmas.List.{get_or_default, length-take}
 use Rattle.std.specs.List.{position, position_or_len}
@@ -77,7 +77,7 @@ module _ (xs : List Arc) (sorted : AreSorted xs) (arc : Arc) where
       | inr ge ↦ with_it arc (get_or xs k d) ∙ high (rank arc (get_or xs place d)) (rank arc (get_or xs k d)) (point.1 place d (omega arith) within) (sym (with_it arc (get_or xs place d)) ∙ other) (ranks_rise place k d ge lt)
     ])
 
--- what stands at the index of an arc
+-- the arc at the index that was found
 stands : (xs : List Arc) (arc : Arc) (k : ℕ) → place_in xs arc ≡ Some k → (k < length xs) × (is_arc arc (get_or xs k arc) ≡ true)
 stands xs arc k h = let p = position-Some (is_arc arc) xs k arc h in (p.0, p.1)
 
@@ -104,7 +104,7 @@ not_it : (b : Bool) → (b ≡ true → ⊥) → b ≡ false
 not_it true h = absurd (h refl)
 not_it false h = refl
 
--- a number changes at the index of an arc
+-- the number at the index of an arc changes
 pub left_turn : (xs : List Arc) (left : List ℕ) (arc : Arc) (k count : ℕ) → length left ≡ length xs → Some k ≡ place_in xs arc → (other : Arc) → left_of xs (set left k count) other ≡ cond (is_arc arc other) count (left_of xs left other)
 left_turn xs left arc k count long at other = by_place (place_in xs other) refl
   where
@@ -145,11 +145,11 @@ one_more xs left arc k index long at within is so_far other =
     by_test false t =
         ap (λ b. cond b (get_or left k 0 + 1) (left_of xs left other)) (flips arc other ∙ t) ∙ (so_far other ∙ (omega arith ∙ sym (ap (λ b. count_by (is_arc other) (take index xs) + cond b 1 0) t)))
 
--- the counts of sorted arcs are those of the arcs
+-- the counts over sorted arcs are those of the arcs
 pub same_counts : (xs ys : List Arc) → IsPermutation xs ys → (arc : Arc) → count_by (is_arc arc) ys ≡ count_by (is_arc arc) xs
 same_counts xs ys h arc = sum_by-IsPermutation (λ (x : Arc). cond (is_arc arc x) 1 0) xs ys h
 
--- one less at the index of the arc back
+-- one less at the index of the reverse arc
 pub takes_back : (xs : List Arc) (left : List ℕ) (arc : Arc) (k : ℕ) → length left ≡ length xs → Some k ≡ place_in xs (turned arc) → 0 < get_or left k 0 → TakesBack (left_of xs left) (left_of xs (set left k (get_or left k 0 - 1))) arc
 takes_back xs left arc k long at some other apart =
     ap (λ n. n + cond (is_arc (turned other) arc) 1 0) (left_turn xs left (turned arc) k (get_or left k 0 - 1) long at other) ∙ by_test (is_arc (turned arc) other) refl
@@ -165,14 +165,14 @@ takes_back xs left arc k long at some other apart =
     by_test false t =
         ap (λ b. cond b (get_or left k 0 - 1) (left_of xs left other) + cond (is_arc (turned other) arc) 1 0) t ∙ (ap (λ b. left_of xs left other + cond b 1 0) (turns other arc ∙ t) ∙ omega arith)
 
--- that an index says how many are left
+-- an index tells how many arcs are left
 pub at_place : (xs : List Arc) (left : List ℕ) (arc : Arc) (k : ℕ) → Some k ≡ place_in xs arc → left_of xs left arc ≡ get_or left k 0
 at_place xs left arc k at = sym (ap (left_at left) at)
 
 pub at_none : (xs : List Arc) (left : List ℕ) (arc : Arc) → None ≡ place_in xs arc → left_of xs left arc ≡ 0
 at_none xs left arc at = sym (ap (left_at left) at)
 
--- where no number is above 0, nothing is left
+-- if no number is above 0, nothing is left
 pub none_left : (xs : List Arc) (left : List ℕ) → ((k : ℕ) → get_or left k 0 ≡ 0) → (other : Arc) → left_of xs left other ≡ 0
 none_left xs left zero other = by_place (place_in xs other)
   where
@@ -180,13 +180,13 @@ none_left xs left zero other = by_place (place_in xs other)
     by_place None = refl
     by_place (Some k) = zero k
 
--- whether an arc between two nodes has its arc back
+-- whether an arc between two nodes has a reverse arc
 pub back_there : (xs : List Arc) (left : List ℕ) (arc : Arc) (b : Bool) (n : ℕ) → (arc.from ≡ arc.to → ⊥) → left_of xs left (turned arc) ≡ n → b ≡ nat_lt 0 n → b ≡ has_back (left_of xs left) arc
 back_there xs left arc b n apart same is =
     let differ : (arc.from == arc.to) ≡ false = grind (arith, apart) in
     is ∙ (ap (nat_lt 0) (sym same) ∙ sym (ap (λ t. t || nat_lt 0 (left_of xs left (turned arc))) differ))
 
--- an arc from a node to itself takes none
+-- an arc from a node to itself takes no reverse arc
 pub loop_takes : (left : Arc → ℕ) (arc : Arc) → arc.from ≡ arc.to → TakesBack left left arc
 loop_takes left arc same other apart =
     let no_turn : is_arc (turned other) arc ≡ false = not_it (is_arc (turned other) arc) (λ t.

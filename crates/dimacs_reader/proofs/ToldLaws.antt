@@ -1,4 +1,4 @@
--- A text's first line, and what is left after it.
+-- The first line of a text, and the rest.
 use Rattle.std.proofs.Common.{◌≡◌, ℕ, ◌+◌, ◌<◌, true, false, not, cond, eqb, List, [], ◌∷◌, length, filter, get_or, refl, ◌∙◌, ap, arith}
 use Rattle.std.specs.List.{enumerate_from}
 use Rattle.std.proofs.Common.{map}
@@ -14,7 +14,7 @@ is_comment_first line some e =
     let word : 0 < position_or_len is_blank line = first_word_some line some e in
     ap is_comment (words_of_first line word) ∙ ap (λ octet. eqb octet 99) (get_or-take (position_or_len is_blank line) line 0 0 word)
 
--- a line is off the text, and is skipped or comes first
+-- a line is taken from the text; it is skipped, or it is the first line
 told_lines_first : (passed : ℕ) (text line rest : List ℕ) → lines_of text ≡ line ∷ lines_of rest →
     told_lines passed text ≡ cond (not (is_comment (words_of line))) ((passed + 1, words_of line) ∷ told_lines (passed + 1) rest) (told_lines (passed + 1) rest)
 unfolding told_lines

@@ -1,6 +1,5 @@
--- Directed walks along the arcs of a graph, and the distance of two of its nodes.
--- Source: the 9th DIMACS Implementation Challenge, Shortest Paths, 2006: paths in a directed graph
--- and their lengths.
+-- Directed walks along the arcs of a graph, and the distance between two of its nodes. Source: the 9th DIMACS
+-- Implementation Challenge, Shortest Paths, 2006: paths in a directed graph and their lengths.
 use Rattle.std.specs.Prelude.{◌≡◌, ℕ, ◌+◌, ◌≤◌, ◌↔◌, List, [], ◌∷◌, Contains, Option}
 use Rattle.road_map.specs.declared.parts.Parts.{Parts}
 use Rattle.road_map.specs.Least.{IsLeast}
@@ -8,17 +7,17 @@ use Rattle.road_map.specs.Walks.{Knows, IsDistance, distance}
 use Rattle.dimacs_reader.specs.declared.arc.Arc.{Arc}
 use Rattle.dimacs_reader.specs.declared.graph.Graph.{Graph}
 
--- each arc is one of the graph's and leaves where the one before has led
+-- each arc belongs to the graph and starts where the previous arc ends
 abbrev pub Follows : List Arc → ℕ → List Arc → Type 0
 Follows arcs u [] = Unit {0}
 Follows arcs u (arc ∷ walk) = Contains arcs arc × (arc.from ≡ u) × Follows arcs arc.to walk
 
--- where arcs from u lead in the end
+-- the node at which arcs from u end
 abbrev pub end_of : ℕ → List Arc → ℕ
 end_of u [] = u
 end_of u (arc ∷ walk) = end_of arc.to walk
 
--- the lengths of all arcs, added up
+-- the sum of the lengths of all arcs
 abbrev pub total : List Arc → ℕ
 total [] = 0
 total (arc ∷ walk) = arc.length + total walk
@@ -31,8 +30,7 @@ pub record Leads (graph : Graph) (s t d : ℕ) : Type 0 where
   pub ends : end_of s walk ≡ t
   pub sums : total walk ≡ d
 
--- the length of a directed walk from s to t than which none is shorter, or none where there is no
--- such walk
+-- the length of a shortest directed walk from s to t, or none if no such walk exists
 abbrev pub IsDirectedDistance : Graph → ℕ → ℕ → Option ℕ → Type 0
 IsDirectedDistance graph s t d = IsLeast (Leads graph s t) d
 

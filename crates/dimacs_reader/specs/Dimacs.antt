@@ -1,6 +1,6 @@
--- Road files of the challenge: what a graph and its coordinates say, or their first fault.
--- Source: file formats of the 9th DIMACS Implementation Challenge, Shortest Paths, 2006; the
--- limits, the order of the faults and roads as pairs of arcs are this program's profile.
+-- Road files of the challenge: the contents of a graph and its coordinates, or their first fault. Source: file
+-- formats of the 9th DIMACS Implementation Challenge, Shortest Paths, 2006. The limits, the order of the faults,
+-- and the reading of roads as pairs of arcs are this program's profile.
 use Rattle.std.specs.Prelude.{ℕ, ◌+◌, ◌==◌, Bool, false, not, ◌&&◌, nat_lt, nat_le, List, [], ◌∷◌, length, map, take, slice_get, filter, find, count_by, Option, None, Some, Result, Ok, Err, codes, if◌then◌else◌}
 use Rattle.std.specs.List.{range_with_len, filter_map}
 use Rattle.std.specs.Option.{ok_or}
@@ -23,18 +23,18 @@ abbrev pub ◌>>=◌ : {A B : Type 0} → Result A DimacsError → (A → Result
 Ok x >>= next = next x
 Err fault >>= next = Err fault
 
--- the value, where a test holds
+-- the value, if a test holds
 abbrev pub where_holds : {A : Type 0} → Bool → DimacsError → A → Result A DimacsError
 where_holds test fault value = if test then Ok value else Err fault
 
--- how many nodes a file may have, and how many arcs
+-- the greatest number of nodes in a file, and of arcs
 abbrev pub most_nodes : ℕ
 most_nodes = 65536
 
 abbrev pub most_arcs : ℕ
 most_arcs = 524288
 
--- what the problem line of a graph says: 'p sp NODES ARCS'
+-- the problem line of a graph: 'p sp NODES ARCS'
 abbrev pub graph_size_of : ℕ → List (List ℕ) → Result GraphSize DimacsError
 graph_size_of number (kind ∷ problem ∷ nodes ∷ arcs ∷ []) =
     if bytes_eq kind (codes "p") && bytes_eq problem (codes "sp")
@@ -44,11 +44,11 @@ graph_size_of number (kind ∷ problem ∷ nodes ∷ arcs ∷ []) =
     else Err (NoProblem 1)
 graph_size_of number _ = Err (NoProblem 1)
 
--- an id is 1 to the count of nodes
+-- an id is from 1 to the number of nodes
 abbrev pub is_id : ℕ → ℕ → Bool
 is_id nodes id = nat_le 1 id && nat_le id nodes
 
--- what a later line of a graph says: 'a FROM TO LENGTH'
+-- a later line of a graph: 'a FROM TO LENGTH'
 abbrev pub arc_of : ℕ → ℕ → List (List ℕ) → Result Arc DimacsError
 arc_of nodes number (kind ∷ from ∷ to ∷ length ∷ []) =
     if bytes_eq kind (codes "a")
@@ -57,14 +57,14 @@ arc_of nodes number (kind ∷ from ∷ to ∷ length ∷ []) =
     else Err (BadLine 1 number)
 arc_of nodes number _ = Err (BadLine 1 number)
 
--- what each of some lines says, or the first fault
+-- the value of each of several lines, or the first fault
 abbrev pub each_of : {A : Type 0} → (ℕ → List (List ℕ) → Result A DimacsError) →
     List (ℕ × List (List ℕ)) → Result (List A) DimacsError
 each_of says [] = Ok []
 each_of says (line ∷ lines) = says line.0 line.1 >>=
     (λ first. each_of says lines >>= (λ rest. Ok (first ∷ rest)))
 
--- a graph's count of nodes and its arcs, in the order of the file
+-- a graph's number of nodes and its arcs, in the order of the file
 abbrev pub graph_from : List (ℕ × List (List ℕ)) → Result Graph DimacsError
 graph_from [] = Err (NoProblem 1)
 graph_from (problem ∷ lines) = do
@@ -75,7 +75,7 @@ graph_from (problem ∷ lines) = do
 unfoldable pub graph_of : List ℕ → Result Graph DimacsError
 graph_of text = graph_from (told_lines 0 text)
 
--- what the problem line of coordinates says: 'p aux sp co NODES'
+-- the problem line of coordinates: 'p aux sp co NODES'
 abbrev pub place_count_of : ℕ → List (List ℕ) → Result ℕ DimacsError
 place_count_of number (kind ∷ aux ∷ problem ∷ form ∷ nodes ∷ []) =
     if bytes_eq kind (codes "p") && bytes_eq aux (codes "aux") && bytes_eq problem
@@ -85,7 +85,7 @@ place_count_of number (kind ∷ aux ∷ problem ∷ form ∷ nodes ∷ []) =
     else Err (NoProblem 2)
 place_count_of number _ = Err (NoProblem 2)
 
--- what a later line of coordinates says: 'v ID X Y'
+-- a later line of coordinates: 'v ID X Y'
 abbrev pub place_of : ℕ → ℕ → List (List ℕ) → Result Node DimacsError
 place_of nodes number (kind ∷ id ∷ x ∷ y ∷ []) =
     if bytes_eq kind (codes "v")
@@ -94,7 +94,7 @@ place_of nodes number (kind ∷ id ∷ x ∷ y ∷ []) =
     else Err (BadLine 2 number)
 place_of nodes number _ = Err (BadLine 2 number)
 
--- the places of so many nodes, in the order of the file
+-- the places of this many nodes, in the order of the file
 abbrev pub places_from : ℕ → List (ℕ × List (List ℕ)) → Result (List Node) DimacsError
 places_from nodes [] = Err (NoProblem 2)
 places_from nodes (problem ∷ lines) = do
@@ -105,25 +105,25 @@ places_from nodes (problem ∷ lines) = do
 unfoldable pub places_of : ℕ → List ℕ → Result (List Node) DimacsError
 places_of nodes text = places_from nodes (told_lines 0 text)
 
--- the least of so many ids that is placed twice
+-- the least of this many ids that has two places
 unfoldable pub placed_twice : ℕ → List Node → Option ℕ
 placed_twice nodes places = find (λ id. nat_lt 1 (count_by (λ node. node.id == id) places))
     (range_with_len 1 nodes)
 
--- the place of each of so many ids, by ascending id
+-- the place of each of this many ids, in ascending order
 unfoldable pub nodes_of : ℕ → List Node → List Node
 nodes_of nodes places = filter_map (λ id. find (λ node. node.id == id) places)
     (range_with_len 1 nodes)
 
--- two arcs are the same
+-- two arcs are equal
 abbrev pub is_arc : Arc → Arc → Bool
 is_arc a b = (a.from == b.from) && (a.to == b.to) && (a.length == b.length)
 
--- the arc back
+-- the reverse arc
 abbrev pub turned : Arc → Arc
 turned arc = record { from = arc.to; to = arc.from; length = arc.length }
 
--- the arc joins two nodes, and up to its index there are more such arcs than arcs back in all
+-- the arc joins two nodes, and there are more such arcs up to its index than reverse arcs in all
 abbrev pub lacks_back : List Arc → ℕ → Option Arc → Bool
 lacks_back arcs index None = false
 lacks_back arcs index (Some arc) =
@@ -133,18 +133,18 @@ lacks_back arcs index (Some arc) =
 abbrev pub is_unpaired : List Arc → ℕ → Bool
 is_unpaired arcs index = lacks_back arcs index (slice_get arcs index)
 
--- the least index of an arc that has no arc back of its own
+-- the least index of an arc without a reverse arc of its own
 unfoldable pub first_unpaired : List Arc → Option ℕ
 first_unpaired arcs = find (is_unpaired arcs) (range_with_len 0 (length arcs))
 
 abbrev pub road_of : Arc → Road
 road_of arc = record { a = arc.from; b = arc.to; length = arc.length }
 
--- a road for each pair of arcs, by the arc of which the first id is less, in the order of the file
+-- a road for each pair of arcs, from the arc that leads to a greater id, in the order of the file
 unfoldable pub roads_of : List Arc → List Road
 roads_of arcs = map road_of (filter (λ arc. nat_lt arc.from arc.to) arcs)
 
--- the value, where there is no number with this fault
+-- the value, if no number has this fault
 abbrev pub where_none : {A : Type 0} → Option ℕ → (ℕ → DimacsError) → A → Result A DimacsError
 where_none None fault value = Ok value
 where_none (Some number) fault value = Err (fault number)

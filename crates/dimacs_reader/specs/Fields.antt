@@ -1,12 +1,12 @@
--- What the words of a line say.
--- Source: file formats of the 9th DIMACS Implementation Challenge, Shortest Paths, 2006.
+-- The meaning of a line's words. Source: file formats of the 9th DIMACS Implementation Challenge, Shortest
+-- Paths, 2006.
 use Rattle.std.specs.Prelude.{ℕ, List, Option, Some}
 use Rattle.road_map.specs.declared.parts.Node.{Node}
 use Rattle.road_reader.specs.Fields.{◌>>=◌, natural_of, coordinate_of}
 use Rattle.dimacs_reader.specs.declared.arc.Arc.{Arc}
 use Rattle.dimacs_reader.specs.declared.problem.GraphSize.{GraphSize}
 
--- the counts of nodes and of arcs
+-- the numbers of nodes and of arcs
 abbrev pub size_in : List ℕ → List ℕ → Option GraphSize
 size_in nodes arcs = do
   nodes ← natural_of nodes

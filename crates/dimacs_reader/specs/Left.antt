@@ -1,4 +1,4 @@
--- How many arcs are left, by the indices of sorted arcs.
+-- The number of arcs left, at the indices of sorted arcs.
 use Rattle.std.specs.Prelude.{◌≡◌, ◌≢◌, ℕ, ◌+◌, ◌==◌, ◌||◌, nat_lt, Bool, if◌then◌else◌, Option, None, Some, List, get_or}
 use Rattle.std.specs.List.{position}
 use Rattle.std.specs.List.Sorted.{IsSortedByKey}
@@ -17,32 +17,33 @@ three_cmp x y = ordering_then (ordering_then (nat_cmp x.0 y.0) (nat_cmp x.1 y.1)
 abbrev pub AreSorted : List Arc → Type 0
 AreSorted arcs = IsSortedByKey three_of three_cmp arcs
 
--- where an arc stands against another: 0 before it, 1 with it, 2 after it
+-- how an arc compares with another: 0 if it sorts before the other, 1 if they are equal, 2 if it sorts after the
+-- other
 abbrev pub rank : Arc → Arc → ℕ
 rank arc other = ordering_index (three_cmp (three_of other) (three_of arc))
 
--- another arc comes before an arc
+-- another arc sorts before this arc
 abbrev pub precedes : Arc → Arc → Bool
 precedes arc other = nat_lt (rank arc other) 1
 
--- the first index of an arc, if it stands in the list
+-- the first index of an arc, if it is in the list
 abbrev pub place_in : List Arc → Arc → Option ℕ
 place_in arcs arc = position (is_arc arc) arcs
 
--- how many are left at an index that may be there
+-- the number left at an index, if the index exists
 abbrev pub left_at : List ℕ → Option ℕ → ℕ
 left_at left None = 0
 left_at left (Some place) = get_or left place 0
 
--- how many arcs like this one are left: each number stands at the first index of its arc
+-- how many arcs equal to this one are left; the number is stored at the first index of the arc
 abbrev pub left_of : List Arc → List ℕ → Arc → ℕ
 left_of arcs left arc = left_at left (place_in arcs arc)
 
--- the arc needs no arc back, or one is left
+-- the arc needs no reverse arc, or one is left
 abbrev pub has_back : (Arc → ℕ) → Arc → Bool
 has_back left arc = (arc.from == arc.to) || nat_lt 0 (left (turned arc))
 
--- of the arcs between two nodes, the arc back of this one alone is taken
+-- of the arcs between two nodes, only the reverse of this one has been taken
 abbrev pub TakesBack : (Arc → ℕ) → (Arc → ℕ) → Arc → Type 0
 TakesBack before after arc = (other : Arc) → other.from ≢ other.to →
     after other + (if is_arc (turned other) arc then 1 else 0) ≡ before other

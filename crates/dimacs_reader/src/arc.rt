@@ -1,10 +1,10 @@
-//! Arcs: ways in one direction.
+//! Directed arcs.
 
 ghost use Rattle.std.specs.Prelude.{◌≡◌};
 
 use std::marker::Model;
 
-/// A way from one node to another, in this direction alone.
+/// A connection from one node to another, in this direction only.
 #[derive(Clone, Copy, Debug, PartialEq, Eq)]
 pub struct Arc {
     pub from: u32,
@@ -28,14 +28,14 @@ impl Model for Arcs {
 }
 
 impl Arcs {
-    /// These arcs.
+    /// Makes the list of these arcs.
     pub fn from_vec(items: Vec<Arc>) -> Arcs
         ensures { result ≡ items.items }
     {
         Arcs { items }
     }
 
-    /// The arcs, lent.
+    /// Borrows the arcs.
     pub fn as_slice(&self) -> &[Arc]
         ensures { result.now ≡ self.now }
     {

@@ -15,16 +15,16 @@ use octet_text::push;
 use road_reader::{FourWords, Line, Lines, four_words, natural};
 use std::alloc::Global;
 
-/// What a graph file lists.
+/// The contents of a graph file.
 #[derive(Drop)]
 pub struct Graph {
-    /// How many nodes there are. Their ids go from 1 to this.
+    /// The number of nodes. Their ids are the numbers from 1 to this one.
     pub nodes: u32,
-    /// The arcs in the order of the file.
+    /// The arcs, in the order of the file.
     pub arcs: Arcs,
 }
 
-/// Whether a number is the id of one of so many nodes.
+/// Tests whether a number is an id, if there are `nodes` nodes.
 pub fn is_id(nodes: u32, id: u32) -> bool
     ensures { result ≡ is_id nodes id }
 {
@@ -40,7 +40,7 @@ fn arc(words: &FourWords) -> Option<Arc>
     Some(Arc { from, to, length })
 }
 
-/// The arc that a line lists, or its first fault.
+/// Parses the arc in a line. Fails with the line's first fault.
 fn read_arc(nodes: u32, line: Line) -> Result<Arc, DimacsError>
     ensures { result ≡ arc_of nodes line.entry.number (words_of line.entry.octets.now) }
 {
@@ -55,7 +55,7 @@ fn read_arc(nodes: u32, line: Line) -> Result<Arc, DimacsError>
     Ok(arc)
 }
 
-/// The arcs of all lines.
+/// Parses the arcs in all remaining lines.
 fn read_arcs(alloc: Global, nodes: u32, mut lines: Lines) -> Result<Vec<Arc>, DimacsError>
     requires { lines.passed + length lines.rest.now < 2 ^ 32 }
     ensures arcs { IfOk result (λ arcs.

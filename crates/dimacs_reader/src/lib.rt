@@ -1,13 +1,11 @@
-//! Road files of the DIMACS shortest path challenge, read as the parts of a map.
+//! Reads road files of the DIMACS shortest path challenge as the parts of a map.
 //!
-//! A graph file lists arcs, each in one direction, and a coordinate file the places of its nodes.
-//! Both are lists of lines, and a line is a list of words, as in a road file. Lines without words
-//! and lines whose first word begins with `c` are skipped. The first other line is the problem
-//! line: `p sp NODES ARCS` of a graph, `p aux sp co NODES` of coordinates. Each later one is an arc
-//! `a FROM TO LENGTH`, or a place `v ID X Y`.
+//! A graph file lists arcs, each in one direction. A coordinate file lists the coordinates of the graph's nodes.
+//! Both are lists of lines, and a line is a list of words, as in a road file. Lines without words and lines whose
+//! first word begins with `c` are skipped. The first other line is the problem line: `p sp NODES ARCS` in a graph,
+//! `p aux sp co NODES` in coordinates. Each later line is an arc `a FROM TO LENGTH`, or a place `v ID X Y`.
 //!
-//! A road is a pair of arcs, one in each direction, of the same length. Arcs from a node to itself
-//! are no roads.
+//! A road is a pair of arcs of the same length, one in each direction. Arcs from a node to itself are not roads.
 #![tactic(auto)]
 
 mod arc;

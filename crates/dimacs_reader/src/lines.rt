@@ -1,4 +1,4 @@
-//! The lines of a text that are no comments.
+//! The lines of a text that are not comments.
 
 ghost use Rattle.std.specs.Prelude.{◌≡◌, ◌+◌, ◌^◌, ◌<◌, ◌≤◌, [], ◌∷◌, length, IsSome, MatchOption};
 ghost use Rattle.road_reader.specs.Lines.{words_of};
@@ -6,7 +6,7 @@ ghost use Rattle.dimacs_reader.specs.Told.{is_comment, told_lines};
 
 use road_reader::{Line, Lines, skip_blanks, split_line};
 
-/// The next line that is no comment.
+/// Returns the next line that is not a comment.
 pub fn next_line<'a>(lines: &mut Lines<'a>) -> Option<Line<'a>>
     requires { lines.old.passed + length lines.old.rest.now < 2 ^ 32 }
     ensures line { MatchOption result
@@ -32,7 +32,7 @@ pub fn next_line<'a>(lines: &mut Lines<'a>) -> Option<Line<'a>>
     None
 }
 
-/// Whether a line is skipped: it has no words, or its first word begins with `c`.
+/// Tests whether a line is skipped: it has no words, or its first word begins with `c`.
 fn is_comment(line: &[u8]) -> bool
     ensures { result ≡ is_comment (words_of line.now) }
 {

@@ -1,4 +1,4 @@
-//! Pairs of arcs: each arc between two nodes has an arc back of its own.
+//! Pairing arcs: each arc between two nodes needs a reverse arc of its own.
 
 ghost use Rattle.std.specs.Prelude.{◌≡◌, ◌+◌, ◌-◌, ◌^◌, ◌<◌, ◌⊎◌, ℕ, nat_lt, true, None, Some, IfOk, IfErr, OnOk, IsPermutation, length, count_by, get_or, set};
 ghost use Rattle.octet_text.specs.Want.{no_memory};
@@ -12,7 +12,7 @@ use octet_text::{NoMemory, copied, filled, push};
 use road_map::Road;
 use std::alloc::Global;
 
-/// Arcs by ascending ends and lengths.
+/// Returns the arcs sorted by their ends and lengths.
 fn sorted_arcs(alloc: Global, arcs: &[Arc]) -> Result<Vec<Arc>, NoMemory>
     ensures sorted { IfOk result (λ sorted. AreSorted sorted.items) }
     ensures same { IfOk result (λ sorted. IsPermutation arcs.now sorted.items) }
@@ -22,7 +22,7 @@ fn sorted_arcs(alloc: Global, arcs: &[Arc]) -> Result<Vec<Arc>, NoMemory>
     Ok(sorted)
 }
 
-/// Whether an arc comes before another one.
+/// Tests whether one arc sorts before another one.
 fn precedes(other: &Arc, arc: Arc) -> bool
     ensures { result ≡ precedes arc other.now }
 {
@@ -31,14 +31,14 @@ fn precedes(other: &Arc, arc: Arc) -> bool
             && (other.to < arc.to || (other.to == arc.to && other.length < arc.length)))
 }
 
-/// Whether two arcs are the same.
+/// Tests whether two arcs are equal.
 fn is_arc(arc: Arc, other: Arc) -> bool
     ensures { result ≡ is_arc arc other }
 {
     arc.from == other.from && arc.to == other.to && arc.length == other.length
 }
 
-/// The first index of an arc among sorted arcs.
+/// Returns the first index of an arc among sorted arcs, if it is there.
 fn place_in(sorted: &[Arc], arc: Arc) -> Option<usize>
     requires { AreSorted sorted.now }
     ensures { result ≡ place_in sorted.now arc }
@@ -56,7 +56,7 @@ fn place_in(sorted: &[Arc], arc: Arc) -> Option<usize>
     }
 }
 
-/// As many zeros as there are arcs.
+/// Returns as many zeros as there are arcs.
 fn zeros(alloc: Global, arcs: &[Arc]) -> Result<Vec<u32>, NoMemory>
     ensures long { IfOk result (λ left. length left.items ≡ length arcs.now) }
     ensures zero { IfOk result (λ left. (k : ℕ) → get_or left.items k 0 ≡ 0) }
@@ -64,7 +64,7 @@ fn zeros(alloc: Global, arcs: &[Arc]) -> Result<Vec<u32>, NoMemory>
     filled(alloc, 0, arcs.len())
 }
 
-/// One more at an index.
+/// Adds one at an index.
 fn add_one(left: &mut Vec<u32>, place: usize)
     requires within { place < length left.old.items }
     requires room { get_or left.old.items place 0 + 1 < 2 ^ 32 }
@@ -73,7 +73,7 @@ fn add_one(left: &mut Vec<u32>, place: usize)
     left[place] += 1;
 }
 
-/// How many of each arc there are, at its first index among sorted arcs.
+/// Returns the counts of equal arcs among sorted arcs, each at the first index of its arc.
 fn count_arcs(alloc: Global, sorted: &[Arc]) -> Result<Vec<u32>, NoMemory>
     requires few { length sorted.now < 2 ^ 32 }
     requires sorted { AreSorted sorted.now }
@@ -89,7 +89,7 @@ fn count_arcs(alloc: Global, sorted: &[Arc]) -> Result<Vec<u32>, NoMemory>
     Ok(left)
 }
 
-/// One less at an index, and answers whether one was left.
+/// Subtracts one at an index, and returns whether any was left.
 fn take_one(left: &mut Vec<u32>, place: usize) -> bool
     requires { place < length left.old.items }
     ensures some { result ≡ nat_lt 0 (get_or left.old.items place 0) }
@@ -104,8 +104,8 @@ fn take_one(left: &mut Vec<u32>, place: usize) -> bool
     true
 }
 
-/// Takes the arc back of an arc, and answers whether one was left. An arc from a node to itself
-/// needs none.
+/// Takes the reverse of an arc, and returns whether one was left. An arc from a node to itself needs no reverse
+/// arc.
 fn take_back(sorted: &[Arc], left: &mut Vec<u32>, arc: Arc) -> bool
     requires sorted { AreSorted sorted.now }
     requires long { length left.old.items ≡ length sorted.now }
@@ -128,8 +128,8 @@ fn take_back(sorted: &[Arc], left: &mut Vec<u32>, arc: Arc) -> bool
     }
 }
 
-/// Finds the first arc between two nodes for which no arc back is left, where the counts are those
-/// of all arcs.
+/// Returns the first index of an arc between two nodes for which there is no reverse arc left. `left` has the
+/// counts of all arcs.
 fn find_unpaired(sorted: &[Arc], left: Vec<u32>, arcs: &[Arc]) -> Option<u32>
     requires few { length arcs.now < 2 ^ 32 }
     requires sorted { AreSorted sorted.now }
@@ -147,7 +147,7 @@ fn find_unpaired(sorted: &[Arc], left: Vec<u32>, arcs: &[Arc]) -> Option<u32>
     None
 }
 
-/// Refuses arcs of which one between two nodes has no arc back of its own.
+/// Fails with `Unpaired` if an arc between two nodes has no reverse arc of its own.
 pub fn check_pairs(alloc: Global, arcs: &[Arc]) -> Result<(), DimacsError>
     requires { length arcs.now < 2 ^ 32 }
     ensures paired { OnOk result (first_unpaired arcs.now ≡ None) }
@@ -163,7 +163,7 @@ pub fn check_pairs(alloc: Global, arcs: &[Arc]) -> Result<(), DimacsError>
     }
 }
 
-/// A road for each arc of which the first id is less.
+/// Returns a road for each arc that leads from a lesser to a greater id.
 pub fn roads(alloc: Global, arcs: &[Arc]) -> Result<Vec<Road>, NoMemory>
     ensures { IfOk result (λ roads. roads.items ≡ roads_of arcs.now) }
 {

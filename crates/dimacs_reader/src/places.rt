@@ -28,7 +28,7 @@ fn place(words: &FourWords) -> Option<Node>
     Some(Node { id, x, y })
 }
 
-/// The place that a line lists, or its first fault.
+/// Parses the place in a line. Fails with the line's first fault.
 fn read_place(nodes: u32, line: Line) -> Result<Node, DimacsError>
     ensures { result ≡ place_of nodes line.entry.number (words_of line.entry.octets.now) }
 {
@@ -43,7 +43,7 @@ fn read_place(nodes: u32, line: Line) -> Result<Node, DimacsError>
     Ok(node)
 }
 
-/// The places of all lines.
+/// Parses the places in all remaining lines.
 fn list_places(alloc: Global, nodes: u32, mut lines: Lines) -> Result<Vec<Node>, DimacsError>
     requires { lines.passed + length lines.rest.now < 2 ^ 32 }
     ensures places { IfOk result (λ places.
@@ -61,7 +61,7 @@ fn list_places(alloc: Global, nodes: u32, mut lines: Lines) -> Result<Vec<Node>,
     Ok(places)
 }
 
-/// Reads the coordinates, in a file of fewer than 2^32 octets, of a graph of so many nodes.
+/// Reads the coordinates of a graph with `nodes` nodes, from a file of fewer than 2^32 octets.
 pub fn read_places(alloc: Global, nodes: u32, text: &[u8]) -> Result<Vec<Node>, DimacsError>
     requires { length text.now < 2 ^ 32 }
     ensures places { IfOk result (λ places. places_of nodes text.now ≡ Ok places.items) }
@@ -83,7 +83,7 @@ pub fn read_places(alloc: Global, nodes: u32, text: &[u8]) -> Result<Vec<Node>, 
     Ok(places)
 }
 
-/// The nodes sorted by id.
+/// Returns the nodes sorted by id.
 fn sorted_by_id(mut places: Vec<Node>) -> Vec<Node>
     ensures same { IsPermutation places.items result.items }
     ensures sorted { IsNonDecreasingBy (λ n. n.id) result.items }
@@ -92,7 +92,7 @@ fn sorted_by_id(mut places: Vec<Node>) -> Vec<Node>
     places
 }
 
-/// The least id that stands twice among nodes sorted by id.
+/// Returns the least id that occurs more than once among nodes sorted by id.
 fn repeated_id(nodes: &[Node]) -> Option<u32>
     requires { IsNonDecreasingBy (λ n. n.id) nodes.now }
     ensures { IsLeast (StandsTwice nodes.now) result }
@@ -105,7 +105,7 @@ fn repeated_id(nodes: &[Node]) -> Option<u32>
     None
 }
 
-/// The nodes of a graph by their ids, from places whose ids are 1 to its count of nodes.
+/// Returns the nodes of a graph by ascending id. The ids of the places must be 1 to the number of nodes.
 pub fn nodes_by_id(places: Vec<Node>, nodes: u32) -> Result<Nodes, DimacsError>
     requires { All (λ n. (1 ≤ n.id) × (n.id ≤ nodes)) places.items }
     ensures { result ≡ where_none (placed_twice nodes places.items) (λ id. DimacsError.Repeated id)

@@ -1,4 +1,4 @@
-//! The problem lines: how large the two files say that they are.
+//! The problem lines, which declare the sizes of the two files.
 
 ghost use Rattle.std.specs.Prelude.{◌≡◌};
 ghost use Rattle.road_reader.specs.Lines.{words_of};
@@ -8,13 +8,13 @@ ghost use Rattle.dimacs_reader.specs.Dimacs.{graph_size_of, place_count_of};
 use crate::error::DimacsError;
 use road_reader::{Line, four_words, natural, split_word};
 
-/// The most nodes that a file may have.
+/// The greatest number of nodes in a file.
 pub const MOST_NODES: u32 = 65_536;
 
-/// The most arcs that a graph may have, which are two for each road.
+/// The greatest number of arcs in a graph, two for each road.
 pub const MOST_ARCS: u32 = 524_288;
 
-/// How large a graph says that it is.
+/// The declared size of a graph.
 #[derive(Clone, Copy)]
 pub struct GraphSize {
     pub nodes: u32,
@@ -29,7 +29,7 @@ fn size(nodes: &[u8], arcs: &[u8]) -> Option<GraphSize>
     Some(GraphSize { nodes, arcs })
 }
 
-/// What the problem line of a graph says, or its first fault.
+/// Parses the problem line of a graph. Fails with the line's first fault.
 pub fn graph_size(line: Line) -> Result<GraphSize, DimacsError>
     ensures { result ≡ graph_size_of line.entry.number (words_of line.entry.octets.now) }
 {
@@ -44,7 +44,7 @@ pub fn graph_size(line: Line) -> Result<GraphSize, DimacsError>
     Ok(size)
 }
 
-/// The count of nodes that the problem line of coordinates says, or its first fault.
+/// Parses the number of nodes in the problem line of coordinates. Fails with the line's first fault.
 pub fn place_count(line: Line) -> Result<u32, DimacsError>
     ensures { result ≡ place_count_of line.entry.number (words_of line.entry.octets.now) }
 {

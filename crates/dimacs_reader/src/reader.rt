@@ -1,4 +1,4 @@
-//! A graph and its coordinates, read.
+//! Reading a graph and its coordinates.
 
 ghost use Rattle.std.specs.Prelude.{◌≡◌, ◌^◌, ◌<◌, ◌⊎◌, Ok, Err, IfOk, IfErr, length};
 ghost use Rattle.octet_text.specs.Want.{no_memory};
@@ -11,12 +11,11 @@ use crate::places::{nodes_by_id, read_places};
 use road_map::{Parts, Roads};
 use std::alloc::Global;
 
-/// The parts of a graph and its coordinates, each a file of fewer than 2^32 octets: the nodes by
-/// their ids, and a road for each pair of arcs, in the order of the arcs from the lesser id.
+/// Reads the parts of a graph and its coordinates, each a file of fewer than 2^32 octets. The parts are the nodes
+/// by ascending id, and a road for each pair of arcs, in the order of those arcs that lead to a greater id.
 ///
-/// The faults are found in the order that `DimacsError` lists them in for the graph up to `Count`,
-/// then for the coordinates up to `Count`, then `Repeated` and `Unpaired`; in each file the first
-/// faulty line decides.
+/// Faults are found in this order: for the graph, in the order of `DimacsError` up to `Count`; for the coordinates,
+/// the same; then `Repeated`; then `Unpaired`. In each file the first faulty line decides.
 pub fn read_dimacs(alloc: Global, graph: &[u8], places: &[u8]) -> Result<Parts, DimacsError>
     requires graph { length graph.now < 2 ^ 32 }
     requires places { length places.now < 2 ^ 32 }

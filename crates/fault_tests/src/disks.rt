@@ -1,4 +1,4 @@
-//! Disks in memory that stop, and what a crash leaves of them.
+//! Disks in memory that stop, and the images that a crash leaves of them.
 
 use crate::owner::{Command, played};
 use command_files::{Conclusion, Fault};
@@ -8,10 +8,10 @@ use std::alloc::Global;
 use std::process::Abort;
 use std::test::Fail;
 
-/// More device calls than any command makes.
+/// A number of calls to the disk that no command exceeds.
 pub(crate) const MANY: u64 = 100;
 
-/// A disk that holds these octets, has room for two keys, and does so many calls and then none.
+/// Makes a disk that holds these octets, has room for two keys, and fails from a number of calls on.
 pub(crate) fn disk_of(alloc: Global, octets: &[u8], calls: u64) -> Result<MemDisk, Fail> {
     let stop = Some(calls.saturating_add(2));
     let mut disk = MemDisk::new(alloc, 8320, 100_000, Vec::new(alloc), stop)?;
@@ -20,7 +20,7 @@ pub(crate) fn disk_of(alloc: Global, octets: &[u8], calls: u64) -> Result<MemDis
     Ok(disk)
 }
 
-/// What a disk holds.
+/// Returns the content of a disk.
 pub(crate) fn image_of(alloc: Global, disk: &mut MemDisk) -> Result<Vec<u8>, Fail> {
     let len = disk.len()?;
     let mut octets = Vec::from_elem(alloc, 0u8, len as usize)?;
@@ -28,9 +28,9 @@ pub(crate) fn image_of(alloc: Global, disk: &mut MemDisk) -> Result<Vec<u8>, Fai
     Ok(octets)
 }
 
-/// Runs a command over a disk that holds these octets and stops after so many calls, and answers
-/// whether it ended well, and the image that a crash leaves. Else the disk failed, and nothing was
-/// written.
+/// Runs a command over a disk that holds these octets and stops after this many calls. Returns whether the command
+/// succeeded, and the image that a crash leaves. If it did not succeed, asserts that the disk failed and that
+/// nothing was written.
 pub(crate) fn stopped(
     rt: &impl Abort,
     alloc: Global,

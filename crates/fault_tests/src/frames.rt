@@ -1,4 +1,4 @@
-//! A source that gives three octets at once fails at each read of the frames of `serve`.
+//! A source that gives three octets at a time. It fails at each read of the frames of `serve`, in turn.
 
 use crate::owner::{Command, done};
 use crate::parties::disk_with_key;
@@ -13,20 +13,20 @@ use std::test::Fail;
 /// Session 0 begins.
 const BEGIN: &[u8] = b"\x00\x00\x00\x02\x01\x00";
 
-/// What a frame begins with that installs a publication of 1,550 octets.
+/// The beginning of a frame that installs a publication of 1,550 octets.
 const INSTALL: &[u8] = b"\x00\x00\x06\x0f\x04";
 
-/// Session 1 begins, each of the sessions 0, 1 and 2 asks for the route from 1 to 3, session 16
-/// begins, and a frame is empty.
+/// Session 1 begins; each of the sessions 0, 1 and 2 asks for the route from 1 to 3; session 16 begins; and one
+/// frame is empty.
 const SESSIONS: &[u8] = b"\x00\x00\x00\x02\x01\x01\
     \x00\x00\x00\x0a\x02\x00\x00\x00\x00\x01\x00\x00\x00\x03\
     \x00\x00\x00\x0a\x02\x01\x00\x00\x00\x01\x00\x00\x00\x03\
     \x00\x00\x00\x0a\x02\x02\x00\x00\x00\x01\x00\x00\x00\x03\
     \x00\x00\x00\x02\x01\x10\x00\x00\x00\x00";
 
-/// Of each frame how many octets its body has, and how many its reply has with the length before
-/// it: a begun session, an install, an answer of 1,611 octets, one that no session is begun for,
-/// one of a number too great, an empty one and a version that is not above the newest.
+/// For each frame, the number of octets in its body, and the number in its reply including the reply's length. The
+/// frames begin a session, install, are answered with 1,611 octets, belong to no open session, have too great a
+/// session number, are empty, or have a version that is not higher than the newest.
 const FRAMES: [(usize, usize); 9] = [
     (2, 14),
     (1551, 13),
@@ -39,11 +39,11 @@ const FRAMES: [(usize, usize); 9] = [
     (1551, 13),
 ];
 
-/// How many reads a run makes: each length takes two, each body one for three octets, and the last
-/// finds the end.
+/// The number of reads in a run: each length takes two reads, each body one read for three octets, and the last
+/// read finds the end.
 const READS: usize = 1068;
 
-/// How many octets of replies are written where the read of this number fails.
+/// Returns the number of octets of replies that are written before the read with this number.
 fn written_before(read: usize) -> usize {
     let mut written = 0usize;
     let mut reads = 0usize;
@@ -57,7 +57,7 @@ fn written_before(read: usize) -> usize {
     written
 }
 
-/// The frames, which install this publication.
+/// Returns the frames, which install this publication.
 fn input_of(alloc: Global, next: &[u8]) -> Result<Vec<u8>, Fail> {
     let mut input = Vec::new(alloc);
     for part in [BEGIN, INSTALL, next, SESSIONS, INSTALL, next] {
@@ -66,7 +66,7 @@ fn input_of(alloc: Global, next: &[u8]) -> Result<Vec<u8>, Fail> {
     Ok(input)
 }
 
-/// A library with a publication of version 1, and the frames, which install one of version 2.
+/// Makes a library with a publication of version 1, and the frames, which install a publication of version 2.
 fn world(rt: &impl Abort, alloc: Global) -> Result<(MemLibrary, Vec<u8>), Fail> {
     let (mut disk, _key) = disk_with_key(rt, alloc)?;
     let first = done(rt, alloc, &mut disk, Command::Publish(1))?;
@@ -76,7 +76,7 @@ fn world(rt: &impl Abort, alloc: Global) -> Result<(MemLibrary, Vec<u8>), Fail> 
     Ok((library, input_of(alloc, &next)?))
 }
 
-/// How `serve` ends where the read of this number fails, and what it writes.
+/// Returns how `serve` ends if the read with this number fails, and the octets that it writes.
 fn served(
     alloc: Global,
     library: &mut MemLibrary,
@@ -90,7 +90,7 @@ fn served(
     Ok((end, sink.taken().to_vec(alloc)?))
 }
 
-/// Where the read of this number fails, the run says so, and these are the replies.
+/// Asserts that a run whose read with this number fails reports this, and has written these replies.
 fn is_cut(
     rt: &impl Abort,
     alloc: Global,

@@ -1,6 +1,6 @@
-//! Tests of runs in which one outside call fails, a reply is cut, or the disk stops: over objects
-//! in memory, call by call, up to a run in which none fails. No clause says how many calls there
-//! are, nor that the next run succeeds.
+//! Tests of runs in which one outside call fails, a reply is cut, or the disk stops. The objects are in memory. The
+//! failure is tried at each call, up to a run in which no call fails. No clause states how many calls there are,
+//! nor that the next run succeeds.
 #![tactic(auto)]
 
 #[cfg(test)]

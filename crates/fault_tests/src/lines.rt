@@ -1,4 +1,4 @@
-//! A sink that takes an octet at once fails at each call of `route`.
+//! A sink that takes one octet at a time. It fails at each call of `route`, in turn.
 
 use command_files::{Conclusion, Fault};
 use map_commands::route;
@@ -11,7 +11,7 @@ use test_maps::FIVE_NODES;
 /// The line of the route from 1 to 3.
 const LINE: &[u8] = b"9: 1 2 3\n";
 
-/// A run whose sink fails at this call ends so, with the octets before it written.
+/// Asserts that a run whose sink fails at this call reports this, and has written the octets before the call.
 fn is_cut(
     rt: &impl Abort,
     alloc: Global,

@@ -1,4 +1,4 @@
-//! Each load of each command that loads files fails.
+//! Each load of each command that loads files fails, in turn.
 
 use crate::parties::{ASKED, NEAR, Outputs, library_of, play_all};
 use audit_commands::{audit, audit_reach, reduce};
@@ -34,7 +34,7 @@ enum Loading {
     Succeed,
 }
 
-/// Each command, how many files it loads, and how it ends where all are loaded, over a disk with a
+/// Each command, the number of files that it loads, and how it ends if it loads all of them, over a disk with a
 /// key.
 const ROWS: [(Loading, u64, Result<Conclusion, Fault>); 14] = [
     (Loading::Route, 1, Ok(Conclusion::Done)),
@@ -53,7 +53,7 @@ const ROWS: [(Loading, u64, Result<Conclusion, Fault>); 14] = [
     (Loading::Succeed, 1, Ok(Conclusion::Done)),
 ];
 
-/// What the commands of maps come to.
+/// Runs the commands over maps.
 fn of_maps(
     alloc: Global,
     files: &mut MemLibrary,
@@ -67,7 +67,7 @@ fn of_maps(
     }
 }
 
-/// What the commands of a server come to.
+/// Runs the commands of a server.
 fn of_server(
     alloc: Global,
     files: &mut MemLibrary,
@@ -82,7 +82,7 @@ fn of_server(
     }
 }
 
-/// What the commands of a client come to.
+/// Runs the commands of a client.
 fn of_client(
     alloc: Global,
     files: &mut MemLibrary,
@@ -96,7 +96,7 @@ fn of_client(
     }
 }
 
-/// What the commands that judge by the owner's disk come to.
+/// Runs the commands that use the owner's disk for an audit.
 fn of_auditor(
     alloc: Global,
     files: &mut MemLibrary,
@@ -112,7 +112,7 @@ fn of_auditor(
     }
 }
 
-/// What the commands of an owner come to.
+/// Runs the commands of an owner.
 fn of_owner(
     alloc: Global,
     files: &mut MemLibrary,
@@ -121,14 +121,24 @@ fn of_owner(
     command: Loading,
 ) -> Result<Conclusion, Fault> {
     let mut mirrors: Vec<MemMirror> = Vec::new(alloc);
+    let mut gone = Vec::new(alloc);
     match command {
         Loading::Key => key(alloc, files, to, disk, "zeros", KeyKind::H5),
         Loading::Succeed => succeed(alloc, files, to, disk, "ones", KeyKind::H5),
-        _ => publish(alloc, files, to, disk, &mut mirrors, "map.roads", &DIJ),
+        _ => publish(
+            alloc,
+            files,
+            to,
+            disk,
+            &mut mirrors,
+            &mut gone,
+            "map.roads",
+            &DIJ,
+        ),
     }
 }
 
-/// What a command comes to.
+/// Runs a command.
 fn ended(
     alloc: Global,
     files: &mut MemLibrary,
@@ -147,7 +157,7 @@ fn ended(
     }
 }
 
-/// How a command ends whose load of this number fails, and how many octets it writes.
+/// Returns how a command ends if the load with this number fails, and how many octets it writes.
 fn played(
     alloc: Global,
     made: &Outputs,
@@ -161,7 +171,7 @@ fn played(
     Ok((end, sink.taken().len()))
 }
 
-/// Each load of a command fails, and then none.
+/// Lets each load of a command fail in turn, and then no load.
 fn fails_in_turn(
     rt: &impl Abort,
     alloc: Global,

@@ -1,4 +1,4 @@
-//! The second of two mirrors fails at each of its puts.
+//! The second of two mirrors fails at each of its pieces, in turn.
 
 use crate::parties::disk_with_key;
 use book_model::Settings;
@@ -12,15 +12,15 @@ use std::process::Abort;
 use std::test::Fail;
 use test_maps::DIJ;
 
-/// The octets of the publication of a grid of width 20, and the pieces that it goes in.
+/// The number of octets in the publication of a grid of width 20, and the number of pieces in which it is sent.
 const OCTETS: usize = 15_362;
 
 const PIECES: u64 = 4;
 
-/// Version 1.
+/// The settings of version 1.
 const SETTINGS: Settings = Settings { version: 1, ..DIJ };
 
-/// A library with the grid's road file.
+/// Makes a library with the grid's road file.
 fn grid(alloc: Global) -> Result<MemLibrary, Fail> {
     let roads = grid_roads(alloc, 20, 0)?;
     let mut library = MemLibrary::new(alloc, Vec::new(alloc));
@@ -28,7 +28,7 @@ fn grid(alloc: Global) -> Result<MemLibrary, Fail> {
     Ok(library)
 }
 
-/// The mirrors 1 and 2, of which the second fails at this put.
+/// Makes the mirrors 1 and 2. The second one fails at this piece.
 fn mirrors(alloc: Global, put: u64) -> Result<Vec<MemMirror>, Fail> {
     let mut mirrors: Vec<MemMirror> = Vec::new(alloc);
     mirrors.push(MemMirror::new(alloc, 1, OCTETS, Vec::new(alloc))?)?;
@@ -36,7 +36,7 @@ fn mirrors(alloc: Global, put: u64) -> Result<Vec<MemMirror>, Fail> {
     Ok(mirrors)
 }
 
-/// A mirror has this label and holds these octets.
+/// Asserts that a mirror has this label and holds these octets.
 fn holds(rt: &impl Abort, mirror: Option<&MemMirror>, label: u32, octets: &[u8]) {
     let Some(mirror) = mirror else {
         assert!(rt; false, "no mirror {label}");
@@ -46,7 +46,14 @@ fn holds(rt: &impl Abort, mirror: Option<&MemMirror>, label: u32, octets: &[u8])
     assert_eq!(rt; mirror.held(), octets);
 }
 
-/// Publishes to the two mirrors, of which so many stay: the output and what stays have all octets.
+/// Returns the octets of the first pieces of a text.
+fn front_of(text: &[u8], pieces: u64) -> &[u8] {
+    text.get(..(pieces as usize).saturating_mul(4096))
+        .unwrap_or(text)
+}
+
+/// Publishes to the two mirrors, of which this many stay. The output and the mirrors that stay have all octets. A mirror
+/// that is gone has the pieces before the one at which it failed.
 fn publishes(
     rt: &impl Abort,
     alloc: Global,
@@ -57,12 +64,14 @@ fn publishes(
 ) -> Result<(), Fail> {
     let mut sink = MemSink::new(alloc, OCTETS, 4096, Vec::new(alloc))?;
     let mut mirrors = mirrors(alloc, put)?;
+    let mut gone = Vec::with_capacity(alloc, mirrors.len())?;
     let end = publish(
         alloc,
         library,
         &mut sink,
         disk,
         &mut mirrors,
+        &mut gone,
         "grid",
         &SETTINGS,
     );
@@ -71,7 +80,10 @@ fn publishes(
     holds(rt, mirrors.get(0), 1, sink.taken());
     if wanted.1 == 2 {
         holds(rt, mirrors.get(1), 2, sink.taken());
+    } else {
+        holds(rt, gone.get(0), 2, front_of(sink.taken(), put));
     }
+    assert_eq!(rt; mirrors.len() + gone.len(), 2);
     Ok(())
 }
 

@@ -11,7 +11,7 @@ use std::process::Abort;
 use std::test::Fail;
 use test_maps::{DIJ, FIVE_NODES};
 
-/// The hex digits of 48 octets that are 0, and of 48 that are 1.
+/// The hex digits of 48 zero octets, and of 48 octets with the value 1.
 const ZEROS: &str =
     "000000000000000000000000000000000000000000000000000000000000000000000000000000000000000000000000";
 
@@ -24,19 +24,19 @@ const KIND: KeyKind = KeyKind::H5;
 /// A command of the owner.
 #[derive(Clone, Copy, Debug, PartialEq, Eq)]
 pub(crate) enum Command {
-    /// Makes the key of the zeros.
+    /// Makes the key from the zeros.
     Key,
-    /// Makes the key of the ones after it.
+    /// Makes the next key, from the octets with the value 1.
     Succeed,
     /// Publishes the map of five nodes in this version.
     Publish(u64),
-    /// Tells the key, and what is left of it.
+    /// Reports the key, and the number of its remaining one-time keys.
     Desk,
     /// Writes the links between the keys.
     Links,
 }
 
-/// The files that these commands read, in a library whose loads of these numbers fail.
+/// Makes a library with the files of these commands. The loads with these numbers fail.
 pub(crate) fn files(alloc: Global, fails: Vec<u64>) -> Result<MemLibrary, Fail> {
     let mut library = MemLibrary::new(alloc, fails);
     library.put("zeros", ZEROS.as_bytes())?;
@@ -55,10 +55,20 @@ fn published(
 ) -> Result<Conclusion, Fault> {
     let mut mirrors: Vec<MemMirror> = Vec::new(alloc);
     let settings = Settings { version, ..DIJ };
-    publish(alloc, files, to, disk, &mut mirrors, "map.roads", &settings)
+    let mut gone = Vec::new(alloc);
+    publish(
+        alloc,
+        files,
+        to,
+        disk,
+        &mut mirrors,
+        &mut gone,
+        "map.roads",
+        &settings,
+    )
 }
 
-/// How a command ends.
+/// Returns how a command ends.
 fn ended(
     alloc: Global,
     files: &mut MemLibrary,
@@ -75,7 +85,7 @@ fn ended(
     }
 }
 
-/// Runs a command, and answers how it ended and what it wrote.
+/// Runs a command, and returns how it ended and what it wrote.
 pub(crate) fn played(
     alloc: Global,
     disk: &mut MemDisk,
@@ -87,7 +97,7 @@ pub(crate) fn played(
     Ok((end, sink.taken().to_vec(alloc)?))
 }
 
-/// What a command writes, which ends well.
+/// Runs a command, which must succeed, and returns what it wrote.
 pub(crate) fn done(
     rt: &impl Abort,
     alloc: Global,

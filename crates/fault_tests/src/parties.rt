@@ -1,4 +1,4 @@
-//! What an owner, a server and a client make of the map of five nodes.
+//! The outputs of an owner, a server and a client over the map of five nodes.
 
 use crate::disks::{MANY, disk_of};
 use crate::owner::{Command, done, files};
@@ -11,13 +11,12 @@ use std::alloc::Global;
 use std::process::Abort;
 use std::test::Fail;
 
-/// What is asked for: the route from 1 to 3, and the nodes within 4 of 1.
+/// The queries: the route from 1 to 3, and the nodes within 4 of 1.
 pub(crate) const ASKED: Query = Query { from: 1, to: 3 };
 
 pub(crate) const NEAR: NearQuery = NearQuery { from: 1, radius: 4 };
 
-/// What the parties write: the key, a publication of version 3, the two replies, and the chain of
-/// the key.
+/// The outputs of the parties: the key, a publication of version 3, the two replies, and the chain of the key.
 #[derive(Drop)]
 pub(crate) struct Outputs {
     pub(crate) key: Vec<u8>,
@@ -27,14 +26,14 @@ pub(crate) struct Outputs {
     pub(crate) chain: Vec<u8>,
 }
 
-/// A disk with the key, and with no slot spent; and the key's line.
+/// Makes a disk with the key and without a spent slot, and returns the line of the key.
 pub(crate) fn disk_with_key(rt: &impl Abort, alloc: Global) -> Result<(MemDisk, Vec<u8>), Fail> {
     let mut disk = disk_of(alloc, &[], 10 * MANY)?;
     let line = done(rt, alloc, &mut disk, Command::Key)?;
     Ok((disk, line))
 }
 
-/// The reply to the query for the route.
+/// Returns the reply to the query for the route.
 pub(crate) fn reply_of(
     rt: &impl Abort,
     alloc: Global,
@@ -46,7 +45,7 @@ pub(crate) fn reply_of(
     Ok(sink.taken().to_vec(alloc)?)
 }
 
-/// The reply to the query for the nodes.
+/// Returns the reply to the query for the nodes.
 fn near_of(rt: &impl Abort, alloc: Global, library: &mut MemLibrary) -> Result<Vec<u8>, Fail> {
     let mut sink = MemSink::new(alloc, 4096, 4096, Vec::new(alloc))?;
     let end = reach(alloc, library, &mut sink, "pub", NEAR);
@@ -54,7 +53,7 @@ fn near_of(rt: &impl Abort, alloc: Global, library: &mut MemLibrary) -> Result<V
     Ok(sink.taken().to_vec(alloc)?)
 }
 
-/// What the parties write, and the owner's disk.
+/// Returns the outputs of the parties, and the owner's disk.
 pub(crate) fn play_all(rt: &impl Abort, alloc: Global) -> Result<(Outputs, MemDisk), Fail> {
     let (mut disk, key) = disk_with_key(rt, alloc)?;
     let publication = done(rt, alloc, &mut disk, Command::Publish(3))?;
@@ -73,7 +72,7 @@ pub(crate) fn play_all(rt: &impl Abort, alloc: Global) -> Result<(Outputs, MemDi
     Ok((made, disk))
 }
 
-/// A library of all files, whose loads of these numbers fail.
+/// Makes a library of all files. The loads with these numbers fail.
 pub(crate) fn library_of(
     alloc: Global,
     made: &Outputs,

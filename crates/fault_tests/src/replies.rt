@@ -1,4 +1,4 @@
-//! The first octets of a reply, for each count of them.
+//! Every prefix of a reply.
 
 use crate::parties::{ASKED, library_of, play_all};
 use client_commands::check;
@@ -8,15 +8,14 @@ use std::alloc::Global;
 use std::process::Abort;
 use std::test::Fail;
 
-/// How many octets each field of the reply has: by `docs/SPEC.md` those of the kind, the header,
-/// the signature, the route of three ids, four node items, no pair item and the covers of one
-/// digest and none.
+/// The number of octets in each field of the reply, according to `docs/SPEC.md`: the kind, the header, the
+/// signature, the route of three ids, four node items, no pair item, a cover of one digest, and an empty cover.
 const FIELDS: [usize; 36] = [
     1, 4, 1, 1, 1, 1, 8, 4, 32, 4, 32, 8, 8, 2, 1292, 4, 4, 4, 4, 4, 4, 2, 31, 4, 2, 31, 4, 2, 31,
     4, 2, 31, 4, 4, 32, 4,
 ];
 
-/// The first octets of the reply, so many, are refused as malformed at this offset.
+/// Asserts that the prefix of the reply with this many octets is refused as malformed at this offset.
 fn is_malformed(
     rt: &impl Abort,
     alloc: Global,
@@ -34,7 +33,7 @@ fn is_malformed(
     Ok(())
 }
 
-/// Where the field begins in which the octet of this number stands.
+/// Returns the offset at which the field begins that holds the octet with this number.
 fn field_of(octet: usize) -> usize {
     let mut at = 0usize;
     for octets in FIELDS {

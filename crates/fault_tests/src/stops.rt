@@ -1,5 +1,4 @@
-//! The disk stops at each call of `key`, `publish` and `succeed`, and a crash leaves each of four
-//! images.
+//! The disk stops at each call of `key`, `publish` and `succeed`, in turn, and a crash leaves each of four images.
 
 use crate::disks::{MANY, disk_of, image_of, stopped};
 use crate::owner::{Command, done, played};
@@ -9,8 +8,8 @@ use std::alloc::Global;
 use std::process::Abort;
 use std::test::Fail;
 
-/// The lines of `desk` over the public keys of the kind h5 that an independent implementation makes
-/// of the zeros and of the ones, with no slot spent.
+/// The lines of `desk` for the two public keys of kind h5 that an independent implementation makes, from the zeros
+/// and from the octets with the value 1. No slot is spent.
 const FIRST: &[u8] =
     b"000000050000000400000000000000000000000000000000829887511085dc8b9946d97b20163fe2ab4385e734979f535139cabe33cd694f 31 31\n";
 
@@ -20,7 +19,7 @@ const NEXT: &[u8] =
 /// The command that publishes.
 const PUBLISH: Command = Command::Publish(3);
 
-/// The image of a disk after a command that ends well over this one.
+/// Returns the image of a disk after a command, which must succeed over this image.
 fn image_after(
     rt: &impl Abort,
     alloc: Global,
@@ -32,7 +31,7 @@ fn image_after(
     image_of(alloc, &mut disk)
 }
 
-/// Where the gate stands that a command opens last: that of the key, of its second slot, of its
+/// Returns the offset of the gate that a command opens last: the gate of the key, of its second slot, or of its
 /// last slot.
 fn gate_of(command: Command) -> usize {
     match command {
@@ -42,12 +41,12 @@ fn gate_of(command: Command) -> usize {
     }
 }
 
-/// Whether that gate is open.
+/// Tests whether that gate is open.
 fn is_open(image: &[u8], command: Command) -> bool {
     image.len() >= 64 && matches!(image.get(gate_of(command)), Some(1..))
 }
 
-/// Publishes over an image, by a slot of the area that begins at this offset, which was free.
+/// Publishes over an image. The area that begins at this offset must have a free slot.
 fn publishes(rt: &impl Abort, alloc: Global, image: &[u8], area: u16) -> Result<(), Fail> {
     let mut disk = disk_of(alloc, image, MANY)?;
     let publication = done(rt, alloc, &mut disk, PUBLISH)?;
@@ -57,7 +56,7 @@ fn publishes(rt: &impl Abort, alloc: Global, image: &[u8], area: u16) -> Result<
     Ok(())
 }
 
-/// What `desk` writes over an image, or nothing where it holds no key.
+/// Returns the output of `desk` over an image, which is empty if the image holds no key.
 fn desk_line(rt: &impl Abort, alloc: Global, image: &[u8]) -> Result<Vec<u8>, Fail> {
     let mut disk = disk_of(alloc, image, MANY)?;
     let (end, line) = played(alloc, &mut disk, Command::Desk)?;
@@ -70,14 +69,14 @@ fn desk_line(rt: &impl Abort, alloc: Global, image: &[u8]) -> Result<Vec<u8>, Fa
     Ok(line)
 }
 
-/// An image holds this key, with no slot spent, or none.
+/// Asserts that an image holds this key without a spent slot, or no key.
 fn has_key(rt: &impl Abort, alloc: Global, image: &[u8], key: &[u8]) -> Result<(), Fail> {
     let line = desk_line(rt, alloc, image)?;
     assert_eq!(rt; line.as_slice(), key);
     Ok(())
 }
 
-/// What a stopped `key` left holds the whole key or none, as its gate says, and what comes next
+/// Asserts that a stopped `key` left the whole key or no key, as the key's gate tells, and that the next command
 /// succeeds.
 fn look_at_key(rt: &impl Abort, alloc: Global, image: &[u8]) -> Result<(), Fail> {
     if is_open(image, Command::Key) {
@@ -89,8 +88,8 @@ fn look_at_key(rt: &impl Abort, alloc: Global, image: &[u8]) -> Result<(), Fail>
     has_key(rt, alloc, &made, FIRST)
 }
 
-/// What a stopped `succeed` left has the next key or the one before, as the gate of its last slot
-/// says, and what comes next succeeds.
+/// Asserts that a stopped `succeed` left the next key or the previous one, as the gate of the last slot tells, and
+/// that the next command succeeds.
 fn look_at_next(rt: &impl Abort, alloc: Global, image: &[u8]) -> Result<(), Fail> {
     if is_open(image, Command::Succeed) {
         has_key(rt, alloc, image, NEXT)?;
@@ -102,7 +101,7 @@ fn look_at_next(rt: &impl Abort, alloc: Global, image: &[u8]) -> Result<(), Fail
     has_key(rt, alloc, &made, NEXT)
 }
 
-/// Looks at what a stopped command left.
+/// Checks the image that a stopped command left.
 fn look(rt: &impl Abort, alloc: Global, command: Command, image: &[u8]) -> Result<(), Fail> {
     match command {
         Command::Key => look_at_key(rt, alloc, image),
@@ -111,7 +110,7 @@ fn look(rt: &impl Abort, alloc: Global, command: Command, image: &[u8]) -> Resul
     }
 }
 
-/// Looks at an image, unless it is one of those that were looked at.
+/// Checks an image, unless it was checked before.
 fn look_once(
     rt: &impl Abort,
     alloc: Global,
@@ -127,7 +126,7 @@ fn look_once(
     Ok(())
 }
 
-/// After so many calls a crash of this kind leaves the gate open or closed.
+/// Asserts that after this many calls a crash of this kind leaves the gate open, or leaves it closed.
 fn leaves(
     rt: &impl Abort,
     alloc: Global,
@@ -147,9 +146,8 @@ fn leaves(
     look_once(rt, alloc, command, image, seen)
 }
 
-/// Stops a command after so many calls, and answers whether it ended, and whether its gate had been
-/// written: it is then open in what a crash leaves, unless what was written is lost or turned to
-/// zeros.
+/// Stops a command after this many calls. Returns whether the command ended, and whether its gate had been written.
+/// If it had, asserts that a crash leaves the gate open, unless the write is lost or turned to zeros.
 fn stop(
     rt: &impl Abort,
     alloc: Global,
@@ -187,8 +185,8 @@ fn stop(
     Ok((is_done, gate))
 }
 
-/// Looks at an image, and stops a command over it after no call, after one, and so on, until it
-/// ends. Answers after how many calls its gate had been written, and after how many it ended.
+/// Checks an image, and stops a command over it after no call, after one call, and so on, until the command ends.
+/// Returns after how many calls its gate had been written, and after how many it ended.
 fn stops(
     rt: &impl Abort,
     alloc: Global,

@@ -1,4 +1,4 @@
-//! What no clause says: published digests, calls that succeed, and texts of refusals.
+//! Facts that no clause states: published digests, calls that succeed, and texts of refusals.
 ghost use Rattle.std.specs.Prelude.{◌≡◌, Ok};
 ghost use Rattle.std.specs.Bool.{OnTrue};
 ghost use Rattle.octet_text.specs.Toy.{toy_digest as toy_hash};
@@ -13,8 +13,7 @@ use std::alloc::Global;
 use std::process::Abort;
 use std::test::Fail;
 
-// The roots of five leaves with fan-out 2 and 3, and the cover's digest where the last is not
-// chosen.
+// The roots of five leaves with fan-out 2 and 3, and the digest in the cover if only the last leaf is not chosen.
 const ROOT_BY_TWO: Digest32 = [
     0xe5, 0xf7, 0xde, 0xf0, 0x31, 0x06, 0xc0, 0xda, 0x43, 0x71, 0x21, 0xc9, 0xf9, 0x67, 0x93, 0x96,
     0xd7, 0x74, 0x65, 0x95, 0xcd, 0x2a, 0x3c, 0x28, 0xfd, 0x80, 0x83, 0xdd, 0xd7, 0xde, 0x68, 0x06,
@@ -35,7 +34,7 @@ const COVER_BY_THREE: Digest32 = [
     0xa4, 0x9b, 0x0d, 0x4f, 0x86, 0xa6, 0xdb, 0x5f, 0x89, 0x3a, 0xac, 0xcc, 0xf5, 0x14, 0xfa, 0x99,
 ];
 
-// The SHA-256 digest of 00 and the leaf text of a map's only node, of id 7 at -1 and 2.
+// The SHA-256 digest of 00 and the leaf text of a map's only node, which has id 7 and coordinates -1 and 2.
 const ONE_NODE: [u8; 15] = [0x4e, 0, 0, 0, 7, 0xff, 0xff, 0xff, 0xff, 0, 0, 0, 2, 0, 0];
 
 const ROOT_OF_ONE_NODE: Digest32 = [
@@ -58,7 +57,7 @@ fn five_leaves(alloc: Global) -> Result<Texts, Fail> {
     texts_of(alloc, &[b"a", b"bc", b"", b"def", b"g"])
 }
 
-// Octets in which the texts of the first four leaves stand, and "fed" at the end.
+// Octets that hold the texts of the first four leaves, followed by "fed".
 const CUT: &[u8] = b"abcdefed";
 
 const FIRST_FOUR: [Cut; 4] = [
@@ -72,7 +71,7 @@ const SECOND_AND_FOURTH: [Cut; 2] = [Cut { start: 1, end: 3 }, Cut { start: 3, e
 
 const ANOTHER_FOURTH: [Cut; 2] = [Cut { start: 1, end: 3 }, Cut { start: 5, end: 8 }];
 
-// Texts that stand in these octets.
+// Returns the texts in these octets.
 fn texts_at<'a>(rt: &impl Abort, cuts: &'a [Cut]) -> CutTexts<'a> {
     assert!(rt; are_in(CUT, cuts));
     CutTexts::new(CUT, cuts)
@@ -97,7 +96,7 @@ fn folded<H: Hasher>(
     fold::<H>(5, fan, places, texts, cover)
 }
 
-// The root of five leaves, and the cover of the first four.
+// Returns the root of five leaves, and the cover of the first four.
 fn root_and_cover<H: Hasher>(
     rt: &impl Abort,
     alloc: Global,
@@ -111,7 +110,7 @@ fn root_and_cover<H: Hasher>(
     Ok((tree.root(), cover))
 }
 
-// Compares what the first four texts recompute at these indices of five.
+// Compares the root that the first four texts recompute at these indices of five leaves.
 fn assert_folds<H: Hasher>(
     rt: &impl Abort,
     fan: u8,
@@ -123,7 +122,7 @@ fn assert_folds<H: Hasher>(
     assert_same(rt, &folded::<H>(rt, fan, places, &texts, cover), &wanted);
 }
 
-// What the cover of the first four of five leaves is, and what it recomputes.
+// Checks the cover of the first four of five leaves, and the root that it recomputes.
 fn covers_and_folds<H: Hasher>(
     rt: &impl Abort,
     alloc: Global,
@@ -152,15 +151,16 @@ fn covers_of_five_leaves_fold_to_the_root(rt: HostRuntime) -> Result<(), Fail> {
     covers_and_folds::<Toy>(&rt, alloc, 3, toy_digest(103), toy_digest(191))
 }
 
-// The root that the second and the fourth of five leaves recompute, and the tree's: the example of the
-// crate `merkle_cover`.
+// Returns the root that the second and the fourth of five leaves recompute, and the tree's root. This is the
+// example of the crate `merkle_cover`.
 fn second_and_fourth(rt: &impl Abort, alloc: Global) -> Result<(Digest32, Digest32), Fail> {
     let leaves = five_leaves(alloc)?;
     let tree = Tree::<Sha>::build(alloc, &leaves, 2)?;
     let positions = [1, 3];
     assert!(rt; are_rising(tree.leaves(), &positions));
     let cover = tree.cover(alloc, &positions)?;
-    // Whoever has the root believes these two of five texts, which stand in octets, by the cover.
+    // The root and the cover convince a client that these two of the five texts are leaves. The two texts stand in
+    // one buffer.
     let octets = b"bcdef";
     let cuts = [Cut { start: 0, end: 2 }, Cut { start: 2, end: 5 }];
     assert!(rt; are_in(octets, &cuts));
@@ -177,7 +177,7 @@ fn two_of_five_leaves_fold_to_the_root(rt: HostRuntime) -> Result<(), Fail> {
     Ok(())
 }
 
-// The root of a tree.
+// Returns the root of a tree.
 fn root_of(alloc: Global, leaves: &Texts, fan: u8) -> Result<Digest32, TreeError> {
     let tree = Tree::<Sha>::build(alloc, leaves, fan)?;
     Ok(tree.root())
@@ -196,7 +196,7 @@ fn a_tree_of_one_leaf_has_its_digest(rt: HostRuntime) -> Result<(), Fail> {
     Ok(())
 }
 
-// The clash of a tree with what recomputes its root.
+// Returns the clash of a tree with texts and a cover from which the same root is recomputed.
 fn clash_of(
     rt: &impl Abort,
     alloc: Global,
@@ -228,7 +228,8 @@ fn is_root(digest: &Result<Digest32, FoldError>, root: &Digest32) -> bool
     }
 }
 
-// The clash of the sums of five leaves with two texts at the indices of the second and the fourth.
+// Returns the clash of a tree over five leaves, hashed by their sums, with two texts at the indices of the second
+// and the fourth leaf.
 fn clash_with(rt: &impl Abort, alloc: Global, cuts: &[Cut]) -> Result<Option<TwoTexts>, Fail> {
     let leaves = five_leaves(alloc)?;
     let tree = Tree::<Toy>::build(alloc, &leaves, 2)?;

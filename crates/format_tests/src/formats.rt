@@ -1,4 +1,4 @@
-//! What no clause says: octets worked out by hand, and calls that succeed.
+//! Facts that no clause states: octets worked out by hand, and calls that succeed.
 ghost use Rattle.proof_octets.specs.Replies.{reply};
 
 use crate::asserts::{assert_octets, assert_same};
@@ -11,7 +11,7 @@ use std::alloc::Global;
 use std::process::Abort;
 use std::test::Fail;
 
-// HYP in Hilbert order with fan-out 4: five nodes and three pairs in a grid of 2 by 2.
+// HYP in Hilbert order with fan-out 4: five nodes and three pairs, in a grid of 2 columns and 2 rows.
 const HEADER: [u8; 104] = [
     0x52, 0x50, 0x46, 0x31, 0x04, 0x03, 0x04, 0, 0, 0, 0, 0, 0, 0, 0, 0x07, 0, 0, 0, 0x05, 0x11,
     0x11, 0x11, 0x11, 0x11, 0x11, 0x11, 0x11, 0x11, 0x11, 0x11, 0x11, 0x11, 0x11, 0x11, 0x11, 0x11,
@@ -21,8 +21,7 @@ const HEADER: [u8; 104] = [
     0x22, 0x22, 0, 0, 0, 0, 0, 0, 0, 0x02, 0, 0, 0, 0, 0, 0, 0, 0x02,
 ];
 
-// The route 1 3: nodes 1 and 3 at indices 0 and 4, their pair at index 1, and one digest of the node
-// cover.
+// The route 1 3: nodes 1 and 3 at indices 0 and 4, their pair at index 1, and one digest of the node cover.
 pub(crate) const REPLY: [u8; 251] = [
     0, 0x52, 0x50, 0x46, 0x31, 0x04, 0x03, 0x04, 0, 0, 0, 0, 0, 0, 0, 0, 0x07, 0, 0, 0, 0x05, 0x11,
     0x11, 0x11, 0x11, 0x11, 0x11, 0x11, 0x11, 0x11, 0x11, 0x11, 0x11, 0x11, 0x11, 0x11, 0x11, 0x11,
@@ -68,7 +67,7 @@ const WRITTEN: Header = Header {
     },
 };
 
-// The octets with another octet at an offset.
+// Returns the octets with the octet at an offset replaced.
 pub(crate) fn changed(
     alloc: Global,
     octets: &[u8],
@@ -82,7 +81,7 @@ pub(crate) fn changed(
     Ok(other)
 }
 
-// The offset of the first field of a reply that can't be read.
+// Returns the offset of the first field of a reply that cannot be read.
 fn bad_place(alloc: Global, octets: &[u8]) -> Option<u32> {
     if octets.len() > 1000 {
         return None;
@@ -105,7 +104,7 @@ fn a_header_has_one_octet_for_each_place(rt: HostRuntime) {
     assert_same(&rt, &longer, &Err(Malformed { at: 104 }));
 }
 
-// The header with another octet at an offset can't be read from an offset on.
+// Asserts that the header with one octet replaced cannot be read from an offset on.
 fn assert_unread(
     rt: &impl Abort,
     alloc: Global,
@@ -162,7 +161,7 @@ fn cut_replies_are_named_by_their_place(rt: HostRuntime) {
     assert_same(&rt, &bad_place(alloc, &REPLY[..140]), &Some(132));
 }
 
-// The reply with another octet at an offset can't be read from an offset on.
+// Asserts that the reply with one octet replaced cannot be read from an offset on.
 fn assert_bad(
     rt: &impl Abort,
     alloc: Global,
@@ -197,7 +196,7 @@ fn malformed_replies_are_named_by_their_place(rt: HostRuntime) -> Result<(), Fai
     Ok(())
 }
 
-// Compares the leaf of node 1, a border of the cell 3.
+// Compares the leaf of node 1, a border node of cell 3.
 fn assert_first(rt: &impl Abort, leaf: &NodeView<'_>) {
     assert_same(rt, &(leaf.id, leaf.x, leaf.y), &(1, -1, 2));
     match leaf.extra {
@@ -206,7 +205,7 @@ fn assert_first(rt: &impl Abort, leaf: &NodeView<'_>) {
     }
 }
 
-// Compares the items: the route 1 3, the leaves of its ends and their pair.
+// Compares the items: the route 1 3, the leaves of its ends, and their pair.
 fn assert_items(rt: &impl Abort, items: &Items) {
     assert_same(rt, &items.route.as_slice(), &[1, 3].as_slice());
     let pair = PairLeaf {
@@ -225,7 +224,7 @@ fn assert_items(rt: &impl Abort, items: &Items) {
     }
 }
 
-// Compares what an answer has beside its items.
+// Compares the parts of an answer besides its items.
 fn assert_answer(rt: &impl Abort, answer: &Answer) {
     assert_same(rt, &answer.header, &WRITTEN);
     assert_octets(rt, answer.signature.as_slice(), &[9, 8, 7]);
@@ -235,12 +234,12 @@ fn assert_answer(rt: &impl Abort, answer: &Answer) {
     assert_same(rt, &answer.pair_cover.as_slice().len(), &0);
 }
 
-// The octets of a reply, written again, and how many nodes its route visits: the example of the crate
-// `proof_octets`.
+// Writes a reply again, and returns its octets and the number of nodes on its route. This is the example of the
+// crate `proof_octets`.
 fn written_again(rt: &impl Abort, alloc: Global, octets: &[u8]) -> Result<(Vec<u8>, usize), Fail> {
     assert!(rt; octets.len() < 1_000_000);
     let reply = Reply::read(alloc, octets)?;
-    // A reply has one encoding, so these are the octets that were read.
+    // A reply has one encoding, so writing it gives back the octets that were read.
     let written = reply.write(alloc)?;
     let nodes = match &reply {
         Reply::Answer(answer) => answer.items.route.as_slice().len(),
@@ -257,7 +256,7 @@ fn a_route_is_read_and_written_again(rt: HostRuntime) -> Result<(), Fail> {
     Ok(())
 }
 
-// Compares an answer with its route, or one without.
+// Compares an answer that has its route, or the same answer without a route.
 fn assert_whole(rt: &impl Abort, reply: &Reply, routed: bool) {
     match (reply, routed) {
         (Reply::Answer(answer), true) => {
@@ -273,7 +272,7 @@ fn assert_whole(rt: &impl Abort, reply: &Reply, routed: bool) {
     }
 }
 
-// Compares the octets of a reply, written again, with those that it was read from.
+// Writes a reply again, and compares the octets with those from which it was read.
 fn assert_written(rt: &impl Abort, alloc: Global, found: &Reply, octets: &[u8]) -> Result<(), Fail>
     requires { reply.Fits found.now }
 {
@@ -282,7 +281,7 @@ fn assert_written(rt: &impl Abort, alloc: Global, found: &Reply, octets: &[u8]) 
     Ok(())
 }
 
-// The octets encode that answer, and are what it is written as.
+// Asserts that the octets encode this answer, and that the answer is written as these octets.
 fn assert_rewritten(
     rt: &impl Abort,
     alloc: Global,
@@ -302,7 +301,8 @@ fn an_answer_is_read_and_written_again(rt: HostRuntime) -> Result<(), Fail> {
     assert_rewritten(&rt, rt.alloc(), &REPLY, true)
 }
 
-// The same answer without its route, which takes 12 octets: the reply that no walk joins the ends.
+// Returns the same answer without its route, which takes 12 octets. This is the reply which states that no walk
+// joins the ends.
 pub(crate) fn without_route(alloc: Global) -> Result<Vec<u8>, Fail> {
     let mut octets = vec![in alloc; 3]?;
     octets.extend_from_slice(&REPLY[1..110])?;
@@ -328,7 +328,7 @@ fn assert_parts(rt: &impl Abort, parts: &Parts) {
     assert_same(rt, &parts.roads.as_slice(), &[road].as_slice());
 }
 
-// The publication that the octets encode, and its octets when it is written again.
+// Returns the publication that the octets encode, and the octets of the publication when it is written again.
 fn rewritten_publication(alloc: Global) -> Result<(Publication, Vec<u8>), Fail> {
     let publication = Publication::read(alloc, &PUBLICATION)?;
     let octets = publication.write(alloc)?;

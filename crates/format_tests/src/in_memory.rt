@@ -1,4 +1,4 @@
-//! Objects in memory, each by its plan.
+//! Objects in memory, each with its plan.
 
 use crate::asserts::{assert_octets, assert_same};
 use mem_io::{MemDisk, MemLibrary, MemSink, MemSource, Pick};
@@ -67,7 +67,8 @@ fn files_are_found_by_name(rt: HostRuntime) -> Result<(), Fail> {
     Ok(())
 }
 
-// Ten octets that are synced, and four that are not: three over the first, and one behind the last.
+// Writes ten octets that are synced, and four octets that are not: three over the first ones, and one after the
+// last.
 fn write_past_sync(rt: &impl Abort, disk: &mut MemDisk) -> Result<(), Fail> {
     disk.write_at(0, b"old octets")?;
     disk.sync()?;
@@ -77,7 +78,7 @@ fn write_past_sync(rt: &impl Abort, disk: &mut MemDisk) -> Result<(), Fail> {
     Ok(())
 }
 
-// Compares what a disk holds, filled up with zeros to 11 octets, with these.
+// Compares the content of a disk, padded with zeros to 11 octets.
 fn assert_held(rt: &impl Abort, disk: &mut MemDisk, wanted: &[u8]) -> Result<(), Fail> {
     let mut found = [0; 11];
     let length = disk.len()? as usize;
@@ -104,8 +105,8 @@ fn a_crash_leaves_what_was_picked(rt: HostRuntime) -> Result<(), Fail> {
     Ok(())
 }
 
-// Calls of a disk with room for four octets and a journal for two writes and two syncs, whose call 1 is
-// planned to fail, and whose stop is its call 8.
+// Calls a disk with room for four octets and a journal for two writes and two syncs. Its call 1 is planned to fail,
+// and it stops at call 8.
 fn assert_calls(rt: &impl Abort, disk: &mut MemDisk) -> Result<(), Fail> {
     disk.write_at(0, b"four")?;
     assert_eq!(rt; disk.sync(), Err(Failed), "planned");

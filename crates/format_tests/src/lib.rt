@@ -1,5 +1,5 @@
-//! Tests of trees, of formats, of publications in pieces, and of what they come from and go to:
-//! worked rows, outside vectors, and what no clause says.
+//! Tests of trees, of formats, of publications in pieces, and of their inputs and outputs: worked examples, outside
+//! vectors, and facts that no clause states.
 #![tactic(auto)]
 
 #[cfg(test)]

@@ -1,4 +1,4 @@
-//! What no clause says: a publication worked out by hand, cut into pieces of seven octets.
+//! Facts that no clause states: a publication worked out by hand, cut into pieces of seven octets.
 
 use crate::asserts::{assert_octets, assert_same};
 use crate::publications::{octets_before_nodes, put_numbers};
@@ -9,7 +9,7 @@ use std::alloc::Global;
 use std::process::Abort;
 use std::test::Fail;
 
-// Five nodes and four roads under DIJ, with a signature of 1,292 octets.
+// Returns the publication of five nodes and four roads under DIJ, with a signature of 1,292 octets.
 fn publication_text(alloc: Global) -> Result<Vec<u8>, NoMemory> {
     let mut signature = [0; 1292];
     for place in 0..1292 {
@@ -20,7 +20,7 @@ fn publication_text(alloc: Global) -> Result<Vec<u8>, NoMemory> {
     Ok(text)
 }
 
-// How many nodes, each with its place, and how many roads, each with its length.
+// The number of nodes, each node with its coordinates, and the number of roads, each road with its length.
 const NUMBERS: [u32; 29] = [
     5,
     1,
@@ -53,7 +53,7 @@ const NUMBERS: [u32; 29] = [
     7,
 ];
 
-// What a publication gives in 300 calls of seven octets, and in how many calls it gave any.
+// Returns the octets that a publication gives in 300 calls of seven octets, and the number of calls that gave any.
 fn joined(rt: &impl Abort, alloc: Global, text: &[u8]) -> Result<(Vec<u8>, u32), Fail> {
     assert!(rt; text.len() == 1550);
     let publication = Publication::read(alloc, text)?;

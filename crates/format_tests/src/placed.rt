@@ -1,4 +1,4 @@
-//! Answers and replies that are written from the texts of their node leaves: octets worked out by hand.
+//! Answers and replies written from the texts of their node leaves. The octets are worked out by hand.
 ghost use Rattle.std.specs.Prelude.{◌≡◌, ◌<◌, [], ◌∷◌, ◌++◌, length, map, IfOk, OnOk, All};
 ghost use Rattle.road_leaf.specs.Leaves.{node_leaf_text};
 ghost use Rattle.road_leaf.specs.Seen.{seen};
@@ -37,7 +37,7 @@ fn push(texts: &mut Texts, text: &[u8]) -> Result<(), Fail>
     Ok(())
 }
 
-// The texts of two leaves, and one of no octets between them.
+// Returns the texts of two leaves, with an empty one between them.
 fn texts_around(alloc: Global, first: &NodeView<'_>, last: &NodeView<'_>) -> Result<Texts, Fail>
     ensures { IfOk result (λ texts. texts ≡
         node_leaf_text (seen first.now) ∷ [] ∷ node_leaf_text (seen last.now) ∷ []) }
@@ -51,7 +51,7 @@ fn texts_around(alloc: Global, first: &NodeView<'_>, last: &NodeView<'_>) -> Res
     Ok(texts)
 }
 
-// Texts for two leaves at the indices 0 and 2.
+// Returns texts for two leaves at the indices 0 and 2.
 fn texts_for(alloc: Global, places: &Places, leaves: &NodeLeaves) -> Result<Texts, Fail>
     ensures within { IfOk result (λ texts. All (λ p. p < length texts) places.now) }
     ensures spelled { IfOk result (λ texts. map (text_at texts) places.now ≡
@@ -64,7 +64,7 @@ fn texts_for(alloc: Global, places: &Places, leaves: &NodeLeaves) -> Result<Text
     texts_around(alloc, &leaves.at(0), &leaves.at(1))
 }
 
-// The octets of an answer with two leaves, at the indices 0 and 2, from their texts.
+// Writes an answer with two leaves, at the indices 0 and 2, from their texts.
 fn written(alloc: Global, answer: Answer) -> Result<Vec<u8>, Fail>
     requires { reply.Fits (reply_of answer) }
 {
@@ -97,7 +97,7 @@ fn written(alloc: Global, answer: Answer) -> Result<Vec<u8>, Fail>
     Ok(octets)
 }
 
-// The octets of a reply with two leaves, at the places 0 and 2, from their texts.
+// Writes a reply with two leaves, at the indices 0 and 2, from their texts.
 fn written_near(alloc: Global, near: NearReply) -> Result<Vec<u8>, Fail>
     requires { near_reply.Fits near }
 {
@@ -119,7 +119,7 @@ fn written_near(alloc: Global, near: NearReply) -> Result<Vec<u8>, Fail>
     Ok(octets)
 }
 
-// Compares the octets of an answer with a route with what it is written as from the texts of its leaves.
+// Compares the octets of an answer with a route with the octets written from the texts of its leaves.
 fn assert_routed(rt: &impl Abort, alloc: Global, octets: &[u8]) -> Result<(), Fail> {
     range_laws();
     if octets.len() > 10_000 {
@@ -132,7 +132,7 @@ fn assert_routed(rt: &impl Abort, alloc: Global, octets: &[u8]) -> Result<(), Fa
     Ok(())
 }
 
-// The same of an answer without a route.
+// Does the same for an answer without a route.
 fn assert_apart(rt: &impl Abort, alloc: Global, octets: &[u8]) -> Result<(), Fail> {
     range_laws();
     if octets.len() > 10_000 {
@@ -147,7 +147,7 @@ fn assert_apart(rt: &impl Abort, alloc: Global, octets: &[u8]) -> Result<(), Fai
 
 #[test]
 fn an_answer_is_written_from_texts(rt: HostRuntime) -> Result<(), Fail> {
-    // The second leaf stands at the index 2.
+    // The second leaf is at index 2.
     let octets = changed(rt.alloc(), &REPLY, 163, 2)?;
     assert_routed(&rt, rt.alloc(), &octets)
 }
@@ -159,7 +159,7 @@ fn an_answer_without_a_route_is_written_from_texts(rt: HostRuntime) -> Result<()
     assert_apart(&rt, rt.alloc(), &octets)
 }
 
-// Compares the octets of a reply within a radius with what it is written as from the texts of its leaves.
+// Compares the octets of a reply for a radius with the octets written from the texts of its leaves.
 fn assert_near(rt: &impl Abort, alloc: Global, octets: &[u8]) -> Result<(), Fail> {
     if octets.len() > 10_000 {
         return Err(Fail::from("many octets"));
@@ -171,7 +171,7 @@ fn assert_near(rt: &impl Abort, alloc: Global, octets: &[u8]) -> Result<(), Fail
 
 #[test]
 fn a_reply_within_a_radius_is_written_from_texts(rt: HostRuntime) -> Result<(), Fail> {
-    // The header, the signature, the node items and the node cover of the answer, behind the name.
+    // The header, the signature, the node items and the node cover of the answer follow the name.
     let mut octets = b"RPN1".to_vec(rt.alloc())?;
     octets.extend_from_slice(&REPLY[1..110])?;
     octets.extend_from_slice(&REPLY[122..186])?;

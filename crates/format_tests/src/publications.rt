@@ -1,9 +1,9 @@
-//! Publications under DIJ, by their octets.
+//! Publications under DIJ, as octets.
 
 use octet_text::{NoMemory, put_octets, put_u32};
 use std::alloc::Global;
 
-/// What stands before the nodes: the header of this version over so many nodes, in four octets, the
+/// Returns the octets before the nodes: the header of this version over this number of nodes in four octets, the
 /// signature, and the settings.
 pub(crate) fn octets_before_nodes(
     alloc: Global,
@@ -29,7 +29,7 @@ pub(crate) fn octets_before_nodes(
     Ok(text)
 }
 
-/// Adds numbers of four octets each.
+/// Appends numbers, each in four octets.
 pub(crate) fn put_numbers(text: &mut Vec<u8>, numbers: &[u32]) -> Result<(), NoMemory> {
     for number in numbers {
         put_u32(text, *number)?;

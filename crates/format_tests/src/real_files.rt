@@ -1,4 +1,4 @@
-//! What no clause can say: real files as a disk and as a library.
+//! Facts that no clause can state: real files as a disk and as a library.
 
 use crate::asserts::{assert_octets, assert_same};
 use road_io::{Disk, Failed, FileDisk, FileLibrary, Library, LoadError};
@@ -73,7 +73,8 @@ fn a_real_file_is_a_disk(rt: HostRuntime) -> Result<(), Fail> {
     Ok(())
 }
 
-// The system refuses to sync a device that keeps nothing, so a sync that is not made would succeed.
+// The system refuses to sync a device that stores nothing, so this sync must fail; a sync that is left out would
+// succeed.
 #[test]
 fn a_sync_is_made(rt: HostRuntime) {
     let mut disk = FileDisk::new(rt, "/dev/null");

@@ -1,4 +1,4 @@
-//! What no clause says: published digests, calls that succeed, and texts of refusals.
+//! Facts that no clause states: published digests, calls that succeed, and texts of refusals.
 
 use crate::asserts::{assert_octets, assert_same};
 use merkle_cover::{Risen, Rising, RisingError};
@@ -7,8 +7,7 @@ use std::alloc::Global;
 use std::process::Abort;
 use std::test::Fail;
 
-// The roots of five leaves with fan-out 2 and 3, and the cover's digest where the last is not
-// chosen.
+// The roots of five leaves with fan-out 2 and 3, and the digest in the cover if only the last leaf is not chosen.
 const ROOT_BY_TWO: Digest32 = [
     0xe5, 0xf7, 0xde, 0xf0, 0x31, 0x06, 0xc0, 0xda, 0x43, 0x71, 0x21, 0xc9, 0xf9, 0x67, 0x93, 0x96,
     0xd7, 0x74, 0x65, 0x95, 0xcd, 0x2a, 0x3c, 0x28, 0xfd, 0x80, 0x83, 0xdd, 0xd7, 0xde, 0x68, 0x06,
@@ -35,7 +34,7 @@ fn toy_digest(last: u8) -> Digest32 {
     digest
 }
 
-// The five leaves one at a time, where so many digests wait after each.
+// Takes the five leaves one at a time. After each of them, this many digests wait.
 fn raised<H: Hasher>(
     rt: &impl Abort,
     alloc: Global,
@@ -54,7 +53,7 @@ fn raised<H: Hasher>(
     Ok(rising.end())
 }
 
-// Compares the root and the only digest of the cover of the first four leaves.
+// Compares the root and the only digest in the cover of the first four leaves.
 fn assert_risen<H: Hasher>(
     rt: &impl Abort,
     alloc: Global,
@@ -82,7 +81,7 @@ fn five_leaves_rise_to_the_root_of_their_tree(rt: HostRuntime) -> Result<(), Fai
     Ok(())
 }
 
-// Why a tree can't rise where the index 2 is chosen twice.
+// Returns why a tree is refused if index 2 is chosen twice.
 fn refusal(alloc: Global, leaves: u32, fan: u8) -> Option<RisingError> {
     Rising::<Sha>::new(alloc, leaves, fan, &[2, 2]).err()
 }

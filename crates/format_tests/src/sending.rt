@@ -1,4 +1,4 @@
-//! What no clause says: a publication of 15,362 octets, handed to a sink and two mirrors.
+//! Facts that no clause states: a publication of 15,362 octets, sent to a sink and two mirrors.
 
 use crate::asserts::{assert_octets, assert_same};
 use crate::publications::{octets_before_nodes, put_numbers};
@@ -12,7 +12,7 @@ use std::alloc::Global;
 use std::process::Abort;
 use std::test::Fail;
 
-// 400 nodes and 760 roads under DIJ, with a signature of 1,292 octets.
+// Returns the publication of 400 nodes and 760 roads under DIJ, with a signature of 1,292 octets.
 fn publication_text(alloc: Global) -> Result<Vec<u8>, NoMemory> {
     let mut text = octets_before_nodes(alloc, 1, [0, 0, 0x01, 0x90], &[9; 1292])?;
     put_numbers(&mut text, &[400])?;
@@ -26,7 +26,7 @@ fn publication_text(alloc: Global) -> Result<Vec<u8>, NoMemory> {
     Ok(text)
 }
 
-// The mirrors 1 and 2, of which the second fails at its third put.
+// Makes the mirrors 1 and 2. The second one fails at its third piece.
 fn two_mirrors(alloc: Global) -> Result<Vec<MemMirror>, Fail> {
     let mut mirrors: Vec<MemMirror> = Vec::new(alloc);
     mirrors.push(MemMirror::new(alloc, 1, 15_362, Vec::new(alloc))?)?;
@@ -48,8 +48,7 @@ fn the_last_piece_has_what_is_left(rt: HostRuntime) -> Result<(), Fail> {
     Ok(())
 }
 
-// Sends the publication of a text to a sink and two mirrors: how it ends, and the first mirror that
-// is lost.
+// Sends the publication in a text to a sink and two mirrors. Returns how this ends, and the first lost mirror.
 fn sent(
     rt: &impl Abort,
     alloc: Global,
@@ -61,11 +60,12 @@ fn sent(
     let publication = Publication::read(alloc, text)?;
     let mut spreader = Spreader::new(alloc, mirrors)?;
     assert!(rt; spreader.is_for(mirrors));
-    let ended = send(&publication, sink, &mut spreader, mirrors);
+    let mut gone = Vec::with_capacity(alloc, mirrors.len())?;
+    let ended = send(&publication, sink, &mut spreader, mirrors, &mut gone);
     Ok((ended, spreader.lost().first().copied()))
 }
 
-// Compares what a mirror holds, and its label 1.
+// Compares the octets of a mirror, and asserts that its label is 1.
 fn assert_first(rt: &impl Abort, mirror: &MemMirror, held: &[u8]) {
     assert_same(rt, &mirror.label(), &1);
     assert_octets(rt, mirror.held(), held);

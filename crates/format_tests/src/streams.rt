@@ -1,4 +1,4 @@
-//! What no clause can say: the real streams.
+//! Facts that no clause can state: the real streams.
 
 use crate::asserts::assert_same;
 use road_io::{Sink, Source, StdSink, StdSource, read_whole, write_all};

@@ -1,4 +1,4 @@
--- How many calls of the disk a desk makes.
+-- The number of calls to the disk that a desk makes.
 use Rattle.std.proofs.Common.{◌≡◌, ◌≢◌, ℕ, ◌+◌, ◌-◌, ◌<◌, cond, List, [], ◌∷◌, ◌++◌, length, get_or, set, Result, Ok, Err, IfOk, OnOk, arith, sym, ap, ◌∙◌, subst}
 use Rattle.std.proofs.lemmas.List.{length-set}
 use Rattle.std.proofs.lemmas.List.Sums.{sum_by-append, sum_by-cons, sum_by-set}
@@ -38,7 +38,7 @@ opened a b c (Err e) three read = tt
 
 -- ---- a succession
 
--- the last slot of the desk's current area was not spent, and then is
+-- the last slot of the desk's current area was not spent before, and is spent afterwards
 marked : (counts : List Count) (last : ℕ) → last < length counts → get_or counts last TheVariants.Spent ≢ TheVariants.Spent → area_calls (set counts last TheVariants.Spent) ≡ area_calls counts + 1
 marked counts last lt isnt =
     let f : Count → ℕ = λ x. cond (is_spent x) 1 0 in

@@ -1,4 +1,4 @@
--- What one look at the content says of every image.
+-- What one reading of the content implies for every image.
 use Rattle.std.proofs.Common.{◌≡◌, ◌≢◌, ◌⊎◌, ℕ, ◌<◌, List, length, arith, inl, inr, sym, ◌∙◌, subst, ap, get_or, ◌≤◌, suc, true, Option, None, Some, refl}
 use Rattle.std.specs.Option.{ForSome}
 use Rattle.road_io.specs.declared.disk.Disk.{Ghosts}
@@ -18,7 +18,7 @@ use Rattle.key_desk.proofs.Counts.{own_here, count_here, key_here, sized_here}
 use Rattle.desk_areas.proofs.Growth.{open_upto}
 use Rattle.key_desk.proofs.Steps.{signed_by}
 
--- a signed slot is one of the desk's
+-- a signed slot belongs to the desk
 pub own_signed : (desk : Desk) (i : List ℕ) (s : SlotId) (text : List ℕ) → HasAreas desk i → IsSigned i s text → IsSlotOf desk s
 own_signed desk i s text areas signed =
     let le = open_upto i (length desk.earlier) s.area areas.current signed.area in
@@ -50,7 +50,7 @@ module _ {D : Type 0} (g : Ghosts D) (desk : Desk) (disk : D) (fits : Fits g des
         | inr isnt ↦ let shut = fits.others opened i now s own isnt in omega (arith, shut, signed.spent.gate)
       ]
 
--- ---- what is counted and found, by areas
+-- ---- counting and finding, area by area
 
 pub counts_in_area : (desk : Desk) (area : ℕ) → area < length desk.earlier → counts_of desk area ≡ (area_in desk.earlier area).counts
 counts_in_area desk area lt = get_or-map (λ (a : AreaView). a.counts) desk.earlier area no_area desk.counts lt
@@ -81,7 +81,7 @@ none_isnt o c is told = cc
 
 module _ {D : Type 0} (g : Ghosts D) (desk : Desk) (disk : D) (fits : Fits g desk disk) (opened : desk.is_open ≡ true)
     (reads : (c : List ℕ) → g.content disk ≡ Some c → Image g disk c) (tells : (i : List ℕ) → Image g disk i → (c : List ℕ) × (g.content disk ≡ Some c)) (text : List ℕ) where
-  -- a slot that was found in what is read
+  -- a slot that was found in the content read
   at_slot : (c : List ℕ) → g.content disk ≡ Some c → (s : SlotId) → IsSlotOf desk s → count_of desk s ≡ TheVariants.Spent → text_of c s ≡ text → EachImage g disk (λ i. IsSigned i s text)
   at_slot c is s own spent text_is = found_everywhere g desk disk fits opened reads tells text s own spent (λ x told. subst (λ (y : List ℕ). text_of y s ≡ text) (sym (some_is (g.content disk) x c is told)) text_is)
 

@@ -1,4 +1,4 @@
--- The one-time keys that are left, by a desk's counts and by the gates on its disk.
+-- The remaining one-time keys, by the states of a desk and by the gates on its disk.
 use Rattle.std.proofs.Common.{◌≡◌, ◌≢◌, ◌⊎◌, inl, inr, ℕ, zero, suc, ◌+◌, ◌-◌, ◌<◌, ◌≤◌, ◌==◌, true, false, Bool, List, [], ◌∷◌, length, take, get_or, arith, refl, sym, ap, ◌∙◌, subst, cond}
 use Rattle.std.proofs.lemmas.Bool.{ne_eqb}
 use Rattle.std.proofs.lemmas.List.{length-take-le, get_or-take}
@@ -20,7 +20,7 @@ closed gate is = subst (λ g. (g == 0) ≡ true) (sym is) refl
 opened : (gate : ℕ) → 0 < gate → (gate == 0) ≡ false
 opened gate is = ne_eqb gate 0 (λ e. omega (arith, is, e))
 
--- a slot is counted as free where its gate is closed
+-- a slot counts as free if its gate is closed
 free_by_gate : (count : Count) (gate : ℕ) → (count ≡ TheVariants.Free → gate ≡ 0) → (count ≡ TheVariants.Spent → 0 < gate) → (count ≡ TheVariants.Free) ⊎ (count ≡ TheVariants.Spent) → is_free count ≡ (gate == 0)
 free_by_gate TheVariants.Free gate free spent either = rw (closed gate (free refl)) refl
 free_by_gate TheVariants.Spent gate free spent either = rw (opened gate (spent refl)) refl
@@ -46,7 +46,7 @@ same_counts (count ∷ counts) a p agree =
 abbrev closed_in : List ℕ → ℕ → ℕ → Bool
 closed_in image base number = gate_at image (place_in base number) == 0
 
--- an open desk that has no signing begun counts the keys that are left on each of its images
+-- an open desk without a signing in progress counts the remaining keys on each of its images
 pub free_are_left : {D : Type 0} (g : Ghosts D) (desk : Desk) (disk : D) (image : List ℕ) → Fits g desk disk → desk.is_open ≡ true → Image g disk image
     → ((s : ℕ) → (count_at desk s ≡ TheVariants.Free) ⊎ (count_at desk s ≡ TheVariants.Spent)) → free_slots desk ≡ keys_left image desk.base
 free_are_left g desk disk image fits is_open now either =

@@ -5,6 +5,8 @@ pub mod Finding
 mod FreeSlots
 pub mod KeptKeys
 pub mod LinkLemmas
+pub mod Puts
+pub mod Raises
 pub mod Raising
 pub mod RaisingSteps
 pub mod ReadFits

@@ -1,4 +1,4 @@
--- A desk's links make a chain.
+-- A desk's links form a chain.
 use Rattle.std.proofs.Common.{◌≡◌, ◌⊎◌, inl, inr, ℕ, suc, ◌+◌, ◌-◌, ◌^◌, ◌<◌, ◌≤◌, length, map, List, [], ◌∷◌, ◌++◌, Result, Ok, Err, refl, sym, ap, subst, ◌∙◌, arith}
 use Rattle.std.proofs.lemmas.Bool.{cases_eq}
 use Rattle.std.proofs.lemmas.Bool.Decides.{nat_tests}
@@ -40,12 +40,12 @@ pub last_pushed : (key : List ℕ) (links : List Link) (link : Link) → last_ke
 last_pushed key [] link = refl
 last_pushed key (first ∷ links) link = last_pushed first.key links link
 
--- a chain that is followed has a first link that passes, and others that do
+-- if a chain is followed, its first link verifies, and so do the others
 both : (n : ℕ) (v : Result (Unit {0}) SealError) (r : Result (Unit {0}) (ℕ × SealError)) → after_link n v r ≡ Ok tt → (v ≡ Ok tt) × (r ≡ Ok tt)
 both n (Ok _) r so = (refl, so)
 both n (Err why) r so = absurd cc
 
--- one more link, which the last key signs
+-- one more link, signed by the last key
 pub chained_push : (n : ℕ) (key : List ℕ) (links : List Link) (link : Link) → chained_from n key links ≡ Ok tt → verified (last_key key links) (link_text link.key) link.signature ≡ Ok tt
     → chained_from n key (links ++ link ∷ []) ≡ Ok tt
 chained_push n key [] link so good = ap (λ (v : Result (Unit {0}) SealError). after_link n v (Ok tt)) good
@@ -54,7 +54,7 @@ chained_push n key (first ∷ links) link so good =
     ap (λ (v : Result (Unit {0}) SealError). after_link n v (chained_from (n + 1) first.key (links ++ link ∷ []))) parts.0
     ∙ chained_push (n + 1) first.key links link parts.1 good
 
--- these are the links from the key of the first area to that of an area, in order
+-- these are the links from the key of the first area to the key of an area, in order
 pub record LinksUpTo (desk : Desk) (area : ℕ) (links : List Link) : Type 0 where
   pub are : links ≡ map (link_from desk) (range_with_len 0 area)
   pub chain : chained (public_key (key_of desk 0)) links ≡ Ok tt

@@ -1,4 +1,4 @@
--- How the four writes of a succession are put together, at each moment.
+-- The four writes of a succession taken together, at each moment.
 use Rattle.std.proofs.Common.{◌≡◌, ◌≢◌, ◌⊎◌, ℕ, suc, ◌+◌, ◌-◌, ◌<◌, ◌≤◌, true, List, length, arith, inl, inr, refl, sym, ◌∙◌, ap, subst}
 use Rattle.std.proofs.lemmas.Bool.{cases_lt}
 use Rattle.road_io.specs.declared.disk.Disk.{Ghosts}
@@ -9,7 +9,7 @@ use Rattle.lms_tree.specs.Signatures.{KeyOf, public_key}
 use Rattle.lms_tree.specs.Links.{IsLink, link_text}
 use Rattle.key_desk.specs.declared.desk.Desk.{Desk}
 use Rattle.desk_areas.specs.declared.area.Count.TheVariants
-use Rattle.desk_areas.specs.Layout.{SlotId, slots_of, place_in, place_of, slots_at, base_of, gate_at, text_at, gate_of, text_of, IsSigned, AgreesOutside, OutsideSlot, SameSigned, SignsAtMost}
+use Rattle.desk_areas.specs.Layout.{SlotId, slots_of, place_in, place_of, slots_at, base_of, gate_at, text_at, gate_of, text_of, IsSigned, AgreesOutside, OutsideSlot, SameSigned, SignsAtMost, SameFront}
 use Rattle.desk_areas.specs.Blank.{IsBlankArea}
 use Rattle.key_desk.specs.Desk.{count_of, slot_here, key_of, IsSlotOf, HasAreas, SameSpent, Fits}
 use Rattle.key_desk.specs.Succession.{last_number, next_desk, CanSucceed, HasKeys}
@@ -17,10 +17,10 @@ use Rattle.desk_areas.specs.Settled.{IsSettled}
 use Rattle.desk_areas.proofs.Areas.{slot_cases, bases, kinds, secrets}
 use Rattle.key_desk.proofs.Counts.{own_here, count_here, free_isnt_spent}
 use Rattle.key_desk.proofs.Steps.{place_here, known_on}
-use Rattle.desk_areas.proofs.Growth.{SameFront, torn_front, outside_front}
+use Rattle.desk_areas.proofs.Growth.{torn_front, outside_front}
 use Rattle.key_desk.proofs.Successors
 
--- one change after a prefix after another
+-- two changes after a prefix, one after the other
 front_twice : (end : ℕ) (d e i : List ℕ) → SameFront end d e → SameFront end e i → SameFront end d i
 front_twice end d e i h k = record { long = h.long; longer = k.longer; same = λ n lt. k.same n lt ∙ h.same n lt }
 
@@ -37,7 +37,7 @@ signs_later slot text d e i h k = record {
 }
 
 module _ {D : Type 0} (g : Ghosts D) (desk : Desk) (key : KeyOf) (old : D) (fits : Fits g desk old) (can : CanSucceed desk key) where
-  -- the slot that signs the key, the key's link text, and where its area begins
+  -- the slot that signs the key, the key's link text, and the base of the key's area
   abbrev last : SlotId
   last = slot_here desk (last_number desk)
 
@@ -67,11 +67,11 @@ module _ {D : Type 0} (g : Ghosts D) (desk : Desk) (key : KeyOf) (old : D) (fits
   pub front_moments : (new : D) → AtEachMoment g old new (SameFront (place_in desk.base (slots_of desk.key.kind))) → AtEachMoment g old new SameSigned
   front_moments new m = weaker g old new _ SameSigned m (λ d i now h. Successors.front_same desk d i (fits.areas d now) h)
 
-  -- the blocks of the desk's keys stay
+  -- the blocks of the desk's keys are unchanged
   pub front_keys : (new : D) → AtEachMoment g old new (SameFront (place_in desk.base (slots_of desk.key.kind))) → AtEachMoment g old new (λ d i. HasKeys desk i)
   front_keys new m = weaker g old new _ (λ d i. HasKeys desk i) m (λ d i now h. let areas = Successors.front_areas desk d i (fits.areas d now) h in areas.keys)
 
-  -- what is known of an image once the area is added
+  -- the known facts about an image once the area is added
   pub record Added (d e : List ℕ) : Type 0 where
     pub areas : HasAreas desk e
     pub shut : gate_of e (slot_here desk (last_number desk)) ≡ 0
@@ -107,7 +107,7 @@ module _ {D : Type 0} (g : Ghosts D) (desk : Desk) (key : KeyOf) (old : D) (fits
       let areas = Successors.text_areas desk fits.sound.known e i a.areas a.shut j in
       areas.keys)
 
-  -- what is known of each image once the text is written
+  -- the known facts about each image once the text is written
   pub record Texted (i : List ℕ) : Type 0 where
     pub areas : HasAreas desk i
     pub shut : gate_of i (slot_here desk (last_number desk)) ≡ 0
@@ -131,7 +131,7 @@ module _ {D : Type 0} (g : Ghosts D) (desk : Desk) (key : KeyOf) (old : D) (fits
             (second.0 ∙ first.0, second.1 ∙ first.1);
       }
 
-  -- the new area stays blank while the text is written
+  -- the new area remains blank while the text is written
   pub blank_stays : (mid new : D) → EachImage g mid (IsBlankArea key (place_in desk.base (slots_of desk.key.kind))) → AtEachMoment g mid new (AgreesOutside (place_in desk.base (last_number desk) + 1) (place_in desk.base (last_number desk) + 128))
       → EachImage g new (IsBlankArea key (place_in desk.base (slots_of desk.key.kind)))
   blank_stays mid new blank k i now =
@@ -144,7 +144,7 @@ module _ {D : Type 0} (g : Ghosts D) (desk : Desk) (key : KeyOf) (old : D) (fits
 
   -- ---- the gate
 
-  -- the gate is no part of a key block
+  -- the gate is not part of a key block
   gate_blocks : (e i : List ℕ) → HasAreas desk e → AgreesOutside (place_in desk.base (last_number desk)) (place_in desk.base (last_number desk) + 1) e i → HasKeys desk i
   gate_blocks e i areas h area le =
       let slot = slot_here desk (last_number desk) in

@@ -1,4 +1,4 @@
--- The writes of a succession at the offsets that the code computes.
+-- The writes of a succession, at the offsets that the code computes.
 use Rattle.std.proofs.Common.{◌≡◌, ◌+◌, ◌-◌, ◌<◌, ◌≤◌, List, ℕ, arith, sym, ◌∙◌, ap, subst, length, take, refl}
 use Rattle.road_io.specs.declared.disk.Disk.{Ghosts}
 use Rattle.road_io.specs.Moments.{Image, EachImage, AtEachMoment}
@@ -7,15 +7,14 @@ use Rattle.road_io.proofs.MomentLaws.{weaker}
 use Rattle.lms_tree.specs.Signatures.{KeyOf, public_key}
 use Rattle.lms_tree.specs.Links.{IsLink, link_mark, link_text}
 use Rattle.key_desk.specs.View.{View}
-use Rattle.desk_areas.specs.Layout.{slots_of, place_in, gate_at, text_at, AgreesOutside, SameSigned, SignsAtMost, IsSigned}
+use Rattle.desk_areas.specs.Layout.{slots_of, place_in, gate_at, text_at, AgreesOutside, SameSigned, SignsAtMost, IsSigned, SameFront}
 use Rattle.desk_areas.specs.Blank.{IsBlankArea}
 use Rattle.key_desk.specs.Desk.{slot_here, Fits}
 use Rattle.key_desk.specs.Succession.{last_number, next_desk, CanSucceed, HasKeys}
 use Rattle.desk_areas.specs.Settled.{IsSettled}
-use Rattle.desk_areas.proofs.Growth.{SameFront}
 use Rattle.key_desk.proofs.Raising
 
--- a link text is one
+-- the text of a link is a link text
 pub link_is : (key : List ℕ) → length key ≡ 56 → IsLink (link_text key)
 link_is key size = record { size = omega (arith, size); mark = refl_mark key }
   where
@@ -54,7 +53,7 @@ module _ {D : Type 0} (g : Ghosts D) (desk : View) (key : KeyOf) (old : D) (fits
       pub keys2 : AtEachMoment g old two (λ d i. HasKeys desk i)
       keys2 = Raising.front_keys g desk key old fits can two front2
 
-      -- nor while the text is written
+      -- nor is anything signed while the text is written
       module _ (three : D) (m3 : AtEachMoment g two three (AgreesOutside (place + 1) (place + 128))) where
         text3 : AtEachMoment g two three (AgreesOutside (place_in desk.base (last_number desk) + 1) (place_in desk.base (last_number desk) + 128))
         text3 = subst (λ (p : ℕ). AtEachMoment g two three (AgreesOutside (p + 1) (p + 128))) place_here m3
@@ -68,7 +67,7 @@ module _ {D : Type 0} (g : Ghosts D) (desk : View) (key : KeyOf) (old : D) (fits
         pub keys3 : AtEachMoment g old three (λ d i. HasKeys desk i)
         keys3 = Raising.text_keys g desk key old fits can two three front2 text3
 
-        -- the gate signs the link
+        -- opening the gate signs the link
         module _ (four : D) (m4 : AtEachMoment g three four (AgreesOutside place (place + 1))) (blank : EachImage g two (IsBlankArea key end)) (stored : EachImage g three (λ i. text_at i place ≡ link_text (public_key key))) where
           gate4 : AtEachMoment g three four (AgreesOutside (place_in desk.base (last_number desk)) (place_in desk.base (last_number desk) + 1))
           gate4 = subst (λ (p : ℕ). AtEachMoment g three four (AgreesOutside p (p + 1))) place_here m4

@@ -20,18 +20,18 @@ use Rattle.key_desk.proofs.Counts.{key_here, counts_here, count_here, free_isnt_
 use Rattle.key_desk.proofs.Finding.{counts_in_area, key_in_area, some_is}
 use Rattle.desk_areas.proofs.KeyLemmas.{key_from-secret}
 
--- each slot of an area is counted as free or as spent
+-- each slot of an area counts as free or as spent
 abbrev pub IsEither : AreaView → Type 0
 IsEither area = (number : ℕ) → (get_or area.counts number TheVariants.Spent ≡ TheVariants.Free) ⊎ (get_or area.counts number TheVariants.Spent ≡ TheVariants.Spent)
 
--- what is known of an area that was read, whatever the disk tells
+-- the known facts about an area that was read, whatever the disk states
 pub record IsWhole (area : AreaView) : Type 0 where
   pub known : 0 < slots_of area.key.kind
   pub sized : length area.counts ≡ slots_of area.key.kind
   pub named : length area.key.i ≡ 16
   pub either : IsEither area
 
--- the desk over them
+-- the desk over these areas
 abbrev pub desk_of : List AreaView → ℕ → AreaView → Desk
 desk_of earlier base area = record { earlier = earlier; base = base; key = area.key; counts = area.counts; is_open = true }
 
@@ -45,7 +45,7 @@ read_key area base i is = record {
 
 module _ (earlier : List AreaView) (base : ℕ) (area : AreaView) (few : length earlier < 8) (wholes : (a : ℕ) → a < length earlier → IsWhole (area_in earlier a)) (whole : IsWhole area)
     (names : (a b : ℕ) → a < b → b < length earlier → (area_in earlier a).key.i ≢ (area_in earlier b).key.i) (names_last : (a : ℕ) → a < length earlier → (area_in earlier a).key.i ≢ area.key.i) where
-  -- one of the desk's areas
+  -- an area of the desk
   at : (a : ℕ) → a ≤ length earlier → (P : AreaView → Type 0) → ((a < length earlier) → P (area_in earlier a)) → P area → (v : AreaView) × (P v) × (key_of (desk_of earlier base area) a ≡ v.key) × (counts_of (desk_of earlier base area) a ≡ v.counts)
   at a le P before here = elim (cases_lt a (length earlier)) [
     | inl lt ↦ (area_in earlier a, before lt, key_in_area (desk_of earlier base area) a lt, counts_in_area (desk_of earlier base area) a lt)
@@ -69,7 +69,7 @@ module _ (earlier : List AreaView) (base : ℕ) (area : AreaView) (few : length 
   }
 
   module _ (i : List ℕ) (named : Option (List ℕ)) (read : HasRead earlier base named i) (is : IsReadArea area base i) (named_is : IsNamed named area.key) (unlinked : IsLastLink area.counts base None i) where
-    -- one of the areas, as it was read
+    -- an area, as it was read
     pub record Read (a : ℕ) : Type 0 where
       pub view : AreaView
       pub facts : IsWhole view
@@ -94,7 +94,7 @@ module _ (earlier : List AreaView) (base : ℕ) (area : AreaView) (few : length 
     own_number : (s : SlotId) (r : Read s.area) → IsSlotOf (desk_of earlier base area) s → s.number < length r.view.counts
     own_number s r own = let lt : s.number < slots_of r.view.key.kind = subst (λ (k : KeyOf). s.number < slots_of k.kind) r.key_is own.known in omega (arith, lt, r.facts.sized)
 
-    -- the gate of a slot is as it is counted
+    -- the gate of a slot agrees with its state
     gate_read : (s : SlotId) → IsSlotOf (desk_of earlier base area) s → ((count_of (desk_of earlier base area) s ≡ TheVariants.Spent) × (0 < gate_of i s)) ⊎ ((count_of (desk_of earlier base area) s ≡ TheVariants.Free) × (gate_of i s ≡ 0))
     gate_read s own =
         let r = read_at s.area own.area in

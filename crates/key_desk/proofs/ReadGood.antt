@@ -1,4 +1,4 @@
--- Areas that a desk fits can be used.
+-- The areas that a desk fits can be used.
 use Rattle.std.proofs.Common.{◌≡◌, ◌≢◌, ◌⊎◌, ℕ, suc, ◌+◌, ◌-◌, ◌<◌, ◌≤◌, List, ◌++◌, length, take, drop, arith, inl, inr, refl, sym, ◌∙◌, ap, subst}
 use Rattle.std.proofs.lemmas.Bool.{cases_lt}
 use Rattle.std.proofs.lemmas.List.{take_at, drop_at}
@@ -14,7 +14,7 @@ use Rattle.desk_areas.proofs.Areas
 use Rattle.desk_areas.proofs.Growth.{open_upto}
 use Rattle.key_desk.proofs.Successors.{slots_on}
 
--- the key of a block is the one that it has
+-- the key of a block is determined
 pub key_is : (key : KeyOf) (base : ℕ) (c : List ℕ) → HasKey key base c → length key.i ≡ 16 → key_at c base ≡ key
 key_is key base c has named =
     let f : ℕ → List ℕ → List ℕ → KeyOf = λ k i s. record { kind = k; i = i; seed = s } in

@@ -1,4 +1,4 @@
--- One area more that was read.
+-- Reading one more area.
 use Rattle.std.proofs.Common.{◌≡◌, ◌≢◌, ◌⊎◌, ℕ, suc, ◌+◌, ◌-◌, ◌*◌, ◌<◌, ◌≤◌, List, [], ◌∷◌, ◌++◌, length, get_or, Option, Some, None, arith, inl, inr, refl, sym, ◌∙◌, ap, subst, length-append}
 use Rattle.std.proofs.lemmas.Bool.{cases_lt}
 use Rattle.std.proofs.lemmas.List.{get_or_append_left}
@@ -18,7 +18,7 @@ use Rattle.key_desk.proofs.Finding.{key_in_area}
 use Rattle.desk_areas.proofs.ReadLemmas.{link_read}
 use Rattle.key_desk.proofs.ReadFits.{IsWhole, desk_of}
 
--- nothing was read yet
+-- nothing has been read yet
 pub none_read : (areas : List AreaView) (x : List ℕ) → areas ≡ [] → IsOpen x → HasRead areas 0 None x
 none_read areas x none is_open = subst (λ (l : List AreaView). HasRead l 0 None x) (sym none)
     (record {

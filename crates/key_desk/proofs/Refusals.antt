@@ -1,4 +1,4 @@
--- Why a desk has no next key, and why a disk has none.
+-- Why a desk gets no next key, and why a disk gets none.
 use Rattle.std.proofs.Common.{◌≡◌, ◌≢◌, ◌⊎◌, inl, inr, ℕ, ◌-◌, ◌<◌, ◌≤◌, true, List, length, Result, Ok, Err, refl, sym, ap, subst, ◌∙◌, arith}
 use Rattle.std.proofs.lemmas.Bool.{cases_eq}
 use Rattle.std.specs.declared.option.Option.{Option}
@@ -28,7 +28,7 @@ use Rattle.octet_text.specs.Want.{no_memory}
 
 -- ---- refusals of a desk
 
--- a desk that can be followed refuses nothing
+-- a desk whose key can be followed refuses nothing
 pub none_refused : (desk : Desk) (name : List ℕ) → CanFollow desk name → (e : SucceedError) → DeskRefuses desk name e → ⊥
 none_refused desk name can NoKey h = h
 none_refused desk name can BadBlock h = h
@@ -66,7 +66,7 @@ one_refusal desk name SameSecret BadBlock h k = absurd k
 one_refusal desk name SameSecret DiskFault h k = absurd k
 one_refusal desk name SameSecret (Memory _) h k = absurd k
 
--- a reason is called for
+-- a reason is required
 pub called : (desk : Desk) (name : List ℕ) (e : SucceedError) → DeskRefuses desk name e → IsDeskCalledFor desk name e
 called desk name NoKey h = h
 called desk name BadBlock h = h
@@ -76,12 +76,12 @@ called desk name SameSecret h = h
 called desk name DiskFault h = tt
 called desk name (Memory _) h = tt
 
--- a fault of the disk and out of memory are always allowed
+-- a disk fault and out of memory are always allowed
 pub called_else : (desk : Desk) (name : List ℕ) (e : SucceedError) → (e ≡ DiskFault) ⊎ (e ≡ Memory no_memory) → IsDeskCalledFor desk name e
 called_else desk name e (inl is) = subst (IsDeskCalledFor desk name) (sym is) tt
 called_else desk name e (inr is) = subst (IsDeskCalledFor desk name) (sym is) tt
 
--- the key of a secret can follow a desk that can be followed under its name
+-- the key of a secret can follow, if a key with its name can follow
 pub can_succeed : (desk : Desk) (kind : ℕ) (secret : List ℕ) → desk.is_open ≡ true → CanFollow desk (key_from kind secret).i → (kind ≡ 5) ⊎ (kind ≡ 6) → length secret ≡ 48 → CanSucceed desk (key_from kind secret)
 can_succeed desk kind secret opened can known long = record {
   opened = opened;
@@ -92,7 +92,7 @@ can_succeed desk kind secret opened can known long = record {
   distinct = λ area le same. can.other (area, le, same);
 }
 
--- ---- refusals over what a disk holds
+-- ---- refusals over the contents of a disk
 
 module _ {D : Type 0} (g : Ghosts D) (desk : Desk) (disk : D) (fits : Fits g desk disk) (opened : desk.is_open ≡ true) (x : List ℕ) (now : Image g disk x) (usable : IsUsable x) where
   current : IsCurrent x (length desk.earlier)
@@ -139,7 +139,7 @@ module _ {D : Type 0} (g : Ghosts D) (desk : Desk) (disk : D) (fits : Fits g des
       let le = open_upto x (length desk.earlier) h.0 current h.1 in
       (h.0, le, sym (key_on_image h.0 le) ∙ h.2)
 
-  -- a desk's reason is that of its disk
+  -- a desk's reason is the reason of its disk
   pub to_image : (name : List ℕ) (e : SucceedError) → DeskRefuses desk name e → Refuses x name e
   to_image name NoKey h = absurd h
   to_image name BadBlock h = absurd h
@@ -155,7 +155,7 @@ module _ {D : Type 0} (g : Ghosts D) (desk : Desk) (disk : D) (fits : Fits g des
     | inr isnt ↦ let few = fits.sound.few in omega (arith, few, isnt)
   ]
 
-  -- and the other way round
+  -- and in the other direction
   pub from_image : (name : List ℕ) (e : SucceedError) → Refuses x name e → DeskRefuses desk name e
   from_image name NoKey h = absurd (h usable.open_gate)
   from_image name BadBlock h = absurd (usable.good_block h.1)
@@ -165,7 +165,7 @@ module _ {D : Type 0} (g : Ghosts D) (desk : Desk) (disk : D) (fits : Fits g des
   from_image name DiskFault h = absurd h
   from_image name (Memory _) h = absurd h
 
--- what a desk says is what its disk calls for
+-- the desk's refusal is the one that its disk requires
 pub called_on : (content : Option (List ℕ)) (desk : Desk) (name : List ℕ) (e : SucceedError) → ((c : List ℕ) → content ≡ Some c → (f : SucceedError) → DeskRefuses desk name f → Refuses c name f)
     → IsDeskCalledFor desk name e → IsCalledFor content name e
 called_on content desk name NoKey each h = absurd h
@@ -176,11 +176,11 @@ called_on content desk name SameSecret each h = λ c is. each c is SameSecret h
 called_on content desk name DiskFault each h = tt
 called_on content desk name (Memory _) each h = tt
 
--- one error in two answers
+-- one error in two results
 pub same_error : {X E : Type 0} (e f : E) → ◌≡◌ {A = Result X E} (Err e) (Err f) → e ≡ f
 same_error e f is = cc
 
--- ---- a desk that doesn't open
+-- ---- a desk that cannot be opened
 
 pub start_called : (content : Option (List ℕ)) (name : List ℕ) (e : StartError) → (e ≡ start.NoKey → ForSome content (λ c. IsOpen c → ⊥)) → (e ≡ start.BadBlock → ForSome content (λ c. IsOpen c × IsBadBlock c))
     → IsCalledFor content name (started e)
@@ -190,7 +190,7 @@ start_called content name start.DiskFault no_key bad = tt
 start_called content name start.Held no_key bad = tt
 start_called content name (start.Memory _) no_key bad = tt
 
--- the disk failed where the call that opens says so
+-- the disk failed if the call that opens the desk reports it
 pub start_fault : (e : StartError) → started e ≡ DiskFault → e ≡ start.DiskFault
 start_fault start.DiskFault is = refl
 start_fault start.NoKey is = absurd cc
@@ -198,7 +198,7 @@ start_fault start.BadBlock is = absurd cc
 start_fault start.Held is = absurd cc
 start_fault (start.Memory _) is = absurd cc
 
--- the answer of a call that started nothing
+-- the result of a call that started nothing
 abbrev not_started : {X : Type 0} → SucceedError → Result X SucceedError
 not_started e = Err e
 
@@ -222,7 +222,7 @@ start_called_else x name start.BadBlock no_key bad SameSecret h = absurd (h.0.go
 start_called_else x name start.BadBlock no_key bad DiskFault h = absurd h
 start_called_else x name start.BadBlock no_key bad (Memory _) h = absurd h
 
--- there is one first reason over what a disk holds
+-- there is one first reason over the contents of a disk
 pub one_reason : (x name : List ℕ) (e f : SucceedError) → Refuses x name e → Refuses x name f → e ≡ f
 one_reason x name DiskFault f h k = absurd h
 one_reason x name (Memory _) f h k = absurd h

@@ -1,4 +1,4 @@
--- How the steps of one signing are put together.
+-- The steps of one signing taken together.
 use Rattle.std.proofs.Common.{◌≡◌, ◌≢◌, ℕ, ◌+◌, ◌-◌, ◌<◌, ◌≤◌, List, length, set, arith, inl, inr, refl, sym, ◌∙◌, ap, subst}
 use Rattle.road_io.specs.declared.disk.Disk.{Ghosts}
 use Rattle.road_io.specs.Moments.{AtEachMoment}
@@ -19,7 +19,7 @@ at_most q text d i h = (h.0, record { keeps = h.1.keeps; adds = λ s t signed. i
 pub rose_later : (a b c : ℕ) → a ≤ b → Rose b c → Rose a c
 rose_later a b c le rose = omega arith
 
--- one change of a slot after another
+-- two changes of a slot, one after the other
 outside_twice : (q : SlotId) (d e i : List ℕ) → q.number < slots_at d (base_of d q.area) → OutsideSlot q d e → OutsideSlot q e i → OutsideSlot q d i
 outside_twice q d e i known h k =
     let place = Areas.places q d e h known q in
@@ -27,7 +27,7 @@ outside_twice q d e i known h k =
     record { long = k'.long ∙ h.long; same = λ n out. k'.same n out ∙ h.same n out }
 
 module _ {D : Type 0} (g : Ghosts D) where
-  -- a slot whose count changes, and is spent neither before nor after
+  -- a slot whose state changes and which is spent neither before nor after
   module _ (old : Desk) (disk : D) (q : ℕ) (count : Count) (early : q + 1 < slots_of old.key.kind) (wasnt : count_at old q ≢ TheVariants.Spent) (isnt : count ≢ TheVariants.Spent) where
     now_count : count_of (changed old (set old.counts q count) old.is_open) (slot_here old q) ≡ count
     now_count = count_here (changed old (set old.counts q count) old.is_open) (slot_here old q) refl ∙ this_count old.counts q count wasnt
@@ -88,7 +88,7 @@ module _ {D : Type 0} (g : Ghosts D) where
     spent = λ s t ne known. k.spent s t ne (h.spent s t ne known);
   }
 
-  -- what a signing keeps of the other slots is all that was known, since its own was free
+  -- a signing keeps all known facts about other slots; nothing was known about its own slot, which was free
   pub all_known : (old new : Desk) (before after : D) (q : ℕ) → count_at old q ≡ TheVariants.Free
       → KeepsKnown g (slot_here old q) (changed old (set old.counts q TheVariants.Out) old.is_open) before new after → KeepsAllKnown g old before new after
   all_known old new before after q free keeps = record {
@@ -108,6 +108,6 @@ module _ {D : Type 0} (g : Ghosts D) where
       spent_isnt_free : (count : Count) → count ≡ TheVariants.Spent → count ≡ TheVariants.Free → ⊥
       spent_isnt_free count is was = cc
 
--- areas that stay, one change after another
+-- areas that are unchanged by two changes
 pub same_twice : (a b c : Desk) → SameAreas a b → SameAreas b c → SameAreas a c
 same_twice a b c h k = record { earlier = k.earlier ∙ h.earlier; base = k.base ∙ h.base; key = k.key ∙ h.key }

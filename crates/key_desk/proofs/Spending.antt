@@ -1,4 +1,4 @@
--- The lowest free slot of a desk, and what the opening of its gate leaves.
+-- The lowest free slot of a desk, and the effect of opening its gate.
 use Rattle.std.proofs.Common.{◌≡◌, ◌≢◌, ◌⊎◌, ℕ, ◌+◌, ◌-◌, ◌<◌, ◌≤◌, List, length, take, true, arith, inl, inr, refl, sym, ◌∙◌, ap, subst, Some, Option}
 use Rattle.std.proofs.lemmas.Bool.{cases_lt}
 use Rattle.std.specs.List.{slice_index_or}
@@ -25,7 +25,7 @@ use Rattle.key_desk.proofs.KeptKeys.{stays_keys, slot_keys}
 use Rattle.key_desk.proofs.Standing.{standing}
 use Rattle.key_desk.proofs.Steps.{place_here, whole_on, areas_kept_early, signed_by, fits_stays}
 
--- ---- what a desk's counts say of an image
+-- ---- what a desk's states imply for an image
 
 module _ {D : Type 0} (g : Ghosts D) (desk : Desk) (disk : D) (fits : Fits g desk disk) (opened : desk.is_open ≡ true)
     (either : (s : ℕ) → (count_at desk s ≡ TheVariants.Free) ⊎ (count_at desk s ≡ TheVariants.Spent)) (i : List ℕ) (now : Image g disk i) where
@@ -33,7 +33,7 @@ module _ {D : Type 0} (g : Ghosts D) (desk : Desk) (disk : D) (fits : Fits g des
   free_shut : (q : ℕ) → q < slots_of desk.key.kind → count_at desk q ≡ TheVariants.Free → gate_of i (slot_here desk q) ≡ 0
   free_shut q lt free = fits.others opened i now (slot_here desk q) (own_here desk q lt) (λ is. free_isnt_spent (sym free ∙ sym (count_here desk (slot_here desk q) refl) ∙ is))
 
-  -- and another one an open one
+  -- and any other slot has an open one
   spent_open : (q : ℕ) → q < slots_of desk.key.kind → count_at desk q ≢ TheVariants.Free → 0 < gate_of i (slot_here desk q)
   spent_open q lt isnt = elim (either q) [
     | inl free ↦ absurd (isnt free)
@@ -46,7 +46,7 @@ module _ {D : Type 0} (g : Ghosts D) (desk : Desk) (disk : D) (fits : Fits g des
       let key = (fits.areas i now).keys (length desk.earlier) (omega arith) in
       ap (λ (k : ℕ). slots_of k) key.kind ∙ ap (λ (k : KeyOf). slots_of k.kind) (key_here desk (length desk.earlier) refl)
 
-  -- the slot that a desk takes first is the lowest free one
+  -- the slot that a desk takes next is the lowest free one
   pub lowest_free : (q : ℕ) → q + 1 < slots_of desk.key.kind → count_at desk q ≡ TheVariants.Free → ((s : ℕ) → s < q → count_at desk s ≢ TheVariants.Free) → IsLowestFree i (slot_here desk q)
   lowest_free q early free lowest = record {
     current = (fits.areas i now).current;
@@ -55,7 +55,7 @@ module _ {D : Type 0} (g : Ghosts D) (desk : Desk) (disk : D) (fits : Fits g des
     lowest = λ s lt. spent_open s (omega (arith, early, lt)) (lowest s lt);
   }
 
-  -- where no slot counts as free, none is
+  -- if no slot counts as free, no slot is free
   pub none_free : ((s : ℕ) → s + 1 < length desk.counts → count_at desk s ≢ TheVariants.Free) → (slot : SlotId) → IsLowestFree i slot → ⊥
   none_free none slot is =
       let here : slot.area ≡ length desk.earlier = one_current i slot.area (length desk.earlier) is.current (fits.areas i now).current in
@@ -65,7 +65,7 @@ module _ {D : Type 0} (g : Ghosts D) (desk : Desk) (disk : D) (fits : Fits g des
       let gate = spent_open slot.number (omega (arith, early)) (none slot.number (omega (arith, early, sized_here desk fits.sound))) in
       omega (arith, shut, gate)
 
-  -- the lowest free slot is the one that a desk takes first
+  -- the lowest free slot is the one that a desk takes next
   pub first_is : (q : ℕ) → q + 1 < slots_of desk.key.kind → count_at desk q ≡ TheVariants.Free → ((s : ℕ) → s < q → count_at desk s ≢ TheVariants.Free) → (slot : SlotId) → IsLowestFree i slot → slot ≡ slot_here desk q
   first_is q early free lowest slot is =
       let here : slot.area ≡ length desk.earlier = one_current i slot.area (length desk.earlier) is.current (fits.areas i now).current in
@@ -84,7 +84,7 @@ module _ {D : Type 0} (g : Ghosts D) (desk : Desk) (disk : D) (fits : Fits g des
         ]
       ])
 
--- what is read of a slot, at each image of a settled disk
+-- the value read from a slot, in each image of a settled disk
 pub text_everywhere : {D : Type 0} (g : Ghosts D) (desk : Desk) (old disk : D) → Fits g desk old → AtEachMoment g old disk Stays → IsSettled g old → ((c : List ℕ) → g.content disk ≡ Some c → Image g disk c) → ((i : List ℕ) → Image g disk i → (c : List ℕ) × (g.content disk ≡ Some c))
     → (q place : ℕ) (text : List ℕ) → place ≡ place_in desk.base q → ForSome (g.content disk) (λ c. text_at c place ≡ text) → EachImage g disk (λ i. text_of i (slot_here desk q) ≡ text)
 text_everywhere g desk old disk fits stays settled reads tells q place text place_is read i now =
@@ -94,7 +94,7 @@ text_everywhere g desk old disk fits stays settled reads tells q place text plac
     let areas = fits.areas c.0 (was c.0 (reads c.0 c.1)) in
     ap (λ (x : List ℕ). text_of x (slot_here desk q)) same ∙ ap (λ (p : ℕ). text_at c.0 p) (place_here desk c.0 q areas ∙ sym place_is) ∙ read c.0 c.1
 
--- ---- the slot that is looked at
+-- ---- the slot that is examined
 
 module _ {D : Type 0} (g : Ghosts D) (desk : Desk) (old : D) (fits : Fits g desk old) (counts : List Count) (counts_is : counts ≡ desk.counts) (q : ℕ)
     (some : (slice_index_or counts q TheVariants.Spent ≡ TheVariants.Free) × (q + 1 < length counts)) where
@@ -104,7 +104,7 @@ module _ {D : Type 0} (g : Ghosts D) (desk : Desk) (old : D) (fits : Fits g desk
   early_here : q + 1 < slots_of desk.key.kind
   early_here = omega (arith, some.1, ap (λ (l : List Count). length l) counts_is, sized_here desk fits.sound)
 
-  -- all of it stands within what is read
+  -- the whole slot lies within the content read
   pub room_here : ((c : List ℕ) → g.content old ≡ Some c → Image g old c) → (place : ℕ) → place ≡ place_in desk.base q → ForSome (g.content old) (λ c. place + 128 ≤ length c)
   room_here reads place place_is x told =
       let areas = fits.areas x (reads x told) in
@@ -132,13 +132,13 @@ module _ {D : Type 0} (g : Ghosts D) (desk : Desk) (old : D) (fits : Fits g desk
       text = subst IsSpendable (sym (text_here i now)) spendable;
     }
 
-    -- and one that it may not
+    -- and a text that it cannot have signed
     pub not_texted : (IsSpendable text → ⊥) → EachImage g disk (λ i. (slot : SlotId) → IsTexted i slot → ⊥)
     not_texted isnt i now slot is =
         let here : slot ≡ slot_here desk q = first_is g desk disk fits_now opened either i now q early_here free_here lowest_here slot is.free in
         isnt (subst IsSpendable (ap (λ (s : SlotId). text_of i s) here ∙ text_here i now) is.text)
 
--- where no slot counts as free
+-- if no slot counts as free
 pub none_texted : {D : Type 0} (g : Ghosts D) (desk : Desk) (disk : D) → Fits g desk disk → desk.is_open ≡ true → ((s : ℕ) → (count_at desk s ≡ TheVariants.Free) ⊎ (count_at desk s ≡ TheVariants.Spent)) → (counts : List Count) → counts ≡ desk.counts
     → ((k : ℕ) → k + 1 < length counts → slice_index_or counts k TheVariants.Spent ≢ TheVariants.Free) → EachImage g disk (λ i. (slot : SlotId) → IsTexted i slot → ⊥)
 none_texted g desk disk fits opened either counts counts_is none i now slot is =
@@ -189,7 +189,7 @@ module _ {D : Type 0} (g : Ghosts D) (desk : Desk) (before after : D) (q : ℕ) 
 
 -- ---- the whole call
 
--- steps that open a gate over a text keep what stands, and the keys
+-- steps that open a gate over a text keep the signed pairs and the keys
 pub spends_by : {D : Type 0} (g : Ghosts D) (old new : D) → AtEachMoment g old new (λ d i. (i ≡ d) ⊎ OpensTexted d i) → SpendsTexted g old new
 spends_by g old new moments = record {
   moments = moments;
@@ -204,11 +204,11 @@ spends_by g old new moments = record {
   ]);
 }
 
--- where nothing changes
+-- if nothing changes
 pub spends_nothing : {D : Type 0} (g : Ghosts D) (old new : D) → AtEachMoment g old new Stays → SpendsTexted g old new
 spends_nothing g old new stays = spends_by g old new (weaker g old new Stays (λ d i. (i ≡ d) ⊎ OpensTexted d i) stays (λ d i now is. inl is))
 
--- a look, and then the gate
+-- first a look, then the gate
 pub spends_after : {D : Type 0} (g : Ghosts D) (old mid new : D) → AtEachMoment g old mid Stays → AtEachMoment g mid new OpensTexted → SpendsTexted g old new
 spends_after g old mid new stays opens = spends_by g old new (continued g old mid new Stays OpensTexted (λ d i. (i ≡ d) ⊎ OpensTexted d i) stays opens
     (λ d i now is. inl is)
@@ -221,7 +221,7 @@ stays_twice g old mid new first second = continued g old mid new Stays Stays Sta
 pub one_settled : {D : Type 0} (g : Ghosts D) (disk : D) (told : Option (List ℕ)) → EachImage g disk (λ i. told ≡ Some i) → IsSettled g disk
 one_settled g disk told one i j now_i now_j = let both = sym (one i now_i) ∙ one j now_j in cc
 
--- what was spent stood in what was read
+-- the text that was spent was in the content read
 pub spent_of_read : {D : Type 0} (g : Ghosts D) (mid disk new : D) (told : Option (List ℕ)) (number : ℕ) → EachImage g mid (λ i. told ≡ Some i) → AtEachMoment g mid disk Stays → EachImage g new (λ i. (d : List ℕ) × Image g disk d × HasSpent number d i)
     → EachImage g new (λ i. (c : List ℕ) × (told ≡ Some c) × HasSpent number c i)
 spent_of_read g mid disk new told number one stays spent i now =

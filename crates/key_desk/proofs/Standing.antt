@@ -1,4 +1,4 @@
--- How a list of pairs comes down to one slot and one text.
+-- Reducing a list of pairs to one slot and one text.
 use Rattle.std.proofs.Common.{◌≡◌, ℕ, ◌<◌, ◌≤◌, List, [], ◌∷◌, ◌++◌, ◌≢◌, arith, subst, sym, Some}
 use Rattle.std.specs.Option.{ForSome}
 use Rattle.std.specs.List.{All}
@@ -12,7 +12,7 @@ use Rattle.desk_areas.proofs.Areas.{open_first, open_down}
 use Rattle.key_desk.specs.Stands.{AllSigned, Stands, KeepsStanding}
 
 module _ {D : Type 0} (g : Ghosts D) (old new : D) where
-  -- it is enough that a step keeps each pair
+  -- it suffices that a step keeps each pair
   pub standing : (Step : List ℕ → List ℕ → Type 0) → AtEachMoment g old new Step → ((d i : List ℕ) → Step d i → (s : SlotId) (t : List ℕ) → IsSigned d s t → IsSigned i s t) → KeepsStanding g old new
   standing Step moments keeps = record {
     later = moments.later;
@@ -30,7 +30,7 @@ module _ {D : Type 0} (g : Ghosts D) (old new : D) where
   pub standing_spend : (q : SlotId) (text : List ℕ) → AtEachMoment g old new (λ d i. OutsideSlot q d i × SignsAtMost q text d i) → KeepsStanding g old new
   standing_spend q text moments = standing (λ d i. OutsideSlot q d i × SignsAtMost q text d i) moments (λ d i h. h.1.keeps)
 
-  -- where something stands, the key's gate is open in what is read
+  -- if any pair is signed, the key's gate is open in the content read
   pub standing_create : g.clock old ≤ g.clock new → ((c : List ℕ) → g.content old ≡ Some c → Image g old c) → (ForSome (g.content old) IsOpen → AtEachMoment g old new Stays) → KeepsStanding g old new
   standing_create later reads stays = record { later = later; each = by_list }
     where
@@ -44,7 +44,7 @@ module _ {D : Type 0} (g : Ghosts D) (old new : D) where
       by_list (pair ∷ pairs) stands k i from to h =
           (standing_same (stays (λ c is. open_of pair pairs c (stands c (reads c is))))).each (pair ∷ pairs) stands k i from to h
 
-  -- what is signed now stands beside what stood
+  -- the pair signed now is added to the pairs signed before
   pub stands_more : (pairs : List (SlotId × List ℕ)) (slot : SlotId) (text : List ℕ) → KeepsStanding g old new → Stands g old pairs → EachImage g new (λ i. IsSigned i slot text) → Stands g new (pairs ++ (slot, text) ∷ [])
   stands_more pairs slot text keeps stands signed i now =
       All-push (λ pair. IsSigned i pair.0 pair.1) pairs (slot, text) (keeps.each pairs stands (g.clock new) i keeps.later (omega arith) now) (signed i now)
@@ -53,12 +53,12 @@ pub not_closed : (pairs : List (SlotId × List ℕ)) (slot : SlotId) (i : List �
 not_closed pairs slot i shut all = All-weaker (λ pair. IsSigned i pair.0 pair.1) (λ pair. pair.0 ≢ slot)
     (λ pair signed is. let open_gate : 0 < gate_of i slot = subst (λ (x : SlotId). 0 < gate_of i x) is signed.spent.gate in omega (arith, open_gate, shut)) pairs all
 
--- a call that looks, and then writes where the key gate was shut, keeps what stands
+-- a call that first looks, and writes only if the key gate was closed, keeps the signed pairs
 pub stands_shut : {D : Type 0} (g : Ghosts D) (old mid new : D) (Step : List ℕ → List ℕ → Type 0) → ((c : List ℕ) → g.content old ≡ Some c → Image g old c) → AtEachMoment g old mid Stays → AtEachMoment g mid new Step
     → (ForSome (g.content old) IsOpen → (i : List ℕ) → Image g mid i → ⊥) → KeepsStanding g old new
 stands_shut g old mid new Step reads look rest shut =
     standing_create g old new (omega (arith, look.later, rest.later)) reads (λ is_open. continued g old mid new Stays Step Stays look rest (λ d i now h. h) (λ d e i now_d now_e h k. absurd (shut is_open e now_e)))
 
--- a call that leaves the front, or signs one pair more, keeps what stands
+-- a call that changes no octet of the prefix, or signs one more pair, keeps the signed pairs
 pub standing_by : {D : Type 0} (g : Ghosts D) (old new : D) (slot : SlotId) (text : List ℕ) → AtEachMoment g old new (SignsAtMost slot text) → KeepsStanding g old new
 standing_by g old new slot text moments = standing g old new (SignsAtMost slot text) moments (λ d i h. h.keeps)

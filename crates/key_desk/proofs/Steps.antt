@@ -1,4 +1,4 @@
--- What one stored slot leaves of a desk and of its disk.
+-- The effect of storing one slot on a desk and its disk.
 use Rattle.std.proofs.Common.{◌≡◌, ◌≢◌, ◌⊎◌, ℕ, suc, ◌+◌, ◌-◌, ◌<◌, ◌≤◌, Bool, true, false, List, length, set, arith, inl, inr, refl, sym, ◌∙◌, ap, subst}
 use Rattle.std.proofs.lemmas.Bool.{cases_eq}
 use Rattle.road_io.specs.declared.disk.Disk.{Ghosts}
@@ -19,15 +19,15 @@ use Rattle.key_desk.proofs.Counts.{changed, key_here, counts_here, count_here, o
 
 -- ---- areas on an image
 
--- a slot of the desk is one of its area on the image
+-- a slot of the desk is a slot of its area in the image
 pub known_on : (desk : Desk) (d : List ℕ) (slot : SlotId) → HasAreas desk d → IsSlotOf desk slot → slot.number < slots_at d (base_of d slot.area)
 known_on desk d slot areas own = let key = areas.keys slot.area own.area in subst (λ (k : ℕ). slot.number < slots_of k) (sym key.kind) own.known
 
--- where the slot of a number in the current area begins
+-- where the slot with a number in the current area begins
 pub place_here : (desk : Desk) (d : List ℕ) (number : ℕ) → HasAreas desk d → place_of d (slot_here desk number) ≡ place_in desk.base number
 place_here desk d number areas = ap (λ (b : ℕ). place_in b number) areas.based
 
--- all of it is there
+-- all of it lies within the image
 pub whole_on : (desk : Desk) (d : List ℕ) (slot : SlotId) → HasAreas desk d → IsSlotOf desk slot → place_of d slot + 128 ≤ length d
 whole_on desk d slot areas own = let key = areas.keys slot.area own.area in omega (arith, key.within, own.known)
 
@@ -43,7 +43,7 @@ areas_as desk counts is_open d h = record {
 pub own_as : (desk : Desk) (counts : List Count) (is_open : Bool) (slot : SlotId) → IsSlotOf (changed desk counts is_open) slot → IsSlotOf desk slot
 own_as desk counts is_open slot own = record { area = own.area; known = own.known }
 
--- what a change within a slot of the current area keeps of the other slots
+-- the facts about the other slots that remain after a change within a slot of the current area
 module _ (desk : Desk) (q : ℕ) (d i : List ℕ) (areas : HasAreas desk d) (lt : q < slots_of desk.key.kind) (outside : OutsideSlot (slot_here desk q) d i) where
   known_here : q < slots_at d (base_of d (length desk.earlier))
   known_here = known_on desk d (slot_here desk q) areas (own_here desk q lt)
@@ -63,7 +63,7 @@ module _ (desk : Desk) (q : ℕ) (d i : List ℕ) (areas : HasAreas desk d) (lt 
       let was = areas.plain s own gate_was (subst IsLink (Areas.text_same (slot_here desk q) d i outside known_here s ne there) link) in
       (was.0 ∙ sym (Areas.lasts (slot_here desk q) d i outside known_here s.area), was.1)
 
--- a change within a slot of the current area keeps the areas, where the slot holds no link before and after
+-- a change within a slot of the current area keeps the areas, if the slot holds no link before and after
 module _ (desk : Desk) (q : ℕ) (d i : List ℕ) (areas : HasAreas desk d) (lt : q < slots_of desk.key.kind) (outside : OutsideSlot (slot_here desk q) d i)
     (none_d : (a : ℕ) → HasLink d a → last_slot d a ≢ slot_here desk q) (none_i : (a : ℕ) → HasLink i a → last_slot i a ≢ slot_here desk q) where
   known : q < slots_at d (base_of d (length desk.earlier))
@@ -96,7 +96,7 @@ module _ (desk : Desk) (q : ℕ) (d i : List ℕ) (areas : HasAreas desk d) (lt 
     ];
   }
 
--- so does one within a slot before the last
+-- so does a change within a slot before the last one
 pub areas_kept_early : (desk : Desk) (q : ℕ) (d i : List ℕ) → HasAreas desk d → q + 1 < slots_of desk.key.kind → OutsideSlot (slot_here desk q) d i
     → (0 < gate_of i (slot_here desk q) → IsLink (text_of i (slot_here desk q)) → ⊥) → HasAreas desk i
 areas_kept_early desk q d i areas early outside plain =
@@ -116,7 +116,7 @@ module _ {D : Type 0} (g : Ghosts D) (old : Desk) (before after : D) (q : ℕ) (
   own : IsSlotOf old (slot_here old q)
   own = own_here old q (omega arith)
 
-  -- a change of octets at offsets of the current area, as one of the slot
+  -- a change of octets at offsets of the current area is a change of the slot
   at_place : (from to : ℕ) → AtEachMoment g before after (AgreesOutside (place_in old.base q + from) (place_in old.base q + to)) → AtEachMoment g before after (λ d i. AgreesOutside (place_of d (slot_here old q) + from) (place_of d (slot_here old q) + to) d i)
   at_place from to m = weaker g before after _ (λ d i. AgreesOutside (place_of d (slot_here old q) + from) (place_of d (slot_here old q) + to) d i) m
       (λ d i now h. subst (λ (p : ℕ). AgreesOutside (p + from) (p + to) d i) (sym (place_here old d q (fits.areas d now))) h)
@@ -139,11 +139,11 @@ module _ {D : Type 0} (g : Ghosts D) (old : Desk) (before after : D) (q : ℕ) (
           let key = areas.keys (length old.earlier) (omega arith) in
           subst (λ (k : ℕ). q + 1 < slots_of k) (sym key.kind) (subst (λ (k : KeyOf). q + 1 < slots_of k.kind) (sym (key_here old (length old.earlier) refl)) early)
 
-  -- each image after the call has an image before it outside the slot
+  -- for each image after the call there is an image before it that is equal outside the slot
   abbrev pub Frame : Type 0
   Frame = (i : List ℕ) → Image g after i → (d : List ℕ) × Image g before d × OutsideSlot (slot_here old q) d i
 
-  -- no image spends a link text there
+  -- no image has a link text in a spent slot there
   abbrev pub Plain : Type 0
   Plain = (i : List ℕ) → Image g after i → 0 < gate_of i (slot_here old q) → IsLink (text_of i (slot_here old q)) → ⊥
 
@@ -196,7 +196,7 @@ module _ {D : Type 0} (g : Ghosts D) (old : Desk) (before after : D) (q : ℕ) (
       text_kept : (d i : List ℕ) → Image g before d → OutsideSlot (slot_here old q) d i → (s : SlotId) → IsSlotOf old s → s ≢ slot_here old q → text_of i s ≡ text_of d s
       text_kept d i now outside s own_s ne = let areas = fits.areas d now in Areas.text_same (slot_here old q) d i outside (known_on old d (slot_here old q) areas own) s ne (known_on old d s areas own_s)
 
-  -- what is known of the other slots stays known
+  -- the known facts about the other slots remain
   pub known_kept : (counts : List Count) (is_open : Bool) → Frame → ((s : ℕ) → s ≢ q → count_at (changed old counts is_open) s ≡ count_at old s) → KeepsKnown g (slot_here old q) old before (changed old counts is_open) after
   known_kept counts is_open frame same = record {
     texted = λ s t ne k.
@@ -240,7 +240,7 @@ signed_by desk i slot text areas own gate text_is = record {
   spent = record { gate = gate; text_is = text_is };
 }
 
--- where no image changes, a desk fits as before
+-- if no image changes, a desk fits as before
 pub fits_stays : {D : Type 0} (g : Ghosts D) (desk : Desk) (disk new : D) → Fits g desk disk → AtEachMoment g disk new Stays → Fits g desk new
 fits_stays g desk disk new fits moments = record {
   sound = fits.sound;

@@ -1,4 +1,4 @@
--- What the steps of a succession leave of the areas.
+-- The effect of the steps of a succession on the areas.
 use Rattle.std.proofs.Common.{◌≡◌, ◌≢◌, ◌⊎◌, ℕ, zero, suc, ◌+◌, ◌-◌, ◌*◌, ◌<◌, ◌≤◌, true, List, [], ◌∷◌, ◌++◌, length, map, get_or, set, replicate, arith, inl, inr, refl, sym, ◌∙◌, ap, subst, length-set, length-append, get_or-set_same}
 use Rattle.std.proofs.lemmas.Bool.{cases_lt, cases_eq}
 use Rattle.std.proofs.lemmas.List.{get_or_past, get_or_default, get_or_append_left, get_or-replicate, length-map, map-append, length-replicate}
@@ -11,7 +11,7 @@ use Rattle.key_desk.specs.declared.desk.Desk.{Desk}
 use Rattle.desk_areas.specs.declared.area.Count.{Count}
 use Rattle.desk_areas.specs.declared.area.Count.TheVariants
 use Rattle.desk_areas.specs.Area.{AreaView}
-use Rattle.desk_areas.specs.Layout.{SlotId, slots_of, slots_at, place_in, base_of, place_of, gate_at, text_at, gate_of, text_of, kind_at, secret_at, last_slot, IsWithin, HasLink, IsAreaOpen, IsCurrent, IsSigned, AgreesOutside, OutsideSlot, SameSigned, SignsAtMost}
+use Rattle.desk_areas.specs.Layout.{SlotId, slots_of, slots_at, place_in, base_of, place_of, gate_at, text_at, gate_of, text_of, kind_at, secret_at, last_slot, IsWithin, HasLink, IsAreaOpen, IsCurrent, IsSigned, AgreesOutside, OutsideSlot, SameFront, SameSigned, SignsAtMost}
 use Rattle.desk_areas.specs.Blank.{HasKey, IsBlankArea}
 use Rattle.key_desk.specs.Desk.{key_of, counts_of, count_of, count_at, slot_here, IsSlotOf, IsSound, HasAreas, SameSpent, Fits}
 use Rattle.key_desk.specs.Succession.{last_number, next_desk, CanSucceed}
@@ -73,30 +73,30 @@ module _ (desk : Desk) (key : KeyOf) where
   counts_next : (area : ℕ) → area ≡ suc (length desk.earlier) → counts_of (next_desk desk key) area ≡ replicate (slots_of key.kind) TheVariants.Free
   counts_next area is = counts_here (next_desk desk key) area (omega (arith, is, one_more))
 
--- how many slots the current area has on an image
+-- how many slots the current area has, in an image
 pub slots_on : (desk : Desk) (d : List ℕ) → HasAreas desk d → slots_at d (base_of d (length desk.earlier)) ≡ slots_of desk.key.kind
 slots_on desk d areas =
     let here = areas.keys (length desk.earlier) (omega arith) in
     ap (λ (k : ℕ). slots_of k) here.kind ∙ ap (λ (k : KeyOf). slots_of k.kind) (key_here desk (length desk.earlier) refl)
 
--- where the next area begins on an image
+-- where the next area begins, in an image
 pub end_on : (desk : Desk) (d : List ℕ) → HasAreas desk d → base_of d (suc (length desk.earlier)) ≡ place_in desk.base (slots_of desk.key.kind)
 end_on desk d areas = Areas.base_next d (length desk.earlier) ∙ ap (λ (b : ℕ). place_in b (slots_at d (base_of d (length desk.earlier)))) areas.based ∙ ap (λ (n : ℕ). place_in desk.base n) (slots_on desk d areas)
 
--- the last slot on an image
+-- the last slot, in an image
 pub last_on : (desk : Desk) (d : List ℕ) → HasAreas desk d → last_slot d (length desk.earlier) ≡ slot_here desk (last_number desk)
 last_on desk d areas = ap (λ (n : ℕ). slot_here desk (n - 1)) (slots_on desk d areas)
 
--- all of the areas stand within the image
+-- all areas lie within the image
 pub long_on : (desk : Desk) (d : List ℕ) → HasAreas desk d → place_in desk.base (slots_of desk.key.kind) ≤ length d
 long_on desk d areas =
     let here = areas.keys (length desk.earlier) (omega arith) in
     subst (λ (k : KeyOf). place_in desk.base (slots_of k.kind) ≤ length d) (key_here desk (length desk.earlier) refl)
     (subst (λ (b : ℕ). place_in b (slots_of (key_of desk (length desk.earlier)).kind) ≤ length d) areas.based here.within)
 
--- ---- the zeros and the key block of the new area: nothing before it changes
+-- ---- the zeros and the key block of the new area; nothing before it changes
 
-module _ (desk : Desk) (d e : List ℕ) (areas : HasAreas desk d) (front : Growth.SameFront (place_in desk.base (slots_of desk.key.kind)) d e) where
+module _ (desk : Desk) (d e : List ℕ) (areas : HasAreas desk d) (front : SameFront (place_in desk.base (slots_of desk.key.kind)) d e) where
   ends : base_of d (suc (length desk.earlier)) ≤ place_in desk.base (slots_of desk.key.kind)
   ends = omega (arith, end_on desk d areas)
 
@@ -188,7 +188,7 @@ module _ (desk : Desk) (some : 0 < slots_of desk.key.kind) (d e : List ℕ) (are
 pub blank_shut : (key : KeyOf) (base : ℕ) (d : List ℕ) → IsBlankArea key base d → (number : ℕ) → number < slots_of key.kind → gate_at d (place_in base number) ≡ 0
 blank_shut key base d blank number lt = blank.zero (place_in base number) (omega arith) (omega (arith, lt))
 
--- a blank area after a range in which an image changes stays blank
+-- a blank area remains blank if an image changes in a range before it
 pub blank_apart : (key : KeyOf) (base from to : ℕ) (d e : List ℕ) → to ≤ base → AgreesOutside from to d e → IsBlankArea key base d → IsBlankArea key base e
 blank_apart key base from to d e le h blank = record {
   block = record {
@@ -222,7 +222,7 @@ module _ (desk : Desk) (key : KeyOf) (some : 0 < slots_of desk.key.kind) (can : 
   pub gate_signs : SignsAtMost (slot_here desk (last_number desk)) (link_text (public_key key)) d e
   gate_signs = gate_both.1
 
-  -- ---- with the gate open, the next desk's areas are there
+  -- ---- once the gate is open, the areas are those of the next desk
 
   module _ (gate : 0 < gate_at e (place_in desk.base (last_number desk))) where
     out : OutsideSlot (slot_here desk (last_number desk)) d e
@@ -332,7 +332,7 @@ module _ (desk : Desk) (key : KeyOf) (some : 0 < slots_of desk.key.kind) (can : 
           plain = λ s own open_gate is_link. let was = plain_now s own open_gate is_link in (was.0, omega (arith, was.1, more));
         }
 
-    -- every other slot is as before
+    -- every other slot is unchanged
     pub gate_slot : (s : SlotId) → IsSlotOf desk s → s ≢ slot_here desk (last_number desk) → (gate_of e s ≡ gate_of d s) × (text_of e s ≡ text_of d s)
     gate_slot s own ne =
         let there = known_on desk d s areas own in (
@@ -394,7 +394,7 @@ sound_next desk key sound can =
       last = inl (get_or-replicate (slots_of key.kind) (slots_of key.kind - 1) TheVariants.Free TheVariants.Spent (omega (arith, can.known)));
     }
 
--- how the next desk counts
+-- the states that the next desk counts
 pub next_counts : (desk : Desk) (key : KeyOf) → IsSound desk → CanSucceed desk key → (s : SlotId) → s.area ≤ length desk.earlier → s ≢ slot_here desk (last_number desk) → count_of (next_desk desk key) s ≡ count_of desk s
 next_counts desk key sound can s le ne = elim (cases_lt s.area (length desk.earlier)) [
   | inl lt ↦ ap (λ (l : List Count). get_or l s.number TheVariants.Spent) (counts_before desk key s.area lt)

@@ -1,4 +1,4 @@
--- The new area of a succession is zeros but for its key.
+-- The new area of a succession is zeros except for its key.
 use Rattle.std.proofs.Common.{◌≡◌, inl, inr, ℕ, ◌+◌, ◌-◌, ◌<◌, ◌≤◌, List, replicate, length, arith, sym, ◌∙◌, ap, subst}
 use Rattle.std.proofs.lemmas.List.{length-replicate}
 use Rattle.road_io.specs.declared.disk.Disk.{Ghosts}
@@ -12,7 +12,7 @@ use Rattle.key_desk.specs.declared.desk.Desk.{Desk}
 use Rattle.key_desk.specs.Succession.{next_desk, IsUnspent}
 use Rattle.key_desk.proofs.Successors.{blank_apart}
 
--- what was cleared is an octet at least
+-- at least one octet was cleared
 pub some_zeros : (zeros : List ℕ) (kind : ℕ) → zeros ≡ replicate (place_in 0 (slots_of kind)) 0 → 1 ≤ length zeros
 some_zeros zeros kind is =
     let long : length zeros ≡ place_in 0 (slots_of kind) = ap (λ (l : List ℕ). length l) is ∙ length-replicate (place_in 0 (slots_of kind)) 0 in

@@ -1,4 +1,4 @@
--- What the words of the desk say at some cases, so that a changed word is seen.
+-- The definitions of the desk, evaluated in some cases. A changed definition fails here.
 use Rattle.std.proofs.Common.{◌≡◌, ℕ, ◌≤◌, List, [], ◌∷◌, true, arith, inl, inr, refl}
 use Rattle.std.proofs.lemmas.Bool.{cases_lt}
 use Rattle.road_io.specs.Disk.{Turns}
@@ -17,20 +17,20 @@ use Rattle.key_desk.specs.Stands.{Stands, AllSigned, KeepsStanding}
 abbrev desk_of : List Count → Desk
 desk_of counts = record { earlier = []; base = 0; key = record { kind = 5; i = []; seed = [] }; counts = counts; is_open = true }
 
--- the last slot is never counted as free, and a ticket's slot isn't
+-- the last slot never counts as free, and neither does the slot of a ticket
 two_are_free : free_slots (desk_of (TheVariants.Free ∷ TheVariants.Spent ∷ TheVariants.Free ∷ TheVariants.Free ∷ [])) ≡ 2
 two_are_free = refl
 
 none_is_free : free_slots (desk_of (TheVariants.Out ∷ TheVariants.Written ∷ TheVariants.Spent ∷ TheVariants.Free ∷ [])) ≡ 0
 none_is_free = refl
 
--- a slot that the desk has not counts as spent
+-- a slot that does not belong to the desk counts as spent
 beyond_is_spent : count_at (desk_of (TheVariants.Free ∷ [])) 1 ≡ TheVariants.Spent
 beyond_is_spent = refl
 
--- ---- when images turn
+-- ---- when the image changes
 
--- an image that is neither one from before nor a new one shows that nothing turned
+-- if an image is neither an old one nor a new one, no change took place
 neither_turned : {D : Type 0} (clock : D → ℕ) (image_at : D → ℕ → List ℕ → Type 0) (old new : D) (P : List ℕ → Type 0) (k : ℕ) (i : List ℕ) → clock old ≤ k → k ≤ clock new → image_at new k i
     → (image_at old (clock old) i → ⊥) → (P i → ⊥) → Turns clock image_at old new P → ⊥
 neither_turned clock image_at old new P k i from to now other isnt t = elim (cases_lt k t.turn) [
@@ -38,20 +38,20 @@ neither_turned clock image_at old new P k i from to now other isnt t = elim (cas
   | inr ge ↦ isnt (t.since k i (omega (arith, ge)) to now)
 ]
 
--- ---- what stands
+-- ---- signed pairs
 
--- one slot twice is not distinct
+-- a list that has one slot twice is not distinct
 one_slot_twice : (s : SlotId) (t u : List ℕ) → HasDistinctSlots ((s, t) ∷ (s, u) ∷ []) → ⊥
 one_slot_twice s t u h = h.0 0 (s, u) (omega arith) refl
 
--- a pair that stands is signed in every image, and a pair whose gate is closed in one does not stand
+-- a signed pair is signed in every image; a pair whose gate is closed in one image is not
 stands_is_signed : {D : Type 0} (g : Ghosts D) (disk : D) (s : SlotId) (t : List ℕ) → Stands g disk ((s, t) ∷ []) → EachImage g disk (λ i. IsSigned i s t)
 stands_is_signed g disk s t stands i now = stands i now 0 (s, t) (omega arith)
 
 shut_does_not_stand : {D : Type 0} (g : Ghosts D) (disk : D) (s : SlotId) (t i : List ℕ) → Image g disk i → gate_of i s ≡ 0 → Stands g disk ((s, t) ∷ []) → ⊥
 shut_does_not_stand g disk s t i now shut stands = let signed = stands_is_signed g disk s t stands i now in omega (arith, shut, signed.spent.gate)
 
--- what stood at the beginning of a call stands at its end, and at its beginning
+-- a list of pairs that is signed at the beginning of a call is signed at its end, and at its beginning
 stands_after : {D : Type 0} (g : Ghosts D) (old new : D) (pairs : List (SlotId × List ℕ)) → KeepsStanding g old new → Stands g old pairs → Stands g new pairs
 stands_after g old new pairs keeps stands i now = keeps.each pairs stands (g.clock new) i keeps.later (omega arith) now
 

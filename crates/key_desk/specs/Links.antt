@@ -15,7 +15,7 @@ link_of key next = record {
   signature = sealed key (slots_of key.kind - 1) (link_text next);
 }
 
--- the link from the key of an area to that of the area after it
+-- the link from the key of an area to the key of the next area
 abbrev pub link_from : Desk → ℕ → Link
 link_from desk area = link_of (key_of desk area) (public_key (key_of desk (suc area)))
 

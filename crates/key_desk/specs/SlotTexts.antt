@@ -1,4 +1,4 @@
--- What a slot has signed, as it is told.
+-- Reading the text that a slot has signed.
 use Rattle.std.specs.Prelude.{◌≡◌, ℕ, ◌≤◌, List, take}
 use Rattle.std.specs.declared.option.Option.{Option}
 use Rattle.std.specs.declared.option.Option.TheVariants.{None, Some}
@@ -6,8 +6,7 @@ use Rattle.road_io.specs.declared.disk.Disk.{Ghosts}
 use Rattle.road_io.specs.Moments.{EachImage}
 use Rattle.desk_areas.specs.Layout.{SlotId, gate_of, IsSigned}
 
--- in every image the slot has signed the text at the front of these octets, and so many octets
--- long, or its gate is closed
+-- in every image, the slot has signed the text of this length at the front of these octets, or its gate is closed
 abbrev pub HasInSlot : {D : Type 0} → Ghosts D → D → SlotId → List ℕ → Option ℕ → Type 0
 HasInSlot g disk slot octets (Some n) = (n ≤ 126) ×
     EachImage g disk (λ i. IsSigned i slot (take n octets))

@@ -1,4 +1,4 @@
-//! The making of a key on a disk that holds none.
+//! Making a key on a disk without a key.
 ghost use Rattle.std.specs.Prelude.{◌≡◌, ◌≢◌, ◌⊎◌, ◌<◌, ◌≤◌, [], List, ℕ, length, Err, IfOk, OnOk, IsErrOf, IsErr, true};
 ghost use Rattle.std.specs.Option.{ForSome};
 ghost use Rattle.road_io.specs.Causes.{Rose, RoseBy};
@@ -20,8 +20,8 @@ use std::alloc::Global;
 impl Desk {
     ghost use Rattle.key_desk.specs.Desk.{count_at, Fits};
 
-    /// Makes a key on a disk that holds none, and opens its desk. It makes nine calls of the disk, or ten where the
-    /// disk is shorter than a key block, and three where it holds a key.
+    /// Makes a key on a disk without a key, and opens its desk. Makes nine calls to the disk, ten if the disk is
+    /// shorter than a key block, and three if the disk holds a key.
     pub fn create<D: Disk>(
         alloc: Global,
         disk: &mut D,

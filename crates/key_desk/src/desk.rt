@@ -1,9 +1,9 @@
-//! The desk, and the states of one signing.
-ghost use Rattle.std.specs.Prelude.{◌≡◌, ◌≢◌, ◌+◌, ◌*◌, ◌^◌, ◌<◌, ◌≤◌, ◌↔◌, List, ℕ, true, false, length, slice_set, slice_index_or, IfOk, OnOk, IsErrOf, IsErr, IsOk, Err, IfSome, IfNone, take, drop, ◌∷◌};
+//! The desk, and the states of a signing.
+ghost use Rattle.std.specs.Prelude.{◌≡◌, ◌≢◌, ◌⊎◌, ◌+◌, ◌*◌, ◌^◌, ◌<◌, ◌≤◌, ◌↔◌, List, ℕ, true, false, length, slice_set, slice_index_or, IfOk, OnOk, IsErrOf, IsErr, IsOk, Err, IfSome, IfNone, take, drop, ◌∷◌};
 ghost use Rattle.road_io.specs.Causes.{Rose, RoseBy};
 ghost use Rattle.road_io.specs.Moments.{Image, EachImage, AtEachMoment};
 ghost use Rattle.desk_areas.specs.Calls.{CalledUpTo};
-ghost use Rattle.desk_areas.specs.Layout.{SlotId, slots_of, place_in, gate_of, IsSigned, SameSigned, SignsAtMost, OutsideSlot};
+ghost use Rattle.desk_areas.specs.Layout.{SlotId, slots_of, place_in, gate_of, IsSigned, OpensGate, PutsText, SameSigned, SignsAtMost};
 ghost use Rattle.key_desk.specs.Stands.{KeepsStanding};
 ghost use Rattle.lms_tree.specs.Signatures.{height_of, public_key, seal_len, sealed};
 ghost use Rattle.lms_tree.specs.Links.{IsLink};
@@ -20,17 +20,17 @@ pub enum DeskError {
     /// No slot is free.
     #[error("No one-time key of the desk is free.")]
     KeysUsedUp,
-    /// The disk failed. From then on the desk is closed.
+    /// The disk failed. From now on the desk is closed.
     #[error("The disk failed, and the desk is closed.")]
     DiskFault,
-    /// The disk failed before: the desk must be opened again.
+    /// The disk failed before. The desk must be opened again.
     #[error("The desk is closed since its disk failed, and must be opened again.")]
     Closed,
 }
 
-/// An owner's desk over the keys that a disk holds. It signs each text with a one-time key of its own in the
-/// disk's last open area, whose slot it spends on the disk before the signature is made. While it is open it
-/// takes no memory but in `links`.
+/// An owner's desk over the keys on a disk. It signs each text with its own one-time key of the disk's last open
+/// area. It spends the key's slot on the disk before it makes the signature. While the desk is open, only `links`
+/// takes memory.
 #[derive(Drop)]
 pub struct Desk {
     pub(crate) earlier: Vec<Area>,
@@ -63,14 +63,14 @@ impl Desk {
     ghost use Rattle.desk_areas.specs.Layout.{slots_of};
     ghost use Rattle.key_desk.specs.Desk.{IsSignature};
 
-    /// The public key, 56 octets.
+    /// Returns the public key, 56 octets.
     pub fn public(&self) -> [u8; 56]
         ensures { result ≡ public_key self.now.key }
     {
         self.key.public()
     }
 
-    /// How many octets a signature has.
+    /// Returns the number of octets in a signature.
     pub fn sig_len(&self) -> u32
         ensures { result ≡ seal_len (height_of self.now.key.kind) }
     {
@@ -87,14 +87,14 @@ impl Desk {
         self.key.sign_into(slot, text, out);
     }
 
-    // Whether no call has met a fault of the disk.
+    // Tests whether no call has met a disk error so far.
     pub(crate) fn is_open(&self) -> bool
         ensures { result ≡ self.now.is_open }
     {
         self.is_open
     }
 
-    // How each slot of the current area is counted.
+    // Returns the state of each slot of the current area.
     pub(crate) fn counts(&self) -> &[Count]
         ensures counts { result.now ≡ self.now.counts }
         ensures sized { length result.now ≡ slots_of self.now.key.kind }
@@ -103,21 +103,21 @@ impl Desk {
         &self.counts
     }
 
-    // The key of the current area.
+    // Returns the key of the current area.
     pub(crate) fn key(&self) -> &Key
         ensures { result.now ≡ self.now.key }
     {
         &self.key
     }
 
-    // The number of the current area.
+    // Returns the number of the current area.
     fn current(&self) -> u32
         ensures { result ≡ length self.now.earlier }
     {
         self.earlier.len() as u32
     }
 
-    // Where the current area begins.
+    // Returns the offset at which the current area begins.
     pub(crate) fn base(&self) -> u64
         ensures base { result ≡ self.now.base }
         ensures low { result ≤ 131136 * length self.now.earlier }
@@ -126,7 +126,7 @@ impl Desk {
         self.base
     }
 
-    // Where a slot of the current area begins.
+    // Returns the offset at which a slot of the current area begins.
     pub(crate) fn place(&self, number: u32) -> u64
         requires { number < slots_of self.now.key.kind }
         ensures place { result ≡ place_in self.now.base number }
@@ -135,7 +135,7 @@ impl Desk {
         place_in(self.base, number)
     }
 
-    // The areas before the current one.
+    // Returns the areas before the current one.
     pub(crate) fn earlier(&self) -> &[Area]
         ensures areas { result.now ≡ self.now.earlier }
         ensures few { length result.now ≤ 7 }
@@ -143,7 +143,7 @@ impl Desk {
         &self.earlier
     }
 
-    // Counts a slot otherwise.
+    // Sets the state of a slot.
     pub(crate) fn count(&mut self, slot: u32, count: Count)
         requires { slot < length self.old.counts }
         ensures { self.new ≡ record self.old { counts = slice_set self.old.counts slot count } }
@@ -158,7 +158,7 @@ impl Desk {
         self.is_open = false;
     }
 
-    // A desk of these parts.
+    // Makes a desk from these parts.
     pub(crate) fn from_parts(earlier: Vec<Area>, base: u64, key: Key, counts: Vec<Count>) -> Desk
         requires sized { length counts.items ≡ slots_of key.kind }
         requires low { base ≤ 131136 * length earlier.items }
@@ -182,7 +182,7 @@ impl Desk {
 }
 
 impl Desk {
-    // A desk whose current area is this one.
+    // Makes a desk with this current area.
     pub(crate) fn with_current(earlier: Vec<Area>, base: u64, area: Area) -> Desk
         requires low { base ≤ 131136 * length earlier.items }
         requires few { length earlier.items ≤ 7 }
@@ -205,18 +205,18 @@ impl Desk {
     }
 }
 
-// How many octets a signature by a key of this type has.
+// Returns the number of octets in a signature by a key of this type.
 pub(crate) fn signature_len(kind: u32) -> u32
     ensures { result ≡ seal_len (height_of kind) }
 {
     match sig_len(kind) {
         Some(len) => len,
-        // No key has another type: its signatures would have no path.
+        // No key has any other type, so this case does not occur. The value stands for a signature without a path.
         None => 1132,
     }
 }
 
-/// A slot that is promised to one signing. It must be given back or written.
+/// A slot that is reserved for one signing. It must be given back or written.
 pub struct Ticket {
     slot: u32,
 }
@@ -229,7 +229,7 @@ impl Model for Ticket {
     ghost view = { λ t. t.slot };
 }
 
-/// A slot whose text stands on the disk behind its closed gate. It must be spent.
+/// A slot whose text is on the disk behind its closed gate. It must be spent.
 pub struct Texted {
     area: u32,
     number: u32,
@@ -239,7 +239,7 @@ pub struct Texted {
     ghost plain: { IsLink (take len (drop 1 piece)) → ⊥ },
 }
 
-/// A slot whose gate is open on the disk, with its text. It must be sealed.
+/// A slot whose text is on the disk and whose gate is open. It must be sealed.
 pub struct Spent {
     area: u32,
     number: u32,
@@ -249,10 +249,11 @@ pub struct Spent {
 }
 
 impl Desk {
-    ghost use Rattle.key_desk.specs.Desk.{count_at, slot_here, IsUsedUp, SameAreas, Fits, KnowsTexted, KnowsSpent, KeepsKnown, KeepsAllKnown, texted_slot, texted_text, spent_slot, spent_text};
+    ghost use Rattle.key_desk.specs.Desk.{count_at, slot_here, IsUsedUp, PutsLowest, SameAreas, Fits, KnowsTexted, KnowsSpent, KeepsKnown, KeepsAllKnown, texted_slot, texted_text, spent_slot, spent_text};
     ghost use Rattle.key_desk.specs.Desk.{IsSignature};
 
-    /// Takes the lowest slot of the current area that is free. Its last slot is kept for the link to the next key.
+    /// Reserves the lowest free slot of the current area. The last slot is never reserved, since it is kept for the
+    /// link to the next key.
     pub fn ticket(&mut self) -> Result<Ticket, DeskError>
         ensures out { IfOk result (λ t. (count_at self.old t ≡ Count.Free) ×
             (self.new ≡ record self.old { counts = slice_set self.old.counts t Count.Out })) }
@@ -281,8 +282,8 @@ impl Desk {
         }
     }
 
-    /// Signs a text with the next one-time key: a ticket, its text, its gate, its seal. Where none of them fails, it
-    /// makes four calls of the disk.
+    /// Signs a text with the next one-time key: takes a ticket, writes the text, opens the gate, and makes the
+    /// signature. If none of these fails, it makes four calls to the disk.
     pub fn sign<D: Disk>(
         &mut self,
         disk: &mut D,
@@ -325,7 +326,7 @@ impl Desk {
         ensures known { KeepsAllKnown D.Disk self.old disk.old self.new disk.new }
         ensures moments { (q : ℕ) × (IfOk result (λ number. number ≡ q)) ×
             (q + 1 < slots_of self.old.key.kind) × AtEachMoment D.Disk disk.old disk.new
-            (λ d i. OutsideSlot (slot_here self.old q) d i ×
+            (λ d i. ((i ≡ d) ⊎ PutsLowest self.old q text.now d i) ×
             SignsAtMost (slot_here self.old q) text.now d i) }
         ensures stands { KeepsStanding D.Disk disk.old disk.new }
         ensures counted { OnOk result (RoseBy 4 (D.calls disk.old) (D.calls disk.new)) }
@@ -345,7 +346,7 @@ impl Desk {
     }
 }
 
-// The lowest free slot that is not the last.
+// Returns the lowest free slot before the last slot.
 pub(crate) fn first_free(counts: &[Count]) -> Option<u32>
     requires { length counts.now ≤ 1024 }
     ensures some { IfSome result (λ s. (slice_index_or counts.now s Count.Spent ≡ Count.Free) ×
@@ -373,7 +374,7 @@ impl Ticket {
 
     ghost use Rattle.key_desk.specs.Desk.{count_at, slot_here, SameAreas, Fits, KnowsTexted, KnowsSpent, KeepsKnown, texted_slot, texted_text, spent_slot, spent_text};
 
-    /// The slot's number.
+    /// Returns the slot's number.
     pub fn slot(&self) -> u32
         ensures { result ≡ self.now }
     {
@@ -392,7 +393,7 @@ impl Ticket {
         desk.count(slot, Count::Free);
     }
 
-    /// Puts the text into the slot, with its gate closed: one write, and a sync.
+    /// Writes the text into the slot behind its closed gate, with one write and a sync.
     pub fn write<D: Disk>(
         self,
         desk: &mut Desk,
@@ -420,7 +421,7 @@ impl Ticket {
         ensures others { KeepsKnown D.Disk
             (slot_here desk.old self) desk.old disk.old desk.new disk.new }
         ensures moments { AtEachMoment D.Disk disk.old disk.new
-            (λ d i. OutsideSlot (slot_here desk.old self) d i × SameSigned d i) }
+            (λ d i. PutsText (slot_here desk.old self) text.now d i × SameSigned d i) }
         ensures stands { KeepsStanding D.Disk disk.old disk.new }
         ensures counted { OnOk result (RoseBy 2 (D.calls disk.old) (D.calls disk.new)) }
         ensures few { CalledUpTo 2 (D.calls disk.old) (D.calls disk.new) }
@@ -459,7 +460,7 @@ impl Ticket {
 impl Texted {
     ghost use Rattle.key_desk.specs.Desk.{count_at, slot_here, SameAreas, Fits, KnowsTexted, KnowsSpent, KeepsKnown, texted_slot, texted_text, spent_slot, spent_text};
 
-    /// Opens the slot's gate, by one write and a sync. From then on the pair counts as signed.
+    /// Opens the slot's gate, with one write and a sync. From then on the pair counts as signed.
     pub fn spend<D: Disk>(self, desk: &mut Desk, disk: &mut D) -> Result<Spent, DeskError>
         requires fits { Fits D.Disk desk.old disk.old }
         requires knows { KnowsTexted D.Disk desk.old disk.old (texted_slot self)
@@ -483,7 +484,7 @@ impl Texted {
             desk.new ≡ record desk.old { is_open = false } }
         ensures others { KeepsKnown D.Disk (texted_slot self) desk.old disk.old desk.new disk.new }
         ensures moments { AtEachMoment D.Disk disk.old disk.new
-            (λ d i. OutsideSlot (texted_slot self) d i ×
+            (λ d i. OpensGate (texted_slot self) d i ×
             SignsAtMost (texted_slot self) (texted_text self) d i) }
         ensures stands { KeepsStanding D.Disk disk.old disk.new }
         ensures counted { OnOk result (RoseBy 2 (D.calls disk.old) (D.calls disk.new)) }
@@ -528,8 +529,8 @@ impl Spent {
     ghost use Rattle.key_desk.specs.Desk.{count_at, slot_here, SameAreas, Fits, KnowsTexted, KnowsSpent, KeepsKnown, texted_slot, texted_text, spent_slot, spent_text};
     ghost use Rattle.key_desk.specs.Desk.{IsSignature};
 
-    /// Writes the signature of the text by the slot's one-time key, and answers the slot's number. It makes no
-    /// call to the disk.
+    /// Writes the signature of the text by the slot's one-time key, and returns the slot's number. Makes no call to
+    /// the disk.
     pub fn seal<D: Disk>(self, desk: &Desk, _disk: &D, out: &mut [u8]) -> u32
         requires knows { KnowsSpent D.Disk desk.now _disk.now (spent_slot self) (spent_text self) }
         requires out { length out.old ≡ seal_len (height_of desk.now.key.kind) }

@@ -1,4 +1,4 @@
-//! The question whether a text is signed.
+//! Finding out whether a text is signed.
 ghost use Rattle.std.specs.Prelude.{◌≡◌, ◌≢◌, ◌≤◌, List, ℕ, Err, true, false, ◌↔◌, IfOk, OnOk, IsErrOf};
 ghost use Rattle.road_io.specs.Causes.{Rose};
 ghost use Rattle.road_io.specs.Disk.{Stays};
@@ -13,7 +13,7 @@ use road_io::{Disk, Failed};
 impl Desk {
     ghost use Rattle.key_desk.specs.Desk.{Fits, KeepsAllKnown, SameAreas};
 
-    /// Whether a text is signed, in every image or in none.
+    /// Tests whether a text is signed. The answer holds for every image.
     pub fn signed<D: Disk>(&mut self, disk: &mut D, text: &[u8]) -> Result<bool, DeskError>
         requires fits { Fits D.Disk self.old disk.old }
         ensures fits { Fits D.Disk self.new disk.new }

@@ -1,4 +1,4 @@
-// What the calls' clauses come to together.
+// Laws that combine the clauses of several calls.
 ghost use Rattle.std.specs.Prelude.{◌≡◌, ◌≢◌, ◌+◌, ◌<◌, slice_set, ℕ, List, [], ◌∷◌, ◌++◌};
 ghost use Rattle.std.specs.List.{All};
 ghost use Rattle.road_io.specs.Moments.{Image, EachImage};
@@ -11,7 +11,7 @@ ghost use Rattle.desk_areas.specs.declared.area.Count.TheVariants;
 
 use road_io::Disk;
 
-/// What a call signs stands beside all that stood before it.
+/// The pair that a call signs is added to all pairs signed before.
 pub fn signing_adds<D: Disk>()
     ensures { (old new : D) (pairs : List (SlotId × List ℕ)) (slot : SlotId) (text : List ℕ) →
         KeepsStanding D.Disk old new → Stands D.Disk old pairs →
@@ -19,14 +19,14 @@ pub fn signing_adds<D: Disk>()
         Stands D.Disk new (pairs ++ (slot, text) ∷ []) }
 {}
 
-/// A slot whose gate is closed in an image is in no list that stands.
+/// If a slot's gate is closed in some image, no list of signed pairs that still holds has this slot.
 pub fn closed_slots_are_new<D: Disk>()
     ensures { (disk : D) (pairs : List (SlotId × List ℕ)) (slot : SlotId) (i : List ℕ) →
         Image D.Disk disk i → gate_of i slot ≡ 0 → Stands D.Disk disk pairs →
         All (λ pair. pair.0 ≢ slot) pairs }
 {}
 
-/// A ticket that is taken keeps the desk fit for its disk, and what is known of each state.
+/// Taking a ticket keeps the desk fit for its disk. All known facts about each state remain.
 pub fn tickets_keep_fits<D: Disk>()
     ensures { (old : Desk) (disk : D) (slot : ℕ) → Fits D.Disk old disk →
         count_at old slot ≡ TheVariants.Free → slot + 1 < slots_of old.key.kind
@@ -35,7 +35,7 @@ pub fn tickets_keep_fits<D: Disk>()
         (record old { counts = slice_set old.counts slot TheVariants.Out }) disk }
 {}
 
-/// A ticket that is given back keeps the desk fit for its disk, and what is known of each state.
+/// Giving back a ticket keeps the desk fit for its disk. All known facts about each state remain.
 pub fn tickets_back_keep_fits<D: Disk>()
     ensures { (old : Desk) (disk : D) (slot : ℕ) → Fits D.Disk old disk →
         count_at old slot ≡ TheVariants.Out
@@ -44,8 +44,8 @@ pub fn tickets_back_keep_fits<D: Disk>()
         (record old { counts = slice_set old.counts slot TheVariants.Free }) disk }
 {}
 
-/// Over every run of calls, of crashes inside or between them and of reopenings, the pairs that were signed
-/// stand in every image, and no one-time key has signed twice.
+/// In every run of calls, of crashes within or between them, and of reopenings, the signed pairs are in every
+/// image, and no one-time key has signed twice.
 pub fn no_slot_signs_twice<D: Disk>()
     ensures { (disk : D) (pairs : List (SlotId × List ℕ))
         (states : List (D × List (SlotId × List ℕ))) → IsRun D.Disk disk pairs states →

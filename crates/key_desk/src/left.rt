@@ -1,4 +1,4 @@
-//! The count of a desk's one-time keys.
+//! Counting a desk's remaining one-time keys.
 ghost use Rattle.std.specs.Prelude.{◌≡◌, ◌≤◌, ◌-◌, length};
 ghost use Rattle.std.specs.List.{count_by};
 ghost use Rattle.desk_areas.specs.Layout.{slots_of};
@@ -8,7 +8,8 @@ use crate::desk::Desk;
 use desk_areas::Count;
 
 impl Desk {
-    /// How many texts the current area's key has left to sign: its last one-time key is kept for the next key.
+    /// Returns the number of texts that the current area's key can still sign. Its last one-time key does not
+    /// count, since it signs the next key.
     pub fn left(&self) -> u32
         ensures { result ≡ free_slots self.now }
     {
@@ -16,7 +17,7 @@ impl Desk {
         count_free(&counts[..counts.len().saturating_sub(1)])
     }
 
-    /// How many texts the current area's key can sign in all, 31 or 1,023.
+    /// Returns the number of texts that the current area's key can sign in all: 31 or 1,023.
     pub fn size(&self) -> u32
         ensures { result ≡ slots_of self.now.key.kind - 1 }
     {
@@ -24,7 +25,7 @@ impl Desk {
     }
 }
 
-// How many slots are free.
+// Returns the number of free slots.
 fn count_free(counts: &[Count]) -> u32
     requires { length counts.now ≤ 1024 }
     ensures { result ≡ count_by is_free counts.now }

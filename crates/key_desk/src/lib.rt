@@ -1,13 +1,13 @@
-//! An owner's desk, which never lets a one-time key sign twice.
+//! An owner's desk. It never lets a one-time key sign twice.
 //!
 //! ```rust
-//! // Any `Disk` serves, as one over a file; this one is in memory.
+//! // Any `Disk` can be used, for example one over a file. This disk is in memory.
 //! let mut disk = MemDisk::new(alloc, 4160, 65_536, Vec::new(alloc), None)?;
 //! let mut desk = Desk::create(alloc, &mut disk, 5, &[0; 48])?;
 //! let mut signature = [0; 1292];
 //! let slot = desk.sign(&mut disk, b"version 1", &mut signature)?;
 //! verify(&desk.public(), b"version 1", &signature)?;
-//! // The text stands after a crash, and its one-time key signs no other.
+//! // The text is still signed after a crash, and its one-time key signs no other text.
 //! let mut disk = disk.crash(Pick::Old);
 //! let mut desk = Desk::reopen(alloc, &mut disk)?;
 //! let is_signed = desk.signed(&mut disk, b"version 1")?;

@@ -1,4 +1,4 @@
-//! The keys of a desk, and the links from each of them to the next.
+//! The keys of a desk, and the links from each key to the next.
 ghost use Rattle.std.specs.Prelude.{◌≡◌, ◌+◌, ◌<◌, ◌≤◌, ◌↔◌, Ok, Err, true, false, length, IfOk, IsErr, IsErrOf};
 ghost use Rattle.octet_text.specs.Want.{no_memory};
 ghost use Rattle.lms_tree.specs.ChainFiles.{chain_file, link_row};
@@ -14,10 +14,10 @@ use octet_text::{NoMemory, Octets, filled, push};
 use std::alloc::Global;
 use thiserror::Error;
 
-/// Why a desk doesn't tell its links.
+/// Why a desk did not return its links.
 #[derive(Clone, Copy, Debug, PartialEq, Eq, Error)]
 pub enum LinksError {
-    /// The disk failed before: the desk must be opened again.
+    /// The disk failed before. The desk must be opened again.
     #[error("The desk is closed since its disk failed, and must be opened again.")]
     Closed,
     /// Out of memory.
@@ -36,10 +36,10 @@ impl From<NoMemory> for LinksError {
     }
 }
 
-/// Why a desk doesn't lend a key.
+/// Why a desk did not return a key.
 #[derive(Clone, Copy, Debug, PartialEq, Eq, Error)]
 pub enum AreaError {
-    /// The disk failed before: the desk must be opened again.
+    /// The disk failed before. The desk must be opened again.
     #[error("The desk is closed since its disk failed, and must be opened again.")]
     Closed,
 }
@@ -48,14 +48,14 @@ impl Desk {
     ghost use Rattle.key_desk.specs.Desk.{key_of};
     ghost use Rattle.key_desk.specs.Links.{link_from, links_of};
 
-    /// How many keys the desk has, one for each open area. The last of them is the current one.
+    /// Returns the number of the desk's keys. Each open area has one. The last one is the current key.
     pub fn key_count(&self) -> u32
         ensures { result ≡ length self.now.earlier + 1 }
     {
         self.earlier().len() as u32 + 1
     }
 
-    // The key of an open area.
+    // Returns the key of an open area.
     fn key_in(&self, area: u32) -> &Key
         requires { area ≤ length self.now.earlier }
         ensures { result.now ≡ key_of self.now area }
@@ -68,7 +68,7 @@ impl Desk {
         }
     }
 
-    /// The public key of an open area. It takes no memory.
+    /// Returns the public key of an open area. Takes no memory.
     pub fn public_of(&self, area: u32) -> [u8; 56]
         requires { area ≤ length self.now.earlier }
         ensures { result ≡ public_key (key_of self.now area) }
@@ -76,7 +76,7 @@ impl Desk {
         self.key_in(area).public()
     }
 
-    /// The key of an open area. It takes no memory, since a desk keeps its keys.
+    /// Returns the key of an open area. Takes no memory, since the desk keeps its keys.
     pub fn area(&self, area: u32) -> Result<&Key, AreaError>
         requires { area ≤ length self.now.earlier }
         ensures key { IfOk result (λ key. key.now ≡ key_of self.now area) }
@@ -89,7 +89,7 @@ impl Desk {
         Ok(self.key_in(area))
     }
 
-    // The link from the key of an area to that of the area after it.
+    // Returns the link from the key of an area to the key of the next area.
     fn link_from(&self, alloc: Global, area: u32) -> Result<Link, LinksError>
         requires known { area < length self.now.earlier }
         requires few { area < 7 }
@@ -104,9 +104,9 @@ impl Desk {
         link_to(alloc, self.key_in(area), next)
     }
 
-    /// The links from the first key to the current one, in order: for each key after another the key, and the
-    /// signature of its link text by the last one-time key of the one before it. They are the same octets at each
-    /// call.
+    /// Returns the links from the first key to the current one, in order. Each link has a key after the first, and
+    /// the signature of its link text by the last one-time key of the previous key. Each call returns the same
+    /// octets.
     pub fn links(&self, alloc: Global) -> Result<Vec<Link>, LinksError>
         ensures links { IfOk result (λ links. links.items ≡ links_of self.now) }
         ensures chained { IfOk result
@@ -127,8 +127,9 @@ impl Desk {
         Ok(links)
     }
 
-    /// Whether the current key is linked to the one before it: the link is made anew, in no memory of the heap, and
-    /// verified. By its contract it is; a bit that turned in memory meanwhile shows here.
+    /// Tests whether the previous key's link leads to the current key: makes the link again, without heap memory,
+    /// and verifies it. By the contract it always does; the test detects a bit of memory that has flipped in the
+    /// meantime.
     pub fn is_linked(&self) -> bool
         requires { 0 < length self.now.earlier }
         ensures { result ≡ true }
@@ -138,7 +139,7 @@ impl Desk {
     }
 }
 
-// Signs the link text of the next key by a key's last one-time key.
+// Signs the link text of the next key with the last one-time key of a key.
 fn sign_link(key: &Key, next: &[u8; 56], signature: &mut [u8])
     requires { length signature.old ≡ seal_len (height_of key.now.kind) }
     ensures signature { signature.new ≡ (link_of key.now next.now).signature }
@@ -148,7 +149,7 @@ fn sign_link(key: &Key, next: &[u8; 56], signature: &mut [u8])
     key.sign_into(last, &link_text(next), signature);
 }
 
-// Whether the signature of a link text by a key's last one-time key is verified under the key.
+// Tests whether the signature of a link text, made by the last one-time key of a key, verifies under that key.
 fn is_good_link(key: &Key, next: &[u8; 56]) -> bool
     ensures { result ≡ true }
 {
@@ -158,7 +159,7 @@ fn is_good_link(key: &Key, next: &[u8; 56]) -> bool
     verify(&key.public(), &link_text(next), signature).is_ok()
 }
 
-// The link from a key to the next one: its last one-time key signs the link text.
+// Makes the link from a key to the next key: the last one-time key signs the link text.
 fn link_to(alloc: Global, key: &Key, next: [u8; 56]) -> Result<Link, LinksError>
     ensures link { IfOk result (λ link. link ≡ link_of key.now next) }
     ensures good { IfOk result (λ link.

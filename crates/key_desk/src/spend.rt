@@ -1,4 +1,4 @@
-//! The spending of a slot in which a text stands already.
+//! Spending a slot that already holds a text.
 ghost use Rattle.std.specs.Prelude.{◌≡◌, ◌≢◌, ◌⊎◌, ◌+◌, ◌<◌, ◌≤◌, List, ℕ, Some, Err, true, length, slice_index_or, IfOk, OnOk, IfSome, IfNone, IsErr, IsErrOf};
 ghost use Rattle.std.specs.Option.{ForSome};
 ghost use Rattle.road_io.specs.Causes.{HasCause, Rose};
@@ -18,11 +18,13 @@ use std::alloc::Global;
 impl Desk {
     ghost use Rattle.key_desk.specs.Desk.{count_at, slot_here, Fits};
 
-    /// Spends the lowest free slot of the disk's current area with the text that stands in it, and answers its number.
-    /// It makes no signature. Nothing is spent where no slot is free, or where the free slot has no text, or a link text.
+    /// Spends the lowest free slot of the disk's current area, with the text that it holds, and returns its number.
+    /// Makes no signature. Spends nothing if no slot is free, or if the lowest free slot holds no text or a link
+    /// text.
     ///
-    /// A crash between text and gate leaves a text there, and so does a gate that something else than a desk has closed
-    /// after a signature: in either case no call signs another text by that one-time key.
+    /// A crash after the text was written and before its gate was opened leaves such a text. So does a fault
+    /// outside this program that closes a gate after a signature. In both cases, no call signs another text with
+    /// that one-time key.
     pub fn spend_texted<D: Disk>(alloc: Global, disk: &mut D) -> Result<Option<u32>, StartError>
         ensures spends { SpendsTexted D.Disk disk.old disk.new }
         ensures spent { IfOk result (λ found. IfSome found (λ number. EachImage D.Disk disk.new
@@ -54,7 +56,7 @@ impl Desk {
         }
     }
 
-    // The lowest free slot, if a text stands in it that it may have signed.
+    // Returns the lowest free slot, if it holds a text that it may have signed.
     fn texted<D: Disk>(&self, disk: &mut D) -> Result<Option<u32>, Failed>
         requires fits { Fits D.Disk self.now disk.old }
         requires opened { self.now.is_open ≡ true }
@@ -87,7 +89,7 @@ impl Desk {
         Ok(Some(number))
     }
 
-    // Opens the gate of a slot in which a text stands.
+    // Opens the gate of a slot that holds a text.
     fn open_texted<D: Disk>(&self, disk: &mut D, number: u32) -> Result<(), Failed>
         requires fits { Fits D.Disk self.now disk.old }
         requires early { number + 1 < slots_of self.now.key.kind }

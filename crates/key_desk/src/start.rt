@@ -1,4 +1,4 @@
-//! The opening of a desk over what a disk holds.
+//! Opening a desk over a disk's keys.
 ghost use Rattle.std.specs.Prelude.{◌≡◌, ◌≢◌, ◌+◌, ◌*◌, ◌<◌, ◌≤◌, ◌-◌, List, ℕ, Some, length, IfOk, OnOk, IsErr, IsErrOf, Err, ◌⊎◌, true};
 ghost use Rattle.octet_text.specs.Want.{no_memory};
 ghost use Rattle.std.specs.Option.{ForSome};
@@ -20,8 +20,8 @@ use std::alloc::Global;
 impl Desk {
     ghost use Rattle.key_desk.specs.Desk.{count_at, free_slots, HasAreas, Fits};
 
-    /// Opens the desk over the keys that the disk holds. It changes no image. Of the disk it makes a sync and asks for
-    /// its length and its first gate once, and then reads each block and each gate once, and the text of each spent slot.
+    /// Opens the desk over the keys on the disk. Changes no image. Syncs the disk, reads its length and its first
+    /// gate once, and then reads each block, each gate, and the text of each spent slot once.
     pub fn reopen<D: Disk>(alloc: Global, disk: &mut D) -> Result<Desk, StartError>
         ensures fits { IfOk result (λ desk. Fits D.Disk desk disk.new) }
         ensures opened { IfOk result (λ desk. desk.is_open ≡ true) }

@@ -1,4 +1,4 @@
-//! The next key: a new area after all others, which the last slot of the current one signs.
+//! The next key: a new area after all others. The last slot of the current area signs the new key.
 ghost use Rattle.std.specs.Prelude.{◌≡◌, ◌≢◌, ◌⊎◌, ◌+◌, ◌*◌, ◌^◌, ◌↔◌, ◌<◌, ◌≤◌, ◌-◌, List, ℕ, suc, Err, length, take, replicate, IfOk, OnOk, OnErr, IfErr, IsErrOf, IsErr, true, false};
 ghost use Rattle.octet_text.specs.Want.{no_memory};
 ghost use Rattle.std.specs.Option.{ForSome};
@@ -15,7 +15,7 @@ ghost use Rattle.key_desk.specs.Stands.{KeepsStanding, SameKeys};
 ghost use Rattle.desk_areas.specs.Settled.{IsSettled};
 ghost use Rattle.key_desk.specs.Desk.{slot_here, Fits};
 ghost use Rattle.key_desk.specs.View.{View};
-ghost use Rattle.key_desk.specs.Succession.{last_number, next_desk, CanSucceed, HasKeys, IsUnspent, SignsLink, DeskRefuses, CanFollow, IsDeskCalledFor, AnswersDeskRefusal, IsCalledFor, AnswersRefusal, started};
+ghost use Rattle.key_desk.specs.Succession.{last_number, next_desk, CanSucceed, HasKeys, IsUnspent, RaisesAt, RaisesNext, SignsLink, DeskRefuses, CanFollow, IsDeskCalledFor, AnswersDeskRefusal, IsCalledFor, AnswersRefusal, started};
 
 use crate::desk::Desk;
 use desk_areas::{
@@ -28,7 +28,7 @@ use road_io::{Disk, Failed};
 use std::alloc::Global;
 use thiserror::Error;
 
-// Adds a blank area, and then lets the last slot of the current area sign its key.
+// Adds a blank area. Then the last slot of the current area signs the key of that area.
 fn raise<D: Disk>(
     disk: &mut D,
     base: u64,
@@ -66,6 +66,8 @@ fn raise<D: Disk>(
         (link_text (public_key (key_from kind secret.now))))) }
     ensures unspent { OnOk result (EachImage D.Disk disk.new
         (IsUnspent (key_from kind secret.now) (place_in base slots))) }
+    ensures raises { AtEachMoment D.Disk disk.old disk.new
+        (RaisesAt (key_from kind secret.now) (place_in base slots) (place_in base (slots - 1))) }
     ensures cause { HasCause (D.faults disk.old) (D.faults disk.new) result }
     ensures kept { OnOk result (D.faults disk.new ≡ D.faults disk.old) }
     ensures counted { OnOk result (RoseBy 8 (D.calls disk.old) (D.calls disk.new)) }
@@ -79,22 +81,22 @@ fn raise<D: Disk>(
     open_gate(disk, place)
 }
 
-/// Why a desk was given no next key.
+/// Why a desk did not get a next key.
 #[derive(Clone, Copy, Debug, PartialEq, Eq, Error)]
 pub enum SucceedError {
     /// The disk holds no key.
     #[error("The disk holds no key.")]
     NoKey,
-    /// An open area of the disk can't be used.
+    /// An open area of the disk cannot be used.
     #[error("The disk holds a key that can't be used.")]
     BadBlock,
     /// Eight areas are open.
     #[error("The disk holds eight keys already.")]
     TooManyKeys,
-    /// The last slot of the current area is spent, and not with a link.
+    /// The last slot of the current area is spent, but does not hold a link.
     #[error("The last one-time key was used, so that it can't sign the next key.")]
     NoSuccession,
-    /// An open area has the name that the secret begins with.
+    /// The name at the beginning of the secret is already that of an open area's key.
     #[error("The disk holds a key of this secret already.")]
     SameSecret,
     /// The disk failed.
@@ -130,7 +132,7 @@ impl From<NoMemory> for SucceedError {
 impl Desk {
     ghost use Rattle.key_desk.specs.Desk.{count_at, key_of, slot_here, Fits};
 
-    // Whether the last slot of the current area is spent.
+    // Tests whether the last slot of the current area is spent.
     fn is_last_spent(&self) -> bool
         requires { 0 < slots_of self.now.key.kind }
         ensures { (result ≡ true) ↔ (count_at self.now (last_number self.now) ≡ Count.Spent) }
@@ -139,7 +141,7 @@ impl Desk {
         counts[counts.len() - 1] == Count::Spent
     }
 
-    // Whether an area has a key of this name.
+    // Tests whether an area has a key with this name.
     fn holds_name(&self, name: &[u8; 16]) -> bool
         ensures yes { result ≡ true → (a : ℕ) × (a ≤ length self.now.earlier) ×
             ((key_of self.now a).i ≡ name.now) }
@@ -149,7 +151,7 @@ impl Desk {
         self.key().i() == *name || has_name(self.earlier(), name)
     }
 
-    // The first reason why a key of this name can't follow.
+    // Returns the first reason why a key with this name cannot follow.
     fn may_follow(&self, name: &[u8; 16]) -> Result<(), SucceedError>
         requires { 0 < slots_of self.now.key.kind }
         ensures refused { IfErr result (DeskRefuses self.now name.now) }
@@ -167,7 +169,7 @@ impl Desk {
         Ok(())
     }
 
-    // The desk whose current area has this key and follows this desk's.
+    // Makes the desk whose current area has this key and follows the areas of this desk.
     fn into_next(self, key: Key, counts: Vec<Count>) -> Result<Desk, SucceedError>
         requires some { 0 < slots_of self.key.kind }
         requires few { length self.earlier < 7 }
@@ -192,8 +194,8 @@ impl Desk {
 impl Desk {
     ghost use Rattle.key_desk.specs.Desk.{count_at, key_of, slot_here, Fits};
 
-    /// Makes the next key in a new area of the disk, has the last slot of the current area sign it, and opens the
-    /// desk over it. A desk of before no longer fits the disk.
+    /// Makes the next key in a new area of the disk, lets the last slot of the current area sign it, and opens the
+    /// desk over it. A desk that was opened before no longer fits the disk.
     pub fn succeed<D: Disk>(
         alloc: Global,
         disk: &mut D,
@@ -218,6 +220,8 @@ impl Desk {
             Narrows (D.content disk.old) (D.content disk.new) }
         ensures moments { AtEachMoment D.Disk disk.old disk.new
             (λ d i. (i ≡ d) ⊎ SignsLink (link_text (public_key (key_from kind secret.now))) d i) }
+        ensures raises { AtEachMoment D.Disk disk.old disk.new
+            (λ d i. (i ≡ d) ⊎ RaisesNext (key_from kind secret.now) d i) }
         ensures keys { AtEachMoment D.Disk disk.old disk.new SameKeys }
         ensures stands { KeepsStanding D.Disk disk.old disk.new }
         ensures untouched { IsErr result → result ≢ Err SucceedError.DiskFault →
@@ -236,7 +240,7 @@ impl Desk {
         }
     }
 
-    // Adds the area of the next key, unless there is a reason not to.
+    // Adds the area of the next key. Fails if there is a reason against it.
     fn pass_on<D: Disk>(
         self,
         alloc: Global,
@@ -257,6 +261,8 @@ impl Desk {
             (SignsAtMost (slot_here self (last_number self))
             (link_text (public_key (key_from kind secret.now)))) }
         ensures keys { AtEachMoment D.Disk disk.old disk.new (λ d i. HasKeys self i) }
+        ensures raises { AtEachMoment D.Disk disk.old disk.new
+            (λ d i. (i ≡ d) ⊎ RaisesNext (key_from kind secret.now) d i) }
         ensures unspent { IfOk result
             (λ next. EachImage D.Disk disk.new (IsUnspent next.key next.base)) }
         ensures refused { IfErr result (IsDeskCalledFor self (take 16 secret.now)) }
@@ -278,7 +284,7 @@ impl Desk {
         }
     }
 
-    // Adds the area of the next key, and signs its link. All memory is taken before the first write.
+    // Adds the area of the next key, and signs the link to it. Takes all memory before the first write.
     fn add_area<D: Disk>(
         self,
         alloc: Global,
@@ -299,6 +305,8 @@ impl Desk {
             (SignsAtMost (slot_here self (last_number self))
             (link_text (public_key (key_from kind secret.now)))) }
         ensures keys { AtEachMoment D.Disk disk.old disk.new (λ d i. HasKeys self i) }
+        ensures raises { AtEachMoment D.Disk disk.old disk.new
+            (λ d i. (i ≡ d) ⊎ RaisesNext (key_from kind secret.now) d i) }
         ensures unspent { IfOk result
             (λ next. EachImage D.Disk disk.new (IsUnspent next.key next.base)) }
         ensures only { IfErr result
@@ -329,7 +337,7 @@ impl Desk {
     }
 }
 
-// Why nothing could be read. No key is refused for one that stands.
+// Converts the error of opening a desk into that of a succession. `Held` cannot occur here.
 fn started(e: StartError) -> SucceedError
     requires { e ≢ StartError.Held }
     ensures { result ≡ started e }

@@ -14,7 +14,7 @@ impl Desk {
     ghost use Rattle.key_desk.specs.Desk.{count_of, counts_of, key_of, HasAreas, IsSlotOf, IsSound, Fits, KeepsAllKnown};
     ghost use Rattle.key_desk.specs.SlotTexts.{HasInSlot};
 
-    // How the slots of an open area are counted.
+    // Returns the states of the slots of an open area.
     fn counts_in(&self, area: u32) -> &[Count]
         requires { area ≤ length self.now.earlier }
         ensures counts { result.now ≡ counts_of self.now area }
@@ -28,7 +28,7 @@ impl Desk {
         }
     }
 
-    // Whether a slot of an open area counts as spent.
+    // Tests whether a slot of an open area counts as spent.
     fn is_spent(&self, area: u32, slot: u32) -> bool
         requires { IsSlotOf self.now (record { area = area; number = slot }) }
         ensures { (result ≡ true) ↔
@@ -38,7 +38,7 @@ impl Desk {
         counts[slot as usize] == Count::Spent
     }
 
-    // Where a slot of an open area begins.
+    // Returns the offset at which a slot of an open area begins.
     fn place_of(&self, area: u32, slot: u32) -> u64
         requires { IsSlotOf self.now (record { area = area; number = slot }) }
         ensures place { (image : List ℕ) → IsSound self.now → HasAreas self.now image →
@@ -49,8 +49,8 @@ impl Desk {
         place_in(base, slot)
     }
 
-    /// The text that a slot of an open area has signed: it stands at the front of `into`, and so many octets long.
-    /// There is none exactly where the slot isn't spent. It takes no memory.
+    /// Copies the text that a slot of an open area has signed to the front of `into`, and returns its length.
+    /// Returns `None` exactly if the slot is not spent. Takes no memory.
     pub fn text_of<D: Disk>(
         &mut self,
         disk: &mut D,

@@ -1,4 +1,4 @@
--- As many landmarks as are asked for, up to the number of nodes.
+-- A map has as many landmarks as requested, up to the number of its nodes.
 use Rattle.std.proofs.Common.{◌≡◌, ℕ, zero, suc, ◌+◌, ◌≤◌, ◌<◌, ◌==◌, nat_eq, Bool, true, false, cond, ◌||◌, Option, None, Some, is_some, List, [], ◌∷◌, ◌++◌, refl, arith, ap, sym, ◌∙◌, length}
 use Rattle.std.specs.List.{IsDistinct, AllByRecursion, list_any, fold}
 use Rattle.std.specs.Cmp.{nat_eq_equiv}
@@ -24,7 +24,7 @@ module _ (near : ℕ → Option ℕ) (chosen : List ℕ) where
       by_test false true old new = new
       by_test false false old new = old
 
-  -- where none is farthest, all are chosen
+  -- if no id is farthest, all are chosen
   pub all_chosen : (xs : List ℕ) → farthest near chosen xs ≡ None → AllByRecursion (λ x. list_any (λ c. c == x) chosen ≡ true) xs
   all_chosen [] none = tt
   all_chosen (x ∷ xs) none = by_test (list_any (λ c. c == x) chosen) refl none (all_chosen xs)
@@ -43,7 +43,7 @@ any_flips x (c ∷ cs) = ap (λ b. b || list_any (λ c. c == x) cs) (flips c x) 
 same_number : (x y : ℕ) → nat_eq x y ≡ true → x ≡ y
 same_number x y h = grind (arith, h)
 
--- distinct ids of which each is chosen are no more than are chosen
+-- distinct ids that are all chosen are at most as many as the chosen ids
 few_chosen : (near : ℕ → Option ℕ) (chosen among : List ℕ) → IsDistinct nat_eq among → farthest near chosen among ≡ None → length among ≤ length chosen
 few_chosen near chosen among distinct none = length-le_from_is_member nat_eq_equiv among chosen distinct (λ q any. sym (any_flips q chosen) ∙ all_contain (λ x. list_any (λ c. c == x) chosen ≡ true) among q (all_chosen near chosen among none) (Contains-from_any same_number q among any))
 
@@ -75,6 +75,6 @@ up_distinct (x ∷ xs) h = (all_apart xs h.0, up_distinct xs h.1)
     all_apart [] h = tt
     all_apart (y ∷ ys) h = (apart x y h.0, all_apart ys h.1)
 
--- a map has as many landmarks as are asked for
+-- a map has as many landmarks as requested
 pub landmarks_long : (parts : Parts) (count : ℕ) → IsMap parts → count ≤ length parts.nodes → length (landmarks parts count) ≡ count
 landmarks_long parts count m le = picked_long (distance parts) (by_id parts.nodes) (up_distinct (by_id parts.nodes) (up_sorted parts.nodes (once parts.nodes m.distinct))) count (omega (arith, le, by_id-length parts.nodes))

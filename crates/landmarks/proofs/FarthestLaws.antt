@@ -1,4 +1,4 @@
--- The farthest of ascending ids is what its name says, in one fact.
+-- The farthest of ascending ids, described by one fact.
 use Rattle.std.proofs.Common.{◌≡◌, ◌↔◌, ℕ, ◌<◌, ◌≤◌, ◌==◌, inl, inr, Bool, true, false, cond, Option, None, Some, List, [], ◌∷◌, ◌++◌, refl, arith, ap, sym, ◌∙◌, subst}
 use Rattle.std.specs.Prelude.{IsTrue}
 use Rattle.std.specs.List.{Contains, list_any, fold}
@@ -15,7 +15,7 @@ farther_self : (m : Option ℕ) → is_farther m m ≡ false
 farther_self None = refl
 farther_self (Some d) = grind arith
 
--- what is no farther than the nearer one is no farther than the other
+-- an id that is not farther than the nearer of two is not farther than the other
 farther_on : (m n o : Option ℕ) → is_farther m n ≡ true → is_farther m o ≡ false → is_farther n o ≡ false
 farther_on None None o on off = cc
 farther_on None (Some e) o on off = cc
@@ -37,12 +37,12 @@ module _ (near : ℕ → Option ℕ) (chosen : List ℕ) where
   abbrev is_chosen : ℕ → Bool
   is_chosen u = list_any (λ c. c == u) chosen
 
-  -- the best of the ids so far, none where all are chosen
+  -- the best id so far, or none if all are chosen
   abbrev IsBest : List ℕ → Option ℕ → Type 0
   IsBest seen None = (u : ℕ) → Contains seen u → IsTrue (is_chosen u)
   IsBest seen (Some v) = IsFarthest near chosen seen v
 
-  -- one more that is chosen
+  -- one more id, which is chosen
   chosen_comes : (seen : List ℕ) (b : Option ℕ) (x : ℕ) → IsBest seen b → is_chosen x ≡ true → IsBest (seen ++ x ∷ []) b
   chosen_comes seen None x is on = λ u c. elim (Contains-push_cases seen x u c) [ inl there ↦ is u there | inr e ↦ subst (λ w. is_chosen w ≡ true) e on ]
   chosen_comes seen (Some v) x is on = record {
@@ -52,7 +52,7 @@ module _ (near : ℕ → Option ℕ) (chosen : List ℕ) where
     first = λ u c free same. elim (Contains-push_cases seen x u c) [ inl there ↦ is.first u there free same | inr e ↦ absurd (both (subst (λ w. is_chosen w ≡ true) e on) free) ];
   }
 
-  -- one more that is not farther
+  -- one more id, which is not farther
   kept : (seen : List ℕ) (v x : ℕ) → IsFarthest near chosen seen v → ((s : ℕ) → Contains seen s → s < x) → is_farther (near v) (near x) ≡ false → IsFarthest near chosen (seen ++ x ∷ []) v
   kept seen v x is above off = record {
     known = Contains-append_left seen (x ∷ []) v is.known;
@@ -61,7 +61,7 @@ module _ (near : ℕ → Option ℕ) (chosen : List ℕ) where
     first = λ u c free same. elim (Contains-push_cases seen x u c) [ inl there ↦ is.first u there free same | inr e ↦ (let lt : v < x = above v is.known in omega (arith, lt, e)) ];
   }
 
-  -- one more that is farther
+  -- one more id, which is farther
   taken : (seen : List ℕ) (v x : ℕ) → IsFarthest near chosen seen v → is_chosen x ≡ false → is_farther (near v) (near x) ≡ true → IsFarthest near chosen (seen ++ x ∷ []) x
   taken seen v x is free on = record {
     known = Contains-append_right seen (x ∷ []) x (Contains-here x []);
@@ -70,7 +70,7 @@ module _ (near : ℕ → Option ℕ) (chosen : List ℕ) where
     first = λ u c other same. elim (Contains-push_cases seen x u c) [ inl there ↦ absurd (both (subst (λ o. is_farther (near v) o ≡ true) (sym same) on) (is.most u there other)) | inr e ↦ omega (arith, e) ];
   }
 
-  -- the first that may be chosen
+  -- the first id that may be chosen
   only : (seen : List ℕ) (x : ℕ) → ((u : ℕ) → Contains seen u → IsTrue (is_chosen u)) → is_chosen x ≡ false → IsFarthest near chosen (seen ++ x ∷ []) x
   only seen x all free = record {
     known = Contains-append_right seen (x ∷ []) x (Contains-here x []);

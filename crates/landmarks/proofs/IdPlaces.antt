@@ -1,4 +1,4 @@
--- Values of ids that ascend, by index and by id.
+-- Values of ascending ids, by index and by id.
 use Rattle.std.proofs.Common.{◌≡◌, ℕ, zero, suc, ◌<◌, nat_eq, Bool, true, false, cond, None, Some, List, [], ◌∷◌, slice_get, refl, arith, ap, sym, ◌∙◌}
 use Rattle.std.specs.List.{zip}
 use Rattle.std.specs.Map.{lookup}
@@ -27,7 +27,7 @@ no_value (i ∷ ids) (v ∷ values) id none =
     ap (λ b. cond b (Some v) (lookup (nat_eq id) (zip ids values))) (differ id i (λ e. none 0 (i, refl, sym e)))
     ∙ no_value ids values id (λ k at. none (suc k) at)
 
--- what a look-up by index finds
+-- the value that a look-up by index finds
 pub placed : {X : Type 0} (ids : List ℕ) (values : List X) (id k : ℕ) → AreRising ids → place_in ids id ≡ Some k → slice_get values k ≡ lookup (nat_eq id) (zip ids values)
 placed ids values id k rise is =
     let at : StandsAt (λ i. i) ids id k = stands ids id k is in

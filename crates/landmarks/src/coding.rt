@@ -21,10 +21,10 @@ use road_search::Survey;
 use std::alloc::Global;
 use thiserror::Error;
 
-/// Why there are no codes.
+/// Why codes could not be made.
 #[derive(Clone, Copy, Debug, PartialEq, Eq, Error)]
 pub enum CodeError {
-    /// The bits of a code are not 1 to 16.
+    /// The number of bits of a code is not 1 to 16.
     #[error("A code cannot have so many bits.")]
     Bits,
     /// Out of memory.
@@ -40,7 +40,7 @@ impl From<NoMemory> for CodeError {
     }
 }
 
-/// The greatest of all lengths, 0 where there is none.
+/// Returns the greatest of all lengths in the rows, or 0 if there are none.
 fn greatest_of_rows(rows: &[Lengths]) -> u64
     ensures { result ≡ greatest_row rows.now }
 {
@@ -51,8 +51,8 @@ fn greatest_of_rows(rows: &[Lengths]) -> u64
     most
 }
 
-/// The least step at which the codes of all lengths up to the greatest have so many bits, and one
-/// more code is left.
+/// Returns the least step for which the codes of all lengths up to `most` fit in `bits` bits and leave one code
+/// unused.
 fn step_for(most: u64, bits: u8) -> u64
     requires most { most < 2 ^ 48 }
     requires low { 1 ≤ bits }
@@ -63,7 +63,7 @@ fn step_for(most: u64, bits: u8) -> u64
     most / parts + 1
 }
 
-/// The code of a length.
+/// Returns the code of a length.
 fn code_for(step: u64, length: Option<u64>) -> u16
     requires step { 0 < step }
     requires fits { IfSome length (λ d. d / step < no_code) }
@@ -75,7 +75,7 @@ fn code_for(step: u64, length: Option<u64>) -> u16
     }
 }
 
-/// The code of the length at an index.
+/// Returns the code of the length at an index.
 fn code_at(step: u64, row: &[Option<u64>], place: usize) -> u16
     requires step { 0 < step }
     requires codable { IsCodable step place row.now }
@@ -84,7 +84,7 @@ fn code_at(step: u64, row: &[Option<u64>], place: usize) -> u16
     code_for(step, row[place])
 }
 
-/// The codes at an index, one from each row.
+/// Returns the codes for the node at an index, one from each row.
 fn codes_at(alloc: Global, step: u64, rows: &[Lengths], place: usize) -> Result<Codes, NoMemory>
     requires step { 0 < step }
     requires codable { (k : ℕ) (row : List (Option ℕ)) → slice_get rows.now k ≡ Some row →
@@ -98,7 +98,8 @@ fn codes_at(alloc: Global, step: u64, rows: &[Lengths], place: usize) -> Result<
     Ok(Codes::from_vec(codes))
 }
 
-/// The codes of all ids in their order, from rows of the lengths to them.
+/// Returns the codes of all ids, in the order of the ids. Each row has the lengths from one landmark to all of
+/// them.
 fn coded(alloc: Global, step: u64, ids: &[u32], rows: &[Lengths]) -> Result<Vec<Codes>, NoMemory>
     requires step { 0 < step }
     requires codable { AreCodable step (length ids.now) rows.now }
@@ -113,7 +114,7 @@ fn coded(alloc: Global, step: u64, ids: &[u32], rows: &[Lengths]) -> Result<Vec<
     Ok(codes)
 }
 
-/// The table of the codes of ids that ascend, from rows of the lengths to them.
+/// Returns the table of the codes of ascending ids. Each row has the lengths from one landmark to all of them.
 fn table_of(alloc: Global, ids: Vec<u32>, rows: &[Lengths], bits: u8) -> Result<CodeTable, NoMemory>
     requires low { 1 ≤ bits }
     requires high { bits ≤ 16 }
@@ -130,8 +131,8 @@ fn table_of(alloc: Global, ids: Vec<u32>, rows: &[Lengths], bits: u8) -> Result<
     Ok(table)
 }
 
-/// The distances from some nodes to all, by ascending id, a row for each. One search for each row, over
-/// the whole map; all use the same room.
+/// Returns one row for each of the chosen nodes: the distances from it to all nodes, by ascending id. Runs one
+/// search over the whole map for each row. All searches use the same memory.
 fn rows_from(alloc: Global, map: &Map, chosen: &[u32]) -> Result<Vec<Lengths>, NoMemory>
     requires { (id : ℕ) → Contains chosen.now id → Knows map.now.parts id }
     ensures { IfOk result (λ rows.
@@ -145,9 +146,9 @@ fn rows_from(alloc: Global, map: &Map, chosen: &[u32]) -> Result<Vec<Lengths>, N
     Ok(rows)
 }
 
-/// The codes of all nodes for these landmarks. A search from each landmark finds the distances.
+/// Returns the codes of all nodes for these landmarks. A search from each landmark finds the distances.
 ///
-/// `Bits` exactly where the bits are not 1 to 16, whatever memory there is.
+/// Fails with `Bits` exactly if the number of bits is not 1 to 16. This does not depend on the available memory.
 pub fn codes(alloc: Global, map: &Map, chosen: &[u32], bits: u8) -> Result<CodeTable, CodeError>
     requires { (id : ℕ) → Contains chosen.now id → Knows map.now.parts id }
     ensures table { IfOk result (IsTable map.now.parts chosen.now bits) }
@@ -165,8 +166,8 @@ pub fn codes(alloc: Global, map: &Map, chosen: &[u32], bits: u8) -> Result<CodeT
     Ok(table)
 }
 
-/// The codes of all nodes for that many landmarks, as `pick` picks them, or for all nodes, where
-/// there are no more. One search from each landmark serves both.
+/// Returns the codes of all nodes for `count` landmarks that are chosen as in `pick`. If the map has fewer nodes,
+/// every node is a landmark. One search from each landmark serves both to pick the next one and to find its codes.
 pub fn landmark_codes(alloc: Global, map: &Map, count: u32, bits: u8) -> Result<CodeTable, NoMemory>
     requires low { 1 ≤ bits }
     requires high { bits ≤ 16 }

@@ -1,4 +1,4 @@
-//! What holds of landmarks.
+//! Laws of landmarks.
 
 ghost use Rattle.std.specs.Prelude.{◌≡◌, ◌↔◌, ℕ, ◌≤◌, ◌==◌, Option, None, Some, List, IsTrue, Contains, length};
 ghost use Rattle.std.specs.List.{list_any};
@@ -9,10 +9,10 @@ ghost use Rattle.road_map.specs.Maps.{IsMap};
 ghost use Rattle.book_model.specs.Landmarks.{farthest, IsFarthest};
 ghost use Rattle.book_model.specs.Books.{landmarks};
 
-/// A map has as many landmarks as are asked for, up to the number of its nodes.
+/// A map has as many landmarks as requested, up to the number of its nodes.
 ///
-/// Over ascending ids, the farthest is the one that may be chosen, than which no other that may be is
-/// farther, and that has the least id of those as far. There is none exactly where all are chosen.
+/// The farthest of ascending ids is the one for which three facts hold: it may be chosen, no other id that may be
+/// chosen is farther, and it has the least id of those equally far. Such an id exists unless all ids are chosen.
 pub fn landmark_laws()
     ensures count { (parts : Parts) (count : ℕ) → IsMap parts → count ≤ length parts.nodes →
         length (landmarks parts count) ≡ count }

@@ -15,7 +15,7 @@ use road_search::{Survey, rising_ids};
 use std::alloc::Global;
 use std::marker::Model;
 
-/// Lengths of walks to some nodes, in the order of these: none where there is no walk.
+/// Lengths of walks to some nodes, in the order of the nodes. `None` means that no walk leads to the node.
 #[derive(Drop)]
 pub struct Lengths {
     items: Vec<Option<u64>>,
@@ -30,7 +30,7 @@ impl Model for Lengths {
 }
 
 impl Lengths {
-    /// The lengths.
+    /// Returns the lengths.
     pub fn as_slice(&self) -> &[Option<u64>]
         ensures { result.now ≡ self.now }
     {
@@ -38,7 +38,7 @@ impl Lengths {
     }
 }
 
-/// The ids of a map's nodes, ascending.
+/// Returns the ids of a map's nodes in ascending order.
 pub fn ids_of(alloc: Global, map: &Map) -> Result<Vec<u32>, NoMemory>
     ensures ids { IfOk result (λ ids. ids.items ≡ by_id map.now.parts.nodes) }
     ensures rise { IfOk result (λ ids. AreRising ids.items) }
@@ -49,7 +49,7 @@ pub fn ids_of(alloc: Global, map: &Map) -> Result<Vec<u32>, NoMemory>
     Ok(ids)
 }
 
-/// No length to any of these nodes.
+/// Makes a list of lengths in which no walk leads to any of these nodes.
 pub fn no_lengths(alloc: Global, ids: &[u32]) -> Result<Lengths, NoMemory>
     ensures { IfOk result (λ lengths. lengths ≡ map (λ _. None) ids.now) }
 {
@@ -60,7 +60,7 @@ pub fn no_lengths(alloc: Global, ids: &[u32]) -> Result<Lengths, NoMemory>
     Ok(Lengths { items })
 }
 
-/// The lengths that a survey has measured to all nodes, by ascending id.
+/// Returns the lengths from a survey's start to all nodes, by ascending id.
 fn lengths_of(alloc: Global, survey: &Survey<'_>, count: u32) -> Result<Lengths, NoMemory>
     requires { length survey.now.map.order ≡ count }
     ensures { IfOk result (λ lengths. (f : ℕ → Option ℕ) → Gives survey.now f →
@@ -73,7 +73,7 @@ fn lengths_of(alloc: Global, survey: &Survey<'_>, count: u32) -> Result<Lengths,
     Ok(Lengths { items })
 }
 
-/// The distances from a node to all nodes, by ascending id.
+/// Returns the distances from a node to all nodes, by ascending id.
 pub fn lengths_from(
     alloc: Global,
     map: &Map,
@@ -92,7 +92,7 @@ pub fn lengths_from(
     lengths_of(alloc, survey, map.count())
 }
 
-/// The lesser of two lengths, where none is longer than any.
+/// Returns the lesser of two lengths. `None` counts as longer than any length.
 fn lesser_of(a: Option<u64>, b: Option<u64>) -> Option<u64>
     ensures { result ≡ lesser a b }
 {
@@ -103,7 +103,7 @@ fn lesser_of(a: Option<u64>, b: Option<u64>) -> Option<u64>
     }
 }
 
-/// The lesser of two lengths to each node.
+/// Returns the lesser of two lengths for each node.
 pub fn nearer(
     alloc: Global,
     near: &[Option<u64>],
@@ -119,7 +119,7 @@ pub fn nearer(
     Ok(Lengths { items })
 }
 
-/// The greatest of some lengths, 0 where there is none.
+/// Returns the greatest of some lengths, or 0 if there are none.
 pub fn greatest_in(lengths: &[Option<u64>]) -> u64
     ensures { result ≡ greatest_of lengths.now }
 {

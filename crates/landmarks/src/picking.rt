@@ -17,7 +17,7 @@ use road_search::Survey;
 use std::alloc::Global;
 use thiserror::Error;
 
-/// Why no landmarks are picked.
+/// Why no landmarks were picked.
 #[derive(Clone, Copy, Debug, PartialEq, Eq, Error)]
 pub enum PickError {
     /// The count is 0, above 64, or above the number of nodes.
@@ -36,7 +36,7 @@ impl From<NoMemory> for PickError {
     }
 }
 
-/// Whether the second length is longer than the first, where none is longest of all.
+/// Tests whether the second length is longer than the first. `None` counts as longest.
 fn is_farther(a: Option<u64>, b: Option<u64>) -> bool
     ensures { result ≡ is_farther a b }
 {
@@ -47,7 +47,8 @@ fn is_farther(a: Option<u64>, b: Option<u64>) -> bool
     }
 }
 
-/// The farthest node so far, with its length, when one more comes in, unless that is chosen.
+/// Returns the farthest node so far, with its length, after considering one more node. Skips the node if it is
+/// chosen.
 fn consider(
     best: Option<(u32, Option<u64>)>,
     chosen: &[u32],
@@ -69,7 +70,7 @@ fn consider(
     Some((id, near))
 }
 
-/// The first of the ids than which none is farther, among those that are not chosen.
+/// Returns the first of the ids that is farthest among those not chosen, if any is left.
 fn next(ids: &[u32], near: &[Option<u64>], chosen: &[u32]) -> Option<u32>
     requires { length near.now ≡ length ids.now }
     ensures farthest { (f : ℕ → Option ℕ) → near.now ≡ map f ids.now →
@@ -83,7 +84,7 @@ fn next(ids: &[u32], near: &[Option<u64>], chosen: &[u32]) -> Option<u32>
     best.map(|b| b.0)
 }
 
-/// Landmarks as they are picked, and lengths to all nodes by ascending id.
+/// The landmarks picked so far, with lengths to all nodes by ascending id.
 #[derive(Drop)]
 pub struct Picked {
     /// The landmarks, in the order in which they were picked.
@@ -127,8 +128,8 @@ fn pick_next(
     Ok(())
 }
 
-/// That many landmarks, or all nodes, where there are no more. One search for each, over the whole
-/// map; all use the same room.
+/// Picks `count` landmarks, or all nodes if the map has fewer. Runs one search over the whole map for each
+/// landmark. All searches use the same memory.
 pub fn picks(alloc: Global, map: &Map, ids: &[u32], count: u32) -> Result<Picked, NoMemory>
     requires ids { ids.now ≡ by_id map.now.parts.nodes }
     ensures chosen { IfOk result (λ picked. picked.chosen.items ≡ landmarks map.now.parts count) }
@@ -148,10 +149,11 @@ pub fn picks(alloc: Global, map: &Map, ids: &[u32], count: u32) -> Result<Picked
     Ok(picked)
 }
 
-/// That many landmarks: the node of least id, and then each time the node that is farthest from all
-/// landmarks so far, where a node that no walk leads to is farthest of all and ties go to the least id.
+/// Picks `count` landmarks: first the node with the least id, then each time the node farthest from all landmarks
+/// so far. A node that no walk reaches counts as farthest of all. A tie goes to the least id.
 ///
-/// `Count` exactly where the count is 0, above 64, or above the number of nodes, whatever memory there is.
+/// Fails with `Count` exactly if the count is 0, above 64, or above the number of nodes. This does not depend on
+/// the available memory.
 pub fn pick(alloc: Global, map: &Map, count: u32) -> Result<Vec<u32>, PickError>
     ensures picked { IfOk result (λ chosen. chosen.items ≡ landmarks map.now.parts count) }
     ensures count { IfOk result (λ chosen. length chosen.items ≡ count) }

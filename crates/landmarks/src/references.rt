@@ -1,4 +1,4 @@
-//! References: nodes whose codes stand for those of others.
+//! References: nodes whose codes replace those of others.
 
 ghost use Rattle.std.specs.Prelude.{◌≡◌, [], IfOk, OnOk, reverse};
 ghost use Rattle.book_model.specs.Landmarks.{gap_at, gap_of, extra_of, kept_after, extras_of};
@@ -10,10 +10,10 @@ use octet_text::{NoMemory, copied, push, room_for};
 use road_leaf::{Codes, Extra};
 use std::alloc::Global;
 
-/// How many of the last nodes that kept their own codes may stand for a node.
+/// The number of candidates for a reference: the last 64 nodes that stored their own codes.
 const CANDIDATES: usize = 64;
 
-/// The difference of two codes, none where just one of them says that there is no walk.
+/// Returns the difference of two codes, or `None` if exactly one of them is the code for no walk.
 fn gap_at(a: u16, b: u16) -> Option<u16>
     ensures { result ≡ gap_at a b }
 {
@@ -24,8 +24,8 @@ fn gap_at(a: u16, b: u16) -> Option<u16>
     }
 }
 
-/// The greatest difference of two lists of codes, if they lack a walk at the same landmarks and none
-/// is above the threshold. Stops at the first landmark that decides.
+/// Returns the greatest difference of two lists of codes. Returns `None` if at some landmark only one list lacks a
+/// walk, or if a difference is above the threshold. Stops at the first such landmark.
 fn near_gap(xs: &[u16], ys: &[u16], threshold: u16) -> Option<u16>
     ensures { result ≡ near_gap threshold (gap_of xs.now ys.now) }
 {
@@ -40,7 +40,8 @@ fn near_gap(xs: &[u16], ys: &[u16], threshold: u16) -> Option<u16>
     Some(widest)
 }
 
-/// The first of these nodes from the end whose codes are near to these ones, and how near.
+/// Returns the last of the recent nodes whose codes are near to the given ones, with the greatest difference, if
+/// there is such a node.
 fn find_near(table: &CodeTable, recent: &[u32], codes: &[u16], threshold: u16) -> Option<(u32, u16)>
     ensures { result ≡ near_in (codes_in table.now) threshold codes.now (reverse recent.now) }
 {
@@ -53,8 +54,8 @@ fn find_near(table: &CodeTable, recent: &[u32], codes: &[u16], threshold: u16) -
     None
 }
 
-/// What a node's leaf says of its codes: the latest of the last 64 nodes that kept their own and are
-/// near enough, or else its own codes.
+/// Returns how a node's leaf stores its codes. It refers to the latest of the last 64 nodes that stored their own
+/// codes and are near enough. If there is none, it stores its own codes.
 fn extra_for(
     alloc: Global,
     table: &CodeTable,
@@ -73,7 +74,7 @@ fn extra_for(
     }
 }
 
-/// Notes a node that keeps its own codes.
+/// Adds a node to the candidates if it stores its own codes.
 fn keep(kept: &mut Vec<u32>, extra: &Extra, id: u32) -> Result<(), NoMemory>
     ensures { OnOk result (reverse kept.new.items ≡ kept_after extra.now id
         (reverse kept.old.items)) }
@@ -84,12 +85,12 @@ fn keep(kept: &mut Vec<u32>, extra: &Extra, id: u32) -> Result<(), NoMemory>
     Ok(())
 }
 
-/// What the leaves of nodes say of their codes, in the order of the leaves.
+/// Returns how the leaves of nodes store their codes, in the order of the leaves.
 ///
-/// The candidates of a node are the last 64 nodes before it that kept their own codes. It refers to
-/// the latest whose codes lack a walk at just the same landmarks and differ by at most the threshold
-/// at every other one, with the greatest difference as its error; else it keeps its own. Takes at
-/// most 64 comparisons of codes a node, each of which ends at the first landmark that decides.
+/// The candidates for a node are the last 64 nodes before it that stored their own codes. The node refers to the
+/// latest candidate whose codes lack a walk at exactly the same landmarks and differ by at most the threshold at
+/// every other landmark. The greatest difference is its error. Without such a candidate, the node stores its own
+/// codes. Takes at most 64 comparisons per node. Each comparison ends at the first landmark that decides it.
 pub fn compress(
     alloc: Global,
     table: &CodeTable,

@@ -13,7 +13,7 @@ use road_map::RisingIds;
 use std::alloc::Global;
 use std::marker::Model;
 
-/// The code that says that no walk joins a node and a landmark.
+/// The code which states that no walk joins a node and a landmark.
 pub(crate) const NO_CODE: u16 = 65535;
 
 /// The step of codes, and the codes of each node of a map, by ascending id.
@@ -37,7 +37,7 @@ impl Model for CodeTable {
 }
 
 impl CodeTable {
-    /// A table of these codes, of ids that ascend.
+    /// Makes a table of these codes, for ascending ids.
     pub(crate) fn new(
         alloc: Global,
         step: u64,
@@ -56,14 +56,14 @@ impl CodeTable {
         })
     }
 
-    /// The step: how many units of length a code has, at least 1.
+    /// Returns the step: the number of units of length in one code, at least 1.
     pub fn step(&self) -> u64
         ensures { result ≡ self.now.step }
     {
         self.step
     }
 
-    /// The codes of a node, one for each landmark, and none exactly where no node has the id.
+    /// Returns the codes of a node, one for each landmark, or `None` exactly if no node has the id.
     pub fn of(&self, id: u32) -> Option<&[u16]>
         ensures { option_copied result ≡ lookup (nat_eq id) self.now.entries }
     {
@@ -73,7 +73,7 @@ impl CodeTable {
         }
     }
 
-    /// The codes of a node.
+    /// Returns the codes of a node.
     pub(crate) fn codes_of(&self, id: u32) -> &[u16]
         ensures { result.now ≡ codes_in self.now id }
     {
@@ -84,7 +84,7 @@ impl CodeTable {
     }
 }
 
-/// The codes at an index.
+/// Returns the codes at an index.
 fn codes_at(codes: &[Codes], place: usize) -> Option<&[u16]>
     ensures { option_copied result ≡ slice_get codes.now place }
 {

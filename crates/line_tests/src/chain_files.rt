@@ -1,4 +1,4 @@
-//! How chain files are read.
+//! Reading chain files.
 
 use crate::same::assert_row;
 use command_files::{Fault, load_chain};
@@ -6,7 +6,7 @@ use mem_io::MemLibrary;
 use std::alloc::Global;
 use std::test::Fail;
 
-// A library with the file of a chain of one link, and with one that is cut short.
+// Makes a library with two chain files: one of one link, and one that is cut short.
 fn library_of(alloc: Global) -> Result<MemLibrary, Fail> {
     let mut octets = Vec::from_slice(alloc, b"RPL1")?;
     octets.extend_from_slice(&[0; 56])?;
@@ -18,7 +18,7 @@ fn library_of(alloc: Global) -> Result<MemLibrary, Fail> {
     Ok(library)
 }
 
-// How many links the chain of a name has.
+// Returns the number of links in the chain file with a name.
 fn links_of(alloc: Global, library: &mut MemLibrary, name: Option<&str>) -> Result<usize, Fault> {
     let links = load_chain(alloc, library, name)?;
     Ok(links.as_slice().len())

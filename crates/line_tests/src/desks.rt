@@ -1,18 +1,19 @@
-//! Desks that are looked at before they sign.
+//! Desks that are inspected before they sign.
 
 use crate::same::{assert_printed, assert_row, assert_same};
-use desk_guard::{SignedSink, Signing, has_few_octets};
+use desk_guard::{Signing, has_few_octets};
 use desk_sight::{Sight, Signed, Strange, sight_of};
 use mem_io::MemSink;
 use road_io::{Failed, Sink};
+use signed_out::SignedSink;
 use std::alloc::{AllocError, Global};
 use std::process::Abort;
 use std::test::Fail;
 
-/// How many octets the area of an `h5` key has.
+/// The number of octets in the area of an `h5` key.
 const AREA: usize = 4160;
 
-/// A header of 104 octets under DIJ, of a version and so many nodes, with a root that is not zeros.
+/// Returns a header of 104 octets under DIJ, of a version and this many nodes, with a root other than zeros.
 fn header(alloc: Global, version: u8, nodes: u8) -> Result<Vec<u8>, AllocError> {
     let mut text = Vec::new(alloc);
     text.extend_from_slice(b"RPF1\x01\x00\x02\x00")?;
@@ -22,7 +23,7 @@ fn header(alloc: Global, version: u8, nodes: u8) -> Result<Vec<u8>, AllocError> 
     Ok(text)
 }
 
-/// Puts octets at a place of an image.
+/// Writes octets at an offset of an image.
 fn put(image: &mut Vec<u8>, place: usize, octets: &[u8]) {
     let mut at = place;
     for octet in octets {
@@ -33,7 +34,7 @@ fn put(image: &mut Vec<u8>, place: usize, octets: &[u8]) {
     }
 }
 
-/// A desk of an `h5` key whose first five one-time keys have signed versions 1 to 5 of a map of nine nodes.
+/// Returns a desk of an `h5` key. Its first five one-time keys have signed versions 1 to 5 of a map of nine nodes.
 fn five_spent(alloc: Global) -> Result<Vec<u8>, AllocError> {
     let mut image = vec![in alloc; 0u8; AREA]?;
     put(&mut image, 0, &[1, 0, 0, 0, 5]);
@@ -45,7 +46,7 @@ fn five_spent(alloc: Global) -> Result<Vec<u8>, AllocError> {
     Ok(image)
 }
 
-/// What the desk with five slots spent shows.
+/// The sight of the desk with five spent slots.
 const FIVE: Sight = Sight {
     key: 1,
     size: 31,
@@ -70,8 +71,8 @@ fn a_desk_is_seen(rt: HostRuntime) -> Result<(), Fail> {
     Ok(())
 }
 
-/// Whether nothing that the desk has signed is signed over, by what is seen: the desk is refused or has no key, its
-/// first free one-time key is after the five, or the fifth is spent first.
+/// Tests, from the sight, whether no one-time key that has signed can sign again: the desk is refused or has no
+/// key; or its first free one-time key comes after the five; or the fifth is spent first.
 fn is_kept(seen: Result<Option<Sight>, Strange>) -> bool {
     match seen {
         Err(_) | Ok(None) => true,
@@ -79,7 +80,7 @@ fn is_kept(seen: Result<Option<Sight>, Strange>) -> bool {
     }
 }
 
-/// Turns each bit of the octet at a place in turn.
+/// Flips each bit of the octet at an offset, one at a time.
 fn assert_kept(rt: &impl Abort, image: &mut Vec<u8>, place: usize) {
     let before = image.get(place).copied().unwrap_or(0);
     for bit in 0..8u32 {
@@ -89,7 +90,7 @@ fn assert_kept(rt: &impl Abort, image: &mut Vec<u8>, place: usize) {
     put(image, place, &[before]);
 }
 
-/// Turns each bit between two places.
+/// Flips each bit from one offset up to another, one at a time.
 fn assert_kept_between(
     rt: &impl Abort,
     alloc: Global,
@@ -123,7 +124,7 @@ fn no_turned_bit_of_the_last_keys_frees_another(rt: HostRuntime) -> Result<(), A
     assert_kept_between(&rt, rt.alloc(), 3008, AREA)
 }
 
-/// Compares what is seen where octets stand at a place of the desk.
+/// Compares the sight of the desk with these octets put at an offset.
 fn assert_seen(
     rt: &impl Abort,
     alloc: Global,
@@ -174,13 +175,13 @@ fn a_text_in_the_first_free_key_is_told(rt: HostRuntime) -> Result<(), Fail> {
         &octets,
         Ok(Some(Sight { waiting, ..FIVE })),
     )?;
-    // A text that a crash has cut short is none, and a crash may leave any octets where a text goes.
+    // A text that a crash cut short does not count as a text; a crash may leave any octets in place of a text.
     octets.truncate(20);
     assert_seen(&rt, rt.alloc(), 704, &octets, Ok(Some(FIVE)))?;
     assert_seen(&rt, rt.alloc(), 705, &[255; 105], Ok(Some(FIVE)))
 }
 
-/// The front of a publication that the sixth one-time key has signed.
+/// Returns the first octets of a publication that the sixth one-time key has signed.
 fn publication(alloc: Global, version: u8) -> Result<Vec<u8>, AllocError> {
     let mut text = Vec::new(alloc);
     text.extend_from_slice(b"RPP1")?;
@@ -189,7 +190,7 @@ fn publication(alloc: Global, version: u8) -> Result<Vec<u8>, AllocError> {
     Ok(text)
 }
 
-/// Compares what is said of a publication of a version.
+/// Compares the message about a publication of a version.
 fn assert_signing(
     rt: &impl Abort,
     alloc: Global,

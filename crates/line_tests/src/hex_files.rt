@@ -1,4 +1,4 @@
-//! How files of hex digits are read, and how faults read.
+//! Reading files of hex digits, and printing faults.
 
 use crate::same::{assert_printed, assert_row};
 use command_files::{Fault, load_hex};
@@ -6,7 +6,7 @@ use mem_io::MemLibrary;
 use road_map::MapError;
 use std::alloc::{AllocError, Global};
 
-// The two octets that a text encodes, which is put into a library.
+// Stores a text in a library, loads it, and returns the two octets that it encodes.
 fn spelled(
     alloc: Global,
     library: &mut MemLibrary,

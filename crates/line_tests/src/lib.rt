@@ -1,5 +1,5 @@
-//! Tests of lines, texts for a person, files of hexadecimal digits, and replies within a radius: what
-//! no clause says.
+//! Tests of lines, of messages for a reader, of files of hex digits, and of replies for a radius: facts that no
+//! clause states.
 #![tactic(auto)]
 
 #[cfg(test)]

@@ -1,5 +1,5 @@
-//! What no clause says: signed replies of another program are accepted, and changed ones are refused.
-//! The reference is that program (`checks/sources.py`).
+//! Facts that no clause states: signed replies of another program, the reference (`checks/sources.py`), are
+//! accepted, and altered ones are refused.
 ghost use Rattle.std.specs.Prelude.{◌≤◌, length};
 
 use crate::same::assert_same;
@@ -21,14 +21,14 @@ const NEAREST: [Mark; 3] = [
     Mark { id: 4, distance: 3 },
 ];
 
-// The prefix of a reply, and what follows it.
+// Returns the prefix of a reply, followed by the rest.
 fn behind_front(alloc: Global, rest: &[u8]) -> Result<Vec<u8>, AllocError> {
     let mut octets = Vec::from_slice(alloc, &FRONT)?;
     octets.extend_from_slice(rest)?;
     Ok(octets)
 }
 
-// Why octets are refused, where they are.
+// Returns why octets are refused, if they are.
 fn refusal(alloc: Global, octets: &[u8], query: NearQuery, least: u64) -> Option<NearError> {
     if octets.len() > 10_000 {
         return None;
@@ -36,7 +36,7 @@ fn refusal(alloc: Global, octets: &[u8], query: NearQuery, least: u64) -> Option
     check_near::<Sha>(alloc, &PUBLIC, &[], octets, query, least).err()
 }
 
-// What a client takes of octets that are lent, or handed over.
+// Returns the result that a client takes from octets, which are borrowed or passed by value.
 fn taken(
     alloc: Global,
     octets: Vec<u8>,
@@ -52,7 +52,7 @@ fn taken(
     }
 }
 
-// Whether a reply is accepted with these nodes.
+// Tests whether a reply is accepted with these nodes.
 fn is_accepted(
     alloc: Global,
     rest: &[u8],
@@ -70,7 +70,7 @@ fn is_accepted(
     }
 }
 
-// Node 5 has an item with its right cover in one of them, and is not listed.
+// In one of the replies, node 5 has an item with its right cover, but is not listed.
 #[test]
 fn the_nodes_within_a_radius(rt: HostRuntime) -> Result<(), AllocError> {
     let alloc = rt.alloc();

@@ -1,7 +1,6 @@
-//! Octets of signed replies, worked out by another program: five nodes and the roads 1-2 of length 4,
-//! 2-3 of 5, 1-4 of 3 and 4-3 of 7, under DIJ with order 0, fan-out 2 and version 3, signed with the
-//! first one-time key of the key of height 5 whose secret is 48 zeros. After the front stand the items
-//! and the cover of one reply or another.
+//! Octets of signed replies, computed by another program: five nodes and the roads 1-2 of length 4, 2-3 of 5, 1-4
+//! of 3 and 4-3 of 7, under DIJ with order 0, fan-out 2 and version 3, signed with the first one-time key of the
+//! key of height 5 whose secret is 48 zeros. The items and the cover of each reply follow the common prefix.
 
 /// The public key.
 pub const PUBLIC: [u8; 56] = [
@@ -100,7 +99,7 @@ pub const FRONT: [u8; 1402] = [
     0x61, 0x7a, 0x95, 0x51, 0xa7, 0xf2,
 ];
 
-/// The leaves of 1, 2 and 4, which lie within 4 of node 1.
+/// The leaves of 1, 2 and 4, which are the nodes within 4 of node 1.
 pub const WITHIN_4: [u8; 183] = [
     0, 0, 0, 0x03, 0, 0, 0, 0, 0, 0x1f, 0x4e, 0, 0, 0, 0x01, 0, 0, 0, 0, 0, 0, 0, 0, 0, 0x02, 0, 0,
     0, 0x02, 0, 0, 0, 0x04, 0, 0, 0, 0x04, 0, 0, 0, 0x03, 0, 0, 0, 0x01, 0, 0x1f, 0x4e, 0, 0, 0,
@@ -113,7 +112,7 @@ pub const WITHIN_4: [u8; 183] = [
     0x3b, 0x4b, 0x3b, 0x39, 0x5b, 0xfb, 0xf3, 0xe3, 0x48, 0xa3, 0x20, 0x02,
 ];
 
-/// The leaf of node 1 alone.
+/// Only the leaf of node 1.
 pub const WITHIN_0: [u8; 141] = [
     0, 0, 0, 0x01, 0, 0, 0, 0, 0, 0x1f, 0x4e, 0, 0, 0, 0x01, 0, 0, 0, 0, 0, 0, 0, 0, 0, 0x02, 0, 0,
     0, 0x02, 0, 0, 0, 0x04, 0, 0, 0, 0x04, 0, 0, 0, 0x03, 0, 0, 0, 0x03, 0xe0, 0xc6, 0x42, 0xbd,
@@ -125,7 +124,7 @@ pub const WITHIN_0: [u8; 141] = [
     0x3b, 0x4b, 0x3b, 0x39, 0x5b, 0xfb, 0xf3, 0xe3, 0x48, 0xa3, 0x20, 0x02,
 ];
 
-/// The leaves of all nodes that a walk from node 1 comes to.
+/// The leaves of all nodes that a walk from node 1 reaches.
 pub const WITHIN_ANY: [u8; 188] = [
     0, 0, 0, 0x04, 0, 0, 0, 0, 0, 0x1f, 0x4e, 0, 0, 0, 0x01, 0, 0, 0, 0, 0, 0, 0, 0, 0, 0x02, 0, 0,
     0, 0x02, 0, 0, 0, 0x04, 0, 0, 0, 0x04, 0, 0, 0, 0x03, 0, 0, 0, 0x01, 0, 0x1f, 0x4e, 0, 0, 0,
@@ -150,7 +149,7 @@ pub const WITHOUT_4: [u8; 146] = [
     0x48, 0xa3, 0x20, 0x02,
 ];
 
-/// The leaves of 1, 2 and 4, and that of node 5, which no road joins.
+/// The leaves of 1, 2 and 4, and the leaf of node 5, which no road joins to them.
 pub const WITH_5: [u8; 172] = [
     0, 0, 0, 0x04, 0, 0, 0, 0, 0, 0x1f, 0x4e, 0, 0, 0, 0x01, 0, 0, 0, 0, 0, 0, 0, 0, 0, 0x02, 0, 0,
     0, 0x02, 0, 0, 0, 0x04, 0, 0, 0, 0x04, 0, 0, 0, 0x03, 0, 0, 0, 0x01, 0, 0x1f, 0x4e, 0, 0, 0,
@@ -162,7 +161,7 @@ pub const WITH_5: [u8; 172] = [
     0xea, 0x57, 0xf3, 0xcc, 0x40, 0x22, 0x93, 0xae, 0xc9, 0xb9,
 ];
 
-/// The leaf of node 1 at its own index and at that of node 2.
+/// The leaf of node 1 at its own index and at the index of node 2.
 pub const TWO_WITH_ONE_ID: [u8; 146] = [
     0, 0, 0, 0x02, 0, 0, 0, 0, 0, 0x1f, 0x4e, 0, 0, 0, 0x01, 0, 0, 0, 0, 0, 0, 0, 0, 0, 0x02, 0, 0,
     0, 0x02, 0, 0, 0, 0x04, 0, 0, 0, 0x04, 0, 0, 0, 0x03, 0, 0, 0, 0x01, 0, 0x1f, 0x4e, 0, 0, 0,

@@ -1,22 +1,21 @@
 //! A table of messages.
 
 use crate::same::{assert_printed, assert_row, assert_same};
-use command_files::{Ended, Fault};
+use command_files::Ended;
 use dimacs_reader::DimacsError;
 use lms_tree::SealError;
 use proof_judge::Refusal;
 use road_command::{MOST_WORDS, Words, command_of};
-use road_line::{line_of_refused, line_of_refused_near, read_refused, read_refused_near};
+use road_line::{line_of_refused, read_refused, read_refused_near};
 use road_map::MapError;
 use road_tell::{
-    Look, ShortName, Unusable, WrongHex, asked_of, bad_number, faulty_file, look_of, place_of,
-    plan_rule, setting_name, wrong_words, zero_roads,
+    Content, Facts, Look, ShortName, Unusable, WrongHex, asked_of, bad_number, faulty_file,
+    look_of, message_on, place_of, plan_rule, setting_name, wrong_words, zero_roads,
 };
 use route_client::{CheckError, CoverFault, NearError};
 use std::alloc::{AllocError, Global};
 use std::process::Abort;
 use std::test::Fail;
-use test_maps::refusal;
 
 fn words_of(rt: &impl Abort, alloc: Global, line: &str) -> Result<Words, Fail> {
     let mut words = Words::new(alloc);
@@ -27,7 +26,7 @@ fn words_of(rt: &impl Abort, alloc: Global, line: &str) -> Result<Words, Fail> {
     Ok(words)
 }
 
-// What is told of arguments that are wrong.
+// Returns the message about wrong arguments.
 fn told_of(alloc: Global, words: &Words) -> Result<String, Fail> {
     match wrong_words(words) {
         None => Err(Fail::from("no word is wrong")),
@@ -35,7 +34,7 @@ fn told_of(alloc: Global, words: &Words) -> Result<String, Fail> {
     }
 }
 
-static WRONG: [(&str, &str); 12] = [
+static WRONG: [(&str, &str); 13] = [
     (
         "rout map.roads 1 3",
         "road_proof: rout: There is no such command. `road_proof help` lists them.",
@@ -46,7 +45,7 @@ static WRONG: [(&str, &str); 12] = [
     ),
     (
         "desk owner.desk",
-        "road_proof: desk: It takes 0 arguments, and here are 1.",
+        "road_proof: desk: It takes 0 arguments, and here is 1.",
     ),
     (
         "serve",
@@ -81,6 +80,10 @@ static WRONG: [(&str, &str); 12] = [
         "road_proof: rout: There is no such command. `road_proof help` lists them.",
     ),
     (
+        "root map.roads",
+        "road_proof: root: It takes 2 arguments, and here is 1.",
+    ),
+    (
         "--version 1",
         "road_proof: --version: There is no such command. `road_proof help` lists them.",
     ),
@@ -113,6 +116,24 @@ fn a_commands_line_is_printed(rt: HostRuntime) -> Result<(), Fail> {
 }
 
 #[test]
+fn help_of_publish_has_ranges_and_what_to_take(rt: HostRuntime) -> Result<(), Fail> {
+    let words = words_of(&rt, rt.alloc(), "help publish")?;
+    let mut text = String::new(rt.alloc());
+    if let Some(asked) = asked_of(&words) {
+        write!(text, "{asked}")?;
+    }
+    let end = "\n      In doubt: publish ROADS ldm VERSION hilbert 0 2 16 12 0";
+    assert_row(&rt, text.as_str(), text.ends_with(end), true);
+    assert_row(
+        &rt,
+        text.as_str(),
+        text.contains("1 to 64 landmarks, 1 to 16 bits"),
+        true,
+    );
+    Ok(())
+}
+
+#[test]
 fn the_table_of_commands_is_printed(rt: HostRuntime) -> Result<(), Fail> {
     let text = told_of(rt.alloc(), &Words::new(rt.alloc()))?;
     let start = "road_proof: arguments: There are none.\ncommands:\n  route ROADS S T\n";
@@ -120,11 +141,13 @@ fn the_table_of_commands_is_printed(rt: HostRuntime) -> Result<(), Fail> {
     Ok(())
 }
 
-static ASKED: [(&str, Option<&str>); 10] = [
+static ASKED: [(&str, Option<&str>); 12] = [
     ("help", Some("road_proof 0.1.0, for ")),
     ("--help", Some("road_proof 0.1.0, for ")),
     ("-h", Some("road_proof 0.1.0, for ")),
     ("--version", Some("road_proof 0.1.0, for ")),
+    ("-V", Some("road_proof 0.1.0, for ")),
+    ("-V serve", None),
     ("help serve", Some("  serve PUB [PUBKEY [CHAIN]]\n")),
     ("serve --help", Some("  serve PUB [PUBKEY [CHAIN]]\n")),
     ("serve -h", Some("  serve PUB [PUBKEY [CHAIN]]\n")),
@@ -142,6 +165,46 @@ fn the_program_tells_of_itself(rt: HostRuntime) -> Result<(), Fail> {
             let text = format!(in rt.alloc(); "{asked}")?;
             assert_row(&rt, *line, text.starts_with(front), true);
         }
+    }
+    Ok(())
+}
+
+/// Returns the message about a refused reply with these octets, which can be read up to offset 2.
+fn refused_text(rt: &impl Abort, alloc: Global, reply: &[u8]) -> Result<String, Fail> {
+    let words = words_of(rt, alloc, "check k r 1 5 3")?;
+    let ended = Ended {
+        status: 1,
+        fault: None,
+    };
+    let facts = Facts {
+        name: "r",
+        file: Content::of(&words, ended, "r", reply, reply.len()),
+        file_error: None,
+        source_error: None,
+        sink_error: None,
+        desk_error: None,
+        line: b"refused Malformed 2\n".as_slice(),
+        key: None,
+        left: None,
+    };
+    match message_on(&words, ended, facts) {
+        Some(message) => Ok(format!(in alloc; "{message}")?),
+        None => Ok(String::new(alloc)),
+    }
+}
+
+#[test]
+fn a_line_end_too_many_is_told(rt: HostRuntime) -> Result<(), Fail> {
+    let longer = "from offset 2 on. It is longer than what can be read by one octet, a line end.";
+    for (reply, is_longer) in [
+        (b"\x02\x00\n".as_slice(), true),
+        (b"\x02\x00x".as_slice(), false),
+        (b"\x02\x00\n\n".as_slice(), false),
+        (b"\x02\n".as_slice(), false),
+    ] {
+        let text = refused_text(&rt, rt.alloc(), reply)?;
+        assert_row(&rt, text.as_str(), text.contains(longer), is_longer);
+        assert_row(&rt, text.as_str(), text.contains("a line end"), is_longer);
     }
     Ok(())
 }
@@ -221,7 +284,7 @@ fn roads_of_length_0_are_counted(rt: HostRuntime) {
     assert_same(&rt, zero_roads(text), 2);
 }
 
-/// A road file with skipped lines, and a fault of each kind when its last lines are added.
+/// A road file with skipped lines. Its last lines, added one at a time, give one fault of each kind.
 const ROADS: &str = "# a map\nroads 1\n\nnode 1 0 0\n\tnode  2 0 0\r\nroad 1 2 4\nroad 2 1 4\n";
 
 static PLACES: [(&str, MapError, &str); 5] = [
@@ -437,7 +500,7 @@ fn refused_nodes_are_told_to_planners(rt: HostRuntime) -> Result<(), AllocError>
     Ok(())
 }
 
-/// Refusals on a route, with their lines as the specification of lines has them.
+/// Refusals of replies for a route, with their lines according to the specification of lines.
 static LINES: [(&[u8], CheckError); 13] = [
     (b"refused NotAnswer 2\n", CheckError::NotAnswer(2)),
     (
@@ -506,7 +569,7 @@ fn a_refusal_is_read_back_from_its_line(rt: HostRuntime) -> Result<(), Fail> {
     Ok(())
 }
 
-/// Refusals to a range query, with their lines as the specification of lines has them.
+/// Refusals of replies to a range query, with their lines according to the specification of lines.
 static NEAR_LINES: [(&[u8], NearError); 7] = [
     (b"refused Malformed 0\n", NearError::Malformed(0)),
     (b"refused Stale 3\n", NearError::Stale(3)),
@@ -534,24 +597,8 @@ fn a_refusal_on_a_radius_is_read_back(rt: HostRuntime) {
 }
 
 #[test]
-fn a_want_of_memory_has_a_line_and_a_status(rt: HostRuntime) -> Result<(), Fail> {
-    let Some(none) = refusal(rt.alloc()) else {
-        return Err(Fail::from("no memory was refused"));
-    };
-    let wanted = b"refused Memory\n".as_slice();
-    let line = line_of_refused(rt.alloc(), CheckError::Memory(none))?;
-    assert_same(&rt, line.as_slice(), wanted);
-    let near = line_of_refused_near(rt.alloc(), NearError::Memory(none))?;
-    assert_same(&rt, near.as_slice(), wanted);
-    let fault = Fault::Memory(none);
-    assert_printed(&rt, rt.alloc(), fault, "Out of memory.")?;
-    assert_same(&rt, Ended::of(Err(fault)).status, 9);
-    Ok(())
-}
-
-#[test]
 fn a_key_has_a_short_name(rt: HostRuntime) -> Result<(), Fail> {
-    // The key of a secret of zeros; the digits are of Python's hashlib.
+    // The key of a secret of zeros. Python's hashlib computed the digits.
     let digits =
         b"000000050000000400000000000000000000000000000000829887511085dc8b9946d97b20163fe2ab4385e734979f535139cabe33cd694f\n";
     match ShortName::of_digits(digits) {

@@ -20,13 +20,13 @@ pieces-more g before n =
 
 -- ---- the 55 octets that a step hashes
 
--- the text of a step is hashed to it
+-- hashing the text of a step gives the step
 pub sha256-step_of : (i : List ℕ) (q at j : ℕ) (text : List ℕ) → take 22 text ≡ prefix i q at → sha256 (take 22 text ++ j ∷ drop 23 text) ≡ step_of i q at j (drop 23 text)
 unfolding step_of
 sha256-step_of i q at j text p =
     ap (λ (l : List ℕ). sha256 (l ++ j ∷ drop 23 text)) p ∙ ap sha256 (sym (append_assoc (prefix i q at) (j ∷ []) (drop 23 text)))
 
--- the text of a secret value is hashed to it
+-- hashing the text of a secret value gives the secret value
 pub sha256-secret_of : (i : List ℕ) (q : ℕ) (seed : List ℕ) (at : ℕ) (text : List ℕ) → take 22 text ≡ prefix i q at → drop 23 text ≡ seed → sha256 (take 22 text ++ 0xff ∷ drop 23 text) ≡ secret_of i q seed at
 unfolding secret_of
 sha256-secret_of i q seed at text p v =
@@ -54,7 +54,7 @@ chain_of-none i q at from x =
     let z : from - from ≡ 0 = omega arith in
     ap (λ c. chain_of i q at from c x) z
 
--- ---- what is signed is verified
+-- ---- a signature that was made verifies
 
 pub chain_of-chain_of : (i : List ℕ) (q at from m n : ℕ) (x : List ℕ) → chain_of i q at (from + m) n (chain_of i q at from m x) ≡ chain_of i q at from (m + n) x
 unfolding chain_of
@@ -89,14 +89,14 @@ pub length-randomiser_of : (i : List ℕ) (q : ℕ) (seed : List ℕ) → length
 unfolding randomiser_of
 length-randomiser_of i q seed = length-sha256 (prefix i q 0xfffd ++ 0xff ∷ [] ++ seed)
 
--- how many octets pieces of 32 have
+-- the number of octets of several pieces of 32 octets
 pub length-pieces : (g : ℕ → List ℕ) → ((a : ℕ) → length (g a) ≡ 32) → (from n : ℕ) → length (flat_map g (range_with_len from n)) ≡ 32 * n
 length-pieces g l from zero = refl
 length-pieces g l from (suc n) =
     let rest = flat_map g (range_with_len (from + 1) n) in
     omega (arith, length-append (g from) rest, l from, length-pieces g l (from + 1) n)
 
--- the piece at an index, where all have 32 octets
+-- the piece at an index, if all pieces have 32 octets
 pub piece-at : (g : ℕ → List ℕ) → ((a : ℕ) → length (g a) ≡ 32) → (from n at : ℕ) → at < n → take 32 (drop (32 * at) (flat_map g (range_with_len from n))) ≡ g (from + at)
 piece-at g l from zero at h = absurd (omega (arith, h))
 piece-at g l from (suc n) zero h =
@@ -121,7 +121,7 @@ length-signature_of i q seed text =
     let size : length (c ++ all) ≡ 1120 = omega (arith, length-append c all, length-randomiser_of i q seed, length-pieces g (length-shown_value i q seed (digits_of i q c text)) 0 34) in
     ap (λ n. suc (suc (suc (suc n)))) size
 
--- where a signature has the randomiser and the values
+-- the positions of the randomiser and of the values in a signature
 signature-randomiser : (i : List ℕ) (q : ℕ) (seed text : List ℕ) → take 32 (drop 4 (signature_of i q seed text)) ≡ randomiser_of i q seed
 unfolding signature_of
 signature-randomiser i q seed text =
@@ -195,7 +195,7 @@ ended-signature i q seed text at h =
     ∙ chain_of-chain_of i q at 0 d (255 - d) (secret_of i q seed at)
     ∙ ap (λ n. chain_of i q at 0 n (secret_of i q seed at)) all
 
--- what is signed shows the public key
+-- a signature that was made leads to the public key
 pub candidate_of-signature_of : (i : List ℕ) (q : ℕ) (seed text : List ℕ) → candidate_of i q (signature_of i q seed text) text ≡ public_of i q seed
 unfolding candidate_of public_of
 candidate_of-signature_of i q seed text =

@@ -1,12 +1,12 @@
--- One-time signatures: LM-OTS of RFC 8554, § 4 and Appendix A, with the parameters
--- LMOTS_SHA256_N32_W8 (§ 4.1): H is SHA-256, n = 32, w = 8, p = 34, ls = 0, type 4.
--- I, q, SEED, x, y, z, C, Q, K and Kc are the standard's.
+-- One-time signatures: LM-OTS of RFC 8554, § 4 and Appendix A, with the parameters LMOTS_SHA256_N32_W8 (§ 4.1): H
+-- is SHA-256, n = 32, w = 8, p = 34, ls = 0, type 4. The names I, q, SEED, x, y, z, C, Q, K and Kc are those of the
+-- standard.
 use Rattle.std.specs.Prelude.{ℕ, zero, suc, ◌+◌, ◌-◌, ◌*◌, List, [], ◌∷◌, ◌++◌, take, drop, slice_index}
 use Rattle.std.specs.List.{range_with_len, flat_map, sum_by}
 use Rattle.std.specs.Int.{w16, w32, to_be_bytes}
 use Rattle.sha2.specs.Sha256.{sha256}
 
--- what each hashed text begins with: I || u32str(q) || u16str(at)
+-- the prefix of each hashed text: I || u32str(q) || u16str(at)
 abbrev pub prefix : List ℕ → ℕ → ℕ → List ℕ
 prefix i q at = i ++ to_be_bytes w32 q ++ to_be_bytes w16 at
 
@@ -18,7 +18,7 @@ secret_of i q seed at = sha256 (prefix i q at ++ 0xff ∷ [] ++ seed)
 unfoldable pub step_of : List ℕ → ℕ → ℕ → ℕ → List ℕ → List ℕ
 step_of i q at j x = sha256 (prefix i q at ++ j ∷ [] ++ x)
 
--- that many steps of chain at, the first with the number from
+-- the given number of steps of chain at; from is the number of the first one
 unfoldable pub chain_of : List ℕ → ℕ → ℕ → ℕ → ℕ → List ℕ → List ℕ
 chain_of i q at from zero x = x
 chain_of i q at from (suc count) x = step_of i q at (from + count) (chain_of i q at from count x)
@@ -36,7 +36,7 @@ public_value i q seed at = chain_of i q at 0 255 (secret_of i q seed at)
 unfoldable pub public_of : List ℕ → ℕ → List ℕ → List ℕ
 public_of i q seed = key_of i q (public_value i q seed)
 
--- the randomiser C, made as a secret value of the number 0xfffd
+-- the randomiser C, derived like a secret value with the number 0xfffd
 unfoldable pub randomiser_of : List ℕ → ℕ → List ℕ → List ℕ
 randomiser_of i q seed = sha256 (prefix i q 0xfffd ++ 0xff ∷ [] ++ seed)
 
@@ -52,7 +52,7 @@ checksum octets = sum_by (λ o. 255 - o) octets
 unfoldable pub digits_of : List ℕ → ℕ → List ℕ → List ℕ → List ℕ
 digits_of i q c text = text_hash i q c text ++ to_be_bytes w16 (checksum (text_hash i q c text))
 
--- the value y[at] of a signature: as many steps of the chain as the digit says (§ 4.5)
+-- the value y[at] of a signature: the value of the chain after as many steps as the digit (§ 4.5)
 unfoldable pub shown_value : List ℕ → ℕ → List ℕ → List ℕ → ℕ → List ℕ
 shown_value i q seed digits at = chain_of i q at 0 (slice_index digits at) (secret_of i q seed at)
 
@@ -63,13 +63,13 @@ signature_of i q seed text =
     to_be_bytes w32 4 ++ c ++ flat_map (shown_value i q seed (digits_of i q c text))
     (range_with_len 0 34)
 
--- the value z[at]: the end of the chain, from the value that a signature shows (§ 4.6)
+-- the value z[at]: the end of the chain, computed from the value in a signature (§ 4.6)
 unfoldable pub ended_value : List ℕ → ℕ → List ℕ → List ℕ → ℕ → List ℕ
 ended_value i q digits ots at =
     chain_of i q at (slice_index digits at) (255 - slice_index digits at)
     (take 32 (drop (36 + 32 * at) ots))
 
--- the candidate Kc: the public key's hash that a signature shows for a text (§ 4.6, algorithm 4b)
+-- the candidate Kc: the public key's hash computed from a signature of a text (§ 4.6, algorithm 4b)
 unfoldable pub candidate_of : List ℕ → ℕ → List ℕ → List ℕ → List ℕ
 candidate_of i q ots text = key_of i q
     (ended_value i q (digits_of i q (take 32 (drop 4 ots)) text) ots)

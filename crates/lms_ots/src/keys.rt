@@ -7,13 +7,14 @@ ghost use Rattle.lms_ots.specs.Chains.{prefix, secret_of, chain_of, public_of};
 use octet_text::{Digest32, Hasher, Sha, array_at, write_array};
 use sha2::{Digest, Sha256};
 
-// The number in a hashed text that marks the hash of a public key (D_PBLC, § 4.3).
+// The number that marks the hash of a public key (D_PBLC, § 4.3).
 pub(crate) const D_PBLC: u16 = 0x8080;
 
-// The number that a secret value is hashed with, which no step of a chain has (Appendix A).
+// The number with which a secret value is hashed. No step of a chain has this number (Appendix A).
 pub(crate) const SECRET: u8 = 0xff;
 
-/// A hasher that was given what each hashed text begins with: the identifier of a tree, and a number and a place in it.
+/// Returns a hasher that has taken the prefix of each hashed text: the identifier of a tree, a number in the tree,
+/// and an index.
 pub fn prefixed(i: &[u8; 16], q: u32, at: u16) -> Sha
     ensures { HoldsText result (prefix i.now q at) }
 {
@@ -24,7 +25,7 @@ pub fn prefixed(i: &[u8; 16], q: u32, at: u16) -> Sha
     hasher
 }
 
-// The 55 octets that a step of a chain hashes, before the number of the step is put in.
+// Returns the 55 octets that a step of a chain hashes. The field for the step's number is not set.
 fn step_text(i: &[u8; 16], q: u32, at: u16, value: &[u8; 32]) -> [u8; 55]
     ensures prefix { take 22 result ≡ prefix i.now q at }
     ensures value { drop 23 result ≡ value.now }
@@ -37,7 +38,7 @@ fn step_text(i: &[u8; 16], q: u32, at: u16, value: &[u8; 32]) -> [u8; 55]
     text
 }
 
-// Takes a step: hashes the text with its number, and puts the digest in the value's place.
+// Performs a step: puts the step's number into the text, hashes the text, and replaces the value by the digest.
 fn step(text: &mut [u8; 55], number: u8)
     ensures prefix { take 22 text.new ≡ take 22 text.old }
     ensures value { drop 23 text.new ≡ sha256 (take 22 text.old ++ number ∷ drop 23 text.old) }
@@ -47,7 +48,7 @@ fn step(text: &mut [u8; 55], number: u8)
     write_array(text, 23, &digest);
 }
 
-/// The secret value `x_q[at]` of a one-time key (Appendix A).
+/// Returns the secret value `x_q[at]` of a one-time key (Appendix A).
 pub fn secret(i: &[u8; 16], q: u32, at: u16, seed: &[u8; 32]) -> Digest32
     requires { at < 34 }
     ensures { result ≡ secret_of i.now q seed.now at }
@@ -57,7 +58,7 @@ pub fn secret(i: &[u8; 16], q: u32, at: u16, seed: &[u8; 32]) -> Digest32
     array_at(&text, 23)
 }
 
-/// The value that the steps `from` to `to - 1` of chain `at` make of `x` (§ 4.3).
+/// Returns the value that the steps `from` to `to - 1` of chain `at` compute from `x` (§ 4.3).
 pub fn chain(i: &[u8; 16], q: u32, at: u16, from: u8, to: u8, x: &Digest32) -> Digest32
     requires place { at < 34 }
     requires order { from ≤ to }
@@ -70,7 +71,7 @@ pub fn chain(i: &[u8; 16], q: u32, at: u16, from: u8, to: u8, x: &Digest32) -> D
     array_at(&text, 23)
 }
 
-/// The hash `K` of a one-time public key (§ 4.3).
+/// Returns the hash `K` of a one-time public key (§ 4.3).
 pub fn public_hash(i: &[u8; 16], q: u32, seed: &[u8; 32]) -> Digest32
     ensures { result ≡ public_of i.now q seed.now }
 {

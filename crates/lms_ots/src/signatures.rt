@@ -1,20 +1,20 @@
-//! One-time signatures, and the candidate key that one shows.
+//! One-time signatures, and the candidate key computed from a signature.
 ghost use Rattle.std.specs.Prelude.{◌≡◌, ℕ, ◌+◌, ◌-◌, ◌*◌, List, length};
 ghost use Rattle.lms_ots.specs.Chains.{public_of, randomiser_of, digits_of, signature_of, candidate_of, checksum};
 
 use crate::keys::{D_PBLC, SECRET, chain, prefixed, secret};
 use octet_text::{Digest32, Hasher, array_at, write_array};
 
-// The number in a hashed text that marks the hash of a signed text (D_MESG, § 4.5).
+// The number that marks the hash of a signed text (D_MESG, § 4.5).
 const D_MESG: u16 = 0x8181;
 
-// The number in a hashed text that marks the randomiser of a one-time key.
+// The number that marks the hash from which the randomiser of a one-time key is derived.
 const RANDOMISER: u16 = 0xfffd;
 
 // The type LMOTS_SHA256_N32_W8 (§ 4.1).
 const LMOTS_SHA256_N32_W8: u32 = 4;
 
-/// The randomiser `C` that a one-time key signs with, made from the seed.
+/// Returns the randomiser `C` with which a one-time key signs, derived from the seed.
 #[tactic(auto, unfolding(crate::specs::Chains::randomiser_of))]
 pub fn randomiser(i: &[u8; 16], q: u32, seed: &[u8; 32]) -> Digest32
     ensures { result ≡ randomiser_of i.now q seed.now }
@@ -25,7 +25,7 @@ pub fn randomiser(i: &[u8; 16], q: u32, seed: &[u8; 32]) -> Digest32
     hasher.end()
 }
 
-// The checksum of a digest (§ 4.4).
+// Returns the checksum of a digest (§ 4.4).
 fn checksum_of(digest: &Digest32) -> u16
     ensures { result ≡ checksum digest.now }
 {
@@ -36,8 +36,8 @@ fn checksum_of(digest: &Digest32) -> u16
     sum
 }
 
-/// The 34 digits of a text: the octets of its hash `Q` under the randomiser `c`, and of their
-/// checksum (§ 4.4 and § 4.5).
+/// Returns the 34 digits of a text: the octets of its hash `Q` under the randomiser `c`, and of their checksum (§
+/// 4.4 and § 4.5).
 pub fn digits(i: &[u8; 16], q: u32, c: &Digest32, text: &[u8]) -> [u8; 34]
     ensures { result ≡ digits_of i.now q c.now text.now }
 {
@@ -51,8 +51,7 @@ pub fn digits(i: &[u8; 16], q: u32, c: &Digest32, text: &[u8]) -> [u8; 34]
     digits
 }
 
-/// Writes the one-time signature of a text, 1,124 octets (§ 4.5). The randomiser is made
-/// from the seed too.
+/// Writes the one-time signature of a text, 1,124 octets (§ 4.5). The randomiser is also derived from the seed.
 pub fn sign_ots(i: &[u8; 16], q: u32, seed: &[u8; 32], text: &[u8], out: &mut [u8])
     requires { length out.old ≡ 1124 }
     ensures signature { out.new ≡ signature_of i.now q seed.now text.now }
@@ -68,8 +67,8 @@ pub fn sign_ots(i: &[u8; 16], q: u32, seed: &[u8; 32], text: &[u8], out: &mut [u
     }
 }
 
-/// The hash `Kc` of the public key that a one-time signature shows for a text (§ 4.6,
-/// algorithm 4b). It is the key's own hash where the signature is one of the key on the text.
+/// Returns the hash `Kc` of the candidate public key, computed from a one-time signature of a text (§ 4.6,
+/// algorithm 4b). It equals the key's own hash if the key made this signature of this text.
 pub fn candidate(i: &[u8; 16], q: u32, ots: &[u8], text: &[u8]) -> Digest32
     requires { length ots.now ≡ 1124 }
     ensures { result ≡ candidate_of i.now q ots.now text.now }

@@ -1,4 +1,5 @@
--- Digits and their checksum: where no digit of one text is lesser than that of another, the two hashes are one.
+-- Digits and their checksum: if no digit of one text is less than the digit of another text, the two hashes are
+-- equal.
 use Rattle.std.proofs.Common.{◌≡◌, ℕ, suc, ◌+◌, ◌-◌, ◌*◌, ◌^◌, ◌<◌, ◌≤◌, List, [], ◌∷◌, ◌++◌, length, get_or, refl, sym, ap, ◌∙◌, arith}
 use Rattle.std.specs.Int.{w16, to_be_bytes}
 use Rattle.std.proofs.lemmas.List.{get_or_append_left, get_or-append-add}
@@ -14,7 +15,7 @@ use Rattle.lms_reduce.specs.Comparing.{HasNoLesser}
 checksum-cons : (x : ℕ) (xs : List ℕ) → checksum (x ∷ xs) ≡ 255 - x + checksum xs
 checksum-cons x xs = sum_by-cons (λ o. 255 - o) x xs
 
--- a checksum of octets that are nowhere lesser is nowhere greater
+-- if no octet is less than that of another list, the checksum is not greater
 checksum-le : (xs ys : List ℕ) → length xs ≡ length ys → ((b : ℕ) → b < length xs → get_or ys b 0 ≤ get_or xs b 0) → checksum xs ≤ checksum ys
 checksum-le [] ys l p = omega arith
 checksum-le (x ∷ xs) [] l p = absurd (omega (arith, l))
@@ -23,7 +24,7 @@ checksum-le (x ∷ xs) (y ∷ ys) l p =
     let first : y ≤ x = p 0 (omega arith) in
     omega (arith, rest, first, checksum-cons x xs, checksum-cons y ys)
 
--- octets that are nowhere lesser, and whose checksum is not lesser, are the same
+-- octets that are nowhere less, with a checksum that is not less, are equal
 octets-same : (xs ys : List ℕ) → length xs ≡ length ys → ((b : ℕ) → get_or xs b 0 < 256) → ((b : ℕ) → b < length xs → get_or ys b 0 ≤ get_or xs b 0) → checksum ys ≤ checksum xs → xs ≡ ys
 octets-same [] [] l o p c = refl
 octets-same [] (y ∷ ys) l o p c = absurd (omega (arith, l))
@@ -57,7 +58,7 @@ checksum-small (x ∷ xs) = omega (arith, checksum-small xs, checksum-cons x xs)
 in-two : (n : ℕ) → n < 2 ^ 16 → n ≡ 256 * get_or (to_be_bytes w16 n) 0 0 + get_or (to_be_bytes w16 n) 1 0
 in-two n l = omega (arith, from_be_bytes-to_be_bytes_2 n l)
 
--- where no digit is lesser, the hashes are one
+-- if no digit is less, the hashes are equal
 pub text_hash-same : (i j : List ℕ) (q r : ℕ) (c d text other : List ℕ) → HasNoLesser (digits_of i q c text) (digits_of j r d other) → text_hash i q c text ≡ text_hash j r d other
 unfolding digits_of
 text_hash-same i j q r c d text other h =

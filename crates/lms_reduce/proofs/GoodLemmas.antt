@@ -1,4 +1,4 @@
--- What a good signature is: its length, its slot, and that it leads to the key's root.
+-- The conditions for a valid signature: its length, its slot, and that it leads to the key's root.
 use Rattle.std.proofs.Common.{◌≡◌, ℕ, ◌^◌, ◌<◌, Bool, true, false, not, ◌&&◌, ◌==◌, nat_lt, if◌then◌else◌, List, length, take, drop, Result, Ok, Err, refl, sym, ap, ◌∙◌}
 use Rattle.std.specs.Str.{bytes_eq}
 use Rattle.std.proofs.lemmas.Bool.{eqb-true, ltb-true}
@@ -13,7 +13,7 @@ pub record IsGood (key : KeyOf) (text sig : List ℕ) : Type 0 where
   pub slot : number_at sig 0 < 2 ^ height_of key.kind
   pub root : shown_root (height_of key.kind) key.i text sig ≡ node_of key.i key.seed (height_of key.kind) (height_of key.kind) 1
 
--- the verdict by three tests
+-- the verdict, from three tests
 abbrev verdict : Bool → Bool → Bool → Result (Unit {0}) SealError
 verdict k f m = if not k then Err BadKey else (if not f then Err BadForm else (if m then Ok tt else Err NoMatch))
 
@@ -32,7 +32,7 @@ both : (a b : Bool) → (a && b) ≡ true → (a ≡ true) × (b ≡ true)
 both true b e = (refl, e)
 both false b e = cc
 
--- whatever the key, a good signature has a form
+-- a valid signature has the right form, whatever the key
 form-size : (kind : ℕ) (sig : List ℕ) → is_form kind sig ≡ true → (length sig ≡ seal_len (height_of kind)) × (number_at sig 0 < 2 ^ height_of kind)
 form-size kind sig e =
     let size = length sig == seal_len (height_of kind) in

@@ -1,4 +1,4 @@
--- Where two ways meet.
+-- Where two paths meet.
 use Rattle.std.proofs.Common.{◌≡◌, ℕ, ◌+◌, ◌-◌, ◌*◌, ◌/◌, ◌^◌, ◌<◌, ◌≤◌, List, get_or, take, drop, Option, Some, None, Result, Ok, Err, IfOk, IfSome, arith, ap, subst, sym, ◌∙◌, inl, inr}
 use Rattle.std.specs.Prelude.{IsSomeAnd}
 use Rattle.std.proofs.lemmas.Bool.{cases_eq}
@@ -18,12 +18,12 @@ use Rattle.lms_reduce.specs.declared.comparing.Clash.{Clash}
 use Rattle.lms_reduce.proofs.RootLemmas.{take-inside, path-is}
 use Rattle.lms_reduce.proofs.WayLemmas.{raised-climbed, walked-chain_of}
 
--- what is compared at an index collides nowhere else
+-- the texts compared at an index have no earlier collision
 pub none-here : (hash : List ℕ → List ℕ) (a b x y left right : List ℕ) → a ≡ x → b ≡ y → left ≡ hash a → right ≡ hash b → (left ≡ right → a ≡ b) → ¬ AreCollision hash x y
 none-here hash a b x y left right ea eb ha hb none c =
     c.differ (sym ea ∙ none (ha ∙ ap hash ea ∙ c.one_digest ∙ sym (ap hash eb) ∙ sym hb) ∙ eb)
 
--- what holds of all before an index and there
+-- a fact about all indices before one, and about that one
 pub one-more : (P : ℕ → Type 0) (from n : ℕ) → ((b : ℕ) → from ≤ b → b < n → P b) → P n → (b : ℕ) → from ≤ b → b < n + 1 → P b
 one-more P from n before here b lo hi = elim (cases_eq b n) [
   | inl same ↦ subst P (sym same) here
@@ -33,19 +33,19 @@ one-more P from n before here b lo hi = elim (cases_eq b n) [
     less : (x y : ℕ) → x < y + 1 → (x ≡ y → ⊥) → x < y
     less x y l ne = omega (arith, l, ne)
 
--- what holds of two texts holds of the two that were kept of them
+-- a fact about two texts holds for the two copies
 pub kept-meet : (P : List ℕ → List ℕ → Type 0) (r : Result (Option Clash) NoMemory) (left right : List ℕ) → IfOk r (λ o. IsSomeAnd o (λ c. (c.left ≡ left) × (c.right ≡ right))) → P left right → IfOk r (λ o. IfSome o (λ c. P c.left c.right))
 kept-meet P (Err e) left right kept p = tt
 kept-meet P (Ok None) left right kept p = tt
 kept-meet P (Ok (Some c)) left right kept p = subst (λ (x : List ℕ). P x c.right) (sym kept.0) (subst (λ (y : List ℕ). P left y) (sym kept.1) p)
 
--- what holds of one that is there
+-- a fact about a value that exists
 pub IfSome-some : {A : Type 0} (P : A → Type 0) (o : Option A) (x : A) → o ≡ Some x → IfSome o P → P x
 IfSome-some {A} P o x is p = subst (λ (y : Option A). IfSome y P) is p
 
 -- ---- chains
 
--- the rest of the key's own chain from a digit on
+-- the rest of the key's own chain, from a digit on
 own-rest : (i : List ℕ) (q at digit number : ℕ) (x : List ℕ) → digit ≤ number → chain_of i q at digit (number - digit) (chain_of i q at 0 digit x) ≡ chain_of i q at 0 number x
 own-rest i q at digit number x l =
     let e : digit ≡ 0 + digit = omega arith in
@@ -78,7 +78,7 @@ module _ (i : List ℕ) (q : ℕ) (seed digits ots : List ℕ) (at : ℕ) (own s
         (subst (λ (y : List ℕ). AreCollision sha256 (own_step i q seed at b) y) (sym (shown-text-of-step b)) c));
   }
 
--- ---- the way to the root
+-- ---- the path to the root
 
 module _ (key : KeyOf) (q : ℕ) (path value : List ℕ) (beside : (level : ℕ) → level < height_of key.kind → take 32 (drop (32 * level) path) ≡ path_node key.i key.seed (height_of key.kind) q level)
     (value_is : value ≡ leaf_of key.i (2 ^ height_of key.kind + q) (public_of key.i q key.seed)) where
@@ -108,7 +108,7 @@ shown-text key q text sig value level value_is =
     ap (λ (v : List ℕ). parent_text i r v (take 32 (drop (32 * level) (drop 1132 sig)))) (raised-climbed i leaf value sig 1132 level ∙ ap (λ (x : List ℕ). climbed i leaf x sig 1132 level) value_is)
     ∙ ap (λ (o : List ℕ). parent_text i r (climbed i leaf (leaf_of i leaf (candidate_of i q (take 1124 (drop 4 sig)) text)) sig 1132 level) (take 32 o)) (drop-drop (32 * level) 1132 sig)
 
--- where the key's own way meets the one that a good signature shows, in the terms of who goes them
+-- where the key's own path meets the path that a valid signature shows, in terms of the values on the two paths
 pub node-meet : (key : KeyOf) (q : ℕ) (text sig path left right i beside : List ℕ) (leaf height levels : ℕ) → q < 2 ^ height_of key.kind → ((level : ℕ) → level < height_of key.kind → take 32 (drop (32 * level) path) ≡ path_node key.i key.seed (height_of key.kind) q level) → i ≡ key.i → leaf ≡ 2 ^ height_of key.kind + q → height ≡ height_of key.kind → levels ≡ height_of key.kind → beside ≡ drop 1132 sig → left ≡ leaf_of i leaf (public_of key.i q key.seed) → right ≡ leaf_of i leaf (candidate_of key.i q (take 1124 (drop 4 sig)) text)
     → (one other : List ℕ) → IsHighestMeeting sha256 i leaf left (take (32 * height) path) right beside levels one other → MeetAtNode key q text sig one other
 node-meet key q text sig path left right i beside leaf height levels low p ei el eh en eb own shown one other m =

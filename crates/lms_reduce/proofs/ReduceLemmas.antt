@@ -1,4 +1,4 @@
--- What a signature comes down to whose values are all the key's own.
+-- The reduction of a signature whose values are all the key's own.
 use Rattle.std.proofs.Common.{◌≡◌, ℕ, ◌+◌, ◌*◌, ◌<◌, ◌≤◌, List, get_or, take, drop, Option, Some, None, refl, sym, ap, subst, ◌∙◌, arith, inl, inr}
 use Rattle.std.proofs.lemmas.Bool.{cases_lt}
 use Rattle.std.proofs.lemmas.List.{drop-drop}
@@ -9,13 +9,13 @@ use Rattle.lms_reduce.specs.Released.{claimed_digits, signed_digits, IsUnrelease
 use Rattle.lms_reduce.specs.Reduction.{ShowsUnreleased}
 use Rattle.lms_reduce.proofs.RootLemmas.{take-inside}
 
--- a value of the one-time signature, in the whole
+-- a value of the one-time signature, within the whole signature
 pub value-at : (at : ℕ) (sig : List ℕ) → at < 34 → take 32 (drop (36 + 32 * at) (take 1124 (drop 4 sig))) ≡ take 32 (drop (40 + 32 * at) sig)
 value-at at sig l =
     let e : 4 + (36 + 32 * at) ≡ 40 + 32 * at = omega arith in
     take-inside (36 + 32 * at) 32 1124 (drop 4 sig) (omega (arith, l)) ∙ ap (take 32) (drop-drop (36 + 32 * at) 4 sig ∙ ap (λ n. drop n sig) e)
 
--- the first index at which the slot has not released what is shown
+-- the first index at which the slot has not released the value shown
 shows-first : (key : KeyOf) (spent : Option (List ℕ)) (text sig digits : List ℕ) (q at : ℕ) → at < 34 → q ≡ number_at sig 0 → digits ≡ claimed_digits key text sig → ShowsOwn key.i q key.seed (claimed_digits key text sig) (take 1124 (drop 4 sig)) → IsUnreleased key q spent at (get_or digits at 0) → ((b : ℕ) → b < 34 → IsUnreleased key q spent b (get_or digits b 0) → at ≤ b) → ShowsUnreleased key spent text sig q at (get_or digits at 0) (take 32 (drop (40 + 32 * at) sig))
 shows-first key spent text sig digits q at l slot d own free first =
     let step : get_or digits at 0 ≡ get_or (claimed_digits key text sig) at 0 = ap (λ (x : List ℕ). get_or x at 0) d in
@@ -29,12 +29,12 @@ shows-first key spent text sig digits q at l slot d own free first =
       least = λ b lt u. first b lt (subst (λ (x : List ℕ). IsUnreleased key q spent b (get_or x b 0)) (sym d) u);
     }
 
--- of a slot that signed nothing, the first value of all
+-- for a slot that signed no text, the first value
 pub shows-any : (key : KeyOf) (text sig digits : List ℕ) (q : ℕ) → q ≡ number_at sig 0 → digits ≡ claimed_digits key text sig → ShowsOwn key.i q key.seed (claimed_digits key text sig) (take 1124 (drop 4 sig)) → ShowsUnreleased key None text sig q 0 (get_or digits 0 0) (take 32 (drop (40 + 32 * 0) sig))
 shows-any key text sig digits q slot d own =
     shows-first key None text sig digits q 0 (omega arith) slot d own tt (λ b _ _. omega arith)
 
--- of a slot that signed another text, the first whose digit is lesser
+-- for a slot that signed another text, the first value whose digit is less
 pub shows-lesser : (key : KeyOf) (other text sig digits others : List ℕ) (q at : ℕ) → q ≡ number_at sig 0 → digits ≡ claimed_digits key text sig → others ≡ signed_digits key q other → ShowsOwn key.i q key.seed (claimed_digits key text sig) (take 1124 (drop 4 sig)) → IsFirstLesser digits others at → ShowsUnreleased key (Some other) text sig q at (get_or digits at 0) (take 32 (drop (40 + 32 * at) sig))
 shows-lesser key other text sig digits others q at slot d o own f =
     let later : (b : ℕ) → get_or others b 0 ≡ get_or (signed_digits key q other) b 0 = λ b. ap (λ (x : List ℕ). get_or x b 0) o in

@@ -1,4 +1,4 @@
--- Texts that are hashed: which are one, and what their digests are.
+-- Hashed texts: which are equal, and their digests.
 use Rattle.std.proofs.Common.{◌≡◌, ℕ, zero, suc, ◌+◌, ◌-◌, ◌*◌, ◌<◌, ◌≤◌, List, ◌++◌, length, get_or, take, drop, refl, sym, ap, subst, ◌∙◌, arith, inl, inr}
 use Rattle.std.specs.List.{range_with_len, flat_map}
 use Rattle.std.proofs.lemmas.Bool.{cases_eq}
@@ -10,7 +10,7 @@ use Rattle.lms_tree.specs.Signatures.{leaf_of}
 use Rattle.lms_reduce.specs.Texts.{leaf_text, message_text, values_text}
 use Rattle.lms_reduce.specs.Comparing.{EndsOwn}
 
--- the front of two texts whose fronts have one length, and what follows
+-- if two texts with prefixes of equal length are equal, so are the prefixes and the rests
 pub front-same : (a b c d : List ℕ) → length a ≡ length c → a ++ b ≡ c ++ d → a ≡ c
 front-same a b c d l e = sym (take_at a b (length a) refl) ∙ ap (take (length a)) e ∙ take_at c d (length a) (sym l)
 
@@ -35,7 +35,7 @@ pub sha256-leaf_text : (i : List ℕ) (r : ℕ) (key : List ℕ) → sha256 (lea
 unfolding leaf_text leaf_of
 sha256-leaf_text i r key = refl
 
--- ---- one text is of one value
+-- ---- a text belongs to exactly one value
 
 pub leaf_text-same : (i : List ℕ) (r : ℕ) (x y : List ℕ) → leaf_text i r x ≡ leaf_text i r y → x ≡ y
 unfolding leaf_text
@@ -82,7 +82,7 @@ EndsOwn-same i q seed digits ots l e =
 
 -- ---- the rest of a chain
 
--- from the key's own value at a digit the rest of the chain leads to the public value
+-- the rest of the chain leads from the key's own value at a digit to the public value
 pub own-end : (i : List ℕ) (q : ℕ) (seed : List ℕ) (at digit : ℕ) → digit ≤ 255 → chain_of i q at digit (255 - digit) (chain_of i q at 0 digit (secret_of i q seed at)) ≡ public_value i q seed at
 unfolding public_value
 own-end i q seed at digit l =

@@ -1,4 +1,4 @@
--- Chains and ways up a tree, a step at a time.
+-- Chains and paths up a tree, one step at a time.
 use Rattle.std.proofs.Common.{◌≡◌, ℕ, zero, suc, ◌+◌, ◌-◌, ◌*◌, ◌/◌, ◌%◌, ◌^◌, ◌≤◌, ◌==◌, Bool, true, false, cond, List, [], ◌∷◌, ◌++◌, length, take, drop, refl, sym, ap, ◌∙◌, arith, Option, Some, None, IfNone}
 use Rattle.std.proofs.lemmas.List.{append_assoc, append_cancel_left, drop-drop}
 use Rattle.sha2.specs.Sha256.{sha256}
@@ -8,7 +8,7 @@ use Rattle.lms_reduce.specs.Texts.{step_text, inner_text, parent_text}
 use Rattle.lms_reduce.specs.Ways.{walked, raised}
 use Rattle.lms_reduce.proofs.TextLemmas.{front-same, back-same}
 
--- what follows where there is none
+-- the consequence if no value exists
 pub IfNone-map : {A P Q : Type 0} (o : Option A) → (P → Q) → IfNone o P → IfNone o Q
 IfNone-map None f p = f p
 IfNone-map (Some x) f p = tt
@@ -29,12 +29,12 @@ walked-more hash i q at from number x now l e =
     let count : suc n ≡ number + 1 - from = omega arith in
     ap (λ v. hash (step_text i q at number v)) e ∙ ap (λ j. hash (step_text i q at j (walked hash i q at from n x))) here ∙ ap (λ c. walked hash i q at from c x) count
 
--- one text is of one value
+-- a text belongs to exactly one value
 pub step_text-same : (i : List ℕ) (q at j : ℕ) (x y : List ℕ) → step_text i q at j x ≡ step_text i q at j y → x ≡ y
 unfolding step_text
 step_text-same i q at j x y e = append_cancel_left (prefix i q at ++ j ∷ []) x y e
 
--- over SHA-256 the chain is the standard's
+-- over SHA-256 the chain is that of the standard
 pub walked-chain_of : (i : List ℕ) (q at from n : ℕ) (x : List ℕ) → walked sha256 i q at from n x ≡ chain_of i q at from n x
 unfolding walked chain_of step_text step_of
 walked-chain_of i q at from zero x = refl
@@ -55,7 +55,7 @@ value-same p x y a b true lx la e =
 value-same p x y a b false lx la e =
     back-same a x b y la (append_cancel_left p (a ++ x) (b ++ y) (sym (append_assoc p a x) ∙ e ∙ append_assoc p b y))
 
--- one text is of one value
+-- a text belongs to exactly one value
 pub parent_text-same : (i : List ℕ) (r : ℕ) (x y a b : List ℕ) → length x ≡ length y → length a ≡ length b → parent_text i r x a ≡ parent_text i r y b → x ≡ y
 unfolding parent_text inner_text
 parent_text-same i r x y a b lx la e = value-same (prefix i (r / 2) 0x8383) x y a b (r % 2 == 0) lx la e
@@ -68,7 +68,7 @@ parent-above : (i : List ℕ) (r : ℕ) (x a : List ℕ) → sha256 (parent_text
 unfolding parent_text inner_text above inner_of
 parent-above i r x a = hash-cond (r % 2 == 0) (prefix i (r / 2) 0x8383 ++ x ++ a) (prefix i (r / 2) 0x8383 ++ a ++ x)
 
--- over SHA-256 the way is the standard's
+-- over SHA-256 the path is that of the standard
 pub raised-climbed : (i : List ℕ) (r : ℕ) (value octets : List ℕ) (at n : ℕ) → raised sha256 i r value (drop at octets) n ≡ climbed i r value octets at n
 unfolding raised climbed
 raised-climbed i r value octets at zero = refl

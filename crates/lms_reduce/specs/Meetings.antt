@@ -1,5 +1,5 @@
--- Where two ways to one digest meet: the key's own way hashes the left text there, and the way that a
--- signature shows the right one.
+-- Where two paths to the same digest meet. There, the key's own path hashes the left text, and the signature's path
+-- hashes the right one.
 use Rattle.std.specs.Prelude.{◌≡◌, ◌⊎◌, ℕ, ◌+◌, ◌-◌, ◌*◌, ◌/◌, ◌^◌, ◌<◌, ◌≤◌, List, take, drop, slice_index, Option, Some}
 use Rattle.sha2.specs.Sha256.{sha256}
 use Rattle.octet_text.specs.Collisions.{AreCollision}
@@ -11,18 +11,18 @@ use Rattle.lms_reduce.specs.Ways.{walked, raised}
 
 -- ---- over any hash
 
--- what step number of chain at hashes, on the way from a value before step from
+-- the text that the step with a number hashes in chain at, on the way from the value before step from
 abbrev pub text_of_step : (List ℕ → List ℕ) → List ℕ → ℕ → ℕ → ℕ → List ℕ → ℕ → List ℕ
 text_of_step hash i q at from x number = step_text i q at number
     (walked hash i q at from (number - from) x)
 
--- what the way up from node r hashes over that many levels, along a path
+-- the text that is hashed this many levels above node r, along a path
 abbrev pub text_above : (List ℕ → List ℕ) → List ℕ → ℕ → List ℕ → List ℕ → ℕ → List ℕ
 text_above hash i r value path level = parent_text i (r / 2 ^ level)
     (raised hash i r value path level) (take 32 (drop (32 * level) path))
 
--- the first step from a number on at which the chains from two values hash different texts to one
--- digest
+-- the first step, with this number or a greater one, at which the chains from two values hash different texts to
+-- the same digest
 pub record IsFirstMeeting (hash : List ℕ → List ℕ) (i : List ℕ) (q at from : ℕ)
     (x y left right : List ℕ) : Type 0 where
   pub number : ℕ
@@ -33,7 +33,7 @@ pub record IsFirstMeeting (hash : List ℕ → List ℕ) (i : List ℕ) (q at fr
   pub first : (b : ℕ) → from ≤ b → b < number → ¬ AreCollision hash
       (text_of_step hash i q at from x b) (text_of_step hash i q at from y b)
 
--- the highest of so many levels at which two ways up from node r hash different texts to one digest
+-- the highest of this many levels at which two paths up from node r hash different texts to the same digest
 pub record IsHighestMeeting (hash : List ℕ → List ℕ) (i : List ℕ) (r : ℕ)
     (x x_path y y_path : List ℕ) (levels : ℕ) (left right : List ℕ) : Type 0 where
   pub level : ℕ
@@ -43,16 +43,16 @@ pub record IsHighestMeeting (hash : List ℕ → List ℕ) (i : List ℕ) (r : �
   pub highest : (above : ℕ) → level < above → above < levels → ¬ AreCollision hash
       (text_above hash i r x x_path above) (text_above hash i r y y_path above)
 
--- ---- of a key and a signature
+-- ---- for a key and a signature
 
--- what the key hashes at the parent of the node so many levels above leaf q
+-- the text that the key hashes at the parent of the node this many levels above leaf q
 abbrev pub own_node : KeyOf → ℕ → ℕ → List ℕ
 own_node key q level =
     let h = height_of key.kind in
     let r = (2 ^ h + q) / 2 ^ level in
     parent_text key.i r (node_of key.i key.seed h level r) (path_node key.i key.seed h q level)
 
--- what the check hashes there of the signature's path
+-- the text that the check hashes there, from the signature's path
 abbrev pub shown_node : KeyOf → ℕ → List ℕ → List ℕ → ℕ → List ℕ
 shown_node key q text sig level =
     let leaf = 2 ^ height_of key.kind + q in
@@ -60,7 +60,7 @@ shown_node key q text sig level =
     parent_text key.i (leaf / 2 ^ level) (climbed key.i leaf value sig 1132 level)
     (take 32 (drop (1132 + 32 * level) sig))
 
--- a node of the way to the root, the nearest to the root where the two collide
+-- the collision is at the node nearest to the root at which the two paths to the root collide
 pub record MeetAtNode (key : KeyOf) (q : ℕ) (text sig left right : List ℕ) : Type 0 where
   pub level : ℕ
   pub within : level < height_of key.kind
@@ -69,29 +69,29 @@ pub record MeetAtNode (key : KeyOf) (q : ℕ) (text sig left right : List ℕ) :
   pub highest : (above : ℕ) → level < above → above < height_of key.kind → ¬ AreCollision sha256
       (own_node key q above) (shown_node key q text sig above)
 
--- the leaf
+-- the collision is at the leaf
 pub record MeetAtLeaf (key : KeyOf) (q : ℕ) (text sig left right : List ℕ) : Type 0 where
   pub own : left ≡ leaf_text key.i (2 ^ height_of key.kind + q) (public_of key.i q key.seed)
   pub shown : right ≡ leaf_text key.i (2 ^ height_of key.kind + q)
       (candidate_of key.i q (take 1124 (drop 4 sig)) text)
 
--- the ends of the chains
+-- the collision is at the ends of the chains
 pub record MeetAtEnds (i : List ℕ) (q : ℕ) (seed digits ots left right : List ℕ) : Type 0 where
   pub own : left ≡ values_text i q (public_value i q seed)
   pub shown : right ≡ values_text i q (ended_value i q digits ots)
 
--- what a step of a chain hashes of the key's own value there
+-- the text that a step of a chain hashes, from the key's own value
 abbrev pub own_step : List ℕ → ℕ → List ℕ → ℕ → ℕ → List ℕ
 own_step i q seed at number = step_text i q at number
     (chain_of i q at 0 number (secret_of i q seed at))
 
--- and on the way from the value that a one-time signature shows
+-- the text that the step hashes, from the value in a one-time signature
 abbrev pub shown_step : List ℕ → ℕ → List ℕ → List ℕ → ℕ → ℕ → List ℕ
 shown_step i q digits ots at number =
     let digit = slice_index digits at in step_text i q at number
     (chain_of i q at digit (number - digit) (take 32 (drop (36 + 32 * at) ots)))
 
--- a step of a chain, the first after the digit at which the two collide
+-- the collision is at the first step after the digit at which the two ways along the chain collide
 pub record MeetInChain (i : List ℕ) (q : ℕ) (seed digits ots left right : List ℕ) : Type 0 where
   pub at : ℕ
   pub place : at < 34
@@ -103,13 +103,13 @@ pub record MeetInChain (i : List ℕ) (q : ℕ) (seed digits ots left right : Li
   pub first : (b : ℕ) → slice_index digits at ≤ b → b < number → ¬ AreCollision sha256
       (own_step i q seed at b) (shown_step i q digits ots at b)
 
--- the two messages
+-- the collision is between the two messages
 pub record MeetAtMessages (i : List ℕ) (q : ℕ) (seed own_text c text left right : List ℕ) :
     Type 0 where
   pub own : left ≡ message_text i q (randomiser_of i q seed) own_text
   pub shown : right ≡ message_text i q c text
 
--- somewhere on the way from the digits of a text to the root
+-- the collision is somewhere on the way from the digits of a text to the root
 abbrev pub MeetOnWay : KeyOf → ℕ → List ℕ → List ℕ → List ℕ → List ℕ → Type 0
 MeetOnWay key q text sig left right = MeetAtNode key q text sig left right
     ⊎ (MeetAtLeaf key q text sig left right
@@ -117,7 +117,7 @@ MeetOnWay key q text sig left right = MeetAtNode key q text sig left right
     ⊎ MeetInChain key.i q key.seed (claimed_digits key text sig) (take 1124 (drop 4 sig)) left
     right))
 
--- or where a slot has signed another text
+-- the collision is between the text and another text that the slot has signed
 pub record MeetSigned (key : KeyOf) (spent : Option (List ℕ)) (text sig left right : List ℕ) :
     Type 0 where
   pub other : List ℕ

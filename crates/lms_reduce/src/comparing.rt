@@ -1,5 +1,5 @@
-//! What the check of a signature hashes, against what the key itself hashes: from the root of the tree
-//! down to the leaf, then the ends of the chains, then each chain down to the digit.
+//! Compares the texts that the check of a signature hashes with those that the key itself hashes: from the root of
+//! the tree down to the leaf, then the ends of the chains, then each chain down to the digit.
 ghost use Rattle.std.specs.Prelude.{◌≡◌, ◌≢◌, ℕ, ◌*◌, ◌^◌, ◌<◌, length, take, drop, IfOk, IfSome, IfNone, IsSomeAnd, Ok};
 ghost use Rattle.sha2.specs.Sha256.{sha256};
 ghost use Rattle.lms_ots.specs.Chains.{candidate_of, ended_value, key_of, public_of, text_hash};
@@ -17,14 +17,14 @@ use lms_tree::Key;
 use octet_text::{Digest32, NoMemory, Octets, Sha, array_at, octet_law, put_octets, write_array};
 use std::alloc::Global;
 
-// Two different texts with one digest.
+// Two different texts with the same digest.
 #[derive(Drop)]
 pub(crate) struct Clash {
     pub left: Octets,
     pub right: Octets,
 }
 
-// A text of its own.
+// Copies a text.
 fn copied(alloc: Global, text: &[u8]) -> Result<Octets, NoMemory>
     ensures { IfOk result (λ r. r ≡ text.now) }
 {
@@ -33,7 +33,7 @@ fn copied(alloc: Global, text: &[u8]) -> Result<Octets, NoMemory>
     Ok(Octets::from_vec(octets))
 }
 
-// Two texts that collide, kept.
+// Copies two texts that collide, and returns the copies.
 fn keep(alloc: Global, left: &[u8], right: &[u8]) -> Result<Option<Clash>, NoMemory>
     requires differ { left.now ≢ right.now }
     requires one_digest { sha256 left.now ≡ sha256 right.now }
@@ -49,7 +49,7 @@ fn keep(alloc: Global, left: &[u8], right: &[u8]) -> Result<Option<Clash>, NoMem
     }))
 }
 
-// The other child of a node's parent.
+// Returns the sibling of a node.
 fn beside(r: u32) -> u32
     requires { r < 2 ^ 31 }
     ensures { result ≡ sibling r }
@@ -57,7 +57,7 @@ fn beside(r: u32) -> u32
     if r % 2 == 0 { r + 1 } else { r - 1 }
 }
 
-// The digests beside a key's own way from a leaf to the root.
+// Returns the digests beside the key's own path from a leaf to the root.
 fn own_path(key: &Key, q: u32) -> [u8; 320]
     requires { q < 2 ^ height_of key.now.kind }
     ensures { (level : ℕ) → level < height_of key.now.kind
@@ -76,7 +76,7 @@ fn own_path(key: &Key, q: u32) -> [u8; 320]
     path
 }
 
-// Where the way from a leaf to the root is not the key's own, from the root down to the leaf.
+// Finds where the path from a leaf to the root differs from the key's own path, from the root down to the leaf.
 pub(crate) fn compare_ways(
     alloc: Global,
     key: &Key,
@@ -115,7 +115,7 @@ pub(crate) fn compare_ways(
     Ok(None)
 }
 
-// Where the ends of the chains are not the key's own.
+// Finds where the ends of the chains differ from the key's own ends.
 pub(crate) fn compare_ends(
     alloc: Global,
     i: &[u8; 16],
@@ -140,7 +140,7 @@ pub(crate) fn compare_ends(
     keep(alloc, &own, &shown)
 }
 
-// Where a chain is not the key's own.
+// Finds where a chain differs from the key's own chain.
 pub(crate) fn compare_chains(
     alloc: Global,
     i: &[u8; 16],
@@ -167,7 +167,7 @@ pub(crate) fn compare_chains(
     Ok(None)
 }
 
-// Two texts whose hashes are one, as they are hashed.
+// Returns the hashed texts of two different signed texts with the same hash.
 pub(crate) fn compare_messages(
     alloc: Global,
     i: &[u8; 16],
@@ -190,7 +190,7 @@ pub(crate) fn compare_messages(
     Ok(Clash { left, right })
 }
 
-// Where what the check of a good signature hashes is not the key's own.
+// Finds where the check of a valid signature hashes a text that differs from the key's own.
 pub(crate) fn compare(
     alloc: Global,
     key: &Key,

@@ -1,11 +1,11 @@
-//! Laws of what a slot has released.
+//! Laws of the values that a slot has released.
 ghost use Rattle.std.specs.Prelude.{◌≡◌, ℕ, ◌+◌, ◌-◌, ◌*◌, ◌<◌, ◌≤◌, List, take, drop, slice_index};
 ghost use Rattle.lms_ots.specs.Chains.{chain_of};
 ghost use Rattle.lms_tree.specs.Signatures.{KeyOf, sealed};
 ghost use Rattle.lms_reduce.specs.Released.{own_value, signed_digits};
 
-/// What a slot releases of a chain with the signature that it makes of a text: the value after as many steps
-/// as the digit says. From a value all later ones can be made.
+/// A signature by a slot releases one value of each chain: the value after as many steps as the text's digit. All
+/// later values of the chain can be computed from it.
 pub fn released_laws()
     ensures shows { (key : KeyOf) (slot at : ℕ) (text : List ℕ) → at < 34
         → take 32 (drop (40 + 32 * at) (sealed key slot text))

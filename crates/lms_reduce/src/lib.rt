@@ -1,6 +1,6 @@
-//! Forgeries reduced to the hash: what a verified signature on a text comes down to that the owner's
-//! key never signed. From the key's own `I` and `SEED` comes a collision of SHA-256, or a value of a
-//! chain that no signature of the key has released.
+//! Reduces a forgery to the hash. A forgery is a verified signature of a text that the owner's key never signed.
+//! With the key's own `I` and `SEED`, it yields a collision of SHA-256, or a value of a chain that no signature of
+//! the key has released.
 //!
 //! The comparisons are generic in the hash.
 #![tactic(auto)]

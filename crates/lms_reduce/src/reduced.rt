@@ -1,14 +1,14 @@
-//! What a forgery comes down to, and why one does not.
+//! The result of reducing a forgery, and the reasons why a signature cannot be reduced.
 
 use lms_tree::SealError;
 use octet_text::{Digest32, NoMemory, Octets};
 use thiserror::Error;
 
-/// What a verified signature on a text comes down to whose slot has not signed that text.
+/// The result of reducing a verified signature of a text that its slot has not signed.
 #[derive(Debug, Drop)]
 pub enum Reduced {
-    /// Two different texts with one SHA-256 digest: the left one of the key's own, the right one of the
-    /// signature's.
+    /// Two different texts with the same SHA-256 digest. The left one is the key's own, and the right one comes
+    /// from the signature.
     Collision {
         left: Octets,
         right: Octets,
@@ -19,20 +19,20 @@ pub enum Reduced {
         slot: u32,
         /// The number of the chain, 0 to 33.
         at: u16,
-        /// How many steps of the chain lie before the value, 0 to 255.
+        /// The number of steps of the chain before the value, 0 to 255.
         step: u8,
-        /// The value, which the signature shows.
+        /// The value, computed from the signature.
         value: Digest32,
     },
 }
 
-/// Why a signature on a text comes down to nothing.
+/// Why a signature on a text cannot be reduced.
 #[derive(Clone, Copy, Debug, PartialEq, Eq, Error)]
 pub enum ReduceError {
-    /// The signature is not good, for this reason.
+    /// The signature is invalid, for this reason.
     #[error("{0}")]
     NotVerified(SealError),
-    /// The slot with this number has signed this very text.
+    /// The slot with this number has signed the same text.
     #[error("Slot {0} has signed this text.")]
     Signed(u32),
     /// Out of memory.

@@ -1,4 +1,4 @@
-//! A forgery reduced to the hash.
+//! Reducing a forgery to the hash.
 ghost use Rattle.std.specs.Prelude.{◌≡◌, ◌≢◌, ◌↔◌, ℕ, ◌+◌, ◌*◌, ◌<◌, ◌≤◌, length, take, drop, slice_index, IfOk, IfSome, IfNone, Some, Ok, Err};
 ghost use Rattle.std.specs.Bool.{OnTrue, OnFalse};
 ghost use Rattle.std.specs.Option.{option_copied};
@@ -17,7 +17,7 @@ use lms_tree::{Key, verify};
 use octet_text::{NoMemory, array_at};
 use std::alloc::Global;
 
-// Whether a slot has signed a text.
+// Tests whether a slot has signed a text.
 fn is_signed(spent: Option<&[u8]>, text: &[u8]) -> bool
     ensures signed { OnTrue result (option_copied spent.entry ≡ Some text.now) }
     ensures other { OnFalse result (option_copied spent.entry ≢ Some text.now) }
@@ -28,7 +28,7 @@ fn is_signed(spent: Option<&[u8]>, text: &[u8]) -> bool
     }
 }
 
-// The first index at which a list of digits has a lesser one than another.
+// Returns the first index at which one list of digits has a lesser digit than another list.
 fn first_lesser(digits: &[u8; 34], others: &[u8; 34]) -> Option<u16>
     ensures found { IfSome result (IsFirstLesser digits.now others.now) }
     ensures none { IfNone result (HasNoLesser digits.now others.now) }
@@ -41,7 +41,7 @@ fn first_lesser(digits: &[u8; 34], others: &[u8; 34]) -> Option<u16>
     None
 }
 
-// A value that a signature shows, of the chain at an index.
+// Returns the value of the chain at an index that a signature shows.
 fn chain_at(q: u32, at: u16, digits: &[u8; 34], sig: &[u8]) -> Reduced
     requires place { at < 34 }
     requires size { 1132 ≤ length sig.now }
@@ -56,7 +56,7 @@ fn chain_at(q: u32, at: u16, digits: &[u8; 34], sig: &[u8]) -> Reduced
     }
 }
 
-// What a good signature comes down to, on a text that its slot has not signed.
+// Reduces a valid signature of a text that its slot has not signed.
 fn reduce_good(
     alloc: Global,
     key: &Key,
@@ -89,17 +89,17 @@ fn reduce_good(
     }
 }
 
-/// What a signature on a text comes down to, by the key itself and the text that the signature's slot
-/// has signed, if there is one.
+/// Reduces a signature of a text. Needs the key itself, and the text that the signature's slot has signed, if it
+/// has signed one.
 ///
-/// Compared is what the check of the signature hashes with what the key hashes: from the root of the tree
-/// down to the leaf, then the ends of the chains, then each chain down to the digit of the text. Where two
-/// different texts have one digest, they are the answer. Where there are none, each value of the signature
-/// is the key's own, and the answer is that of the first chain whose value the slot has not released; the
-/// checksum sees to it that there is one, or the two signed texts collide.
+/// Compares the texts that the check of the signature hashes with those that the key hashes: from the root of the
+/// tree down to the leaf, then the ends of the chains, then each chain down to the digit of the text. If two
+/// different texts have the same digest, they are the result. Otherwise each value of the signature is the key's
+/// own, and the result is the value of the first chain that the slot has not released. Such a chain exists because
+/// of the checksum, unless the two signed texts collide.
 ///
-/// The left text of a collision is the key's own, and may tell a value that was not released: it is the
-/// owner's to show.
+/// The left text of a collision is the key's own and may reveal a value that was not released. So only the owner
+/// should show it.
 pub fn reduce(
     alloc: Global,
     key: &Key,

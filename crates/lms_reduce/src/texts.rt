@@ -7,7 +7,8 @@ use lms_ots::{chain, secret};
 use octet_text::{Digest32, Hasher, NoMemory, Octets, array_at, put_octets, write_array};
 use std::alloc::Global;
 
-// What names the hash of a public key, of a signed text, of a leaf and of an inner node (§ 4.3, § 4.5, § 5.3).
+// The numbers that mark the hash of a public key, of a signed text, of a leaf and of an inner node (§ 4.3, § 4.5, §
+// 5.3).
 const D_PBLC: u16 = 0x8080;
 
 const D_MESG: u16 = 0x8181;
@@ -16,7 +17,7 @@ const D_LEAF: u16 = 0x8282;
 
 const D_INTR: u16 = 0x8383;
 
-// The digest of a text.
+// Returns the digest of a text.
 pub(crate) fn digest_of<H: Hasher>(text: &[u8]) -> Digest32
     ensures { result ≡ H.hash text.now }
 {
@@ -25,7 +26,7 @@ pub(crate) fn digest_of<H: Hasher>(text: &[u8]) -> Digest32
     hasher.end()
 }
 
-// What each hashed text begins with.
+// Returns the prefix of each hashed text.
 fn prefix(i: &[u8; 16], q: u32, at: u16) -> [u8; 22]
     ensures { result ≡ prefix i.now q at }
 {
@@ -36,7 +37,7 @@ fn prefix(i: &[u8; 16], q: u32, at: u16) -> [u8; 22]
     text
 }
 
-// What a step of a chain hashes.
+// Returns the text that a step of a chain hashes.
 #[tactic(auto, unfolding(crate::specs::Texts::step_text))]
 pub(crate) fn step_text(i: &[u8; 16], q: u32, at: u16, number: u8, value: &Digest32) -> [u8; 55]
     ensures { result ≡ step_text i.now q at number value.now }
@@ -48,7 +49,7 @@ pub(crate) fn step_text(i: &[u8; 16], q: u32, at: u16, number: u8, value: &Diges
     text
 }
 
-// What is hashed at a leaf.
+// Returns the text that is hashed for a leaf.
 #[tactic(auto, unfolding(crate::specs::Texts::leaf_text))]
 pub(crate) fn leaf_text(i: &[u8; 16], r: u32, key: &Digest32) -> [u8; 54]
     ensures { result ≡ leaf_text i.now r key.now }
@@ -59,7 +60,7 @@ pub(crate) fn leaf_text(i: &[u8; 16], r: u32, key: &Digest32) -> [u8; 54]
     text
 }
 
-// What is hashed at an inner node.
+// Returns the text that is hashed for an inner node.
 #[tactic(auto, unfolding(crate::specs::Texts::inner_text))]
 fn inner_text(i: &[u8; 16], r: u32, left: &Digest32, right: &Digest32) -> [u8; 86]
     ensures { result ≡ inner_text i.now r left.now right.now }
@@ -71,7 +72,7 @@ fn inner_text(i: &[u8; 16], r: u32, left: &Digest32, right: &Digest32) -> [u8; 8
     text
 }
 
-// What is hashed at the parent of node r, of the value at r and the one beside it.
+// Returns the text that is hashed for the parent of node r, from the value at r and at its sibling.
 #[tactic(auto, unfolding(crate::specs::Texts::parent_text))]
 pub(crate) fn parent_text(i: &[u8; 16], r: u32, value: &Digest32, other: &Digest32) -> [u8; 86]
     ensures { result ≡ parent_text i.now r value.now other.now }
@@ -83,7 +84,7 @@ pub(crate) fn parent_text(i: &[u8; 16], r: u32, value: &Digest32, other: &Digest
     }
 }
 
-// What is hashed of the ends of a key's own chains.
+// Returns the text that is hashed from the ends of a key's own chains.
 pub(crate) fn own_ends(i: &[u8; 16], q: u32, seed: &[u8; 32]) -> [u8; 1110]
     ensures { result ≡ values_text i.now q (public_value i.now q seed.now) }
 {
@@ -96,7 +97,7 @@ pub(crate) fn own_ends(i: &[u8; 16], q: u32, seed: &[u8; 32]) -> [u8; 1110]
     text
 }
 
-// What is hashed of the ends of the chains, from the values that a one-time signature shows.
+// Returns the text that is hashed from the ends of the chains, computed from the values of a one-time signature.
 pub(crate) fn shown_ends(i: &[u8; 16], q: u32, digits: &[u8; 34], ots: &[u8]) -> [u8; 1110]
     requires { length ots.now ≡ 1124 }
     ensures { result ≡ values_text i.now q (ended_value i.now q digits.now ots.now) }
@@ -111,7 +112,7 @@ pub(crate) fn shown_ends(i: &[u8; 16], q: u32, digits: &[u8; 34], ots: &[u8]) ->
     text
 }
 
-// What is hashed of a signed text.
+// Returns the text that is hashed for a signed text.
 #[tactic(auto, unfolding(crate::specs::Texts::message_text))]
 pub(crate) fn message_text(
     alloc: Global,

@@ -1,4 +1,4 @@
-//! Where two values that lead to one digest lead there from different texts.
+//! Finding where two values lead to the same digest through different texts.
 ghost use Rattle.std.specs.Prelude.{◌≡◌, ◌≢◌, ◌-◌, ◌/◌, length, IfSome, IfNone};
 ghost use Rattle.std.specs.Bool.{OnTrue, OnFalse};
 ghost use Rattle.octet_text.specs.Exact.{IsBytes};
@@ -9,21 +9,21 @@ ghost use Rattle.lms_reduce.specs.Ways.{raised, walked};
 use crate::texts::{digest_of, parent_text, step_text};
 use octet_text::{Digest32, Hasher, array_at};
 
-/// What a step of a chain hashes, of two values.
+/// The texts that a step of a chain hashes, from two values.
 #[derive(Clone, Copy)]
 pub struct TwoSteps {
     pub left: [u8; 55],
     pub right: [u8; 55],
 }
 
-/// What is hashed at a node, of two ways.
+/// The texts that two paths hash at a node.
 #[derive(Clone, Copy)]
 pub struct TwoNodes {
     pub left: [u8; 86],
     pub right: [u8; 86],
 }
 
-// Whether two texts are one.
+// Tests whether two texts are equal.
 pub(crate) fn is_same(left: &[u8], right: &[u8]) -> bool
     ensures same { OnTrue result (left.now ≡ right.now) }
     ensures apart { OnFalse result (left.now ≢ right.now) }
@@ -31,7 +31,7 @@ pub(crate) fn is_same(left: &[u8], right: &[u8]) -> bool
     left == right
 }
 
-// Whether two different texts have one digest.
+// Tests whether two different texts have the same digest.
 fn is_collision(left: &[u8], right: &[u8], left_digest: &Digest32, right_digest: &Digest32) -> bool
     ensures octets { IsBytes left.now × IsBytes right.now }
     ensures found { OnTrue result
@@ -41,8 +41,8 @@ fn is_collision(left: &[u8], right: &[u8], left_digest: &Digest32, right_digest:
     !is_same(left, right) && is_same(left_digest, right_digest)
 }
 
-/// The first step, from the one with the number `from` on, at which the chains from two values meet. Where there
-/// is none, the values are one, or the ends of the chains are two.
+/// Returns the first step, numbered `from` or later, at which the chains from two values meet. Returns `None` if
+/// there is no such step; then the values are equal, or the ends of the chains differ.
 pub fn meeting<H: Hasher>(
     i: &[u8; 16],
     q: u32,
@@ -75,8 +75,8 @@ pub fn meeting<H: Hasher>(
     None
 }
 
-/// The node nearest to the root at which two ways up from node r meet, along as many values beside each
-/// way as its path has. Where there is none, the ways begin with one value, or end with two.
+/// Returns the node nearest to the root at which two paths of equal length up from node r meet. Returns `None` if
+/// there is no such node; then the paths begin with the same value or end with different ones.
 pub fn highest_meeting<H: Hasher>(
     i: &[u8; 16],
     r: u32,

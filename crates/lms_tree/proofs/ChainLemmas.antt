@@ -1,4 +1,4 @@
--- A chain file is read as it is encoded.
+-- A chain file reads back as it was encoded.
 use Rattle.std.proofs.Common.{◌≡◌, ◌⊎◌, inl, inr, ℕ, zero, suc, ◌+◌, ◌-◌, ◌<◌, ◌≤◌, ◌==◌, Bool, true, false, cond, List, [], ◌∷◌, ◌++◌, length, get_or, Result, Ok, Err, refl, sym, ap, subst, ◌∙◌, append_assoc, append-nil, length-append, arith, nat_eq}
 use Rattle.std.specs.List.{flat_map}
 use Rattle.std.specs.Int.{w16, to_be_bytes}
@@ -42,10 +42,10 @@ if_ok false x y e h = absurd cc
 nonzero : (m : ℕ) → 0 < m → nat_eq m 0 ≡ false
 nonzero m lt = ne_eqb m 0 (λ e. omega (arith, lt, e))
 
--- ---- as many values as there are octets for
+-- ---- as many values as the octets encode
 
 module _ {A : Type 0} (f : Format A) where
-  -- what was read of several values
+  -- the octets from which several values were read
   abbrev Found : ℕ → Left → List A × Left → Type 0
   Found n left z = Took left (flat_map f.spell z.0) z.1 × ((length z.0 ≤ n) × RowsFit (λ _. f) (λ _. 0) 0 z.0)
 
@@ -64,7 +64,7 @@ module _ {A : Type 0} (f : Format A) where
         subst (Found (suc n) left) (one_ok (b.0.0 ∷ c.0.0, c.0.1) (xs, rest) c.2) (all, (few, (o.1, r.1.1)))
   ]
 
-  -- values whose encoding has an octet are read again
+  -- a value whose encoding is not empty is read back
   many_again : IsExact f → ((x : A) → f.Fits x → 0 < length (f.spell x)) → (n : ℕ) (xs : List A) (at : ℕ) → length xs ≤ n → RowsFit (λ _. f) (λ _. 0) 0 xs
       → many_at f n (record { at = at; text = flat_map f.spell xs }) ≡ Ok (xs, record { at = at + length (flat_map f.spell xs); text = [] })
   many_again ex some zero [] at few fits = ap (λ (p : ℕ). Ok ([], record { at = p; text = [] })) (omega arith)
@@ -114,11 +114,11 @@ links_all text r given y fits is =
 
 -- ---- the loop that reads
 
--- what was read before, and what is still read
+-- the rows read so far, and the rows still to be read
 abbrev pub put_front : {A : Type 0} → List A → List A × Left → Result (List A × Left) ℕ
 put_front front x = Ok (front ++ x.0, x.1)
 
--- the values that are still read complete what all of them give
+-- the values still to be read complete the values that all steps give
 abbrev pub Begun : {A : Type 0} → Format A → List A → ℕ → Left → Result (List A × Left) ℕ → Type 0
 Begun f front n left total = (many_at f n left >>= put_front front) ≡ total
 
@@ -175,7 +175,7 @@ rows_push f (first ∷ xs) x fits fit = (fits.0, rows_push f xs x fits.1 fit)
 
 -- ---- a whole file
 
--- a cursor that stands at the first octet
+-- a cursor at the first octet
 at_start : (text : List ℕ) (left : Left) → left.at ≡ 0 → left.text ≡ text → many_at link_row 7 left ≡ many_at link_row 7 (record { at = 0; text = text })
 at_start text left at is =
     ap (λ (a : ℕ). many_at link_row 7 (record { at = a; text = left.text })) at ∙ ap (λ (t : List ℕ). many_at link_row 7 (record { at = 0; text = t })) is
@@ -194,6 +194,6 @@ ended_here links rest b is = ap (λ (t : Bool). cond t (Ok links) (Err rest.at))
 pub whole_left : (text : List ℕ) (left : Left) (links : List Link) (rest : Left) → left.at ≡ 0 → left.text ≡ text → many_at link_row 7 left ≡ Ok (links, rest) → nat_eq (length rest.text) 0 ≡ false → whole chain_file text ≡ Err rest.at
 whole_left text left links rest at is h some = told_whole text left (Ok (links, rest)) at is h ∙ ended_here links rest false some
 
--- or none
+-- or no octets are left
 pub whole_read : (text : List ℕ) (left : Left) (links : List Link) (rest : Left) → left.at ≡ 0 → left.text ≡ text → many_at link_row 7 left ≡ Ok (links, rest) → nat_eq (length rest.text) 0 ≡ true → whole chain_file text ≡ Ok links
 whole_read text left links rest at is h none = told_whole text left (Ok (links, rest)) at is h ∙ ended_here links rest true none

@@ -10,8 +10,8 @@ use octet_text::{
 };
 use std::alloc::Global;
 
-/// The links that a chain file holds, seven at most. `Malformed` at the first field that can't be read: an eighth
-/// link is one, at its first octet.
+/// Reads the links of a chain file, at most seven. Fails with `Malformed` and the first field that cannot be read.
+/// An eighth link counts as such a field, at its first octet.
 pub fn read_links(alloc: Global, octets: &[u8]) -> Result<List<Link>, ReadError>
     requires { length octets.now < 2 ^ 32 }
     ensures exact { Reads (λ l. l) result (whole chain_file octets.now) }
@@ -21,7 +21,7 @@ pub fn read_links(alloc: Global, octets: &[u8]) -> Result<List<Link>, ReadError>
     read_all(alloc, octets)
 }
 
-// The same, as the format reads it.
+// Reads the links, as the format defines it.
 fn read_all(alloc: Global, octets: &[u8]) -> Result<List<Link>, ReadError>
     requires { length octets.now < 2 ^ 32 }
     ensures { Reads (λ l. l) result (whole chain_file octets.now) }
@@ -34,7 +34,7 @@ fn read_all(alloc: Global, octets: &[u8]) -> Result<List<Link>, ReadError>
     Ok(List::from_vec(links))
 }
 
-// Links until no octet is left, and at most so many.
+// Reads links until no octet is left, but at most this many.
 fn read_some(alloc: Global, cursor: &mut Cursor<'_>, most: u32) -> Result<Vec<Link>, ReadError>
     ensures { Gives (λ v. v.items) result cursor.new ((many link_row most).read cursor.old) }
 {
@@ -49,7 +49,7 @@ fn read_some(alloc: Global, cursor: &mut Cursor<'_>, most: u32) -> Result<Vec<Li
     Ok(links)
 }
 
-// One link.
+// Reads one link.
 fn read_link(alloc: Global, cursor: &mut Cursor<'_>) -> Result<Link, ReadError>
     ensures { Gives (λ l. l) result cursor.new (link_row.read cursor.old) }
 {
@@ -59,7 +59,7 @@ fn read_link(alloc: Global, cursor: &mut Cursor<'_>) -> Result<Link, ReadError>
     Ok(Link { key, signature })
 }
 
-// The 56 octets of a public key.
+// Reads the 56 octets of a public key.
 fn read_key(cursor: &mut Cursor<'_>) -> Result<[u8; 56], Short>
     ensures { Takes (λ key. key) result cursor.new (octets_at 56 any_octets cursor.old) }
 {
@@ -69,7 +69,7 @@ fn read_key(cursor: &mut Cursor<'_>) -> Result<[u8; 56], Short>
     Ok(key)
 }
 
-// A signature after its length.
+// Reads a signature, which follows its length.
 fn read_signature(alloc: Global, cursor: &mut Cursor<'_>) -> Result<Octets, ReadError>
     ensures { Gives (λ x. x) result cursor.new ((string (u16 (between 0 1452))).read cursor.old) }
 {
@@ -78,7 +78,7 @@ fn read_signature(alloc: Global, cursor: &mut Cursor<'_>) -> Result<Octets, Read
     Ok(Octets::from_vec(copied(alloc, octets)?))
 }
 
-/// The octets of the file of a chain.
+/// Encodes a chain file.
 pub fn write_links(alloc: Global, links: &[Link]) -> Result<Vec<u8>, NoMemory>
     requires { chain_file.Fits links.now }
     ensures { IfOk result (λ octets. octets.items ≡ chain_file.spell links.now) }

@@ -12,14 +12,14 @@ use thiserror::Error;
 
 mod parts;
 
-// As many zero digests as a count says.
+// Returns a list of this many zero digests.
 fn zeros(alloc: Global, count: usize) -> Result<Vec<Digest32>, NoMemory>
     ensures { IfOk result (λ v. length v.items ≡ count) }
 {
     filled(alloc, [0; 32], count)
 }
 
-// A node of the tree, by the nodes after it.
+// Returns a node of the tree, from the nodes with greater numbers.
 fn node_at(i: &[u8; 16], seed: &[u8; 32], height: u32, nodes: &[Digest32], r: u32) -> Digest32
     requires height { height ≤ 10 }
     requires low { 1 ≤ r }
@@ -36,7 +36,7 @@ fn node_at(i: &[u8; 16], seed: &[u8; 32], height: u32, nodes: &[Digest32], r: u3
     }
 }
 
-// All nodes of the tree. The memory is taken first.
+// Returns all nodes of the tree. Takes all memory before the first hash.
 fn nodes_of(
     alloc: Global,
     i: &[u8; 16],
@@ -55,7 +55,7 @@ fn nodes_of(
     Ok(nodes)
 }
 
-// The other child of a node's parent.
+// Returns the sibling of a node.
 fn sibling_of(r: u32) -> u32
     requires { r < 2 ^ 31 }
     ensures { result ≡ sibling r }
@@ -63,7 +63,7 @@ fn sibling_of(r: u32) -> u32
     if r % 2 == 0 { r + 1 } else { r - 1 }
 }
 
-/// Why there is no key.
+/// Why a key could not be built.
 #[derive(Clone, Copy, Debug, PartialEq, Eq, Error)]
 pub enum KeyError {
     /// The type is neither 5 nor 6.
@@ -74,7 +74,7 @@ pub enum KeyError {
     Memory(NoMemory),
 }
 
-/// A private key with the nodes of its tree, 64 for height 5 and 2,048 for height 10.
+/// A private key with the nodes of its tree: 64 for height 5, 2,048 for height 10.
 #[derive(Drop)]
 pub struct Key {
     kind: u32,
@@ -96,8 +96,8 @@ impl Model for Key {
 }
 
 impl Key {
-    /// The key of a type, 5 or 6, whose one-time keys are made from `I` and `SEED` (§ 5.2,
-    /// Appendix A). All of its memory is taken before the first hash.
+    /// Builds the key of a type, 5 or 6, with one-time keys derived from `I` and `SEED` (§ 5.2, Appendix A). Takes
+    /// all its memory before the first hash.
     pub fn build(alloc: Global, kind: u32, i: &[u8; 16], seed: &[u8; 32]) -> Result<Key, KeyError>
         ensures key { IfOk result (λ key.
             key ≡ record { kind = kind; i = i.now; seed = seed.now }) }
@@ -119,21 +119,21 @@ impl Key {
         }
     }
 
-    /// The type of the tree.
+    /// Returns the type of the tree.
     pub fn kind(&self) -> u32
         ensures { result ≡ self.now.kind }
     {
         self.kind
     }
 
-    /// How many one-time keys the tree has, 32 or 1,024.
+    /// Returns the number of one-time keys of the tree, 32 or 1,024.
     pub fn slots(&self) -> u32
         ensures { result ≡ 2 ^ height_of self.now.kind }
     {
         1 << self.height
     }
 
-    /// The public key, 56 octets (§ 5.3).
+    /// Returns the public key, 56 octets (§ 5.3).
     pub fn public(&self) -> [u8; 56]
         ensures { result ≡ public_key self.now }
     {
@@ -146,7 +146,7 @@ impl Key {
         public
     }
 
-    /// Writes the signature of a text by the one-time key `q` (§ 5.4.1). It takes no memory.
+    /// Writes the signature of a text by the one-time key `q` (§ 5.4.1). Takes no memory.
     pub fn sign_into(&self, q: u32, text: &[u8], out: &mut [u8])
         requires slot { q < 2 ^ height_of self.now.kind }
         requires room { length out.old ≡ seal_len (height_of self.now.kind) }
@@ -161,7 +161,7 @@ impl Key {
         self.write_path(q, out);
     }
 
-    // Writes the path of leaf q after what a signature has before it.
+    // Writes the path of leaf q into a signature, after the other fields.
     fn write_path(&self, q: u32, out: &mut [u8])
         requires slot { q < 2 ^ height_of self.now.kind }
         requires room { length out.old ≡ seal_len (height_of self.now.kind) }

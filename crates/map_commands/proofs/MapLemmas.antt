@@ -18,11 +18,11 @@ use Rattle.map_commands.specs.RouteLine.{IsRouteLine, GivesLine, EndsRoute, ends
 use Rattle.map_commands.specs.RootLine.{IsRootLine, EndsRoot, ends_root}
 use Rattle.map_commands.specs.DimacsFiles.{dimacs_at, EndsDimacs, ends_dimacs}
 
--- an ending over parts that make a map
+-- an end that follows parts that make a map
 abbrev pub OverMap : Parts → (Parts → Ending) → Ending
 OverMap parts Ends o text = IsMap parts → Ends parts o text
 
--- why there is no line
+-- the reason why there is no line
 why_none : (parts : Parts) (from to : ℕ) (f : Fault) → GivesLine parts from to (Err f) → WhyNot NoDisk (OverMap parts (EndsRoute from to)) f
 why_none parts from to (Memory _) h = tt
 why_none parts from to (UnknownNode id) h = λ is. (is, h, refl)
@@ -30,13 +30,13 @@ why_none parts from to NoRoute h = λ is. (is, h, refl)
 why_none parts from to f h = absurd h
 
 module _ (files : Option Folder) (name : List ℕ) (parts : Parts) (read : IfSome files (λ folder. (parts_at folder name ≡ Ok parts) × IsMap parts)) (l l' k k' : ℕ) (old : Option (List ℕ)) where
-  -- what the road file calls for
+  -- what the road file requires
   calls : (Ends : Parts → Ending) (o : Result Conclusion Fault) (text : List ℕ) → OverMap parts Ends o text → CallsFor (λ folder. EndsReading (parts_at folder name) Ends) files o text
   calls Ends o text h =
       over files (λ folder. (parts_at folder name ≡ Ok parts) × IsMap parts) (λ folder. EndsReading (parts_at folder name) Ends o text)
       (λ folder is. reads (parts_at folder name) parts Ends o text is.0 (h is.1)) read
 
-  -- an end that is no node, or two that no walk joins
+  -- an end that is not a node, or two ends that no walk joins
   pub route_refused : (from to : ℕ) (f : Fault) → GivesLine parts from to (Err f) → Promises (ends_route name from to) TellsNone NoDisk files l l' old old k k' (Err f)
   route_refused from to f h =
       refused (ends_route name from to) TellsNone NoDisk files l l' k k' old (OverMap parts (EndsRoute from to)) (calls (EndsRoute from to)) f (why_none parts from to f h)

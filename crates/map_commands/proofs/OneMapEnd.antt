@@ -1,4 +1,4 @@
--- Over their files, `route`, `root` and `dimacs` have one end.
+-- `route`, `root` and `dimacs` each have one result over their files.
 use Rattle.std.proofs.Common.{◌≡◌, ℕ, List, refl, ap}
 use Rattle.std.specs.declared.result.Result.{Result}
 use Rattle.std.specs.declared.result.Result.TheVariants.{Ok, Err}

@@ -27,7 +27,7 @@ few_arcs parts is node arcs e leaf l =
     let P : NodeLeaf → Type 0 = λ leaf. length leaf.arcs < 65536 in
     subst P (sym l) (omega (arith, few))
 
--- the text at an index is that of the plain leaf of the node there
+-- the text at an index is that of the plain leaf of the node at this index
 pub text_here : (parts : Parts) (order : List Node) (place : ℕ) (node : Node) (text : List ℕ) → slice_get order place ≡ Some node → text ≡ node_leaf_text (plain_leaf parts node) → get_or (plain_texts parts order) place [] ≡ text
 text_here parts order place node text here is =
     let leaf : Node → List ℕ = λ node. node_leaf_text (plain_leaf parts node) in

@@ -1,4 +1,4 @@
--- What `dimacs` reads and writes.
+-- The input and output of `dimacs`.
 use Rattle.std.specs.Prelude.{◌≡◌, List, ℕ}
 use Rattle.std.specs.declared.result.Result.{Result}
 use Rattle.std.specs.declared.result.Result.TheVariants.{Ok, Err}
@@ -22,8 +22,8 @@ dimacs_in (Ok graph) (Ok places) = as_dimacs (dimacs_of graph places)
 dimacs_in (Ok graph) (Err fault) = Err fault
 dimacs_in (Err fault) places = Err fault
 
--- the parts of the graph and its coordinates in the files of these names, of which both are loaded
--- first
+-- the parts of the graph and its coordinates in the files with these names; both files are loaded before either is
+-- read
 abbrev pub dimacs_at : Folder → List ℕ → List ℕ → Result Parts Fault
 dimacs_at folder graph places = dimacs_in (octets_at folder graph) (octets_at folder places)
 
@@ -32,6 +32,6 @@ abbrev pub EndsDimacs : Parts → Ending
 EndsDimacs parts (Ok Done) text = text ≡ printed_roads parts
 EndsDimacs parts outcome text = ⊥
 
--- the same over the files of these names
+-- the same over the files with these names
 abbrev pub ends_dimacs : List ℕ → List ℕ → Folder → Ending
 ends_dimacs graph places folder = EndsReading (dimacs_at folder graph places) EndsDimacs

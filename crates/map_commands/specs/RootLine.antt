@@ -1,4 +1,4 @@
--- What `root` writes.
+-- The output of `root`.
 use Rattle.std.specs.Prelude.{◌≡◌, ℕ, List, [], ◌++◌, length, map, codes, slice_get, Some}
 use Rattle.std.specs.Fmt.{decimal}
 use Rattle.hex.specs.Hex.{encode_lower}
@@ -19,7 +19,7 @@ use Rattle.command_files.specs.Endings.{Ending, EndsReading}
 use Rattle.command_files.specs.declared.fault.Fault.TheVariants.{Map as MapFault}
 use Rattle.command_files.specs.declared.ended.Conclusion.TheVariants.{Done}
 
--- the leaf of a node that says its place and its arcs alone
+-- the leaf of a node with only its coordinates and arcs
 abbrev pub plain_leaf : Parts → Node → NodeLeaf
 plain_leaf parts node = record {
   id = node.id;
@@ -39,12 +39,11 @@ pub record IsPlainTextAt (map : Charted) (place : ℕ) (text : List ℕ) : Type 
   pub here : slice_get map.order place ≡ Some node
   pub is : text ≡ node_leaf_text (plain_leaf map.parts node)
 
--- the line of a root: the count of nodes, a space, the root in lower case hex, and a line end
+-- the line of a root: the number of nodes, a space, the root in lower-case hex, and a line end
 abbrev pub root_line : ℕ → List ℕ → List ℕ
 root_line count root = decimal count ++ codes " " ++ encode_lower root ++ codes "\n"
 
--- the line of how many nodes there are, and of the root of the tree over their plain leaves by
--- ascending id
+-- the line of the number of nodes, and of the root of the tree over their plain leaves by ascending id
 pub record IsRootLine (parts : Parts) (fan : ℕ) (text : List ℕ) : Type 0 where
   pub order : List Node
   pub by_id : IsById parts.nodes order
@@ -56,6 +55,6 @@ EndsRoot fan parts (Ok Done) text = IsMap parts × IsRootLine parts fan text
 EndsRoot fan parts (Err (MapFault fault)) text = IsMapFault parts fault × (text ≡ [])
 EndsRoot fan parts outcome text = ⊥
 
--- the same over the road file of this name
+-- the same over the road file with this name
 abbrev pub ends_root : List ℕ → ℕ → Folder → Ending
 ends_root roads fan folder = EndsReading (parts_at folder roads) (EndsRoot fan)

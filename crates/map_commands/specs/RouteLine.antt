@@ -1,4 +1,4 @@
--- What `route` writes.
+-- The output of `route`.
 use Rattle.std.specs.Prelude.{◌≡◌, ℕ, List, []}
 use Rattle.std.specs.declared.result.Result.{Result}
 use Rattle.std.specs.declared.result.Result.TheVariants.{Ok, Err}
@@ -23,7 +23,7 @@ pub record IsRouteLine (parts : Parts) (from to : ℕ) (text : List ℕ) : Type 
   pub shortest : IsShortest parts from to route length
   pub line : text ≡ route_line length route
 
--- `route` over the parts of a file: the line of a shortest route, or why there is none
+-- `route` over the parts of a file: the line of a shortest route, or the reason why there is none
 abbrev pub EndsRoute : ℕ → ℕ → Parts → Ending
 EndsRoute from to parts (Ok Done) text = IsMap parts × IsRouteLine parts from to text
 EndsRoute from to parts (Err (Map fault)) text = IsMapFault parts fault × (text ≡ [])
@@ -32,11 +32,11 @@ EndsRoute from to parts (Err (UnknownNode id)) text = IsMap parts ×
 EndsRoute from to parts (Err NoRoute) text = IsMap parts × AreApart parts from to × (text ≡ [])
 EndsRoute from to parts outcome text = ⊥
 
--- the same over the road file of this name
+-- the same over the road file with this name
 abbrev pub ends_route : List ℕ → ℕ → ℕ → Folder → Ending
 ends_route roads from to folder = EndsReading (parts_at folder roads) (EndsRoute from to)
 
--- what a function gives that makes the line over a map
+-- the value of a function that makes the line over a map
 abbrev pub GivesLine : Parts → ℕ → ℕ → Result (Vec ℕ Global) Fault → Type 0
 GivesLine parts from to (Ok text) = IsRouteLine parts from to text.items
 GivesLine parts from to (Err (UnknownNode id)) = IsFirstUnknown parts from to id

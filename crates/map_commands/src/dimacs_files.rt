@@ -38,7 +38,7 @@ pub fn dimacs<L: Library, K: Sink>(
     write_text(sink, &text)
 }
 
-/// The parts of a graph and its coordinates. Both files are loaded before either is read.
+/// Loads the parts of a graph and its coordinates. Loads both files before it reads either of them.
 fn load_dimacs<L: Library>(
     alloc: Global,
     library: &mut L,

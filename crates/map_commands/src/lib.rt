@@ -1,5 +1,5 @@
-//! The commands over maps: a shortest route, the root of a map's plain leaves, and a road file of a
-//! graph and its coordinates.
+//! The commands over maps: a shortest route, the root over a map's plain leaves, and the road file of a graph and
+//! its coordinates.
 #![tactic(auto)]
 
 pub use dimacs_files::dimacs;

@@ -12,7 +12,7 @@ use road_map::Map;
 use road_search::{knows, shortest};
 use std::alloc::Global;
 
-/// Writes the line of a shortest route between two nodes of a file's map.
+/// Writes the line of a shortest route between two nodes of the map in a file.
 pub fn route<L: Library, K: Sink>(
     alloc: Global,
     library: &mut L,
@@ -33,7 +33,7 @@ pub fn route<L: Library, K: Sink>(
     write_text(sink, &line)
 }
 
-/// The line of a shortest route between two nodes of a map.
+/// Returns the line of a shortest route between two nodes of a map.
 fn shortest_line(alloc: Global, map: &Map, from: u32, to: u32) -> Result<Vec<u8>, Fault>
     ensures { GivesLine map.now.parts from to result }
 {

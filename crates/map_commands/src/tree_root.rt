@@ -15,8 +15,8 @@ use road_leaf::{Extra, NodeLeaf};
 use road_map::{Arc, Arcs, Map, Node};
 use std::alloc::Global;
 
-/// Writes how many nodes a file's map has, and the root of the tree over their plain leaves. The
-/// fan-out is one of a tree, from 2 to 32.
+/// Writes the number of nodes of the map in a file, and the root of the tree over their plain leaves. The fan-out
+/// is 2 to 32.
 pub fn root<L: Library, K: Sink>(
     alloc: Global,
     library: &mut L,
@@ -41,7 +41,7 @@ pub fn root<L: Library, K: Sink>(
     write_text(sink, &line)
 }
 
-/// The count of a map's nodes, and the root of the tree over their plain leaves, as a line.
+/// Returns the number of a map's nodes, and the root of the tree over their plain leaves, as a line.
 fn root_line(alloc: Global, map: &Map, fan: u8) -> Result<Vec<u8>, NoMemory>
     requires least { 2 ≤ fan }
     requires most { fan ≤ 32 }
@@ -53,8 +53,8 @@ fn root_line(alloc: Global, map: &Map, fan: u8) -> Result<Vec<u8>, NoMemory>
     Ok(line)
 }
 
-/// The root of the tree over the plain leaves of a map's nodes, by ascending id, of which one at a time is
-/// encoded.
+/// Returns the root of the tree over the plain leaves of a map's nodes, by ascending id. Encodes one leaf at a
+/// time.
 fn plain_root(alloc: Global, map: &Map, fan: u8) -> Result<Digest32, NoMemory>
     requires least { 2 ≤ fan }
     requires most { fan ≤ 32 }
@@ -71,7 +71,7 @@ fn plain_root(alloc: Global, map: &Map, fan: u8) -> Result<Digest32, NoMemory>
     Ok(rising.end().root)
 }
 
-/// The text of the plain leaf of the node at a position.
+/// Returns the text of the plain leaf of the node at a position.
 fn leaf_text(alloc: Global, map: &Map, position: u32) -> Result<Vec<u8>, NoMemory>
     requires { position < length map.now.order }
     ensures { IfOk result (λ text. IsPlainTextAt map.now position text.items) }
@@ -84,7 +84,7 @@ fn leaf_text(alloc: Global, map: &Map, position: u32) -> Result<Vec<u8>, NoMemor
     Ok(text)
 }
 
-/// The line of a root: the count, a space, the root in lower case hex, and a line end.
+/// Returns the line of a root: the number of nodes, a space, the root in lower-case hex, and a line end.
 fn line_of_root(alloc: Global, count: usize, root: &Digest32) -> Result<Vec<u8>, NoMemory>
     ensures { IfOk result (λ line. line.items ≡ root_line count root.now) }
 {
@@ -101,7 +101,7 @@ fn printed(alloc: Global, count: usize, root: &Digest32) -> Result<String, NoMem
     Ok(text)
 }
 
-/// The plain leaf of a node with these arcs.
+/// Returns the plain leaf of a node with these arcs.
 fn plain_leaf(alloc: Global, node: Node, arcs: &[Arc]) -> Result<NodeLeaf, NoMemory>
     ensures { IfOk result (λ leaf.
         leaf ≡ record {

@@ -1,4 +1,4 @@
-//! Two files that are read, and the faults of some that are not.
+//! Two files that are read, and others with faults.
 
 use crate::same::{assert_row, assert_same};
 use dimacs_reader::{DimacsError, read_dimacs};
@@ -41,7 +41,7 @@ fn pairs_of_arcs_are_roads(rt: HostRuntime) -> Result<(), Fail> {
     Ok(())
 }
 
-/// The fault of two texts of a test's size.
+/// Returns the fault of two short texts.
 fn fault_of(alloc: Global, graph: &[u8], places: &[u8]) -> Option<DimacsError> {
     if graph.len() > 10_000 || places.len() > 10_000 {
         return None;
@@ -89,7 +89,7 @@ static FAULTS: [(&[u8], &[u8], DimacsError); 16] = [
         PLACES,
         DimacsError::Unpaired(2),
     ),
-    // An arc is paired once.
+    // An arc is paired only once.
     (
         b"p sp 2 5\na 2 1 7\na 1 2 7\na 2 2 0\na 1 2 7\na 2 1 6\n",
         b"p aux sp co 2\nv 2 0 0\nv 1 0 0\n",

@@ -1,4 +1,4 @@
-//! Frames that are taken and written, and those that are cut short or too long.
+//! Frames that are read and written, and frames that are cut short or too long.
 
 use crate::same::assert_same;
 use mem_io::{MemSink, MemSource};

@@ -1,4 +1,4 @@
-//! What no clause says: texts worked out by hand, calls that succeed, and texts of refusals.
+//! Facts that no clause states: texts worked out by hand, calls that succeed, and texts of refusals.
 
 use crate::same::{assert_printed, assert_row, assert_same};
 use octet_text::NoMemory;
@@ -15,7 +15,7 @@ const NODE: [u8; 31] = [
 
 static ARCS: [Arc; 2] = [Arc { to: 2, length: 4 }, Arc { to: 4, length: 3 }];
 
-// Node 7 at (-1, 2), without roads, up to what its kind adds.
+// Node 7 at (-1, 2), without roads, up to the contents that its kind adds.
 const ALONE: [u8; 15] = [0x4e, 0, 0, 0, 7, 0xff, 0xff, 0xff, 0xff, 0, 0, 0, 2, 0, 0];
 
 const VECTOR: LeafKind = LeafKind::Vector { landmarks: 2 };
@@ -47,7 +47,7 @@ fn a_leaf_says_what_it_refers_to(rt: HostRuntime) -> Result<(), Fail> {
     Ok(())
 }
 
-// The text of the leaf that a text encodes.
+// Reads a leaf and returns its text.
 fn text_again(alloc: Global, text: &[u8], kind: LeafKind) -> Result<Vec<u8>, LeafError> {
     let leaf = NodeLeaf::read(alloc, text, kind)?;
     let mut out = Vec::new(alloc);

@@ -1,4 +1,4 @@
-//! Tests of maps, their files and searches: worked rows, and what no clause says.
+//! Tests of maps, their files and searches: worked examples, and facts that no clause states.
 #![tactic(auto)]
 
 #[cfg(test)]

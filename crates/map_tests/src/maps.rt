@@ -1,4 +1,4 @@
-//! Maps that are made and refused, with the answers that the rules of maps give.
+//! Maps that are made and refused. The expected results follow from the rules of maps.
 
 use crate::same::{assert_printed, assert_row, assert_same};
 use octet_text::{NoMemory, push};
@@ -6,7 +6,7 @@ use road_map::{Arc, Map, MapError, Node, Parts};
 use std::alloc::Global;
 use std::process::Abort;
 use std::test::Fail;
-use test_maps::{NODES, apart, map_of, refusal};
+use test_maps::{NODES, apart, map_of};
 
 const FOUR: [(u32, i32, i32); 4] = [(40, 0, 0), (7, 0, 0), (900, 0, 0), (8, 0, 0)];
 
@@ -103,7 +103,7 @@ fn the_first_fault_is_named(rt: HostRuntime) {
     }
 }
 
-/// A road from the first of so many nodes to each other.
+/// Returns roads from the first of `count` nodes to each of the others.
 fn rays(alloc: Global, count: u32) -> Result<Vec<(u32, u32, u32)>, NoMemory> {
     let mut roads = Vec::new(alloc);
     for id in 2..=count {
@@ -166,9 +166,5 @@ fn faults_are_printed(rt: HostRuntime) -> Result<(), Fail> {
     for (fault, text) in &PRINTED {
         assert_printed(&rt, rt.alloc(), *fault, *text)?;
     }
-    let Some(none) = refusal(rt.alloc()) else {
-        return Err(Fail::from("no memory was refused"));
-    };
-    assert_printed(&rt, rt.alloc(), MapError::Memory(none), "Out of memory.")?;
     Ok(())
 }

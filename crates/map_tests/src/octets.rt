@@ -1,5 +1,4 @@
-//! What no clause says: published digests, octets written out, growth that succeeds, and texts of
-//! refusals.
+//! Facts that no clause states: published digests, octets written out, growth that succeeds, and texts of refusals.
 ghost use Rattle.std.specs.Prelude.{ℕ, ◌≡◌};
 ghost use Rattle.std.specs.Int.{w16, to_be_bytes};
 ghost use Rattle.octet_text.specs.Format.{u16, any};
@@ -15,7 +14,6 @@ use octet_text::{
 use std::alloc::Global;
 use std::collections::{BTreeMap, BTreeSet, BinaryHeap};
 use std::test::Fail;
-use test_maps::refusal;
 
 const OF_NOTHING: Digest32 = [
     0xe3, 0xb0, 0xc4, 0x42, 0x98, 0xfc, 0x1c, 0x14, 0x9a, 0xfb, 0xf4, 0xc8, 0x99, 0x6f, 0xb9, 0x24,
@@ -27,7 +25,7 @@ const OF_ABC: Digest32 = [
     0xb0, 0x03, 0x61, 0xa3, 0x96, 0x17, 0x7a, 0x9c, 0xb4, 0x10, 0xff, 0x61, 0xf2, 0x00, 0x15, 0xad,
 ];
 
-// The digest of a text that is added in two pieces.
+// Returns the digest of a text added in two pieces.
 fn digest_of_two<H: Hasher>(first: &[u8], second: &[u8]) -> Digest32 {
     let mut hasher = H::start();
     hasher.add(first);
@@ -35,7 +33,7 @@ fn digest_of_two<H: Hasher>(first: &[u8], second: &[u8]) -> Digest32 {
     hasher.end()
 }
 
-// The digest of a text that is added octet by octet.
+// Returns the digest of a text added octet by octet.
 fn digest_by_octets<H: Hasher>(text: &[u8]) -> Digest32 {
     let mut hasher = H::start();
     for octet in text {
@@ -95,7 +93,7 @@ fn takes_are_short_at_the_end_of_the_octets(rt: HostRuntime) {
     assert_same(&rt, cursor.take_u8(), Err(Short { at: 21 }));
 }
 
-// Numbers of two octets.
+// A format of numbers in two octets.
 #[derive(Drop)]
 struct Numbers;
 
@@ -219,6 +217,15 @@ fn texts_grow(rt: HostRuntime) -> Result<(), Fail> {
     push_str(&mut text, ", ")?;
     print(&mut text, format_args!("{} roads", 12u8))?;
     assert_same(&rt, text.as_str(), "5 nodes, 12 roads");
+    let mut numbers = text_of(rt.alloc(), "")?;
+    print(
+        &mut numbers,
+        format_args!("{} {} {} {} {}", 65_535u16, u32::MAX, u64::MAX, 7usize, -5),
+    )?;
+    let wanted = "65535 4294967295 18446744073709551615 7 -5";
+    assert_same(&rt, numbers.as_str(), wanted);
+    print(&mut text, format_args!(", {}", numbers))?;
+    assert_same(&rt, text.len(), 19 + wanted.len());
     let digits = hex_of(rt.alloc(), &[0, 0xaf])?;
     assert_same(&rt, digits.as_str(), "00af");
     let octets = octets_of_hex(rt.alloc(), b"00Af")??;
@@ -240,10 +247,5 @@ fn refusals_are_whole_sentences(rt: HostRuntime) -> Result<(), Fail> {
     let read = ReadError::Malformed(Malformed { at: 4 });
     let wanted = "The field at offset 4 can't be read.";
     assert_printed(&rt, rt.alloc(), read, wanted)?;
-    let Some(none) = refusal(rt.alloc()) else {
-        return Err(Fail::from("no memory was refused"));
-    };
-    assert_printed(&rt, rt.alloc(), none, "Out of memory.")?;
-    assert_printed(&rt, rt.alloc(), ReadError::Memory(none), "Out of memory.")?;
     Ok(())
 }

@@ -1,4 +1,4 @@
-//! The orders of small maps, worked out by hand, and of large ones.
+//! The orders of small maps, worked out by hand, and those of large maps.
 
 ghost use Rattle.std.specs.Prelude.{◌≤◌};
 
@@ -17,7 +17,7 @@ static ORDERS: [(u8, [u32; 5]); 5] = [
     (4, [1, 2, 4, 3, 5]),
 ];
 
-/// The ids of the five nodes in an order.
+/// Returns the ids of the five nodes in an order.
 fn ordered(alloc: Global, kind: u8) -> Result<Result<Ids, OrderError>, MapError> {
     let map = map_of(alloc, &NODES, &ROADS)?;
     Ok(order(alloc, &map, kind, 7))
@@ -41,7 +41,7 @@ fn unknown_kinds_are_refused(rt: HostRuntime) -> Result<(), Fail> {
     Ok(())
 }
 
-/// The nodes from 1 to a count, scattered, with the roads of a ring.
+/// Makes the nodes from 1 to `count`, with scattered coordinates, and the roads of a ring.
 fn ring_of(alloc: Global, count: u32) -> Result<Map, Fail>
     requires { count ≤ 65536 }
 {

@@ -8,7 +8,7 @@ use std::process::Abort;
 use std::test::Fail;
 use test_maps::{NODES, ROADS, parts_of};
 
-/// A map of five nodes and four roads, but for its last line.
+/// A map of five nodes and four roads, without its last line.
 const FRONT: &[u8] = b"roads 1
 node 1 0 0
 node 2 10 0
@@ -22,7 +22,7 @@ road 1 4 3
 
 const LAST: &[u8] = b"road 4 3 7\n";
 
-/// The same map with other line ends, a comment, more blanks and no end on its last line.
+/// The same map with other line ends, a comment, more blanks, and no line end on its last line.
 const SPELLED_OTHERWISE: &[u8] = b"# five nodes\r
 \troads  1\r
 \r
@@ -43,7 +43,7 @@ fn joined(alloc: Global, front: &[u8], last: &[u8]) -> Result<Vec<u8>, AllocErro
     Ok(text)
 }
 
-/// What is printed of the parts that a text of a test's size lists.
+/// Reads a short text and prints its parts.
 fn printed(alloc: Global, text: &[u8]) -> Result<Vec<u8>, Fail> {
     if text.len() > 1000 {
         return Err(Fail::from("a long text"));
@@ -65,8 +65,8 @@ fn a_map_is_read_and_printed_again(rt: HostRuntime) -> Result<(), Fail> {
     assert_again(&rt, rt.alloc(), SPELLED_OTHERWISE, text.as_slice())
 }
 
-/// What a text of a test's size lists: nodes by id, x and y, and roads by their two ends and
-/// length.
+/// Asserts the contents of a short text: the id, x and y of each node, and the two ends and the length of each
+/// road.
 fn assert_listed(
     rt: &impl Abort,
     alloc: Global,
@@ -91,7 +91,7 @@ fn a_text_lists_nodes_and_roads(rt: HostRuntime) -> Result<(), Fail> {
     Ok(())
 }
 
-/// A text with the ends of the ranges.
+/// A text with the least and the greatest numbers of the ranges.
 const ENDS: &[u8] =
     b"roads 1\nnode 4294967295 -2147483648 2147483647\nroad 0 4294967295 4294967295\n";
 
@@ -113,7 +113,7 @@ fn the_ends_of_the_ranges_are_read_and_printed(rt: HostRuntime) -> Result<(), Fa
     assert_again(&rt, rt.alloc(), ENDS, ENDS)
 }
 
-/// The fault of a text of a test's size.
+/// Returns the fault of a short text.
 fn fault_of(alloc: Global, text: &[u8]) -> Option<RoadError> {
     if text.len() > 10_000_000 {
         return None;
@@ -174,7 +174,7 @@ fn a_file_begins_with_its_title(rt: HostRuntime) {
     }
 }
 
-/// The fault of a text of so many equal lines.
+/// Returns the fault of a text with this many equal lines.
 fn fault_of_lines(alloc: Global, line: &[u8], count: u32) -> Result<Option<RoadError>, AllocError> {
     let mut text = Vec::from_slice(alloc, b"roads 1\n")?;
     for _ in 0..count {

@@ -1,4 +1,5 @@
-//! Assertions as calls: a test of calls is proved far sooner than one with assertions written out.
+//! Assertions as functions. The proof of a test that calls them is much faster than that of a test with the
+//! assertions written out.
 
 use std::alloc::{AllocError, Global};
 use std::fmt::{Debug, Display};
@@ -9,7 +10,7 @@ pub(crate) fn assert_same<T: PartialEq + Debug + Drop>(rt: &impl Abort, found: T
     assert_eq!(rt; found, wanted);
 }
 
-/// Asserts that two values are equal, and else names the row of a table.
+/// Asserts that two values are equal. A failure names the row of a table.
 pub(crate) fn assert_row<A: Debug + Drop, T: PartialEq + Debug + Drop>(
     rt: &impl Abort,
     row: A,
@@ -19,7 +20,7 @@ pub(crate) fn assert_row<A: Debug + Drop, T: PartialEq + Debug + Drop>(
     assert_eq!(rt; found, wanted, "at {row:?}");
 }
 
-/// Asserts that a value is printed so.
+/// Asserts the printed text of a value.
 pub(crate) fn assert_printed<T: Display + Drop>(
     rt: &impl Abort,
     alloc: Global,

@@ -1,4 +1,4 @@
-//! Searches against a plain slow program, and the routes of small maps.
+//! Searches compared with a plain slow program, and the routes of small maps.
 
 use crate::same::{assert_row, assert_same};
 use octet_text::NoMemory;
@@ -9,7 +9,7 @@ use std::process::Abort;
 use std::test::Fail;
 use test_maps::{NODES, ROADS, apart, map_of, parts_of};
 
-/// A ground whose ids are indices in a list; one id bars walks from a length on.
+/// The ground of a search whose ids are indices in a list. At one id, walks of at least a given length are barred.
 #[derive(Drop)]
 struct Barred<'a> {
     rows: &'a [Arcs],
@@ -40,7 +40,7 @@ impl Ground for Barred<'_> {
     ghost lets_shorter = { λ g. lets_below_shorter g.id g.bar };
 }
 
-/// Keeps a length to an id where it is less than the one that is kept.
+/// Stores a length for an id if it is less than the stored one.
 fn lower(best: &mut [Option<u64>], id: u32, length: u64) {
     if let Some(old) = best.get_mut(id as usize) {
         let falls = match *old {
@@ -53,7 +53,7 @@ fn lower(best: &mut [Option<u64>], id: u32, length: u64) {
     }
 }
 
-/// Takes each arc out of an id once, and keeps what falls.
+/// Relaxes each arc out of an id once.
 fn relax(ground: &Barred, best: &mut [Option<u64>], id: u32, limit: u64) {
     let Some(Some(length)) = best.get(id as usize).copied() else {
         return;
@@ -72,10 +72,10 @@ fn relax(ground: &Barred, best: &mut [Option<u64>], id: u32, limit: u64) {
     }
 }
 
-/// How many ids there are in a case.
+/// The number of ids in a case.
 const IDS: u32 = 7;
 
-/// The length 0 at the start, if the limit lets it, and no other.
+/// Returns lengths in which only the start has one, 0, if the limit allows it.
 fn started(alloc: Global, from: u32, limit: u64) -> Result<Vec<Option<u64>>, AllocError> {
     let mut best = Vec::new(alloc);
     for id in 0..IDS {
@@ -95,7 +95,7 @@ fn relax_all(ground: &Barred, best: &mut [Option<u64>], limit: u64) {
     }
 }
 
-/// Least lengths by relaxing every arc as often as there are ids.
+/// Returns the least lengths by relaxing every arc as often as there are ids.
 fn relaxed(
     alloc: Global,
     ground: &Barred,
@@ -109,7 +109,7 @@ fn relaxed(
     Ok(best)
 }
 
-/// The least length to an id.
+/// Returns the least length to an id.
 fn length_in(best: &[Option<u64>], id: u32) -> Option<u64> {
     match best.get(id as usize) {
         None => None,
@@ -117,7 +117,7 @@ fn length_in(best: &[Option<u64>], id: u32) -> Option<u64> {
     }
 }
 
-/// The least id from here on that has a length.
+/// Returns the least id, from `entries` on, that has a length.
 fn missing_in(best: &[Option<u64>], entries: u32) -> Option<u32> {
     for id in entries..IDS {
         if length_in(best, id).is_some() {
@@ -127,7 +127,7 @@ fn missing_in(best: &[Option<u64>], entries: u32) -> Option<u32> {
     None
 }
 
-/// Arcs out of the first ids, by these triples of an id, where it leads, and a length.
+/// Returns the arcs out of the first ids, from triples of a start, an end and a length.
 fn rows_of(alloc: Global, count: u32, arcs: &[(u32, u32, u32)]) -> Result<Vec<Arcs>, AllocError> {
     let mut rows = Vec::new(alloc);
     for id in 0..count {
@@ -145,10 +145,10 @@ fn rows_of(alloc: Global, count: u32, arcs: &[(u32, u32, u32)]) -> Result<Vec<Ar
     Ok(rows)
 }
 
-/// Arcs, each from an id to an id, and a length.
+/// Arcs, each with its start, its end and its length.
 type Triples = &'static [(u32, u32, u32)];
 
-/// A case: arcs, how many ids have an entry, the id that bars and its bar, the start and the limit.
+/// A case: arcs, the number of ids with an entry, the id that bars and the barred length, the start, and the limit.
 type Case = (Triples, u32, u32, u64, u32, u64);
 
 const SQUARE: Triples = &[
@@ -216,7 +216,7 @@ static CASES: [Case; 14] = [
     (LOOPS, 2, 6, 0, 0, u64::MAX),
 ];
 
-/// Asserts that labels have these lengths, and a route where there is a length.
+/// Asserts that labels have these lengths, and that each length has a route.
 fn assert_labels(
     rt: &impl Abort,
     alloc: Global,
@@ -257,7 +257,7 @@ fn searches_agree_with_relaxing(rt: HostRuntime) -> Result<(), Fail> {
     Ok(())
 }
 
-/// A path's ids, or none.
+/// Returns the ids of a path, if there is one.
 fn ids_of(path: &Option<Path>) -> &[u32] {
     match path {
         None => &[],
@@ -265,7 +265,7 @@ fn ids_of(path: &Option<Path>) -> &[u32] {
     }
 }
 
-/// A path's length, or none.
+/// Returns the length of a path, if there is one.
 fn length_of(path: &Option<Path>) -> Option<u64> {
     match path {
         None => None,
@@ -273,8 +273,7 @@ fn length_of(path: &Option<Path>) -> Option<u64> {
     }
 }
 
-/// How many nodes a map has, its roads, its two ends, and the length and the ids of the one
-/// shortest route.
+/// The number of nodes of a map, its roads, its two ends, and the length and the ids of the only shortest route.
 type Worked = (u32, Triples, u32, u32, Option<u64>, &'static [u32]);
 
 static ROUTES: [Worked; 10] = [
@@ -311,7 +310,7 @@ static ROUTES: [Worked; 10] = [
     ),
 ];
 
-/// The map of so many nodes at one place.
+/// Makes the map of this many nodes, all with the same coordinates.
 fn map_to(alloc: Global, count: u32, roads: &[(u32, u32, u32)]) -> Result<Map, MapError> {
     let nodes = apart(alloc, count)?;
     map_of(alloc, &nodes, roads)
@@ -322,17 +321,17 @@ fn path_of(alloc: Global, row: &Worked) -> Result<Option<Path>, Fail> {
     Ok(shortest(alloc, &map, row.2, row.3)?)
 }
 
-// A path from 1 to 3, and the distance of 4: the example of the crate `road_search`.
+// Returns a path from 1 to 3, and the distance of 4. This is the example of the crate `road_search`.
 fn path_and_distance(
     rt: &impl Abort,
     alloc: Global,
     parts: Parts,
 ) -> Result<(Option<Path>, Option<u64>), Fail> {
     let map = Map::build(alloc, parts)?;
-    // No path comes exactly where no walk joins the two ends.
+    // `None` exactly if no walk joins the two ends.
     let path = shortest(alloc, &map, 1, 3)?;
     assert!(rt; knows(&map, 1));
-    // The distances from 1 of all nodes that are no farther than 3.
+    // The distances from 1 to all nodes that are at most as far as node 3.
     let distances = distances_to(alloc, &map, 1, 3)?;
     let to_4 = distances.get(4);
     Ok((path, to_4))
@@ -365,7 +364,8 @@ fn shortest_routes_are_those_of_the_maps(rt: HostRuntime) -> Result<(), Fail> {
 
 const SIX: [(u32, u32, u32); 4] = [(1, 2, 4), (2, 3, 0), (2, 4, 5), (1, 6, 0)];
 
-/// Two ends, the length between them, a length, and the ids that are at most so far, ascending.
+/// Two ends, the distance between them, a length, and the ids that are at most this far from the first end, in
+/// ascending order.
 type Near = (u32, u32, Option<u64>, u64, &'static [u32]);
 
 static NEAR_ENDS: [Near; 4] = [
@@ -395,10 +395,11 @@ fn all_that_is_as_near_as_the_end_is_found(rt: HostRuntime) -> Result<(), Fail> 
     Ok(())
 }
 
-/// How many nodes a line has: more than a search labels by id.
+/// The number of nodes of a line. A search labels at most 1,024 nodes by id, so this is more.
 const LINE: u32 = 1500;
 
-/// The map of a line and one node more, which no road joins: each node of the line has a road of length 1 to the next.
+/// Makes the map of a line and one more node without roads. A road of length 1 joins each node of the line to the
+/// next.
 fn line_and_one(alloc: Global) -> Result<Map, Fail> {
     let mut roads = Vec::new(alloc);
     for id in 1..LINE {
@@ -407,7 +408,7 @@ fn line_and_one(alloc: Global) -> Result<Map, Fail> {
     Ok(map_to(alloc, LINE + 1, roads.as_slice())?)
 }
 
-// A search that labels more than 1,024 nodes goes from position to position.
+// A search that labels more than 1,024 nodes works with positions.
 #[test]
 fn a_route_over_many_nodes_is_found_by_position(rt: HostRuntime) -> Result<(), Fail> {
     let map = line_and_one(rt.alloc())?;

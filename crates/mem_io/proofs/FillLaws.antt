@@ -1,4 +1,4 @@
--- What is filled after a crash, octet by octet.
+-- The octets that a crash leaves, offset by offset.
 use Rattle.std.proofs.Common.{◌≡◌, ◌⊎◌, ℕ, zero, suc, ◌+◌, ◌<◌, ◌≤◌, List, length, get_or, take, drop, replicate, arith, inl, inr, refl, sym, ◌∙◌, subst}
 use Rattle.std.proofs.lemmas.Bool.{cases_lt}
 use Rattle.std.proofs.lemmas.List.{places, length-replicate}
@@ -9,7 +9,7 @@ use Rattle.road_io.specs.Disk.{written}
 use Rattle.mem_io.specs.Journal.{after, content_at, entry_end, entry_at, by_entry, last_sync, filled, filled_at, Covers, Covered}
 use Rattle.mem_io.proofs.JournalSteps.{last_le, length-filled}
 
--- an octet that a write puts, and one that it leaves
+-- an octet that a write puts, and one that a write leaves
 written_here : (at n fill : ℕ) (before : List ℕ) (x : ℕ) → at ≤ length before → at ≤ x → x < at + n → get_or (written at (replicate n fill) before) x 0 ≡ fill
 written_here at n fill before x fits low high = grind (arith, places)
 
@@ -22,7 +22,7 @@ covered_here : (fill : ℕ) (e : Entry) (content before : List ℕ) (x : ℕ) �
 covered_here fill Sync content before x fits here = absurd here
 covered_here fill (Write p) content before x fits here = written_here p.at p.len fill before x fits here.0 here.1
 
--- what was filled stays so
+-- a filled octet stays filled
 covered_before : (fill : ℕ) (e : Entry) (content before : List ℕ) (k last j x : ℕ) → by_entry e (suc k) last ≤ j → j < k → entry_at e ≤ length before → get_or before x 0 ≡ fill → get_or (filled fill e content before) x 0 ≡ fill
 covered_before fill Sync content before k last j x from lt fits is = absurd (omega arith)
 covered_before fill (Write p) content before k last j x from lt fits is = elim (cases_lt x p.at) [
@@ -47,12 +47,12 @@ apart_here fill (Write p) octets content before x fits end same apart was =
     ∙ was p refl
     ∙ sym (written_there p.at (take p.len (drop p.from octets)) content x (omega (arith, same, fits)) (subst (λ (n : ℕ). (x < p.at) ⊎ (p.at + n ≤ x)) (sym size) out))
 
--- where the last entry is a sync, it is the last sync
+-- if the last entry is a sync, it is the last sync
 by_entry_earlier : (e : Entry) (k last j : ℕ) → by_entry e (suc k) last ≤ j → j < k → last ≤ j
 by_entry_earlier Sync k last j from lt = absurd (omega arith)
 by_entry_earlier (Write p) k last j from lt = from
 
--- an entry that covers an offset is no sync
+-- an entry that covers an offset is not a sync
 by_entry_covers : (e : Entry) (x k last : ℕ) → last ≤ k → Covers e x → by_entry e (suc k) last ≤ k
 by_entry_covers Sync x k last le covers = absurd covers
 by_entry_covers (Write p) x k last le covers = le

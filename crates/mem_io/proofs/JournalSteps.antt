@@ -1,4 +1,4 @@
--- What one more entry adds to a journal: a moment, and nothing to the moments before.
+-- What one more entry adds to a journal: one moment. The earlier moments stay unchanged.
 use Rattle.std.proofs.Common.{◌≡◌, ℕ, zero, suc, ◌+◌, ◌<◌, ◌≤◌, List, [], ◌∷◌, ◌++◌, length, get_or, take, drop, arith, inl, inr, refl, sym, ◌∙◌, ap, subst, length-append, length-drop, replicate}
 use Rattle.std.proofs.lemmas.Bool.{cases_lt}
 use Rattle.std.proofs.lemmas.List.{places, get_or_append_left, get_or_push, take-append-le, drop-append-le, length_push, length-replicate}
@@ -127,7 +127,7 @@ pub sync_left : (base : List ℕ) (entries : List Entry) (octets octets' : List 
     → (d : List ℕ) × LeftAt base entries octets (length entries) d × Stays d i
 sync_left base entries octets octets' i h = (content_at base entries octets (length entries), content_left base entries octets (length entries), h)
 
--- a write tears
+-- a crash may cut a write short
 pub write_left : (base : List ℕ) (entries : List Entry) (octets octets' bytes : List ℕ) (p : Piece) (i : List ℕ)
     → take p.len (drop p.from octets') ≡ bytes → p.len ≡ length bytes → p.at ≤ length (content_at base entries octets (length entries))
     → LeftAfter (Write p) (after (Write p) octets' (content_at base entries octets (length entries))) (LeftAt base entries octets (length entries)) i
@@ -140,7 +140,7 @@ write_left base entries octets octets' bytes p i part len le (inl is) =
     )
 write_left base entries octets octets' bytes p i part len le (inr h) = (h.0, h.1, subst (λ (n : ℕ). Torn p.at n h.0 i) len h.2)
 
--- no entry, no new moment
+-- without a new entry there is no new moment
 pub stays_put : (base : List ℕ) (entries : List Entry) (octets : List ℕ) (Step : List ℕ → List ℕ → Type 0) → ((d : List ℕ) → Step d d)
     → (k : ℕ) (i : List ℕ) → length entries ≤ k → k ≤ length entries → LeftAt base entries octets k i → (d : List ℕ) × LeftAt base entries octets (length entries) d × Step d i
 stays_put base entries octets Step same k i from to h =
@@ -157,7 +157,7 @@ module _ (base : List ℕ) (entries : List Entry) (octets : List ℕ) where
   by_entry_left Sync k m h = refl
   by_entry_left (Write p) k m h = inr (content_at base entries octets m, h, torn_same p.at p.len (content_at base entries octets m))
 
-  -- what was synced may be left
+  -- a crash may leave the content of the last sync
   pub synced_left : (k : ℕ) → LeftAt base entries octets k (content_at base entries octets (last_sync entries k))
   synced_left zero = refl
   synced_left (suc k) = by_entry_left (get_or entries k Sync) k (last_sync entries k) (synced_left k)
@@ -177,7 +177,7 @@ module _ (base : List ℕ) (entries : List Entry) (octets : List ℕ) where
     length-filled zero le = refl
     length-filled (suc k) le = filled_long fill (get_or entries k Sync) (content_at base entries octets k) (filled_at fill base entries octets k) (kept k (omega arith)) (length-filled k (omega arith))
 
-    -- what is filled may be left
+    -- a crash may leave the filled content
     pub filled_left : (k : ℕ) → k ≤ length entries → LeftAt base entries octets k (filled_at fill base entries octets k)
     filled_left zero le = refl
     filled_left (suc k) le = filled_after fill (get_or entries k Sync) (content_at base entries octets (suc k)) (filled_at fill base entries octets k) (LeftAt base entries octets k)
@@ -205,7 +205,7 @@ module _ (base : List ℕ) (entries : List Entry) (octets : List ℕ) where
     is_write_after Sync k m le is = omega arith
     is_write_after (Write p) k m le is = cc
 
-    -- after the last sync there is none
+    -- after the last sync there is no other sync
     pub no_sync : (n k : ℕ) → last_sync entries n ≤ k → k < n → get_or entries k Sync ≡ Sync → ⊥
     no_sync zero k from to is = omega arith
     no_sync (suc n) k from to is = elim (cases_lt k n) [

@@ -1,10 +1,10 @@
--- What a journal of writes and syncs says of each moment.
+-- The meaning of a journal of writes and syncs at each moment.
 use Rattle.std.specs.Prelude.{◌≡◌, ◌⊎◌, ℕ, zero, suc, ◌+◌, ◌<◌, ◌≤◌, List, get_or, take, drop, replicate}
 use Rattle.mem_io.specs.declared.disk.Entry.{Entry}
 use Rattle.mem_io.specs.declared.disk.Entry.TheVariants.{Sync, Write}
 use Rattle.road_io.specs.Disk.{written, Torn}
 
--- the content after one entry; the octets of a write stand in the journal's octets
+-- the content after one entry; the octets of a write are in the journal's octets
 abbrev pub after : Entry → List ℕ → List ℕ → List ℕ
 after Sync octets content = content
 after (Write p) octets content = written p.at (take p.len (drop p.from octets)) content
@@ -15,7 +15,7 @@ content_at base entries octets zero = base
 content_at base entries octets (suc k) = after (get_or entries k Sync) octets
     (content_at base entries octets k)
 
--- what a crash just after an entry may leave, from what it may have left before
+-- what a crash just after an entry may leave, given what a crash before it may leave
 abbrev pub LeftAfter : Entry → List ℕ → (List ℕ → Type 0) → List ℕ → Type 0
 LeftAfter Sync content Before i = i ≡ content
 LeftAfter (Write p) content Before i = (i ≡ content) ⊎
@@ -27,17 +27,17 @@ LeftAt base entries octets zero i = i ≡ base
 LeftAt base entries octets (suc k) i = LeftAfter (get_or entries k Sync)
     (content_at base entries octets (suc k)) (LeftAt base entries octets k) i
 
--- where the octets of an entry end
+-- the end of an entry's octets
 abbrev pub entry_end : Entry → ℕ
 entry_end Sync = 0
 entry_end (Write p) = p.from + p.len
 
--- where a write begins
+-- the offset at which a write begins
 abbrev pub entry_at : Entry → ℕ
 entry_at Sync = 0
 entry_at (Write p) = p.at
 
--- the first for a sync, the second for a write
+-- the first value for a sync, the second for a write
 abbrev pub by_entry : {X : Type 0} → Entry → X → X → X
 by_entry Sync x y = x
 by_entry (Write p) x y = y
@@ -63,7 +63,7 @@ abbrev pub Covers : Entry → ℕ → Type 0
 Covers Sync x = ⊥
 Covers (Write p) x = (p.at ≤ x) × (x < p.at + p.len)
 
--- of the entries before a moment, one after the last sync has written the octet at an offset
+-- an entry after the last sync and before a moment has written the octet at an offset
 pub record Covered (entries : List Entry) (moment x : ℕ) : Type 0 where
   pub entry : ℕ
   pub behind : last_sync entries moment ≤ entry

@@ -1,4 +1,4 @@
--- The content at a moment is one of the images.
+-- The content at a moment is one of the images of that moment.
 use Rattle.std.specs.Prelude.{◌≡◌, ℕ, zero, suc, List, get_or, Some, refl}
 use Rattle.std.proofs.Common.{inl, subst, ◌∙◌}
 use Rattle.mem_io.specs.declared.disk.Entry.{Entry}

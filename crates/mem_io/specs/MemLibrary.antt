@@ -7,7 +7,7 @@ use Rattle.std.specs.declared.option.Option.TheVariants.{None}
 use Rattle.road_io.specs.Contents.{Folder}
 use Rattle.mem_io.specs.declared.library.MemLibrary.{MemLibrary}
 
--- the files that it holds: under each name the one put there last
+-- its files: under each name the last one that was stored
 abbrev pub files_of : MemLibrary → Folder
 files_of library name =
     option_map (λ file. file.octets.items)
@@ -17,18 +17,18 @@ files_of library name =
 abbrev pub IsPlannedLoad : MemLibrary → Type 0
 IsPlannedLoad library = Contains library.fails.items library.calls
 
--- a load was counted, and the plan is as before
+-- a load was counted, and the plan is unchanged
 pub record CountsLoad (old new : MemLibrary) : Type 0 where
   pub counted : new.calls ≡ min (old.calls + 1) (2 ^ 64 - 1)
   pub plan : new.fails.items ≡ old.fails.items
 
--- no load was counted and none has failed, and the plan is as before
+-- no load was counted and none has failed, and the plan is unchanged
 pub record HasSamePlan (old new : MemLibrary) : Type 0 where
   pub plan : new.fails.items ≡ old.fails.items
   pub calls : new.calls ≡ old.calls
   pub faults : new.faults ≡ old.faults
 
--- it holds no file, has not been called and has not failed
+-- it has no file, has not been called and has not failed
 pub record IsNewLibrary (fails : List ℕ) (library : MemLibrary) : Type 0 where
   pub empty : (name : List ℕ) → files_of library name ≡ None
   pub plan : library.fails.items ≡ fails

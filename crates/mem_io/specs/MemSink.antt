@@ -11,7 +11,7 @@ pub record CanTake (sink : MemSink) (count : ℕ) : Type 0 where
   pub unplanned : ¬ Contains sink.fails.items sink.calls
   pub room : length (taken_of sink) + min count sink.piece ≤ sink.room
 
--- a write was counted, and the plan, the room and the piece are as before
+-- a write was counted, and the plan, the room and the piece are unchanged
 pub record CountsWrite (old new : MemSink) : Type 0 where
   pub counted : new.calls ≡ min (old.calls + 1) (2 ^ 64 - 1)
   pub plan : new.fails.items ≡ old.fails.items

@@ -14,7 +14,7 @@ given_by source = take source.at source.octets.items
 abbrev pub IsPlannedRead : MemSource → Type 0
 IsPlannedRead source = Contains source.fails.items source.calls
 
--- a read was counted, and the plan and the piece are as before
+-- a read was counted, and the plan and the piece are unchanged
 pub record CountsRead (old new : MemSource) : Type 0 where
   pub counted : new.calls ≡ min (old.calls + 1) (2 ^ 64 - 1)
   pub plan : new.fails.items ≡ old.fails.items

@@ -1,4 +1,4 @@
-//! A disk in memory, which tells what it holds and keeps each write and sync as real data.
+//! A disk in memory, which states its contents and stores each write and sync as data.
 ghost use Rattle.std.specs.Prelude.{◌≡◌, ◌↔◌, ◌+◌, ◌*◌, ◌<◌, ◌≤◌, ◌^◌, ◌-◌, [], ◌++◌, List, ℕ, Some, length, take, drop, IsTrue, IfOk, OnOk, OnErr, IsErr, IsOk, IsSomeAnd, Option, vec_len, vec_capacity, get_or, refl, replicate, min};
 ghost use Rattle.std.specs.Option.{ForSome, option_map};
 ghost use Rattle.road_io.specs.Disk.{written};
@@ -9,7 +9,7 @@ ghost use Rattle.mem_io.specs.declared.disk.Entry.TheVariants.{Sync};
 use road_io::{Disk, Failed};
 use std::alloc::{AllocError, Global};
 
-// A write: its octets stand in the journal's data.
+// A write. Its octets are in the journal's data.
 #[derive(Clone, Copy)]
 pub(crate) struct Piece {
     pub at: usize,
@@ -24,9 +24,9 @@ pub(crate) enum Entry {
     Write(Piece),
 }
 
-/// A disk in memory, with room for so many octets, and room for a journal of its writes and syncs that
-/// was reserved when it was made. Its calls are numbered from 0. Those that were planned to fail do,
-/// those from the stop on, and those past its room or its journal's.
+/// A disk in memory. Its calls are numbered from 0. It has room for a number of octets, and for a journal of its
+/// writes and syncs; the journal's memory is reserved when the disk is made. A call fails if it is planned to fail,
+/// if its number is not below the stop, or if it exceeds the room of the disk or of the journal.
 #[derive(Drop)]
 pub struct MemDisk {
     room: usize,
@@ -60,7 +60,7 @@ pub struct MemDisk {
     ghost entries_room: { journal ≤ 16 * vec_capacity entries },
 }
 
-// Writes over what is there, and past the end.
+// Overwrites octets from an index on, extending the list if needed.
 fn overwrite(content: &mut Vec<u8>, at: usize, octets: &[u8])
     requires at { at ≤ length content.old.items }
     requires room { at + length octets.now ≤ vec_capacity content.old }
@@ -74,7 +74,7 @@ fn overwrite(content: &mut Vec<u8>, at: usize, octets: &[u8])
     }
 }
 
-// One list in the place of another, within its room.
+// Replaces the contents of a list, within its reserved room.
 fn copy(to: &mut Vec<u8>, from: &[u8])
     requires { length from.now ≤ vec_capacity to.old }
     ensures copied { to.new.items ≡ from.now }
@@ -89,9 +89,9 @@ fn copy(to: &mut Vec<u8>, from: &[u8])
 impl MemDisk {
     ghost use Rattle.mem_io.specs.MemDisk.{disk_content, CanCall, IsNewDisk};
 
-    /// An empty disk with room for `room` octets, whose calls take no memory. The calls whose numbers
-    /// stand in `fails` will fail, and from the number `stop` on every call. A sync takes 16 octets of
-    /// the journal's room, and a write takes 16 and as many as it writes.
+    /// Makes an empty disk with room for `room` octets. Its calls take no memory. The calls with the numbers in
+    /// `fails` will fail, and so will every call from number `stop` on. A sync takes 16 octets of the journal's
+    /// room; a write of n octets takes n + 16.
     pub fn new(
         alloc: Global,
         room: u64,
@@ -126,7 +126,7 @@ impl MemDisk {
         })
     }
 
-    // Whether the next call is neither planned to fail nor one from the stop on.
+    // Tests whether the next call is not planned to fail and is before the stop.
     fn can_call(&self) -> bool
         ensures { IsTrue result ↔ CanCall self.now }
     {
@@ -140,8 +140,8 @@ impl MemDisk {
     }
 }
 
-/// What a crash leaves of what was written since the last sync: nothing, all, or an octet at each offset
-/// that was written.
+/// What a crash leaves of the writes since the last sync: nothing, all of them, or this octet at each offset that
+/// was written.
 #[derive(Clone, Copy, Debug, PartialEq, Eq)]
 pub enum Pick {
     Old,
@@ -152,8 +152,8 @@ pub enum Pick {
 impl MemDisk {
     ghost use Rattle.mem_io.specs.MemDisk.{disk_content, disk_synced, FillsUnsynced, IsNewDisk, MayBeLeft};
 
-    /// The disk after a crash: one of its images, with nothing pending, an empty journal and no planned
-    /// failure. It takes no memory.
+    /// Returns the disk after a crash. Its content is one of the images, nothing is pending, its journal is empty,
+    /// and no failure is planned. Takes no memory.
     pub fn crash(self, pick: Pick) -> MemDisk
         ensures image { MayBeLeft self (disk_content result) }
         ensures old { pick ≡ Pick.Old → disk_content result ≡ disk_synced self }
@@ -200,7 +200,7 @@ impl MemDisk {
     }
 }
 
-// The content that this pick leaves.
+// Returns the content that this choice leaves.
 fn pick_content(
     content: &mut Vec<u8>,
     base: &[u8],
@@ -238,7 +238,7 @@ fn pick_content(
     }
 }
 
-// One octet at each offset that was written since the last sync, which was at this moment.
+// Writes one octet at each offset that was written since the last sync, which was at moment `since`.
 fn fill_writes(
     content: &mut Vec<u8>,
     base: &[u8],

@@ -1,7 +1,7 @@
 //! Files, streams and a disk in memory.
 //!
-//! They tell what they hold, so that contracts can speak of it, and do what their plan says, call by
-//! call: tests take them in the place of the real things.
+//! They state their contents, so that contracts can mention these, and follow a plan of failures, call by call.
+//! Tests use them in place of the real objects.
 #![tactic(auto)]
 
 mod disk;

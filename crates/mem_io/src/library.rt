@@ -1,4 +1,4 @@
-//! A library in memory, which tells its files.
+//! A library in memory, which states its files.
 ghost use Rattle.std.specs.Prelude.{◌≡◌, ◌≢◌, ◌≤◌, ◌+◌, ◌-◌, ◌^◌, ◌++◌, ◌∷◌, [], List, ℕ, OnOk, OnErr, IfOk, IfErr, IfSome, find, min, Contains, vec_len};
 ghost use Rattle.std.specs.declared.option.Option.TheVariants.{Some, None};
 ghost use Rattle.std.specs.Option.{option_copied};
@@ -16,7 +16,7 @@ pub struct NamedFile {
     octets: Vec<u8>,
 }
 
-/// A library in memory. Its calls are numbered from 0, and those that were planned to fail do.
+/// A library in memory. Its calls are numbered from 0. A call fails if it is planned to fail.
 #[derive(Drop)]
 pub struct MemLibrary {
     alloc: Global,
@@ -30,7 +30,7 @@ pub struct MemLibrary {
 impl MemLibrary {
     ghost use Rattle.mem_io.specs.MemLibrary.{files_of, HasSamePlan, IsPlannedLoad, IsNewLibrary};
 
-    /// A library without files. The loads whose numbers stand in `fails` will fail.
+    /// Makes a library without files. The loads with the numbers in `fails` will fail.
     pub fn new(alloc: Global, fails: Vec<u64>) -> MemLibrary
         ensures { IsNewLibrary fails.items result }
     {
@@ -44,7 +44,7 @@ impl MemLibrary {
         }
     }
 
-    /// Puts a file under a name, in place of what was there.
+    /// Stores a file under a name. Replaces any file that has this name.
     pub fn put(&mut self, name: &str, octets: &[u8]) -> Result<(), AllocError>
         ensures ok { OnOk result (files_of self.new name.now ≡ Some octets.now) }
         ensures others { (other : List ℕ) → other ≢ name.now →

@@ -1,12 +1,12 @@
-//! A sink in memory, which tells what it has taken.
+//! A sink in memory, which states the octets that it has taken.
 ghost use Rattle.std.specs.Prelude.{◌≡◌, ◌<◌, ◌≤◌, ◌↔◌, ◌+◌, ◌-◌, ◌^◌, IsTrue, List, ℕ, length, min, IfOk, OnOk, OnErr, vec_capacity};
 ghost use Rattle.std.specs.declared.option.Option.TheVariants.{Some};
 
 use road_io::{Failed, Sink};
 use std::alloc::{AllocError, Global};
 
-/// A sink in memory, with room for so many octets, which takes at most `piece` of them at once.
-/// Its calls are numbered from 0. Those that were planned to fail do, and those past its room.
+/// A sink in memory, which takes at most `piece` octets at once and has room for a fixed number of octets. Its
+/// calls are numbered from 0. A call fails if it is planned to fail or exceeds the room.
 #[derive(Drop)]
 pub struct MemSink {
     taken: Vec<u8>,
@@ -22,7 +22,7 @@ pub struct MemSink {
 impl MemSink {
     ghost use Rattle.mem_io.specs.MemSink.{IsNewSink, CanTake, taken_of};
 
-    /// A sink that has taken nothing. The writes whose numbers stand in `fails` will fail.
+    /// Makes a sink that has taken nothing. The writes with the numbers in `fails` will fail.
     pub fn new(
         alloc: Global,
         room: usize,
@@ -45,14 +45,14 @@ impl MemSink {
         }
     }
 
-    /// The octets taken.
+    /// Returns the octets taken.
     pub fn taken(&self) -> &[u8]
         ensures { result.now ≡ taken_of self.now }
     {
         &self.taken
     }
 
-    /// Whether the next write, of this many octets, will not fail.
+    /// Tests whether the next write, of `count` octets, will succeed.
     fn can_take(&self, count: usize) -> bool
         ensures { IsTrue result ↔ CanTake self.now count }
     {

@@ -1,11 +1,11 @@
-//! A source in memory, which tells what it has left.
+//! A source in memory, which states the octets that are left.
 ghost use Rattle.std.specs.Prelude.{◌≡◌, ◌<◌, ◌≤◌, ◌+◌, ◌-◌, ◌^◌, [], List, ℕ, length, min, vec_len, IfOk, OnOk, OnErr};
 ghost use Rattle.std.specs.declared.option.Option.TheVariants.{Some};
 
 use road_io::{Failed, Source};
 
-/// A source in memory, which gives at most `piece` octets at once. Its calls are numbered from 0, and
-/// those that were planned to fail do.
+/// A source in memory, which gives at most `piece` octets at once. Its calls are numbered from 0. A call fails if
+/// it is planned to fail.
 #[derive(Drop)]
 pub struct MemSource {
     octets: Vec<u8>,
@@ -21,7 +21,7 @@ pub struct MemSource {
 impl MemSource {
     ghost use Rattle.mem_io.specs.MemSource.{IsNewSource, left_of};
 
-    /// A source of these octets. The reads whose numbers stand in `fails` will fail.
+    /// Makes a source of these octets. The reads with the numbers in `fails` will fail.
     pub fn new(octets: Vec<u8>, piece: usize, fails: Vec<u64>) -> MemSource
         requires { 0 < piece }
         ensures { IsNewSource octets.items piece fails.items result }
@@ -36,7 +36,7 @@ impl MemSource {
         }
     }
 
-    /// The octets that are left.
+    /// Returns the octets that are left.
     pub fn left(&self) -> &[u8]
         ensures { result.now ≡ left_of self.now }
     {

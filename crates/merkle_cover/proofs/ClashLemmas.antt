@@ -1,4 +1,4 @@
--- Where a tree and a recomputed root hash different texts to one digest.
+-- Positions at which a tree and a recomputed root hash different texts to the same digest.
 use Rattle.std.proofs.Common.{◌≡◌, ◌≢◌, ℕ, suc, zero, ◌+◌, ◌-◌, ◌*◌, ◌/◌, ◌^◌, ◌<◌, ◌≤◌, min, Bool, true, false, ◌&&◌, List, [], ◌∷◌, ◌++◌, replicate, length, get_or, take, drop, refl, sym, ap, ◌∙◌, subst, arith, inl, inr, Fits, w32, w64}
 use Rattle.std.specs.Bool.{OnTrue, OnFalse}
 use Rattle.std.specs.List.{range_with_len, sum_by, flat_map}
@@ -42,7 +42,7 @@ range-split a (suc m) r =
     let e' : (a + 1) + m ≡ a + suc m = omega arith in
     ap (range_with_len a) e ∙ ap (λ l. a ∷ l) (range-split (a + 1) m r ∙ ap (λ x. range_with_len (a + 1) m ++ range_with_len x r) e')
 
--- one more position is within a range
+-- a range has one more position
 range-at : (a m c : ℕ) → m < c → range_with_len a c ≡ range_with_len a m ++ (a + m) ∷ range_with_len (a + m + 1) (c - m - 1)
 range-at a m c l =
     let e : c ≡ m + suc (c - m - 1) = omega arith in
@@ -80,7 +80,7 @@ length-flat_map-digest hash size leaves f k [] = refl
 length-flat_map-digest hash size leaves f k (p ∷ ps) =
     omega (arith, length-append (digest hash leaves f k p) (flat_map (digest hash leaves f k) ps), length-flat_map-digest hash size leaves f k ps, ap (λ (l : List ℕ). length l) (digest-is hash leaves f k p), size (hashed_text hash leaves f k p))
 
--- ---- what was compared
+-- ---- the result of a comparison
 
 pub record SameSoFar (hash : List ℕ → List ℕ) (leaves : List (List ℕ)) (f : ℕ) (chosen : List ℕ) (given cover : List (List ℕ)) (j first m start item next : ℕ) : Type 0 where
   pub digests : folded_in_turn (need (length leaves) f chosen j) (folded hash (length leaves) f chosen given j) (range_with_len first m) (drop start cover) ≡ flat_map (digest hash leaves f j) (range_with_len first m)
@@ -143,7 +143,7 @@ module _ (hash : List ℕ → List ℕ) (leaves : List (List ℕ)) (f : ℕ) (ch
         );
       }
 
-  -- a cover digest that is the tree's
+  -- a cover digest equals the tree's
   pub SameBelow-none : {k p w item start : ℕ} → CanCompare hash leaves f chosen given cover levels whole k p w item start → (item < length chosen → (p + 1) * w ≤ get_or chosen item 0) → (d : List ℕ) → d ≡ get_or cover start (replicate 32 0) → d ≡ digest hash leaves f k p → SameBelow hash leaves f chosen given cover k p start item item
   SameBelow-none {k} {p} {w} {item} {start} q past d e ed =
       let n = length leaves in
@@ -157,7 +157,7 @@ module _ (hash : List ℕ → List ℕ) (leaves : List (List ℕ)) (f : ℕ) (ch
             ∙ ap (λ x. x ∷ []) (sym e ∙ ed) ∙ sym (cover_below-none (digest hash leaves f) n f chosen k p none);
       }
 
-  -- a text that is the leaf's
+  -- a text equals the leaf
   pub SameBelow-leaf : {k p w item start : ℕ} → CanCompare hash leaves f chosen given cover levels whole k p w item start → k ≡ 0 → item < length chosen → get_or chosen item 0 < (p + 1) * w → get_or given item [] ≡ get_or leaves p [] → SameBelow hash leaves f chosen given cover k p start item (item + 1)
   SameBelow-leaf {k} {p} {w} {item} {start} q z l b e =
       let n = length leaves in
@@ -214,7 +214,7 @@ module _ (hash : List ℕ → List ℕ) (leaves : List (List ℕ)) (f : ℕ) (ch
         same = sym e ∙ ap (λ l. hash (1 ∷ l)) (sym right);
       }
 
-  -- nothing is compared yet
+  -- nothing has been compared yet
   pub SameSoFar-none : (j first start item : ℕ) → SameSoFar hash leaves f chosen given cover j first 0 start item item
   unfolding folded_in_turn
   SameSoFar-none j first start item = record {
@@ -223,7 +223,7 @@ module _ (hash : List ℕ → List ℕ) (leaves : List (List ℕ)) (f : ℕ) (ch
     covers = refl;
   }
 
-  -- one more child is the same
+  -- one more child is equal
   pub SameSoFar-more : ((m : List ℕ) → length (hash m) ≡ 32) → (j first child start item now next taken : ℕ) (d : List ℕ) → first ≤ child → SameSoFar hash leaves f chosen given cover j first (child - first) start item now
       → taken ≡ start + sum_by (need (length leaves) f chosen j) (range_with_len first (child - first))
       → folded_in_turn (need (length leaves) f chosen j) (folded hash (length leaves) f chosen given j) (range_with_len first (child + 1 - first)) (drop start cover) ≡ folded_in_turn (need (length leaves) f chosen j) (folded hash (length leaves) f chosen given j) (range_with_len first (child - first)) (drop start cover) ++ d
@@ -248,7 +248,7 @@ module _ (hash : List ℕ → List ℕ) (leaves : List (List ℕ)) (f : ℕ) (ch
             ∙ flat_map-child (cover_below (digest hash leaves f) n f chosen j) first child [] (flat_map (cover_below (digest hash leaves f) n f chosen j) (range_with_len first m)) l refl;
       }
 
-  -- all children are the same
+  -- all children are equal
   pub SameBelow-above : {k p w item start : ℕ} → CanCompare hash leaves f chosen given cover levels whole k p w item start → has_chosen f chosen k p ≡ true → (j end next : ℕ) → k ≡ suc j → end ≡ min (p * f + f) (places_at (length leaves) f j) → SameSoFar hash leaves f chosen given cover j (p * f) (end - p * f) start item next → SameBelow hash leaves f chosen given cover k p start item next
   SameBelow-above {k} {p} {w} {item} {start} q some j end next e ee s =
       let n = length leaves in
@@ -261,7 +261,7 @@ module _ (hash : List ℕ → List ℕ) (leaves : List (List ℕ)) (f : ℕ) (ch
             ∙ s.covers ∙ ap (flat_map (cover_below (digest hash leaves f) n f chosen j)) (sym kids) ∙ sym (cover_below-above (digest hash leaves f) n f chosen j p some') ∙ ap (λ x. cover_below (digest hash leaves f) n f chosen x p) (sym e);
       }
 
-  -- one more child makes or keeps a difference
+  -- one more child adds a difference or keeps one
   pub apart-more : ((m : List ℕ) → length (hash m) ≡ 32) → (j first child : ℕ) (a d : List ℕ) → first ≤ child → length a ≡ 32 * (child - first) → (a ≡ flat_map (digest hash leaves f j) (range_with_len first (child - first)) → d ≡ digest hash leaves f j child → ⊥) → (a ++ d ≡ flat_map (digest hash leaves f j) (range_with_len first (child + 1 - first)) → ⊥)
   apart-more size j first child a d l la ne h =
       let m = child - first in

@@ -1,4 +1,4 @@
--- A whole tree against what was recomputed.
+-- A whole tree compared with a recomputed root.
 use Rattle.std.proofs.Common.{◌≡◌, ℕ, suc, zero, ◌+◌, ◌*◌, ◌^◌, ◌<◌, ◌≤◌, Bool, true, false, cond, ltb, List, [], ◌∷◌, ◌++◌, length, get_or, drop, refl, sym, ap, ◌∙◌, subst, arith, inl, inr, Option, None, Some, Result, Ok, Err}
 use Rattle.std.proofs.lemmas.Bool.{cases_lt}
 use Rattle.std.proofs.lemmas.Bool.Decides.{nat_tests}
@@ -18,7 +18,7 @@ use Rattle.merkle_cover.proofs.WalkLemmas.{walk-some}
 use Rattle.merkle_cover.proofs.ClashLemmas.{left-top}
 use Rattle.merkle_cover.proofs.ShapeLemmas.{places_at-lt-mul}
 
--- ---- what a recomputed root says
+-- ---- the meaning of a recomputed root
 
 after-ok : (o : Option ℕ) (r : Result (List ℕ) FoldError) (d : List ℕ) → after_fault o r ≡ Ok d → (o ≡ None) × (r ≡ Ok d)
 after-ok None r d e = (refl, e)
@@ -85,13 +85,13 @@ CanCompare-start hash leaves f places given cover levels k w d f2 f32 n1 n32 p1 
 
 -- ---- the end
 
--- texts that are the leaves at the positions, one by one
+-- the texts are the leaves at the positions, one by one
 pub chosen_texts-each : (leaves given : List (List ℕ)) (places : List ℕ) → length given ≡ length places → ((q : ℕ) → q < length places → get_or given q [] ≡ get_or leaves (get_or places q 0) []) → given ≡ chosen_texts leaves places
 chosen_texts-each leaves given places l each =
     same_lists given (chosen_texts leaves places) (l ∙ sym (length-map places (λ c. get_or leaves c [])))
     (λ i x q. get_or_default given i x [] q ∙ each i (omega (arith, q, l)) ∙ sym (get_or-map (λ c. get_or leaves c []) places i 0 x (omega (arith, q, l))))
 
--- all is the tree's own
+-- all texts and digests are the tree's own
 pub SameBelow-all : (hash : List ℕ → List ℕ) (leaves : List (List ℕ)) (f : ℕ) (places : List ℕ) (given cover : List (List ℕ)) (k w next : ℕ) (d : List ℕ) → length given ≡ length places → 1 ≤ length places → ((q : ℕ) → q < length places → get_or places q 0 < length leaves) → k ≡ top (length leaves) f → length leaves ≤ w → GoodFold hash (length leaves) f places given cover d → SplitsAt places ((0 + 1) * w) next → SameBelow hash leaves f places given cover k 0 0 0 next → (given ≡ chosen_texts leaves places) × (cover ≡ cover_of hash leaves f places)
 SameBelow-all hash leaves f places given cover k w next d l p1 below ek lw g s b =
     let n = length leaves in
@@ -103,14 +103,14 @@ SameBelow-all hash leaves f places given cover k w next d l p1 below ek lw g s b
       sym (take_all (need n f places k 0) cover (omega (arith, g.count, ap (λ x. need n f places x 0) ek))) ∙ b.digests ∙ ap (λ x. cover_below (digest hash leaves f) n f places x 0) ek ∙ cover_of-some hash leaves f places (omega (arith, p1)),
     )
 
--- where all is the tree's own, the texts that are hashed are one
+-- if everything is the tree's own, both hash the same text
 same_text : (hash : List ℕ → List ℕ) (leaves : List (List ℕ)) (f : ℕ) (places : List ℕ) (k p : ℕ) (more : List (List ℕ)) → has_chosen f places k p ≡ true → folded_text hash (length leaves) f places (chosen_texts leaves places) k p (cover_below (digest hash leaves f) (length leaves) f places k p ++ more) ≡ hashed_text hash leaves f k p
 unfolding folded_text hashed_text has_chosen
 same_text hash leaves f places zero p more h = ap (λ t. 0 ∷ t) (text_for-chosen_texts leaves f places p h)
 same_text hash leaves f places (suc k) p more h =
     rw (cover_below-above (digest hash leaves f) (length leaves) f places k p h) (ap (λ l. 1 ∷ l) (in_turn hash leaves f places (chosen_texts leaves places) k (folded-cover_below hash leaves f places (chosen_texts leaves places) (AreTheirs-chosen_texts hash leaves f places) k) (children (length leaves) f k p) more))
 
--- a clash is none where all is the tree's own
+-- if everything is the tree's own, no clash is found
 pub IsClash-apart : (hash : List ℕ → List ℕ) (leaves : List (List ℕ)) (f : ℕ) (places : List ℕ) (given cover : List (List ℕ)) (levels : List (List (List ℕ))) (whole : List (List ℕ)) (k p w item start : ℕ) → IsClash hash leaves f places given cover levels whole k p w item start → given ≡ chosen_texts leaves places → cover ≡ whole → ⊥
 IsClash-apart hash leaves f places given cover levels whole k p w item start c eg ec =
     let n = length leaves in
@@ -129,7 +129,7 @@ CanRead-clash c = record {
   digests = c.at.digests;
 }
 
--- a clash is two texts that are hashed at one position
+-- a clash consists of two texts that are hashed at the same position
 pub AreHashed-clash : (hash : List ℕ → List ℕ) (leaves : List (List ℕ)) (f : ℕ) (places : List ℕ) (given cover : List (List ℕ)) (levels : List (List (List ℕ))) (whole : List (List ℕ)) (k p w item start : ℕ) (left right : List ℕ) → IsClash hash leaves f places given cover levels whole k p w item start → length levels ≡ top (length leaves) f + 1 → left ≡ hashed_text hash leaves f k p → right ≡ folded_text hash (length leaves) f places given k p (drop start cover) → AreHashed hash leaves f places given cover left right
 AreHashed-clash hash leaves f places given cover levels whole k p w item start left right c count el er = record {
   k = k;

@@ -1,4 +1,4 @@
--- How many digests a cover has, and how long they are.
+-- The number of digests in a cover, and their length.
 use Rattle.std.proofs.Common.{◌≡◌, ℕ, suc, zero, ◌+◌, ◌-◌, ◌*◌, ◌^◌, ◌<◌, ◌≤◌, min, true, false, List, [], ◌∷◌, ◌++◌, length, refl, arith, cond}
 use Rattle.std.specs.Prelude.{All}
 use Rattle.std.specs.List.{range_with_len, sum_by, flat_map, AllByRecursion}
@@ -12,7 +12,7 @@ use Rattle.merkle_cover.specs.Covers.{has_chosen, need, cover_below, cover_of}
 use Rattle.merkle_cover.proofs.ShapeLemmas.{levels_above-before, mul-lt-places_at}
 use Rattle.merkle_cover.proofs.CoverLemmas.{length-cover_below}
 
--- the sum over a range, each at most m
+-- a sum over a range whose terms are at most m
 sum_by-most : (g : ℕ → ℕ) (a n m : ℕ) → ((x : ℕ) → g x ≤ m) → sum_by g (range_with_len a n) ≤ n * m
 sum_by-most g a zero m h = omega arith
 sum_by-most g a (suc n) m h =
@@ -20,7 +20,7 @@ sum_by-most g a (suc n) m h =
     let more = sum_by-most g (a + 1) n m h in
     omega (arith, sum_by-cons g a (range_with_len (a + 1) n), one, more)
 
--- a position needs at most as many digests as it has room for leaves
+-- a position needs at most as many digests as leaves fit below it
 pub need-most : (n f : ℕ) (chosen : List ℕ) (k p : ℕ) → 0 < f → need n f chosen k p ≤ f ^ k
 unfolding need children
 need-most n f chosen zero p pos =
@@ -34,7 +34,7 @@ need-most n f chosen (suc k) p pos =
     let power : f ^ suc k ≡ f ^ k * f = pow-suc f k in
     elim (has_chosen f chosen (suc k) p) as (λ b. cond b (sum_by (need n f chosen k) (range_with_len (p * f) kids)) 1 ≤ f ^ suc k) [ true ↦ omega (arith, all, wide, power) | false ↦ one ]
 
--- the top level's position has room for fewer leaves than there are, times the fan-out
+-- fewer leaves fit below the top level's position than the number of leaves times the fan-out
 top-room : (n f t : ℕ) → 2 ≤ f → 1 ≤ n → t ≡ top n f → f ^ t < n * f
 unfolding top
 top-room n f zero f2 n1 e =
@@ -55,7 +55,7 @@ length-cover_of hash texts f (c ∷ cs) f2 n1 =
     let room = top-room (length texts) f (top (length texts) f) f2 n1 refl in
     omega (arith, count, most, room)
 
--- ---- how long digests are
+-- ---- the lengths of digests
 
 All32 : List (List ℕ) → Type 0
 All32 = AllByRecursion (λ d. length d ≡ 32)

@@ -1,4 +1,4 @@
--- Covers, and what they recompute.
+-- Covers, and the roots recomputed from them.
 use Rattle.std.proofs.Common.{◌≡◌, ℕ, suc, zero, ◌+◌, ◌-◌, ◌*◌, ◌^◌, ◌<◌, ◌≤◌, min, Bool, true, false, ◌||◌, List, [], ◌∷◌, ◌++◌, length, get_or, drop, refl, sym, ap, ◌∙◌, arith, cond, inl, inr, ◌⊎◌, ltb, Result, Ok, Err, None}
 use Rattle.std.specs.List.{range_with_len, sum_by, list_any, flat_map}
 use Rattle.std.proofs.lemmas.Bool.{cases_eq}
@@ -27,7 +27,7 @@ sum_by-same g h (x ∷ xs) e = omega (arith, sum_by-cons g x xs, sum_by-cons h x
 
 -- ---- covers
 
--- a cover reads the digests of positions that are there
+-- a cover only reads digests of existing positions
 pub cover_below-same : (at at' : ℕ → ℕ → List ℕ) (n f : ℕ) (chosen : List ℕ) (k p : ℕ) → p < places_at n f k → ((j q : ℕ) → j ≤ k → q < places_at n f j → at j q ≡ at' j q) → cover_below at n f chosen k p ≡ cover_below at' n f chosen k p
 unfolding cover_below children
 cover_below-same at at' n f chosen zero p l e = ap (λ d. cond (has_chosen f chosen 0 p) [] (d ∷ [])) (e 0 p (omega arith) l)
@@ -60,7 +60,7 @@ pub cover_below-above : (at : ℕ → ℕ → List ℕ) (n f : ℕ) (chosen : Li
 unfolding cover_below
 cover_below-above at n f chosen j p h = rw h refl
 
--- ---- what is recomputed of a cover is the digest
+-- ---- the digest recomputed from a cover is the position's digest
 
 pub bool_cases : (b : Bool) → (b ≡ true) ⊎ (b ≡ false)
 bool_cases true = inl refl
@@ -103,7 +103,7 @@ or_right : (a b : Bool) → (a || b) ≡ true → a ≡ false → b ≡ true
 or_right true b h e = cc
 or_right false b h e = h
 
--- only the leaf itself lies at a leaf's position
+-- only the leaf itself is at a leaf's position
 apart : (f c p : ℕ) → (c ≡ p → ⊥) → is_below f 0 p c ≡ false
 apart f c p ne =
     let one : f ^ 0 ≡ 1 = pow-zero f in
@@ -117,7 +117,7 @@ text_for-same : (c : ℕ) (cs : List ℕ) (t : List ℕ) (ts : List (List ℕ)) 
 unfolding text_for
 text_for-same c cs t ts p e = grind (arith, nat_tests)
 
--- the texts of the chosen leaves are theirs
+-- the given texts are those of the chosen leaves, in order
 pub text_for-chosen_texts : (texts : List (List ℕ)) (f : ℕ) (chosen : List ℕ) (p : ℕ) → list_any (is_below f 0 p) chosen ≡ true → text_for chosen (chosen_texts texts chosen) p ≡ get_or texts p []
 text_for-chosen_texts texts f [] p h = cc
 text_for-chosen_texts texts f (c ∷ cs) p h =

@@ -31,7 +31,7 @@ unfolding has_chosen
 has_chosen-next n f places k p i s l b =
     list_any_at (is_below f k p) places i 0 l (is_below-true f k p (get_or places i 0) (s.after i (omega arith) l) b)
 
--- the next chosen leaf, if there is one, is after the position
+-- the next chosen leaf, if any, is after the position
 pub IsPast : List ℕ → ℕ → ℕ → Type 0
 IsPast places i end = i < length places → end ≤ get_or places i 0
 
@@ -51,7 +51,7 @@ has_chosen-past n f places k p i r s h =
       | inr b ↦ is_below-right f k p (get_or places q 0) (past-at n places i ((p + 1) * f ^ k) r h q b l)
     ]))
 
--- after a position with no chosen leaf the index stays
+-- after a position without a chosen leaf the index is unchanged
 pub SplitsAt-past : (n : ℕ) (places : List ℕ) (x y i : ℕ) → IsRising n places → SplitsAt places x i → x ≤ y → (i < length places → y ≤ get_or places i 0) → SplitsAt places y i
 SplitsAt-past n places x y i r s l h = record {
   within = s.within;
@@ -59,7 +59,7 @@ SplitsAt-past n places x y i r s l h = record {
   after = past-at n places i y r h;
 }
 
--- after a chosen leaf it is one more
+-- after a chosen leaf the index is one more
 pub SplitsAt-leaf : (n : ℕ) (places : List ℕ) (p i : ℕ) → IsRising n places → SplitsAt places p i → i < length places → get_or places i 0 < p + 1 → SplitsAt places (p + 1) (i + 1)
 SplitsAt-leaf n places p i r s l h = record {
   within = omega (arith, l);
@@ -70,7 +70,7 @@ SplitsAt-leaf n places p i r s l h = record {
   after = λ q a b. omega (arith, s.after i (le_refl i) l, r.rises i q (omega (arith, a)) b);
 }
 
--- after the last child the index is that after the position
+-- after the last child the index is the index after the position
 pub SplitsAt-children : (n f : ℕ) (places : List ℕ) (k p i end : ℕ) → 0 < f → IsRising n places → end ≡ min (p * f + f) (places_at n f k) → SplitsAt places (end * f ^ k) i → SplitsAt places ((p + 1) * f ^ suc k) i
 SplitsAt-children n f places k p i end h r e s =
     elim (cases_lt end (p * f + f)) [
@@ -157,13 +157,13 @@ children-is n f k p end e = ap (range_with_len (p * f)) (omega (arith, e))
 
 -- ---- the walk's steps
 
--- a position has room for a leaf
+-- at least one leaf fits below a position
 pub CanWalk-room : {n f : ℕ} {places : List ℕ} {k p w item : ℕ} → CanWalk n f places k p w item → (0 < w) × (p ≤ p * w)
 CanWalk-room {n} {f} {places} {k} {p} {w} q =
     let pos : 0 < w = rw q.span (one-le-pow k f (omega (arith, q.fan))) in
     (pos, omega (arith, mul-le p 1 p w (le_refl p) pos))
 
--- a position with no chosen leaf
+-- a position without a chosen leaf
 pub IsFolded-none : (hash : List ℕ → List ℕ) (cover : List (List ℕ)) (d : List ℕ) {n f : ℕ} {places : List ℕ} {given : List (List ℕ)} {k p w item start : ℕ} → CanFold n f places given k p w item start → (item < length places → (p + 1) * w ≤ get_or places item 0) → d ≡ get_or cover start (replicate 32 0) → IsFolded hash n f places given cover k p w start d item (start + 1)
 IsFolded-none hash cover d {n} {f} {places} {given} {k} {p} {w} {item} {start} q past e =
     let at : SplitsAt places (p * f ^ k) item = subst (λ x. SplitsAt places (p * x) item) q.walk.span q.walk.items in
@@ -198,11 +198,11 @@ IsFolded-leaf hash cover d {n} {f} {places} {given} {k} {p} {w} {item} {start} q
       few = omega (arith, q.taken, (CanWalk-room q.walk).0);
     }
 
--- the room of a position is that of its children
+-- the number of leaves below a position is the sum over its children
 pub CanWalk-wide : {n f : ℕ} {places : List ℕ} {k p w item : ℕ} → CanWalk n f places k p w item → (j b : ℕ) → k ≡ suc j → b ≡ f ^ j → w ≡ f * b
 CanWalk-wide {n} {f} {places} {k} {p} {w} q j b e eb = q.span ∙ ap (λ x. f ^ x) e ∙ pow-suc f j ∙ ap (λ x. x * f) (sym eb) ∙ omega arith
 
--- the walk can go to a child
+-- the walk can continue to a child
 pub CanWalk-child : {n f : ℕ} {places : List ℕ} {k p w item : ℕ} → CanWalk n f places k p w item → (j b end child item' : ℕ) → k ≡ suc j → b ≡ f ^ j → end ≡ min (p * f + f) (places_at n f j) → child < end → SplitsAt places (child * b) item' → CanWalk n f places j child b item'
 CanWalk-child {n} {f} {places} {k} {p} {w} q j b end child item' e eb ee l at =
     let wide = CanWalk-wide q j b e eb in
@@ -217,12 +217,12 @@ CanWalk-child {n} {f} {places} {k} {p} {w} q j b end child item' e eb ee l at =
       items = at;
     }
 
--- the position is there
+-- the position exists
 pub CanWalk-place : {n f : ℕ} {places : List ℕ} {k p w item : ℕ} → CanWalk n f places k p w item → p < places_at n f k
 CanWalk-place {n} {f} {places} {k} {p} {w} q =
     places_at-lt-mul n f k p (omega (arith, q.fan)) (subst (λ x. p * x < n) q.span q.place)
 
--- all children are recomputed
+-- all children have been recomputed
 pub IsFolded-above : (hash : List ℕ → List ℕ) (cover : List (List ℕ)) (d : List ℕ) {n f : ℕ} {places : List ℕ} {given : List (List ℕ)} {k p w item start : ℕ} → CanFold n f places given k p w item start → (j b end item' taken : ℕ) → k ≡ suc j → b ≡ f ^ j → end ≡ min (p * f + f) (places_at n f j) → item < length places → get_or places item 0 < (p + 1) * w → SplitsAt places (end * b) item' → taken ≡ start + sum_by (need n f places j) (range_with_len (p * f) (end - p * f)) → taken ≤ end * b → d ≡ hash (1 ∷ folded_in_turn (need n f places j) (folded hash n f places given j) (range_with_len (p * f) (end - p * f)) (drop start cover)) → IsFolded hash n f places given cover k p w start d item' taken
 IsFolded-above hash cover d {n} {f} {places} {given} {k} {p} {w} {item} {start} q j b end item' taken e eb ee l lt at et few ed =
     let at0 : SplitsAt places (p * f ^ k) item = subst (λ x. SplitsAt places (p * x) item) q.walk.span q.walk.items in
@@ -240,7 +240,7 @@ IsFolded-above hash cover d {n} {f} {places} {given} {k} {p} {w} {item} {start} 
       few = omega (arith, few, ap (λ x. (p + 1) * x) wide, mul-le end b (p * f + f) b (omega (arith, ee)) (le_refl b));
     }
 
--- one more child is recomputed
+-- one more child has been recomputed
 pub told-more : (t : ℕ → ℕ) (g : ℕ → List (List ℕ) → List ℕ) (first child start taken : ℕ) (cover : List (List ℕ)) (d : List ℕ) → first ≤ child → taken ≡ start + sum_by t (range_with_len first (child - first)) → d ≡ g child (drop taken cover) → folded_in_turn t g (range_with_len first (child + 1 - first)) (drop start cover) ≡ folded_in_turn t g (range_with_len first (child - first)) (drop start cover) ++ d
 told-more t g first child start taken cover d l et ed =
     let m = child - first in
@@ -263,7 +263,7 @@ pub rising-index : (n : ℕ) (places : List ℕ) → IsRising n places → (q : 
 rising-index n places r zero l = omega arith
 rising-index n places r (suc q) l = omega (arith, rising-index n places r q (omega (arith, l)), r.rises q (suc q) (omega arith) l)
 
--- ---- positions with no fault
+-- ---- positions without a fault
 
 chosen_none : {X : Type 0} (b : Bool) (o : Option X) (x : X) → cond b o (Some x) ≡ None → (b ≡ true) × (o ≡ None)
 chosen_none true o x e = (refl, e)
@@ -301,7 +301,7 @@ IsRising-from_fault n least i (p ∷ ps) e =
       below = below_cons n p ps (tests least p n t.0).1 rest;
     }
 
--- positions that rise from a least one on have no fault
+-- positions that ascend from a least one on have no fault
 pub fault_from-rising : (n least i : ℕ) (places : List ℕ) → IsRising n places → ((q : ℕ) → q < length places → least ≤ get_or places q 0) → fault_from n least i places ≡ None
 fault_from-rising n least i [] r above = refl
 fault_from-rising n least i (p ∷ ps) r above =
@@ -313,7 +313,7 @@ fault_from-rising n least i (p ∷ ps) r above =
     passes : (least p n : ℕ) → least ≤ p → p < n → (leb least p && ltb p n) ≡ true
     passes least p n a b = grind (arith, nat_tests)
 
--- positions ascend below n exactly where they have no fault
+-- positions ascend below n exactly if they have no fault
 pub first_fault-rising : (n : ℕ) (places : List ℕ) → IsRising n places → first_fault n places ≡ None
 first_fault-rising n places r = fault_from-rising n 0 0 places r (λ q l. omega arith)
 

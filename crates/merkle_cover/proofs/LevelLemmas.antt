@@ -77,7 +77,7 @@ top-single n f k h le l =
       | inr ne ↦ absurd (let b : 1 < places_at n f k = levels_above-before f n n k h (omega (arith, ne, le)) in omega (arith, b, l))
     ]
 
--- a level with more is below it
+-- a level with more positions is below the top
 pub top-more : (n f k : ℕ) → 2 ≤ f → k ≤ top n f → 1 < places_at n f k → k + 1 ≤ top n f
 unfolding top
 top-more n f k h le l =

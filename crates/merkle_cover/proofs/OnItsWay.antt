@@ -1,12 +1,12 @@
--- What holds while a leaf's digest is on its way up a tree that rises.
+-- Invariants of a leaf's digest on its way up a tree that takes its texts one at a time.
 use Rattle.std.specs.Prelude.{ℕ, ◌+◌, ◌<◌, ◌≤◌, ◌≡◌, List, Some, length, map, take, slice_get}
 use Rattle.merkle_cover.specs.Shape.{top}
 use Rattle.merkle_cover.specs.Trees.{digest}
 use Rattle.merkle_cover.specs.Rising.{end_of, HoldsLevel}
 use Rattle.merkle_cover.specs.declared.spots.Spot.{Spot}
 
--- On the way, at a position of a level that the leaf makes whole: the levels below have one text more.
--- The cover has it up to another level.
+-- The state on the way: at a position that the leaf completes, the levels below count one more text. The cover
+-- counts it up to another level.
 pub record IsOnItsWay (hash : List ℕ → List ℕ) (texts : List (List ℕ)) (n f m : ℕ)
     (waiting : List (List ℕ)) (spots : List Spot) (cover : List (List ℕ)) (level from place : ℕ)
     (d : List ℕ) : Type 0 where

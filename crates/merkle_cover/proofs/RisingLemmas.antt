@@ -1,4 +1,4 @@
--- A leaf's digest on its way up a tree that rises.
+-- The digest of a leaf on its way up a tree that takes its texts one at a time.
 use Rattle.std.proofs.Common.{◌≡◌, ◌≢◌, ℕ, suc, zero, ◌+◌, ◌-◌, ◌*◌, ◌/◌, ◌%◌, ◌^◌, ◌<◌, ◌≤◌, ◌⊎◌, min, true, false, List, [], ◌∷◌, ◌++◌, map, length, take, drop, set, get_or, slice_get, Option, Some, None, refl, sym, ap, ◌∙◌, subst, arith, cond, inl, inr, add-one, eqb, leb}
 use Rattle.std.specs.Int.{div_ceil}
 use Rattle.std.specs.List.{range_with_len, flat_map, sum_by}
@@ -26,7 +26,7 @@ use Rattle.merkle_cover.proofs.SpotLemmas.{Ranged, Ranged-at, Ranged-next, Range
 
 -- ---- where positions end
 
--- a group ends where its last child does, or where the leaves do
+-- a group ends where its last child ends, or where the leaves end
 pub closes-up : (n f w p s g m : ℕ) → p ≡ g * f + s → s < f → min n ((p + 1) * w) ≡ m + 1 → (f ≤ s + 1) ⊎ (m + 1 ≡ n) → min n ((g + 1) * (w * f)) ≡ m + 1
 closes-up n f w p s g m ep within closes how =
     elim how [
@@ -47,7 +47,7 @@ starts-up f w p s g m ep low =
     let wide : (g * f) * w ≡ g * (w * f) = omega arith in
     omega (arith, more, wide, low)
 
--- two positions of a level that end with the same leaf are one
+-- two positions of a level that end with the same leaf are the same
 same-place : (n w p q m : ℕ) → 0 < w → m < n → p * w ≤ m → q * w < n → min n ((p + 1) * w) ≡ m + 1 → min n ((q + 1) * w) ≡ m + 1 → q ≡ p
 same-place n w p q m pos inside low there closes closes' =
     elim (cases_lt q p) [
@@ -61,7 +61,7 @@ same-place n w p q m pos inside low there closes closes' =
       ]
     ]
 
--- no position above a group that is not whole ends with the leaf
+-- no position above an incomplete group ends with the leaf
 no-multiple : (f w p s g x : ℕ) → 0 < w → p ≡ g * f + s → s + 1 < f → x * (w * f) ≡ (p + 1) * w → ⊥
 no-multiple f w p s g x pos ep less e =
     elim (cases_lt g x) [
@@ -134,7 +134,7 @@ group-digest hash texts f k p s g m waiting d pos ep within low inside closes ho
 
 -- ---- the levels
 
--- a level with one text more, where no position of it ends with that
+-- a level with one more text, if none of its positions ends with that text
 holds-later : (hash : List ℕ → List ℕ) (texts : List (List ℕ)) (f m j : ℕ) (waiting : List (List ℕ)) → ((q : ℕ) → end_of (length texts) f j q ≡ m + 1 → ⊥) → HoldsLevel hash texts f m j waiting → HoldsLevel hash texts f (m + 1) j waiting
 holds-later hash texts f m j waiting none holds = record {
   digests = λ g i l below above.
@@ -144,7 +144,7 @@ holds-later hash texts f m j waiting none holds = record {
       ];
 }
 
--- a write to another level's slot
+-- a write to a slot of another level
 holds-other : (hash : List ℕ → List ℕ) (texts : List (List ℕ)) (f m j k s : ℕ) (waiting : List (List ℕ)) (d : List ℕ) → j ≢ k → s < f → HoldsLevel hash texts f m j waiting → HoldsLevel hash texts f m j (set waiting (k * f + s) d)
 holds-other hash texts f m j k s waiting d other within holds = record {
   digests = λ g i l below above.
@@ -155,7 +155,7 @@ holds-other hash texts f m j k s waiting d other within holds = record {
       get_or-set_other waiting (k * f + s) (j * f + i) d [] apart ∙ holds.digests g i l below above;
 }
 
--- a group that was made whole holds nothing any more
+-- a completed group no longer holds any digest
 holds-closed : (hash : List ℕ → List ℕ) (texts : List (List ℕ)) (f k g m : ℕ) (waiting : List (List ℕ)) → 0 < f → end_of (length texts) f (suc k) g ≡ m + 1 → HoldsLevel hash texts f (m + 1) k waiting
 holds-closed hash texts f k g m waiting pos closes = record {
   digests = λ g' i l below above.
@@ -224,7 +224,7 @@ take-next (y ∷ ys) (suc i) x e =
 spot-is : (s : Spot) (k p : ℕ) → s.level ≡ k → s.place ≡ p → s ≡ record { level = k; place = p }
 spot-is s k p a b = ap (λ x. record { level = x; place = s.place }) a ∙ ap (λ x. record { level = k; place = x }) b
 
--- it stays as it is
+-- the cover is unchanged
 cover-stays : (hash : List ℕ → List ℕ) (texts : List (List ℕ)) (n f m : ℕ) (waiting : List (List ℕ)) (spots : List Spot) (cover cover' : List (List ℕ)) (k p : ℕ) (d : List ℕ) → cover' ≡ cover
     → ((s : Spot) → slice_get spots (length cover) ≡ Some s → end_of n f s.level s.place ≡ m + 1 → k + 1 ≤ s.level)
     → IsOnItsWay hash texts n f m waiting spots cover k k p d → IsOnItsWay hash texts n f m waiting spots cover' k (k + 1) p d
@@ -237,7 +237,7 @@ cover-stays hash texts n f m waiting spots cover cover' k p d same higher way =
       next = λ s e. ((way.next s e).0, higher s e);
     })
 
--- it has one digest more
+-- the cover has one more digest
 cover-grows : (hash : List ℕ → List ℕ) (texts : List (List ℕ)) (n f m t b : ℕ) (waiting : List (List ℕ)) (spots : List Spot) (cover cover' : List (List ℕ)) (k p : ℕ) (d : List ℕ) → 0 < f → Ranged n f t 0 b spots → end_of n f k p ≡ m + 1
     → slice_get spots (length cover) ≡ Some (record { level = k; place = p }) → cover' ≡ cover ++ d ∷ []
     → IsOnItsWay hash texts n f m waiting spots cover k k p d → IsOnItsWay hash texts n f m waiting spots cover' k (k + 1) p d
@@ -306,7 +306,7 @@ cover-taken hash texts n f m t b waiting spots cover cover' k p d pos inside ran
 
 -- ---- the way of a leaf's digest
 
--- what is on its way, without the digest of the cover there
+-- the state on the way, without the cover's digest at that position
 pub way-begins : (hash : List ℕ → List ℕ) (texts : List (List ℕ)) (places : List ℕ) (n f m : ℕ) (waiting : List (List ℕ)) (spots : List Spot) (cover : List (List ℕ)) (d : List ℕ) → CanRaise hash texts places n f m waiting spots cover d → IsOnItsWay hash texts n f m waiting spots cover 0 0 m d
 way-begins hash texts places n f m waiting spots cover d can = record {
   digest_is = can.leaf;
@@ -316,7 +316,7 @@ way-begins hash texts places n f m waiting spots cover d can = record {
   next = λ s e. (omega (arith, can.covers.next s e, can.count), λ same. omega arith);
 }
 
--- a group was made whole
+-- a group was completed
 pub way-goes-up : (hash : List ℕ → List ℕ) (texts : List (List ℕ)) (n f m : ℕ) (waiting waiting' : List (List ℕ)) (spots : List Spot) (cover : List (List ℕ)) (k p s g : ℕ) (d d' : List ℕ) → length texts ≡ n → 0 < f → p ≡ g * f + s → s < f → p * f ^ k ≤ m → m < n → end_of n f k p ≡ m + 1 → (f ≤ s + 1) ⊎ (m + 1 ≡ n)
     → k < top n f → k * f + s < length waiting → waiting' ≡ set waiting (k * f + s) d → d' ≡ hash (1 ∷ flat_map (λ (x : List ℕ). x) (take (s + 1) (drop (k * f) waiting')))
     → IsOnItsWay hash texts n f m waiting spots cover k (k + 1) p d → IsOnItsWay hash texts n f m waiting' spots cover (k + 1) (k + 1) g d'
@@ -340,7 +340,7 @@ way-goes-up hash texts n f m waiting waiting' spots cover k p s g d d' count pos
       next = way.next;
     })
 
--- a group is not whole yet
+-- a group is not complete yet
 pub way-ends : (hash : List ℕ → List ℕ) (texts : List (List ℕ)) (n f m : ℕ) (waiting waiting' : List (List ℕ)) (spots : List Spot) (cover : List (List ℕ)) (k p s g : ℕ) (d : List ℕ) → length texts ≡ n → 0 < f → p ≡ g * f + s → s + 1 < f → p * f ^ k ≤ m → m + 1 < n → end_of n f k p ≡ m + 1
     → k < top n f → k * f + s < length waiting → waiting' ≡ set waiting (k * f + s) d
     → IsOnItsWay hash texts n f m waiting spots cover k (k + 1) p d → IsRaised hash texts n f m waiting' spots cover d
@@ -387,7 +387,7 @@ way-is-whole hash texts n f m b waiting spots cover k p d count f2 low inside at
       whole = λ e. way.digest_is ∙ ap (digest hash texts f k) first ∙ ap (λ x. digest hash texts f x 0) (at ∙ ap (λ x. top x f) (sym count));
     }
 
--- the digest of a position is kept for the cover, where it is its next
+-- the digest of a position is kept for the cover if it is the cover's next one
 pub way-taken : (hash : List ℕ → List ℕ) (texts : List (List ℕ)) (places : List ℕ) (n f m : ℕ) (waiting : List (List ℕ)) (spots spots' : List Spot) (cover cover' : List (List ℕ)) (k p : ℕ) (d : List ℕ) → 0 < f → m < n → spots ≡ spots_of n f places → spots' ≡ spots
     → p * f ^ k ≤ m → end_of n f k p ≡ m + 1
     → (slice_get spots (length cover) ≡ Some (record { level = k; place = p }) → cover' ≡ cover ++ d ∷ [])
@@ -399,7 +399,7 @@ way-taken hash texts places n f m waiting spots spots' cover cover' k p d pos in
     subst (λ (ss : List Spot). IsOnItsWay hash texts n f m waiting ss cover' k (k + 1) p d) (sym same)
     (cover-taken hash texts n f m (top n f) all.0 waiting spots cover cover' k p d pos inside ranged low closes taken kept way)
 
--- nothing is kept before the first text
+-- before the first text nothing is kept
 pub takes-nothing : (hash : List ℕ → List ℕ) (texts : List (List ℕ)) (f : ℕ) (places : List ℕ) (r : Growth) → 2 ≤ f → 1 ≤ r.leaves → length texts ≡ r.leaves → r.fan ≡ f → r.pushed ≡ 0 → r.spots ≡ spots_of r.leaves f places → r.cover ≡ [] → Takes hash f places texts r
 takes-nothing hash texts f places r f2 some count fan none es bare = record {
   count = count;
@@ -421,7 +421,7 @@ takes-nothing hash texts f places r f2 some count fan none es bare = record {
   whole = λ e. absurd (omega (arith, e, none, some));
 }
 
--- one text more
+-- one more text
 pub takes-more : (hash : List ℕ → List ℕ) (texts : List (List ℕ)) (fan : ℕ) (places : List ℕ) (old new : Growth) (text lowest : List ℕ) (before after : List (List ℕ))
     → new.leaves ≡ old.leaves → new.fan ≡ old.fan → new.pushed ≡ old.pushed + 1 → new.spots ≡ old.spots → before ≡ old.waiting → new.waiting ≡ after
     → get_or texts old.pushed [] ≡ text → lowest ≡ hash (0 ∷ text) → Takes hash fan places texts old
@@ -449,7 +449,7 @@ takes-more hash texts fan places old new text lowest before after en ef ep es eb
       whole = λ e. raised.whole (sym ep ∙ e ∙ en);
     }
 
--- all texts are in
+-- all texts have been taken
 pub takes-all : (hash : List ℕ → List ℕ) (texts : List (List ℕ)) (fan : ℕ) (places : List ℕ) (r : Growth) → r.pushed ≡ r.leaves → Takes hash fan places texts r → r.cover ≡ cover_of hash texts fan places
 takes-all hash texts fan places r whole takes =
     let h : Spot → List ℕ = λ s. digest hash texts fan s.level s.place in
@@ -459,7 +459,7 @@ takes-all hash texts fan places r whole takes =
     ] in
     takes.covers.made ∙ ap (map h) (take_all (length r.cover) r.spots all ∙ takes.spots_are) ∙ cover_of-spots hash texts fan places
 
--- ---- how many digests wait
+-- ---- the number of waiting digests
 
 same-test : (m n : ℕ) → m ≡ n → eqb m n ≡ true
 same-test m n e = grind (arith, nat_tests)

@@ -47,10 +47,10 @@ pub cover_of-spots : (hash : List ℕ → List ℕ) (texts : List (List ℕ)) (f
 cover_of-spots hash texts f [] = refl
 cover_of-spots hash texts f (c ∷ cs) = cover_below-spots (digest hash texts f) (length texts) f (c ∷ cs) (top (length texts) f) 0
 
--- ---- spots stand from left to right
+-- ---- spots are ordered from left to right
 
--- from one leaf up to another stand these spots, none of whose positions begins after the last of n leaves, nor is
--- above a level
+-- the spots from one leaf up to another; no position of them begins after the last of n leaves or is above the
+-- given level
 pub Ranged : ℕ → ℕ → ℕ → ℕ → ℕ → List Spot → Type 0
 Ranged n f t a b [] = a ≤ b
 Ranged n f t a b (s ∷ ss) = (a ≤ s.place * f ^ s.level) × (s.place * f ^ s.level < n) × (s.level ≤ t) × Ranged n f t ((s.place + 1) * f ^ s.level) b ss
@@ -98,7 +98,7 @@ Ranged-spots_below n f chosen (suc k) p pos l =
     let whole = subst (λ x. Ranged n f (suc k) x ((p + 1) * f ^ suc k) (flat_map (spots_below n f chosen k) (range_with_len (p * f) c))) first (Ranged-wide n f k (suc k) ((p * f) * f ^ k) ((p * f + c) * f ^ k) ((p + 1) * f ^ suc k) (flat_map (spots_below n f chosen k) (range_with_len (p * f) c)) all wide (omega arith)) in
     elim (has_chosen f chosen (suc k) p) as (λ b. Ranged n f (suc k) (p * f ^ suc k) ((p + 1) * f ^ suc k) (cond b (flat_map (spots_below n f chosen k) (range_with_len (p * f) c)) (record { level = suc k; place = p } ∷ []))) [ true ↦ whole | false ↦ Ranged-one n f (suc k) p there ]
 
--- a spot's position is there, and is no higher than the top
+-- a spot's position exists, and is not above the top
 pub Ranged-at : (n f t a b : ℕ) (ss : List Spot) → Ranged n f t a b ss → (i : ℕ) (s : Spot) → slice_get ss i ≡ Some s → (a ≤ s.place * f ^ s.level) × (s.place * f ^ s.level < n) × (s.level ≤ t)
 unfolding Ranged
 Ranged-at n f t a b [] h i s e = cc
@@ -109,7 +109,7 @@ Ranged-at n f t a b (x ∷ xs) h (suc i) s e =
     let rest = Ranged-at n f t ((x.place + 1) * f ^ x.level) b xs h.3 i s e in
     (omega (arith, rest.0, h.0), rest.1, rest.2)
 
--- the next spot begins where one ends, or after
+-- the next spot begins at the end of the previous one, or after it
 pub Ranged-next : (n f t a b : ℕ) (ss : List Spot) → Ranged n f t a b ss → (i : ℕ) (s s' : Spot) → slice_get ss i ≡ Some s → slice_get ss (i + 1) ≡ Some s' → (s.place + 1) * f ^ s.level ≤ s'.place * f ^ s'.level
 unfolding Ranged
 Ranged-next n f t a b [] h i s s' e e' = cc

@@ -1,4 +1,4 @@
--- Texts that are cut from one buffer.
+-- Texts cut from one buffer.
 use Rattle.std.proofs.Common.{◌≡◌, ℕ, suc, zero, ◌+◌, ◌-◌, ◌<◌, ◌≤◌, List, [], ◌∷◌, ◌++◌, length, get_or, take, drop, refl, sym, ap, ◌∙◌, arith, length-take, length-drop}
 use Rattle.std.proofs.lemmas.List.{take-append-le, drop-append-le, take_all, drop_at}
 use Rattle.merkle_cover.specs.Texts.{total_length, texts_of, EndsAt}
@@ -12,7 +12,7 @@ pub length-texts_of : (octets : List ℕ) (start : ℕ) (ends : List ℕ) → le
 length-texts_of octets start [] = refl
 length-texts_of octets start (end ∷ ends) = ap suc (length-texts_of octets end ends)
 
--- all octets from the offset on are those of the texts
+-- all octets from the offset on belong to the texts
 pub total_length-texts_of : (octets : List ℕ) (start : ℕ) (ends : List ℕ) → EndsAt start ends (length octets) → total_length (texts_of octets start ends) + start ≡ length octets
 total_length-texts_of octets start [] h = omega (arith, h)
 total_length-texts_of octets start (end ∷ ends) h =
@@ -37,7 +37,7 @@ texts_of-push octets text start (end ∷ ends) h =
     ap (λ t. t ∷ texts_of (octets ++ text) end (ends ++ (length octets + length text) ∷ [])) (ap (take (end - start)) e ∙ take-append-le (end - start) (drop start octets) text room)
     ∙ ap (λ r. take (end - start) (drop start octets) ∷ r) (texts_of-push octets text end ends h.1)
 
--- where the text at an index stands
+-- the offset of the text at an index
 pub get_or-texts_of : (octets : List ℕ) (start : ℕ) (ends : List ℕ) (i : ℕ) → i < length ends → get_or (texts_of octets start ends) i [] ≡ take (get_or ends i 0 - get_or (start ∷ ends) i 0) (drop (get_or (start ∷ ends) i 0) octets)
 get_or-texts_of octets start [] i h = absurd (omega (arith, h))
 get_or-texts_of octets start (end ∷ ends) zero h = refl

@@ -32,7 +32,7 @@ pub fold_of-tree : (hash : List ℕ → List ℕ) (texts : List (List ℕ)) (f :
 fold_of-tree hash texts f [] l e = absurd (omega (arith, l))
 fold_of-tree hash texts f (c ∷ cs) l e = fold_of-cover_of hash texts f c cs e
 
--- what the walk over a tree's fields gives
+-- the result of a walk over a tree's fields
 pub cover_of-walk : (hash : List ℕ → List ℕ) (texts : List (List ℕ)) (t : Levels) (n f k : ℕ) (places : List ℕ) → t ≡ tree_of hash texts t.fan → n ≡ leaf_count t → f ≡ t.fan → k ≡ top n f → 2 ≤ f → 1 ≤ n → 0 < length places → cover_below (digest_in t.levels) n f places k 0 ≡ cover_of hash texts t.fan places
 cover_of-walk hash texts t n f k places e en ef ek f2 n1 l =
     let count : n ≡ length texts = en ∙ ap (λ (x : Levels). leaf_count x) e ∙ leaf_count-tree_of hash texts t.fan in

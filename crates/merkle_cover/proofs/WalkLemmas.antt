@@ -28,13 +28,13 @@ fan-divides f h = omega (arith, h)
 
 -- ---- steps
 
--- the room of a child
+-- the number of leaves below a child
 pub child-room : (f k w : ℕ) → 0 < f → 0 < k → w ≡ f ^ k → w / f ≡ f ^ (k - 1)
 child-room f k w h l e =
     let s : k ≡ suc (k - 1) = omega arith in
     ap (λ x. x / f) (e ∙ ap (λ x. f ^ x) s) ∙ pow-div f (k - 1) h
 
--- how far the children go
+-- the end of the children
 pub child-end : (n f j p b : ℕ) → 0 < f → b ≡ f ^ j → min (p * f + f) (div_ceil n b) ≡ min (p * f + f) (places_at n f j)
 child-end n f j p b h e = ap (min (p * f + f)) (ap (div_ceil n) e ∙ sym (places_at-ceil n f j h))
 
@@ -42,11 +42,11 @@ module _ {n f : ℕ} {places : List ℕ} {k p w item : ℕ} (q : CanWalk n f pla
   at : SplitsAt places (p * f ^ k) item
   at = subst (λ x. SplitsAt places (p * x) item) q.span q.items
 
-  -- the fan-out divides
+  -- the fan-out divides the number of leaves
   pub walk-fan : 0 < f
   walk-fan = fan-divides f q.fan
 
-  -- the position is one of the leaves', and each number on the way fits its type
+  -- the position has leaves below it, and each number on the way fits its type
   pub walk-there : p < n
   walk-there = omega (arith, (CanWalk-room q).1, q.place)
 
@@ -68,11 +68,11 @@ module _ {n f : ℕ} {places : List ℕ} {k p w item : ℕ} (q : CanWalk n f pla
   pub fits-next-item : item < length places → Fits w64 (item + 1)
   fits-next-item l = omega (arith, rising-index n places q.rising item l, q.rising.below item l, q.leaves)
 
-  -- the room of a child is that of its level
+  -- the number of leaves below a child is that of its level
   pub walk-room : (k ≡ 0 → ⊥) → w / f ≡ f ^ (k - 1)
   walk-room ne = child-room f k w walk-fan (above-leaves k ne) q.span
 
-  -- how far the children go
+  -- the end of the children
   pub walk-end : (k ≡ 0 → ⊥) → min (p * f + f) (div_ceil n (w / f)) ≡ min (p * f + f) (places_at n f (k - 1))
   walk-end ne = child-end n f (k - 1) p (w / f) walk-fan (walk-room ne)
 
@@ -94,7 +94,7 @@ module _ {n f : ℕ} {places : List ℕ} {k p w item : ℕ} (q : CanWalk n f pla
       let wide = CanWalk-wide q j b e eb in
       subst (λ x. SplitsAt places x item) (let same : p * w ≡ (p * f) * b = ap (λ x. p * x) wide ∙ omega arith in same) q.items
 
-  -- some child is there
+  -- there is a child
   pub walk-child : (j b : ℕ) → k ≡ suc j → b ≡ f ^ j → p * f < places_at n f j
   walk-child j b e eb =
       let wide = CanWalk-wide q j b e eb in
@@ -117,14 +117,14 @@ module _ {n f : ℕ} {places : List ℕ} {k p w item : ℕ} (q : CanWalk n f pla
       subst (λ x. SplitsAt places x (item + 1)) (let m : p + 1 ≡ (p + 1) * w = rw one (omega arith) in m) (SplitsAt-leaf n places p item q.rising at' l (omega (arith, b1)))
 
 module _ {n f : ℕ} {places : List ℕ} {given : List (List ℕ)} {k p w item start : ℕ} (q : CanFold n f places given k p w item start) where
-  -- a digest or a text is there to take, and the next position fits its type
+  -- a digest or a text is left to take, and the next position fits its type
   pub fits-taken : Fits w64 (start + 1)
   fits-taken = omega (arith, q.taken, q.walk.place, q.walk.leaves)
 
   pub given-there : item < length places → item < length given
   given-there l = omega (arith, l, q.texts)
 
--- one more child's part of a list
+-- the part of a list that one more child gives
 pub flat_map-child : {X : Type 0} (g : ℕ → List X) (first child : ℕ) (before now : List X) → first ≤ child → now ≡ before ++ flat_map g (range_with_len first (child - first)) → now ++ g child ≡ before ++ flat_map g (range_with_len first (child + 1 - first))
 flat_map-child g first child before now l e =
     let m = child - first in

@@ -1,4 +1,5 @@
--- What the words of a rising tree say at some counts, so that a changed word is seen.
+-- The definitions of a tree whose texts come one at a time, evaluated for some counts. A changed definition fails
+-- here.
 use Rattle.std.proofs.Common.{◌≡◌, [], ◌∷◌, Some, None, refl}
 use Rattle.merkle_cover.specs.Shape.{places_at}
 use Rattle.merkle_cover.specs.Rising.{first_rising_refusal, whole_places, end_of}
@@ -29,14 +30,14 @@ too_many_leaves = refl
 
 -- ---- a tree of five leaves and a fan-out of 2
 
--- of three texts one pair is whole, and of all five each position is
+-- after three texts one pair is complete; after all five every position is
 pairs_of_three : whole_places 5 2 3 1 ≡ 1
 pairs_of_three = refl
 
 all_of_five : whole_places 5 2 5 1 ≡ places_at 5 2 1
 all_of_five = refl
 
--- the second pair ends after the fourth leaf, and the third where the leaves do
+-- the second pair ends after the fourth leaf, and the third pair ends with the leaves
 end_of_the_second : end_of 5 2 1 1 ≡ 4
 end_of_the_second = refl
 

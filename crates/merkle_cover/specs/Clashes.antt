@@ -1,4 +1,4 @@
--- Where a tree and a recomputed root hash different texts to one digest.
+-- Positions at which a tree and a recomputed root hash different texts to the same digest.
 use Rattle.std.specs.Prelude.{ℕ, true, zero, suc, ◌≡◌, ◌≢◌, ◌+◌, ◌-◌, ◌*◌, ◌^◌, ◌<◌, ◌≤◌, List, [], ◌∷◌, ◌++◌, length, take, drop, slice_index, slice_index_or}
 use Rattle.std.specs.List.{flat_map}
 use Rattle.merkle_cover.specs.Shape.{places_at, children, top}
@@ -19,9 +19,9 @@ folded_text hash n f chosen given zero p cover = 0 ∷ text_for chosen given p
 folded_text hash n f chosen given (suc k) p cover =
     1 ∷ folded_in_turn (need n f chosen k) (folded hash n f chosen given k) (children n f k p) cover
 
--- at some position that is there, and has a chosen leaf, the tree hashes the left text and the recomputed root
--- the right one, whose digests are given or recomputed of what is given: it takes its digests from the
--- cover after as many as stand left of the position
+-- At some existing position above or at a chosen leaf, the tree hashes the left text and the recomputed root hashes
+-- the right text. The digests in the right text are given or recomputed. Those from the cover come after all cover
+-- digests left of the position.
 pub record AreHashed (hash : List ℕ → List ℕ) (leaves : List (List ℕ)) (f : ℕ) (chosen : List ℕ)
     (given cover : List (List ℕ)) (left right : List ℕ) : Type 0 where
   pub k : ℕ
@@ -33,8 +33,8 @@ pub record AreHashed (hash : List ℕ → List ℕ) (leaves : List (List ℕ)) (
   pub of_fold : right ≡ folded_text hash (length leaves) f chosen given k p
       (drop (left_of (length leaves) f chosen (top (length leaves) f - k) k p) cover)
 
--- what is given below position p of level k is what the tree has there: texts from one index to
--- another, and cover digests from a position in the cover
+-- the texts and digests given below position p of level k equal the tree's own: texts from one index up to another,
+-- and digests from an index in the cover on
 pub record SameBelow (hash : List ℕ → List ℕ) (leaves : List (List ℕ)) (f : ℕ) (chosen : List ℕ)
     (given cover : List (List ℕ)) (k p start item next : ℕ) : Type 0 where
   pub texts : (q : ℕ) → item ≤ q → q < next →
@@ -42,7 +42,7 @@ pub record SameBelow (hash : List ℕ → List ℕ) (leaves : List (List ℕ)) (
   pub digests : take (need (length leaves) f chosen k p) (drop start cover) ≡ cover_below
       (digest hash leaves f) (length leaves) f chosen k p
 
--- where a comparison stands, before position p of level k; whole is the tree's cover
+-- the state of a comparison before position p of level k; whole is the cover of the tree itself
 pub record CanCompare (hash : List ℕ → List ℕ) (leaves : List (List ℕ)) (f : ℕ) (chosen : List ℕ)
     (given cover : List (List ℕ)) (levels : List (List (List ℕ))) (whole : List (List ℕ))
     (k p w item start : ℕ) : Type 0 where
@@ -56,7 +56,7 @@ pub record CanCompare (hash : List ℕ → List ℕ) (leaves : List (List ℕ)) 
   pub rest : (more : List (List ℕ)) ×
       (drop start whole ≡ cover_below (digest hash leaves f) (length leaves) f chosen k p ++ more)
 
--- the tree and the recomputed root hash different texts at position p of level k, to one digest
+-- the tree and the recomputed root hash different texts at position p of level k to the same digest
 pub record IsClash (hash : List ℕ → List ℕ) (leaves : List (List ℕ)) (f : ℕ) (chosen : List ℕ)
     (given cover : List (List ℕ)) (levels : List (List (List ℕ))) (whole : List (List ℕ))
     (k p w item start : ℕ) : Type 0 where
@@ -67,7 +67,7 @@ pub record IsClash (hash : List ℕ → List ℕ) (leaves : List (List ℕ)) (f 
   pub same : hash (hashed_text hash leaves f k p) ≡ hash
       (folded_text hash (length leaves) f chosen given k p (drop start cover))
 
--- position p of level k can be read from a tree's levels
+-- position p of level k can be read from the levels of a tree
 pub record CanRead (hash : List ℕ → List ℕ) (leaves : List (List ℕ)) (f : ℕ)
     (levels : List (List (List ℕ))) (k p w : ℕ) : Type 0 where
   pub fan : 2 ≤ f

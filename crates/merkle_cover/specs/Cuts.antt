@@ -1,8 +1,8 @@
--- Texts as they stand in octets.
+-- Texts at their positions in octets.
 use Rattle.std.specs.Prelude.{ℕ, ◌-◌, ◌<◌, ◌≤◌, ◌^◌, List, length, take, drop, All}
 use Rattle.merkle_cover.specs.declared.cuts.Cut.{Cut}
 
--- the octets from where a cut starts up to its end
+-- the octets from the start of a cut up to its end
 abbrev pub cut_from : List ℕ → Cut → List ℕ
 cut_from octets cut = take (cut.end - cut.start) (drop cut.start octets)
 
@@ -11,7 +11,7 @@ pub record IsIn (octets : List ℕ) (cut : Cut) : Type 0 where
   pub order : cut.start ≤ cut.end
   pub within : cut.end ≤ length octets
 
--- all cuts do, and are fewer than 2 ^ 32
+-- all cuts lie in the octets, and there are fewer than 2 ^ 32 cuts
 pub record AreIn (octets : List ℕ) (cuts : List Cut) : Type 0 where
   pub count : length cuts < 2 ^ 32
   pub each : All (IsIn octets) cuts

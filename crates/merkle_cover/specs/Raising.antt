@@ -1,4 +1,4 @@
--- A leaf's digest on its way up a tree that rises.
+-- The digest of a leaf on its way up a tree that takes its texts one at a time.
 use Rattle.std.specs.Prelude.{ℕ, ◌+◌, ◌<◌, ◌≡◌, List, length}
 use Rattle.merkle_cover.specs.Shape.{top}
 use Rattle.merkle_cover.specs.Trees.{digest, root}
@@ -6,7 +6,7 @@ use Rattle.merkle_cover.specs.Spots.{spots_of}
 use Rattle.merkle_cover.specs.Rising.{HoldsLevel, HoldsCover}
 use Rattle.merkle_cover.specs.declared.spots.Spot.{Spot}
 
--- before it: all is as the first m texts left it
+-- before the walk: the state after the first m texts
 pub record CanRaise (hash : List ℕ → List ℕ) (texts : List (List ℕ)) (places : List ℕ) (n f m : ℕ)
     (waiting : List (List ℕ)) (spots : List Spot) (cover : List (List ℕ))
     (d : List ℕ) : Type 0 where
@@ -16,7 +16,7 @@ pub record CanRaise (hash : List ℕ → List ℕ) (texts : List (List ℕ)) (pl
   pub levels : (k : ℕ) → k < top n f → HoldsLevel hash texts f m k waiting
   pub covers : HoldsCover hash texts f m spots cover
 
--- after it: all is as one text more leaves it
+-- after the walk: the state after one more text
 pub record IsRaised (hash : List ℕ → List ℕ) (texts : List (List ℕ)) (n f m : ℕ)
     (waiting : List (List ℕ)) (spots : List Spot) (cover : List (List ℕ))
     (d : List ℕ) : Type 0 where

@@ -1,12 +1,11 @@
--- Where the digests of a cover stand in their tree.
+-- The positions of a cover's digests in their tree.
 use Rattle.std.specs.Prelude.{ℕ, zero, suc, List, [], ◌∷◌, if◌then◌else◌}
 use Rattle.std.specs.List.{flat_map}
 use Rattle.merkle_cover.specs.Shape.{children, top}
 use Rattle.merkle_cover.specs.Covers.{has_chosen}
 use Rattle.merkle_cover.specs.declared.spots.Spot.{Spot}
 
--- from left to right, the highest positions below position p of level k that have no chosen leaf below
--- them
+-- from left to right, the highest positions below position p of level k without a chosen leaf below them
 unfoldable pub spots_below : ℕ → ℕ → List ℕ → ℕ → ℕ → List Spot
 spots_below n f chosen zero p = if has_chosen f chosen 0 p then [] else
     record { level = 0; place = p } ∷ []

@@ -1,4 +1,4 @@
-//! Two texts with one digest, where a recomputed root goes astray.
+//! Finding two texts with the same digest, if a root is recomputed from texts other than the tree's own.
 ghost use Rattle.std.specs.Prelude.{◌≡◌, ◌≢◌, ℕ, ◌+◌, ◌*◌, ◌^◌, ◌<◌, ◌≤◌, ◌↔◌, ◌&&◌, Bool, List, [], ◌∷◌, ◌++◌, length, drop, slice_index, slice_index_or, IfOk, IfErr, IfSome, IsNone, Ok};
 ghost use Rattle.std.specs.Bool.{OnTrue, OnFalse};
 ghost use Rattle.merkle_cover.specs.Clashes.{CanCompare, CanRead, IsClash, SameBelow, AreHashed, hashed_text, folded_text};
@@ -14,7 +14,7 @@ use crate::trees::Tree;
 use octet_text::{Digest32, Digests, Hasher, NoMemory, Octets, put_octets, put_u8};
 use std::alloc::Global;
 
-// Where a tree and a recomputed root hash different texts to one digest.
+// A position at which the tree and the recomputed root hash different texts to the same digest.
 #[derive(Clone, Copy)]
 struct ClashPlace {
     level: u32,
@@ -50,7 +50,7 @@ fn both(left: bool, right: bool) -> bool
     left && right
 }
 
-// Whether each text is the leaf at its position.
+// Tests whether each text is the leaf at its position.
 fn are_chosen(leaves: &Texts, places: &[u32], texts: &CutTexts<'_>) -> bool
     requires places { IsRising (length leaves.now) places.now }
     requires texts { length texts.now ≡ length places.now }
@@ -65,7 +65,7 @@ fn are_chosen(leaves: &Texts, places: &[u32], texts: &CutTexts<'_>) -> bool
     true
 }
 
-// Whether the texts and the cover are the tree's own, octet for octet: nothing is hashed.
+// Tests whether the texts and the cover equal the tree's own, octet by octet. Hashes nothing.
 fn are_own<H: Hasher>(
     alloc: Global,
     tree: &Tree<H>,
@@ -88,7 +88,8 @@ fn are_own<H: Hasher>(
     Ok(same_covers(whole.as_slice(), cover))
 }
 
-// Recomputes what is given at a position and compares it with the tree, or finds where the two clash.
+// Recomputes the digest of a position from the given texts and cover. Compares it with the tree, and returns the
+// position at which the two clash, if they do.
 fn compare_place<H: Hasher>(
     given: &Brought<'_>,
     levels: &[Digests],
@@ -178,7 +179,7 @@ fn compare_place<H: Hasher>(
     Ok(all)
 }
 
-// The text that the tree hashes at a position.
+// Returns the text that the tree hashes at a position.
 fn tree_text<H: Hasher>(
     alloc: Global,
     levels: &[Digests],
@@ -207,7 +208,7 @@ fn tree_text<H: Hasher>(
     Ok(text)
 }
 
-// The text that is hashed at a position with a chosen leaf, by what is given.
+// Returns the text that the recomputed root hashes at a position above or at a chosen leaf.
 fn given_text<H: Hasher>(
     alloc: Global,
     given: &Brought<'_>,
@@ -246,19 +247,20 @@ fn given_text<H: Hasher>(
     Ok(text)
 }
 
-/// Two different texts with one digest.
+/// Two different texts with the same digest.
 #[derive(Debug, Drop)]
 pub struct TwoTexts {
     /// The text that the tree hashes.
     pub left: Octets,
-    /// The text that is hashed of what was given.
+    /// The text that the recomputation of the root hashes.
     pub right: Octets,
 }
 
-/// Two different texts with one digest, from a tree and from texts and a cover that recompute its
-/// root. `None` exactly where each given text is the leaf at its position, and the cover is the tree's.
+/// Returns two different texts with the same digest. It finds them by comparing a tree with texts and a cover from
+/// which the same root is recomputed. Returns `None` exactly if each given text is the leaf at its position and the
+/// cover is the tree's own.
 ///
-/// Compares octets first, and hashes, in the time of recomputing the root, only where some differ.
+/// Compares octets first. Hashes only if some octets differ. It then takes as much time as recomputing the root.
 pub fn clash<H: Hasher>(
     alloc: Global,
     tree: &Tree<H>,

@@ -1,11 +1,11 @@
-//! The digests of a cover, as they are made.
+//! The digests of a cover while the cover is being made.
 ghost use Rattle.std.specs.Prelude.{◌≡◌, ◌≢◌, ◌≤◌, [], ◌∷◌, ◌++◌, length, slice_get, vec_len, vec_capacity, IfOk, Some};
 
 use crate::spots::Spot;
 use octet_text::{Digest32, NoMemory, room_for};
 use std::alloc::Global;
 
-// The digests of a cover that are made, and where all of them stand.
+// The digests made so far of a cover, and the positions of all its digests.
 #[derive(Drop)]
 pub(crate) struct Covering {
     pub(crate) spots: Vec<Spot>,
@@ -14,7 +14,7 @@ pub(crate) struct Covering {
 }
 
 impl Covering {
-    // None of the digests, which stand there, and memory for all of them.
+    // Makes an empty cover for these positions. Reserves memory for all its digests.
     pub(crate) fn new(alloc: Global, spots: Vec<Spot>) -> Result<Covering, NoMemory>
         ensures spots { IfOk result (λ c. c.spots ≡ spots) }
         ensures none { IfOk result (λ c. c.digests.items ≡ []) }
@@ -23,7 +23,7 @@ impl Covering {
         Ok(Covering { spots, digests })
     }
 
-    // The digests.
+    // Returns the digests.
     pub(crate) fn into_digests(self) -> Vec<Digest32>
         ensures { result.items ≡ self.digests.items }
     {
@@ -31,7 +31,7 @@ impl Covering {
         digests
     }
 
-    // Keeps a position's digest, where it is the next of the cover.
+    // Keeps the digest of a position if the position is the cover's next one.
     pub(crate) fn take(&mut self, spot: Spot, digest: &Digest32)
         ensures spots { self.new.spots ≡ self.old.spots }
         ensures taken { slice_get self.old.spots.items (length self.old.digests.items) ≡ Some spot

@@ -1,4 +1,4 @@
-//! The cover of some leaves: the digests that recomputing the root takes beside them.
+//! The cover of some leaves: the digests that are needed besides these leaves to recompute the root.
 ghost use Rattle.std.specs.Prelude.{◌≡◌, ℕ, ◌+◌, ◌*◌, ◌^◌, ◌<◌, ◌≤◌, List, [], ◌∷◌, ◌++◌, length, slice_index, slice_index_or, IfOk, OnOk};
 ghost use Rattle.merkle_cover.specs.Covers.{cover_below};
 ghost use Rattle.merkle_cover.specs.Folding.{CanWalk, SplitsAt, HasLevels, digest_in};
@@ -6,7 +6,7 @@ ghost use Rattle.merkle_cover.specs.Folding.{CanWalk, SplitsAt, HasLevels, diges
 use crate::folds::is_next_below;
 use octet_text::{Digest32, Digests, NoMemory, push};
 
-// A tree's levels, and chosen leaves.
+// The levels of a tree, and chosen leaves.
 #[derive(Drop)]
 pub(crate) struct CoverWalk<'a> {
     pub(crate) levels: &'a [Digests],
@@ -15,7 +15,7 @@ pub(crate) struct CoverWalk<'a> {
     pub(crate) places: &'a [u32],
 }
 
-// The digest of a position.
+// Returns the digest of a position.
 pub(crate) fn digest_of(levels: &[Digests], level: usize, place: usize) -> Digest32
     requires level { level < length levels.now }
     requires place { place < length (slice_index_or levels.now level []) }
@@ -25,7 +25,7 @@ pub(crate) fn digest_of(levels: &[Digests], level: usize, place: usize) -> Diges
     digests.as_slice()[place]
 }
 
-// Appends the cover below a position, and answers the index of the next chosen leaf.
+// Appends the cover below a position, and returns the index of the next chosen leaf.
 pub(crate) fn cover_place(
     walk: &CoverWalk<'_>,
     level: u32,

@@ -1,4 +1,4 @@
-//! Texts as they stand in octets.
+//! Texts at their positions in octets.
 
 ghost use Rattle.std.specs.Prelude.{◌≡◌, ◌-◌, ◌<◌, ◌≤◌, ◌^◌, [], length, take, drop, map, slice_index_or, All};
 ghost use Rattle.std.specs.Bool.{OnTrue};
@@ -7,14 +7,14 @@ ghost use Rattle.merkle_cover.specs.Cuts.{cut_from, AreIn};
 use crate::texts::between;
 use std::marker::Model;
 
-/// Where a text stands in octets: from one offset up to another.
+/// The position of a text in octets: from one offset up to but not including another.
 #[derive(Clone, Copy, Debug, PartialEq, Eq)]
 pub struct Cut {
     pub start: u32,
     pub end: u32,
 }
 
-/// Tells whether all cuts lie in the octets, and are fewer than 2^32.
+/// Tests whether all cuts lie in the octets and are fewer than 2^32.
 pub fn are_in(octets: &[u8], cuts: &[Cut]) -> bool
     ensures { OnTrue result (AreIn octets.now cuts.now) }
 {
@@ -29,7 +29,7 @@ pub fn are_in(octets: &[u8], cuts: &[Cut]) -> bool
     true
 }
 
-/// Texts as they stand in octets, of which nothing is copied.
+/// Texts at their positions in octets, not copied.
 #[derive(Drop)]
 pub struct CutTexts<'a> {
     octets: &'a [u8],
@@ -48,7 +48,7 @@ impl<'a> Model for CutTexts<'a> {
 }
 
 impl<'a> CutTexts<'a> {
-    /// The texts at these cuts.
+    /// Makes the list of the texts at these cuts.
     pub fn new(octets: &'a [u8], cuts: &'a [Cut]) -> CutTexts<'a>
         requires { AreIn octets.now cuts.now }
         ensures { result ≡ map (cut_from octets.now) cuts.now }
@@ -56,14 +56,14 @@ impl<'a> CutTexts<'a> {
         CutTexts { octets, cuts }
     }
 
-    /// How many texts there are.
+    /// Returns the number of texts.
     pub fn count(&self) -> u32
         ensures { result ≡ length self.now }
     {
         self.cuts.len() as u32
     }
 
-    /// The text at an index.
+    /// Returns the text at an index.
     pub fn text(&self, index: u32) -> &[u8]
         requires { index < length self.now }
         ensures { result.now ≡ slice_index_or self.now index [] }

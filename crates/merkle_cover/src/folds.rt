@@ -1,4 +1,4 @@
-//! Recomputed roots: the digest that some leaves and the cover of the others give.
+//! Recomputing a root from some leaves and the cover of the others.
 ghost use Rattle.std.specs.Prelude.{◌≡◌, ℕ, ◌+◌, ◌*◌, ◌^◌, ◌<◌, ◌≤◌, ◌↔◌, List, [], ◌∷◌, length, IsTrue, slice_index, slice_index_or, replicate, MatchResult, Option, Ok, Err};
 ghost use Rattle.std.specs.Bool.{OnTrue, OnFalse};
 ghost use Rattle.merkle_cover.specs.Covers.{IsRising, first_fault, fold_of};
@@ -9,10 +9,10 @@ use crate::cuts::CutTexts;
 use octet_text::{Digest32, Hasher};
 use thiserror::Error;
 
-/// Why no root can be recomputed of positions and a cover.
+/// Why no root can be recomputed from the given positions and cover.
 #[derive(Clone, Copy, Debug, PartialEq, Eq, Error)]
 pub enum FoldError {
-    /// The position at this index is not below the leaf count, or does not exceed the one before.
+    /// The position at this index is not below the number of leaves, or does not exceed the one before it.
     #[error("The place at index {0} is no leaf, or does not exceed the one before.")]
     Place(u32),
     /// The cover has fewer digests than the positions need.
@@ -23,7 +23,7 @@ pub enum FoldError {
     CoverLong,
 }
 
-/// The digest of a leaf's text: that of 00 and the text.
+/// Returns the digest of a leaf: the hash of the octet 00 and the leaf's text.
 pub fn leaf_digest<H: Hasher>(text: &[u8]) -> Digest32
     ensures { result ≡ H.hash (0 ∷ text.now) }
 {
@@ -33,7 +33,8 @@ pub fn leaf_digest<H: Hasher>(text: &[u8]) -> Digest32
     hasher.end()
 }
 
-/// The first index whose position is not below the leaf count or does not exceed the one before.
+/// Returns the first index at which a position is not below the number of leaves or does not exceed the one before
+/// it.
 pub fn fault_of(leaves: u32, places: &[u32]) -> Option<u32>
     ensures { result ≡ first_fault leaves places.now }
 {
@@ -49,14 +50,14 @@ pub fn fault_of(leaves: u32, places: &[u32]) -> Option<u32>
     None
 }
 
-/// Tells whether positions strictly ascend and lie below the leaf count.
+/// Tests whether positions strictly ascend and are below the number of leaves.
 pub fn are_rising(leaves: u32, places: &[u32]) -> bool
     ensures { IsTrue result ↔ IsRising leaves places.now }
 {
     fault_of(leaves, places).is_none()
 }
 
-/// The top level of a tree of so many leaves, and how many leaves its position has room for.
+/// Returns the top level of a tree with this many leaves, and the number of leaves that fit below its position.
 pub fn top_of(leaves: u64, fan: u64) -> (u32, u64)
     requires fan { 2 ≤ fan }
     requires fan_max { fan ≤ 32 }
@@ -75,7 +76,7 @@ pub fn top_of(leaves: u64, fan: u64) -> (u32, u64)
     (level, span)
 }
 
-// What a root is recomputed of: texts for positions among the leaves, and a cover.
+// The input for recomputing a root: the texts at some positions of the leaves, and a cover.
 #[derive(Drop)]
 pub(crate) struct Brought<'a> {
     pub(crate) leaves: u64,
@@ -85,7 +86,7 @@ pub(crate) struct Brought<'a> {
     pub(crate) cover: &'a [Digest32],
 }
 
-// The digest of a position, the index of the next given text, and the number of cover digests taken.
+// The digest of a position, the index of the next given text, and the number of digests taken from the cover.
 #[derive(Drop)]
 pub(crate) struct Folded {
     pub(crate) digest: Digest32,
@@ -93,7 +94,7 @@ pub(crate) struct Folded {
     pub(crate) taken: usize,
 }
 
-/// Tells whether there is a position at an index, and it is below this one.
+/// Tests whether the index exists in a list of positions and its position is below `end`.
 pub fn is_next_below(places: &[u32], item: usize, end: u64) -> bool
     ensures next { OnTrue result ((item < length places.now) ×
         (slice_index places.now item < end)) }
@@ -102,7 +103,7 @@ pub fn is_next_below(places: &[u32], item: usize, end: u64) -> bool
     item < places.len() && u64::from(places[item]) < end
 }
 
-// The digest at an index, or zeros after the last.
+// Returns the digest at an index, or zeros if the index is past the end.
 pub(crate) fn digest_at(digests: &[Digest32], index: usize) -> Digest32
     ensures value { result ≡ slice_index_or digests.now index (replicate 32 0) }
     ensures size { length result ≡ 32 }
@@ -114,7 +115,7 @@ pub(crate) fn digest_at(digests: &[Digest32], index: usize) -> Digest32
     }
 }
 
-// Recomputes what is given at a position.
+// Recomputes the digest of a position from the given texts and cover.
 pub(crate) fn fold_place<H: Hasher>(
     given: &Brought<'_>,
     level: u32,
@@ -163,7 +164,8 @@ pub(crate) fn fold_place<H: Hasher>(
     }
 }
 
-/// The digest of a tree of so many leaves, by the texts of some positions and the cover of the others.
+/// Recomputes the root of a tree with this many leaves from the texts at some positions and the cover of the other
+/// leaves.
 pub fn fold<H: Hasher>(
     leaves: u32,
     fan: u8,

@@ -1,11 +1,11 @@
-//! What holds of covers and recomputed roots.
+//! Laws of covers and recomputed roots.
 ghost use Rattle.std.specs.Prelude.{◌≡◌, ℕ, ◌*◌, ◌<◌, ◌≤◌, List, length, Ok, All};
 ghost use Rattle.merkle_cover.specs.Covers.{IsRising, cover_of, chosen_texts, fold_of};
 ghost use Rattle.merkle_cover.specs.Trees.{root};
 
-/// The texts of chosen leaves and the cover of all others recompute the root, by any hash; a cover has
-/// fewer digests than there are leaves times the fan-out; and where each digest of the hash has 32
-/// octets, the root has, and each digest of a cover.
+/// The texts of chosen leaves and the cover of all other leaves recompute the root, under any hash. A cover has
+/// fewer digests than the number of leaves times the fan-out. If each digest of the hash has 32 octets, so does the
+/// root and each digest of a cover.
 pub fn cover_laws()
     ensures folds { (hash : List ℕ → List ℕ) (texts : List (List ℕ)) (fan : ℕ) (places : List ℕ) →
         1 ≤ length places → IsRising (length texts) places

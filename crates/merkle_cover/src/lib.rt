@@ -1,14 +1,15 @@
-//! Merkle trees with a fan-out over texts, by any hash: roots, covers (multiproofs) of chosen leaves, roots
-//! recomputed of
-//! texts and a cover, and the clash of two texts with one digest. A root, and a cover of it, can be made
-//! of texts that come one at a time: only the digests that wait for their group to be whole are kept.
+//! Merkle trees over texts, with any fan-out and any hash: roots, covers (multiproofs) of chosen leaves, roots
+//! recomputed from texts and a cover, and clashes (two texts with the same digest). Texts may also come one at a
+//! time. A root and one cover are then made from them, and only the digests that wait for their group to be
+//! complete are kept.
 //!
 //! ```rust
 //! let tree = Tree::<Sha>::build(alloc, &leaves, 2)?;
 //! let positions = [1, 3];
 //! assert!(rt; are_rising(tree.leaves(), &positions));
 //! let cover = tree.cover(alloc, &positions)?;
-//! // Whoever has the root believes these two of five texts, which stand in octets, by the cover.
+//! // The root and the cover convince a client that these two of the five texts are leaves. The two texts stand in
+//! // one buffer.
 //! let octets = b"bcdef";
 //! let cuts = [Cut { start: 0, end: 2 }, Cut { start: 2, end: 5 }];
 //! assert!(rt; are_in(octets, &cuts));

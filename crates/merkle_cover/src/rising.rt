@@ -1,4 +1,4 @@
-//! A tree's root and a cover of it, from texts that come one at a time.
+//! The root of a tree and a cover of it, from texts that come one at a time.
 ghost use Rattle.std.specs.Prelude.{◌≡◌, ◌≢◌, ℕ, suc, ◌+◌, ◌-◌, ◌*◌, ◌/◌, ◌^◌, ◌<◌, ◌≤◌, List, [], ◌∷◌, ◌++◌, length, take, drop, slice_get, slice_index_or, IfOk, IfErr, OnOk, Some, None, Err};
 ghost use Rattle.octet_text.specs.Want.{no_memory};
 ghost use Rattle.std.specs.List.{range_with_len, sum_by};
@@ -17,7 +17,7 @@ use std::alloc::Global;
 use std::marker::{Model, PhantomData};
 use thiserror::Error;
 
-/// Why no tree rises.
+/// Why a tree for texts that come one at a time was not made.
 #[derive(Clone, Copy, Debug, PartialEq, Eq, Error)]
 pub enum RisingError {
     /// The fan-out is not 2 to 32.
@@ -29,7 +29,7 @@ pub enum RisingError {
     /// There are more than 2,097,152 leaves.
     #[error("A tree has at most 2,097,152 leaves.")]
     TooMany,
-    /// The position at this index is not below the leaf count, or does not exceed the one before.
+    /// The position at this index is not below the number of leaves, or does not exceed the one before it.
     #[error("The place at index {0} is no leaf, or does not exceed the one before.")]
     Place(u32),
     /// Out of memory.
@@ -37,16 +37,16 @@ pub enum RisingError {
     Memory(NoMemory),
 }
 
-/// A tree's root, and the cover of the chosen leaves.
+/// A tree's root, with the cover of the chosen leaves.
 #[derive(Debug, Drop)]
 pub struct Risen {
-    /// The digest of the top level's position.
+    /// The root: the digest of the top level's position.
     pub root: Digest32,
-    /// The cover, and no digest where no leaf is chosen.
+    /// The cover, which is empty if no leaf is chosen.
     pub cover: Digests,
 }
 
-// How many leaves a tree has, its fan-out and its top level.
+// The number of leaves of a tree, its fan-out and its top level.
 #[derive(Clone, Copy)]
 struct Outline {
     leaves: u32,
@@ -54,7 +54,7 @@ struct Outline {
     top: u32,
 }
 
-// So many digests from an offset on.
+// Returns this many digests, from an offset on.
 fn group(waiting: &[Digest32], first: usize, count: usize) -> &[Digest32]
     requires { first + count ≤ length waiting.now }
     ensures { result.now ≡ take count (drop first waiting.now) }
@@ -62,8 +62,8 @@ fn group(waiting: &[Digest32], first: usize, count: usize) -> &[Digest32]
     &waiting[first..first + count]
 }
 
-// Brings the digest of a leaf up through each group that is whole with it, and answers the digest that
-// was made last: the root, where the leaf is the last one.
+// Raises the digest of a leaf through each group that it completes. Returns the last digest made, which is the root
+// if the leaf is the last one.
 fn raise<H: Hasher>(
     outline: Outline,
     waiting: &mut [Digest32],
@@ -105,8 +105,8 @@ fn raise<H: Hasher>(
     digest
 }
 
-/// A tree whose texts come one at a time, and of which only those digests are kept that wait for their
-/// group to be whole. All its memory is taken when it is made.
+/// A tree whose texts come one at a time. It keeps only the digests that wait for their group to be complete. It
+/// takes all its memory when it is made.
 #[derive(Drop)]
 pub struct Rising<H: Hasher> {
     outline: Outline,
@@ -136,7 +136,7 @@ impl<H: Hasher> Model for Rising<H> {
         r.waiting.items };
 }
 
-// The sum of the lowest digits of a number to some base.
+// Returns the sum of the lowest digits of a number, in the given base.
 fn digit_sum(number: u32, base: u32, digits: u32) -> u32
     requires base { 2 ≤ base }
     requires base_max { base ≤ 32 }
@@ -155,7 +155,7 @@ fn digit_sum(number: u32, base: u32, digits: u32) -> u32
     sum
 }
 
-// A tree that has taken no text.
+// Makes a tree that has taken no text.
 fn seed<H: Hasher>(
     alloc: Global,
     leaves: u32,
@@ -187,13 +187,13 @@ fn seed<H: Hasher>(
 }
 
 impl<H: Hasher> Rising<H> {
-    /// A tree of so many leaves that has taken no text, and the cover of chosen leaves. Takes all
-    /// memory that the tree will need.
+    /// Makes a tree for `leaves` leaves, which has taken no text yet and will also make the cover of the chosen
+    /// leaves. Takes all memory that the tree will need.
     ///
-    /// The first that holds is refused: `Fan` where the fan-out is not 2 to 32, `Empty` where there
-    /// is no leaf, `TooMany` where there are more than 2,097,152, `Place` with the first index whose
-    /// position is not below the leaf count or does not exceed the one before. Each is told whatever memory
-    /// there is.
+    /// Fails with the first error that applies: `Fan` if the fan-out is not 2 to 32, `Empty` if the number of
+    /// leaves is 0, `TooMany` if it exceeds 2,097,152, `Place` with the first index at which a position is not
+    /// below the number of leaves or does not exceed the one before it. None of these depends on the available
+    /// memory.
     pub fn new(
         alloc: Global,
         leaves: u32,
@@ -229,8 +229,8 @@ impl<H: Hasher> Rising<H> {
         }
     }
 
-    /// A tree of so many leaves that has taken no text, without a cover. Takes all memory that the
-    /// tree will need, and nothing else can be missing.
+    /// Makes a tree for `leaves` leaves, which has taken no text yet and makes no cover. Takes all memory that the
+    /// tree will need. The only error is out of memory.
     pub fn unpushed(alloc: Global, leaves: u32, fan: u8) -> Result<Rising<H>, NoMemory>
         requires fan { 2 ≤ fan }
         requires fan_max { fan ≤ 32 }
@@ -270,22 +270,22 @@ impl<H: Hasher> Rising<H> {
         self.pushed = pushed + 1;
     }
 
-    /// How many texts were taken.
+    /// Returns the number of texts taken.
     pub fn pushed(&self) -> u32
         ensures { result ≡ self.now.pushed }
     {
         self.pushed
     }
 
-    /// How many leaves the tree will have.
+    /// Returns the number of leaves that the complete tree has.
     pub fn leaves(&self) -> u32
         ensures { result ≡ self.now.leaves }
     {
         self.outline.leaves
     }
 
-    /// How many digests wait for their group to be whole: at most the fan-out times the number of
-    /// levels.
+    /// Returns the number of digests that wait for their group to be complete. It is at most the fan-out times the
+    /// number of levels.
     pub fn held(&self) -> u32
         ensures count { result ≡ count_waiting self.now.leaves self.now.fan self.now.pushed }
         ensures few { result ≤ self.now.fan * (top self.now.leaves self.now.fan + 1) }
@@ -296,7 +296,7 @@ impl<H: Hasher> Rising<H> {
         digit_sum(self.pushed, u32::from(self.outline.fan), self.outline.top)
     }
 
-    /// The root, and the cover of the chosen leaves.
+    /// Returns the root and the cover of the chosen leaves.
     pub fn end(self) -> Risen
         requires { self.pushed ≡ self.leaves }
         ensures root { (fan : ℕ) (places : List ℕ) (texts : List (List ℕ)) →

@@ -1,4 +1,4 @@
-//! Where the digests of a cover stand in their tree.
+//! The positions of a cover's digests in their tree.
 ghost use Rattle.std.specs.Prelude.{◌≡◌, ℕ, ◌+◌, ◌*◌, ◌^◌, ◌<◌, ◌≤◌, List, [], ◌++◌, length, IfOk, OnOk};
 ghost use Rattle.merkle_cover.specs.Spots.{spots_below, spots_of};
 ghost use Rattle.merkle_cover.specs.Folding.{CanWalk, SplitsAt};
@@ -15,7 +15,7 @@ pub(crate) struct Spot {
     pub(crate) place: u64,
 }
 
-// Chosen leaves among so many, in a tree with a fan-out.
+// Chosen leaves of a tree with this many leaves and this fan-out.
 #[derive(Drop)]
 struct Chosen<'a> {
     leaves: u64,
@@ -23,7 +23,7 @@ struct Chosen<'a> {
     places: &'a [u32],
 }
 
-// Appends the spots of the cover below a position, and answers the index of the next chosen leaf.
+// Appends the positions of the cover's digests below a position, and returns the index of the next chosen leaf.
 fn spots_at(
     chosen: &Chosen<'_>,
     level: u32,
@@ -55,7 +55,7 @@ fn spots_at(
     Ok(item)
 }
 
-// The spots of the cover of chosen leaves, from left to right.
+// Returns the positions of the digests of a cover, from left to right.
 pub(crate) fn cover_spots(
     alloc: Global,
     leaves: u32,

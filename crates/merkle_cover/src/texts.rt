@@ -25,7 +25,7 @@ impl Model for Texts {
 }
 
 impl Texts {
-    /// No text.
+    /// Makes an empty list.
     pub fn new(alloc: Global) -> Texts
         ensures { result ≡ [] }
     {
@@ -35,8 +35,8 @@ impl Texts {
         }
     }
 
-    /// Tells whether there is room for one more text: the texts are fewer than 4,294,967,295, and
-    /// have fewer than 2^32 octets together.
+    /// Tests whether one more text fits: there are fewer than 4,294,967,295 texts, and with the new one they have
+    /// fewer than 2^32 octets in all.
     pub fn fits(&self, text: &[u8]) -> bool
         ensures { IsTrue result ↔ HasRoom self.now text.now }
     {
@@ -44,7 +44,7 @@ impl Texts {
             && self.octets.len() as u64 + text.len() as u64 <= u64::from(u32::MAX)
     }
 
-    /// Adds a text at the end. A refused call leaves the list as it was.
+    /// Appends a text. After an error the list is unchanged.
     pub fn push(&mut self, text: &[u8]) -> Result<(), NoMemory>
         requires { HasRoom self.old text.now }
         ensures ok { OnOk result (self.new ≡ self.old ++ text.now ∷ []) }
@@ -60,21 +60,21 @@ impl Texts {
         Ok(())
     }
 
-    /// How many texts there are.
+    /// Returns the number of texts.
     pub fn count(&self) -> u32
         ensures { result ≡ length self.now }
     {
         self.ends.len() as u32
     }
 
-    /// How many octets they have.
+    /// Returns the number of octets in all texts.
     pub fn total(&self) -> u64
         ensures { result ≡ total_length self.now }
     {
         self.octets.len() as u64
     }
 
-    /// The text at an index.
+    /// Returns the text at an index.
     pub fn text(&self, index: u32) -> &[u8]
         requires { index < length self.now }
         ensures { result.now ≡ slice_index_or self.now index [] }
@@ -86,7 +86,7 @@ impl Texts {
     }
 }
 
-// The octets from one offset up to another.
+// Returns the octets from one offset up to another.
 pub(crate) fn between(octets: &[u8], start: usize, end: usize) -> &[u8]
     requires order { start ≤ end }
     requires within { end ≤ length octets.now }
@@ -95,7 +95,7 @@ pub(crate) fn between(octets: &[u8], start: usize, end: usize) -> &[u8]
     &octets[start..end]
 }
 
-// Where the text at an index starts: at the end of the one before.
+// Returns the offset at which the text at an index starts, which is the end of the previous text.
 fn start_of(ends: &[u32], index: usize) -> usize
     requires { index < length ends.now }
     ensures { result ≡ slice_index (0 ∷ ends.now) index }

@@ -16,13 +16,13 @@ use std::alloc::Global;
 use std::marker::{Model, PhantomData};
 use thiserror::Error;
 
-/// Why there is no tree.
+/// Why a tree was not made.
 #[derive(Clone, Copy, Debug, PartialEq, Eq, Error)]
 pub enum TreeError {
     /// The fan-out is not 2 to 32.
     #[error("The fan-out of a tree is from 2 to 32.")]
     Fan,
-    /// There is no leaf.
+    /// There are no leaves.
     #[error("A tree has at least one leaf.")]
     Empty,
     /// There are more than 2,097,152 leaves.
@@ -52,7 +52,7 @@ impl<H: Hasher> Model for Tree<H> {
     ghost invariant = { λ t. IsShaped t.fan t.levels.items };
 }
 
-// The digests of the leaves.
+// Returns the digests of the leaves.
 fn leaf_level<H: Hasher>(alloc: Global, leaves: &Texts) -> Result<Digests, NoMemory>
     ensures { IfOk result (λ v. v ≡ map (λ text. H.hash (0 ∷ text)) leaves.now) }
 {
@@ -63,7 +63,7 @@ fn leaf_level<H: Hasher>(alloc: Global, leaves: &Texts) -> Result<Digests, NoMem
     Ok(Digests::from_vec(digests))
 }
 
-// The digests of a group of a level, of which the last may be smaller.
+// Returns the digests of one group of a level. The last group may be smaller than the others.
 fn group(below: &[Digest32], place: usize, fan: usize) -> &[Digest32]
     requires { place * fan < length below.now }
     ensures { result.now ≡ take (min fan (length below.now - place * fan))
@@ -73,7 +73,7 @@ fn group(below: &[Digest32], place: usize, fan: usize) -> &[Digest32]
     &rest[..fan.min(rest.len())]
 }
 
-// The digests of the level above.
+// Returns the digests of the next level up.
 fn level_above<H: Hasher>(
     alloc: Global,
     below: &[Digest32],
@@ -104,7 +104,7 @@ fn first_digest(digests: &[Digest32]) -> Digest32
     digests[0]
 }
 
-// The tree over leaves that are neither none nor too many.
+// Builds the tree over the leaves. There must be at least one leaf and at most 2,097,152.
 fn tree_over<H: Hasher>(alloc: Global, leaves: &Texts, fan: u8) -> Result<Tree<H>, NoMemory>
     requires fan { 2 ≤ fan }
     requires fan_max { fan ≤ 32 }
@@ -135,10 +135,10 @@ fn tree_over<H: Hasher>(alloc: Global, leaves: &Texts, fan: u8) -> Result<Tree<H
 }
 
 impl<H: Hasher> Tree<H> {
-    /// The tree over the leaves, which it hashes once each, as each position above them.
+    /// Builds the tree over the leaves. Hashes each leaf and each position above the leaves once.
     ///
-    /// The first that holds is refused: `Fan` where the fan-out is not 2 to 32, `Empty` where there
-    /// is no leaf, `TooMany` where there are more than 2,097,152. Each is told whatever memory there is.
+    /// Fails with the first error that applies: `Fan` if the fan-out is not 2 to 32, `Empty` if there is no leaf,
+    /// `TooMany` if there are more than 2,097,152 leaves. None of these depends on the available memory.
     pub fn build(alloc: Global, leaves: &Texts, fan: u8) -> Result<Tree<H>, TreeError>
         ensures ok { IfOk result (λ tree. tree ≡ tree_of H.hash leaves.now fan) }
         ensures fan { IfOk result (λ tree. tree.fan ≡ fan) }
@@ -164,16 +164,17 @@ impl<H: Hasher> Tree<H> {
         }
     }
 
-    /// The digest of the top level's position.
+    /// Returns the root: the digest of the top level's position.
     pub fn root(&self) -> Digest32
         ensures { result ≡ self.now.root }
     {
         self.root
     }
 
-    /// The cover of chosen leaves, and no digest where none is chosen.
+    /// Returns the cover of the chosen leaves. It is empty if no leaf is chosen.
     ///
-    /// Takes time in proportion to the chosen leaves and the cover's digests, times the levels.
+    /// Takes time proportional to the number of levels times the sum of two numbers: that of the chosen leaves and
+    /// that of the cover's digests.
     pub fn cover(&self, alloc: Global, places: &[u32]) -> Result<Vec<Digest32>, NoMemory>
         requires { IsRising (leaf_count self.now) places.now }
         ensures cover { (texts : List (List ℕ)) → self.now ≡ tree_of H.hash texts self.now.fan
@@ -198,7 +199,7 @@ impl<H: Hasher> Tree<H> {
         Ok(out)
     }
 
-    /// How many leaves there are, 1 to 2,097,152.
+    /// Returns the number of leaves, 1 to 2,097,152.
     pub fn leaves(&self) -> u32
         ensures { result ≡ leaf_count self.now }
     {
@@ -206,14 +207,14 @@ impl<H: Hasher> Tree<H> {
         count_of(lowest) as u32
     }
 
-    /// The fan-out, 2 to 32.
+    /// Returns the fan-out, 2 to 32.
     pub fn fan(&self) -> u8
         ensures { result ≡ self.now.fan }
     {
         self.fan
     }
 
-    // The digests by level.
+    // Returns the digests by level.
     pub(crate) fn levels(&self) -> &[Digests]
         ensures value { result.now ≡ self.now.levels }
         ensures shaped { IsShaped self.now.fan self.now.levels }

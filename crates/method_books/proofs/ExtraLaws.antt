@@ -1,4 +1,4 @@
--- What leaves say of codes, by id.
+-- The contents of leaves about codes, by id.
 use Rattle.std.proofs.Common.{◌≡◌, ℕ, suc, ◌+◌, ◌-◌, ◌<◌, ◌≤◌, nat_eq, Bool, true, false, cond, ◌||◌, Option, None, Some, is_some, List, [], ◌∷◌, ◌++◌, inl, inr, refl, arith, ap, sym, ◌∙◌, subst, map, length, drop, get_or, slice_get, drop-cons}
 use Rattle.std.specs.Cmp.{nat_eq_equiv}
 use Rattle.std.specs.List.{Contains, IsDistinct, list_any}
@@ -19,7 +19,7 @@ use Rattle.road_map.specs.Places.{AreRising, place_in}
 use Rattle.road_map.proofs.RisingLaws.{stands, found, rise_apart}
 use Rattle.method_books.specs.LdmBooks.{extra_in}
 
--- one entry more, of another id than those before
+-- one more entry, whose id differs from those before
 pub record Adds (es fs : List (ℕ × Extra)) (id : ℕ) (extra : Extra) : Type 0 where
   pub here : lookup (nat_eq id) fs ≡ Some extra
   pub others : (q : ℕ) → nat_eq id q ≡ false → lookup (nat_eq q) fs ≡ lookup (nat_eq q) es
@@ -55,7 +55,7 @@ pub map_same_on : {X Y : Type 0} (f g : X → Y) (xs : List X) → ((x : X) → 
 map_same_on f g [] same = refl
 map_same_on f g (x ∷ xs) same = ap (λ y. y ∷ map f xs) (same x (Contains-here x xs)) ∙ ap (λ ys. g x ∷ ys) (map_same_on f g xs (λ z h. same z (Contains-there x z xs h)))
 
--- the id before the rest of distinct ids is not among it
+-- the first of distinct ids is not among the rest
 fresh : (order : List ℕ) (n x : ℕ) → IsDistinct nat_eq order → Contains (drop (n + 1) order) x → nat_eq (get_or order n 0) x ≡ false
 fresh order n x distinct h =
     let within : n + 1 + h.0 < length order = (let l : length (drop (n + 1) order) ≡ length order - (n + 1) = length-drop (n + 1) order in let lt : h.0 < length (drop (n + 1) order) = h.1 in omega (arith, l, lt)) in
@@ -178,7 +178,7 @@ found_moved es fs moved distinct id = by_found (lookup (nat_eq id) es) (lookup (
 pub adds_moved : (order : List ℕ) (es fs : List (ℕ × Extra)) (all : List Extra) → IsPermutation es fs → IsDistinct nat_eq (keys_of es) → map (extra_in es) order ≡ all → map (extra_in fs) order ≡ all
 adds_moved order es fs all moved distinct is = map_same_on (extra_in fs) (extra_in es) order (λ id h. ap (λ o. unwrap_or o Plain) (found_moved es fs moved distinct id)) ∙ is
 
--- entries in order whose ids differ rise
+-- sorted entries with distinct ids ascend
 pub keys_rise : (es : List (ℕ × Extra)) → IsNonDecreasingBy (λ e. e.0) es → IsDistinct nat_eq (keys_of es) → AreRising (keys_of es)
 keys_rise es sorted distinct i j x y lt a b =
     let p = map_place (λ (e : ℕ × Extra). e.0) es i x a in
@@ -195,7 +195,7 @@ keys_rise es sorted distinct i j x y lt a b =
     less : (x y : ℕ) → x ≤ y → nat_eq x y ≡ false → x < y
     less x y le ne = grind (arith, le, ne)
 
--- the entry at the place of an id
+-- the entry at the position of an id
 pub entry_at : (es : List (ℕ × Extra)) (id k : ℕ) → AreRising (keys_of es) → place_in (keys_of es) id ≡ Some k → option_map (λ (e : ℕ × Extra). e.1) (slice_get es k) ≡ lookup (nat_eq id) es
 entry_at es id k rise is =
     let at = stands (keys_of es) id k is in

@@ -1,4 +1,4 @@
--- What the method gathers.
+-- The items that LDM gathers.
 use Rattle.std.proofs.Common.{Result, Err, ◌≡◌, ℕ, ◌+◌, ◌^◌, ◌<◌, ◌≤◌, nat_eq, Option, None, Some, IsSome, List, [], ◌∷◌, ◌⊎◌, inl, inr, refl, arith, ap, sym, ◌∙◌, subst, map}
 use Rattle.std.specs.List.{Contains, IsDistinct}
 use Rattle.std.specs.List.Sorted.{IsStrictlySortedBy}
@@ -47,11 +47,11 @@ short_route parts m bound s t d route short = by_distance (distance parts s t) r
     by_distance None is h = absurd (h d (shortest_joins parts s t d route short))
     by_distance (Some e) is h = let le : d ≤ e = short.least e h.0 in let lt : e < 2 ^ 48 = bound s t e is in omega (arith, le, lt)
 
--- an error handed on is the same error
+-- an error that is passed on is the same error
 pub err_kept : {A B : Type 0} (e f : GatherError) → ◌≡◌ {A = Result A GatherError} (Err e) (Err f) → ◌≡◌ {A = Result B GatherError} (Err e) (Err f)
 err_kept e f same = let is : e ≡ f = cc in ap Err is
 
--- the lengths of a search below a limit of 64 bits are numbers of 64 bits
+-- the lengths of a search below a 64-bit limit are 64-bit numbers
 pub low_lengths : (w : Ways) (from limit : ℕ) (len : ℕ → Option ℕ) → limit ≤ 2 ^ 64 → ((v : ℕ) → IsLeastPassing w from limit v (len v)) → (v d : ℕ) → len v ≡ Some d → d < 2 ^ 64
 low_lengths w from limit len few lengths v d is =
     let least : IsLeastPassing w from limit v (Some d) = subst (IsLeastPassing w from limit v) is (lengths v) in
@@ -66,7 +66,7 @@ reference_from id (Cell c b) is = cc
 reference_from id (Near r e) is = let same : r ≡ id = cc in (e, ap (λ z. Near z e) same)
 
 module _ (parts : Parts) (entries : List (ℕ × Extra)) (numbers : Numbers) where
-  -- an id of which a fact holds, or a reference of such an id
+  -- an id for which a fact holds, or the reference of such an id
   abbrev pub WithReferences : (ℕ → Type 0) → ℕ → Type 0
   WithReferences Side id = Side id ⊎ ((u : ℕ) × (n : NodeLeaf) × (e : ℕ) × Side u × (leaf (ldm_book parts entries numbers) u ≡ Some n) × (n.extra ≡ Near id e))
 
@@ -112,7 +112,7 @@ module _ (parts : Parts) (order : List Node) (entries : List (ℕ × Extra)) (nu
           let x : extra_in entries r.0 ≡ Near id r.2 = ap (extra_in entries) (sym own) ∙ (ap (λ (l : NodeLeaf). l.extra) same ∙ r.5) in
           ap reference_of x
 
-  -- the ids of a list, those that walks lead to, and the references of both
+  -- the ids of a list, those to which walks lead, and the references of both
   pub needed_listed : (found : List ℕ) → Lists (IsNeeded order entries first len) found → Lists Of found
   needed_listed found lists = record { rising = lists.rising; same = λ id. (λ c. from_needed id ((lists.same id).0 c), λ w. (lists.same id).1 (to_needed id w)) }
 
@@ -174,7 +174,7 @@ module _ (parts : Parts) (order : List Node) (entries : List (ℕ × Extra)) (nu
         together id (inr (inl met)) = inl (inr met)
         together id (inr (inr r)) = inr r
 
--- ---- where no route exists
+-- ---- if no route exists
 
 module _ (parts : Parts) (order : List Node) (entries : List (ℕ × Extra)) (numbers : Numbers) (m : IsMap parts) (by : IsById parts.nodes order) (q : Query) (unjoined : AreUnjoined parts q)
     (len : ℕ → Option ℕ) (lengths : (v : ℕ) → IsLeast (Leads (open_ways (leaf (ldm_book parts entries numbers)) q.to) q.from v) (len v)) (ends : List ℕ) (are_ends : Lists (IsEnd q) ends) where

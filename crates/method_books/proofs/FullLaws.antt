@@ -1,6 +1,6 @@
 -- The pairs of FULL.
 use Rattle.std.proofs.Common.{◌≡◌, ◌≢◌, ℕ, ◌+◌, ◌*◌, ◌^◌, ◌≤◌, ◌<◌, min, max, nat_lt, nat_eq, Bool, true, false, cond, Option, None, Some, IfSome, IfNone, IsSome, List, [], ◌∷◌, ◌⊎◌, inl, inr, refl, arith, ap, sym, ◌∙◌, subst, length, slice_get, get_or}
-use Rattle.std.specs.List.{Contains, IsDistinct}
+use Rattle.std.specs.List.{Contains, IsDistinct, list_any}
 use Rattle.std.specs.List.Sorted.{IsStrictlySortedBy, IsPermutation}
 use Rattle.std.specs.Ordering.{nat_cmp, is_lt}
 use Rattle.std.specs.Cmp.{nat_cmp_total}
@@ -8,19 +8,23 @@ use Rattle.std.specs.declared.cmp.Ordering.TheVariants.{Less}
 use Rattle.std.proofs.Math.Nat.{mul-le-mul_right, mul-le-mul_left}
 use Rattle.std.proofs.lemmas.Map.Keys.{sorted_from_all_adjacent, apart_from_distinct, IsDistinct-IsPermutation}
 use Rattle.std.proofs.lemmas.List.Sorted.{Contains-permutation, IsPermutation-sym}
+use Rattle.std.proofs.lemmas.Map.Views.{Contains-from_any}
 use Rattle.std.proofs.lemmas.Option.{slice_get_within}
 use Rattle.road_map.specs.declared.parts.Node.{Node}
 use Rattle.road_map.specs.declared.parts.Parts.{Parts}
-use Rattle.road_map.specs.Walks.{Knows, distance}
+use Rattle.road_map.specs.Laws.{DistanceLaws}
+use Rattle.road_map.specs.Walks.{ids, Knows, Joins, IsDistance, distance}
 use Rattle.road_map.specs.Maps.{IsMap, IsById}
 use Rattle.road_map.specs.Routes.{IsShortest}
-use Rattle.road_map.proofs.Among.{Contains-none, Contains-here, Contains-cases, place_at}
+use Rattle.road_map.proofs.Among.{Contains-none, Contains-here, Contains-cases, contains_at, place_at, place_map}
+use Rattle.road_map.proofs.WalkLaws.{distance-is}
+use Rattle.road_search.specs.Headed.{IsLowerBound}
 use Rattle.road_leaf.specs.declared.pair.PairLeaf.{PairLeaf}
 use Rattle.book_model.specs.declared.items.Query.{Query}
 use Rattle.book_model.specs.declared.settings.Settings.{Settings}
 use Rattle.book_model.specs.declared.settings.PlanError.TheVariants.{TooManyNodes}
 use Rattle.book_model.specs.Orders.{by_id}
-use Rattle.book_model.specs.Pairs.{pair_leaf, pairs_of}
+use Rattle.book_model.specs.Pairs.{said, pair_leaf, pairs_of}
 use Rattle.book_model.specs.Books.{Full, count_fault}
 use Rattle.book_model.proofs.ById.{by_id-is, by_id-length, ids_kept}
 use Rattle.pair_dist.specs.Rising.{is_before, PairsRise}
@@ -28,7 +32,9 @@ use Rattle.pair_dist.proofs.TableLaws.{table_rises, pair_stands, table_few}
 use Rattle.proof_method.specs.declared.found.Found.{Found}
 use Rattle.proof_method.specs.Gathering.{Lists, Wanted, AreEnds, IsPairAt, IsWantedAt, IsFound, AreUnjoined}
 use Rattle.proof_method.specs.Apart.{IsEnd, WantedApart, IsFoundApart}
-use Rattle.method_books.specs.PlainBooks.{plain_book}
+use Rattle.proof_method.proofs.Along.{Joins-turn}
+use Rattle.proof_method.proofs.RouteLaws.{roads_known}
+use Rattle.method_books.specs.PlainBooks.{plain_book, said_of, said_from}
 
 -- ---- ids that ascend
 
@@ -38,7 +44,7 @@ less_between x y h k = grind (arith, h, k)
 flips : (x y : ℕ) → nat_eq x y ≡ nat_eq y x
 flips x y = grind arith
 
--- distinct ids, put in order
+-- distinct ids, sorted
 pub sorted_lists : (ids sorted : List ℕ) → IsDistinct nat_eq ids → IsPermutation ids sorted → ((k d : ℕ) → 0 ≤ k → k + 1 < length sorted → is_lt (nat_cmp (get_or sorted (k + 1) d) (get_or sorted k d)) ≡ false) → Lists (λ id. Contains ids id) sorted
 sorted_lists ids sorted distinct same ordered =
     let once : IsDistinct nat_eq sorted = IsDistinct-IsPermutation nat_eq flips ids sorted same distinct in
@@ -61,13 +67,30 @@ greatest a b lt = (omega (arith, lt), omega (arith, lt))
 order : (m n : ℕ) → (m < n) ⊎ ((n ≡ m) ⊎ (n < m))
 order m n = grind arith
 
--- the leaf of two ids stands at a place
+-- the leaf of two ids is at an index
 abbrev pub StandsAt : List PairLeaf → ℕ → ℕ → ℕ → Type 0
 StandsAt pairs a b place = (l : PairLeaf) × (slice_get pairs place ≡ Some l) × (l.a ≡ a) × (l.b ≡ b)
 
 pub at_found : (P : ℕ → Type 0) (o : Option ℕ) (place : ℕ) → o ≡ Some place → IfSome o P → P place
 at_found P None place e h = cc
 at_found P (Some p) place e h = subst P (let same : p ≡ place = cc in same) h
+
+not_before_itself : (a b : ℕ) → is_before a b a b ≡ true → ⊥
+not_before_itself a b h = grind (arith, h)
+
+-- ascending leaves have two ids at most at one index
+one_place : (pairs : List PairLeaf) → PairsRise pairs → (a b m n : ℕ) → StandsAt pairs a b m → StandsAt pairs a b n → m ≡ n
+one_place pairs rise a b m n h k = elim (order m n) [
+  | inl lt ↦ absurd (apart m n h k lt)
+  | inr (inl e) ↦ sym e
+  | inr (inr lt) ↦ absurd (apart n m k h lt)
+]
+  where
+    apart : (i j : ℕ) → StandsAt pairs a b i → StandsAt pairs a b j → i < j → ⊥
+    apart i j x y lt =
+        let up : is_before x.0.a x.0.b y.0.a y.0.b ≡ true = rise i j x.0 y.0 lt x.1 y.1 in
+        let left : is_before a b y.0.a y.0.b ≡ true = subst (λ b'. is_before a b' y.0.a y.0.b ≡ true) x.3 (subst (λ a'. is_before a' x.0.b y.0.a y.0.b ≡ true) x.2 up) in
+        not_before_itself a b (subst (λ b'. is_before a b a b' ≡ true) y.3 (subst (λ a'. is_before a b a' y.0.b ≡ true) y.2 left))
 
 module _ (parts : Parts) (nodes : List Node) (m : IsMap parts) (by : IsById parts.nodes nodes) (pairs : List PairLeaf) (all : pairs ≡ pairs_of (distance parts) (by_id parts.nodes)) where
   ids_sorted : IsStrictlySortedBy nat_cmp (by_id parts.nodes)
@@ -97,6 +120,21 @@ module _ (parts : Parts) (nodes : List Node) (m : IsMap parts) (by : IsById part
   place_is_there s t a b known there apart first second (Some place) none = refl
   place_is_there s t a b known there apart first second None none = absurd (let h : (place : ℕ) × StandsAt pairs (min s t) (max s t) place = has_ends s t known there apart in none h.0 h.1.0 h.1.1 (h.1.2 ∙ sym first) (h.1.3 ∙ sym second))
 
+  -- the leaf at the index of two nodes states their distance
+  pub leaf_between : (s t place : ℕ) → Knows parts s → Knows parts t → s ≢ t → StandsAt pairs (min s t) (max s t) place → slice_get pairs place ≡ Some (pair_leaf (distance parts) (min s t) (max s t))
+  leaf_between s t place known there apart at =
+      let here : (p : ℕ) × (slice_get pairs p ≡ Some (pair_leaf (distance parts) (min s t) (max s t))) = by_order (order s t) in
+      let same : place ≡ here.0 = one_place pairs full_rises (min s t) (max s t) place here.0 at (pair_leaf (distance parts) (min s t) (max s t), here.1, refl, refl) in
+      subst (λ p. slice_get pairs p ≡ Some (pair_leaf (distance parts) (min s t) (max s t))) (sym same) here.1
+    where
+      stood : (a b : ℕ) → Knows parts a → Knows parts b → a < b → (p : ℕ) × (slice_get pairs p ≡ Some (pair_leaf (distance parts) a b))
+      stood a b known there lt = place_at pairs (pair_leaf (distance parts) a b) (subst (λ xs. Contains xs (pair_leaf (distance parts) a b)) (sym all) (pair_stands (distance parts) (by_id parts.nodes) a b ids_sorted (ids_known a known) (ids_known b there) lt))
+
+      by_order : (s < t) ⊎ ((t ≡ s) ⊎ (t < s)) → (p : ℕ) × (slice_get pairs p ≡ Some (pair_leaf (distance parts) (min s t) (max s t)))
+      by_order (inl lt) = rw ((least s t lt).0, (least s t lt).1) (stood s t known there lt)
+      by_order (inr (inl e)) = absurd (apart (sym e))
+      by_order (inr (inr lt)) = rw ((greatest s t lt).0, (greatest s t lt).1) (stood t s there known lt)
+
   pub place_is_small : (place : ℕ) (l : PairLeaf) → slice_get pairs place ≡ Some l → place < 2 ^ 32
   place_is_small place l is =
       let within : place < length pairs = slice_get_within pairs place l is in
@@ -120,23 +158,6 @@ none_listed : (P : ℕ → Type 0) → ((n : ℕ) → P n → ⊥) → Lists P [
 unfolding IsStrictlySortedBy
 none_listed P none = record { rising = tt; same = λ n. (λ c. absurd (Contains-none n c), λ p. absurd (none n p)) }
 
-not_before_itself : (a b : ℕ) → is_before a b a b ≡ true → ⊥
-not_before_itself a b h = grind (arith, h)
-
--- leaves that ascend have two ids at one place at most
-one_place : (pairs : List PairLeaf) → PairsRise pairs → (a b m n : ℕ) → StandsAt pairs a b m → StandsAt pairs a b n → m ≡ n
-one_place pairs rise a b m n h k = elim (order m n) [
-  | inl lt ↦ absurd (apart m n h k lt)
-  | inr (inl e) ↦ sym e
-  | inr (inr lt) ↦ absurd (apart n m k h lt)
-]
-  where
-    apart : (i j : ℕ) → StandsAt pairs a b i → StandsAt pairs a b j → i < j → ⊥
-    apart i j x y lt =
-        let up : is_before x.0.a x.0.b y.0.a y.0.b ≡ true = rise i j x.0 y.0 lt x.1 y.1 in
-        let left : is_before a b y.0.a y.0.b ≡ true = subst (λ b'. is_before a b' y.0.a y.0.b ≡ true) x.3 (subst (λ a'. is_before a' x.0.b y.0.a y.0.b ≡ true) x.2 up) in
-        not_before_itself a b (subst (λ b'. is_before a b a b' ≡ true) y.3 (subst (λ a'. is_before a b a' y.0.b ≡ true) y.2 left))
-
 pub ends_listed : (parts : Parts) (pairs : List PairLeaf) → PairsRise pairs → (q : Query) → q.from ≢ q.to → (place : ℕ) → StandsAt pairs (min q.from q.to) (max q.from q.to) place → Lists (IsPairAt (AreEnds q) (plain_book parts pairs)) (place ∷ [])
 ends_listed parts pairs rise q apart place at = one_listed (IsPairAt (AreEnds q) (plain_book parts pairs)) place
     (record { pair = at.0; stands = at.1; x = q.from; y = q.to; wanted = (refl, refl, apart); first = at.2; second = at.3 })
@@ -148,7 +169,7 @@ ends_listed parts pairs rise q apart place at = one_listed (IsPairAt (AreEnds q)
 pub none_wanted : (parts : Parts) (pairs : List PairLeaf) (q : Query) → q.from ≡ q.to → Lists (IsPairAt (AreEnds q) (plain_book parts pairs)) []
 none_wanted parts pairs q same = none_listed (IsPairAt (AreEnds q) (plain_book parts pairs)) (λ n w. w.wanted.2 (w.wanted.0 ∙ (same ∙ sym w.wanted.1)))
 
--- what FULL finds
+-- the items that FULL gathers
 pub found_full : (parts : Parts) (pairs : List PairLeaf) (q : Query) (d : ℕ) (f : Found) → IsShortest parts q.from q.to f.route d → IsDistinct nat_eq f.route → Lists (λ id. Contains f.route id) f.nodes → Lists (IsWantedAt Full (plain_book parts pairs) q d) f.pairs → IsFound Full (plain_book parts pairs) q d f
 found_full parts pairs q d f short distinct nodes places = record {
   shortest = short;
@@ -161,9 +182,9 @@ found_full parts pairs q d f short distinct nodes places = record {
     on_route id (inl c) = c
     on_route id (inr w) = absurd w
 
--- ---- where no route exists
+-- ---- if no route exists
 
--- what FULL finds there
+-- the items that FULL gathers in this case
 pub found_apart_full : (parts : Parts) (pairs : List PairLeaf) (q : Query) (f : Found) → AreUnjoined parts q → f.route ≡ [] → Lists (IsEnd q) f.nodes → Lists (IsPairAt (AreEnds q) (plain_book parts pairs)) f.pairs → IsFoundApart Full (plain_book parts pairs) q f
 found_apart_full parts pairs q f un no_route nodes places = record {
   unjoined = un;
@@ -191,3 +212,89 @@ not_too_many parts s n same few = by_test (nat_lt 1024 (length parts.nodes)) ref
     by_test : (b : Bool) → nat_lt 1024 (length parts.nodes) ≡ b → cond b (Some (TooManyNodes (length parts.nodes))) None ≡ None
     by_test false e = refl
     by_test true e = absurd (grind (arith, e, same, few))
+
+-- ---- distances by the table
+
+-- the table never states more than the distance
+module _ (parts : Parts) (m : IsMap parts) (a b d : ℕ) (is : distance parts a b ≡ Some d) where
+  there : IsDistance parts a b (Some d)
+  there = subst (IsDistance parts a b) is (distance-is parts (roads_known parts m) a b)
+
+  turned : distance parts b a ≡ Some d
+  turned = by_distance (distance parts b a) refl (distance-is parts (roads_known parts m) b a)
+    where
+      by_distance : (o : Option ℕ) → distance parts b a ≡ o → IsDistance parts b a o → distance parts b a ≡ Some d
+      by_distance None f none = absurd (none d (Joins-turn parts (roads_known parts m) a b d there.0))
+      by_distance (Some e) f far =
+          let low : e ≤ d = far.1 d (Joins-turn parts (roads_known parts m) a b d there.0) in
+          let high : d ≤ e = there.1 e (Joins-turn parts (roads_known parts m) b a e far.0) in
+          let same : e ≡ d = omega (arith, low, high) in
+          f ∙ ap Some same
+
+  at_most : (o : Option ℕ) → o ≡ Some d → said o ≤ d
+  at_most o e = rw e (omega arith)
+
+  pub said_low : said_of parts a b ≤ d
+  said_low = by_same (nat_eq a b) refl
+    where
+      by_order : nat_eq a b ≡ false → (a < b) ⊎ ((b ≡ a) ⊎ (b < a)) → said (distance parts (min a b) (max a b)) ≤ d
+      by_order apart (inl lt) = rw ((least a b lt).0, (least a b lt).1) (at_most (distance parts a b) is)
+      by_order apart (inr (inl e)) = absurd (grind (arith, e, apart))
+      by_order apart (inr (inr lt)) = rw ((greatest a b lt).0, (greatest a b lt).1) (at_most (distance parts b a) turned)
+
+      by_same : (t : Bool) → nat_eq a b ≡ t → cond t 0 (said (distance parts (min a b) (max a b))) ≤ d
+      by_same true e = omega arith
+      by_same false e = by_order e (order a b)
+
+-- the distance of two different nodes is the one in their leaf
+pub said_apart : (parts : Parts) (a b : ℕ) → a ≢ b → said (distance parts (min a b) (max a b)) ≡ said_of parts a b
+said_apart parts a b apart = by_same (nat_eq a b) refl
+  where
+    by_same : (t : Bool) → nat_eq a b ≡ t → said (distance parts (min a b) (max a b)) ≡ cond t 0 (said (distance parts (min a b) (max a b)))
+    by_same true e = absurd (apart (grind (arith, e)))
+    by_same false e = refl
+
+-- a position that does not exist has no distance
+pub none_from : (parts : Parts) (to : ℕ) (nodes : List Node) (p : ℕ) → length nodes ≤ p → 0 ≡ said_from parts to (slice_get nodes p)
+none_from parts to nodes p past = by_node (slice_get nodes p) refl
+  where
+    by_node : (o : Option Node) → slice_get nodes p ≡ o → 0 ≡ said_from parts to o
+    by_node None is = refl
+    by_node (Some n) is = absurd (let lt : p < length nodes = slice_get_within nodes p n is in omega (arith, past, lt))
+
+-- the node at a position is known, and so is an id among those of the nodes
+pub known_at : (parts : Parts) (nodes : List Node) → IsById parts.nodes nodes → (p : ℕ) (n : Node) → slice_get nodes p ≡ Some n → Knows parts n.id
+known_at parts nodes by p n is = ids_kept nodes parts.nodes (λ m. (by.same m).1) n.id (contains_at (ids nodes) p n.id (place_map (λ (n : Node). n.id) nodes p n is))
+
+pub known_told : (parts : Parts) (id : ℕ) → list_any (nat_eq id) (ids parts.nodes) ≡ true → Knows parts id
+known_told parts id told = Contains-from_any same_number id (ids parts.nodes) told
+  where
+    same_number : (x y : ℕ) → nat_eq x y ≡ true → x ≡ y
+    same_number x y h = grind (arith, h)
+
+-- so no node is nearer to an id than the table states
+pub low_said : (parts : Parts) (nodes : List Node) (to : ℕ) → IsMap parts → IsLowerBound parts nodes to (λ p. said_from parts to (slice_get nodes p))
+low_said parts nodes to m id p d at is = subst (λ o. said_from parts to o ≤ d) (sym at.1) (subst (λ z. said_of parts z to ≤ d) (sym at.2) (said_low parts m id to d is))
+
+-- if the table states the greatest number, no walk joins the two
+pub none_said : (parts : Parts) → IsMap parts → DistanceLaws parts → (s t : ℕ) → said_of parts s t ≡ 18446744073709551615 → (d : ℕ) → Joins parts s t d → ⊥
+none_said parts m laws s t most d j = by_distance (distance parts s t) refl (laws.least s t)
+  where
+    by_distance : (o : Option ℕ) → distance parts s t ≡ o → IsDistance parts s t o → ⊥
+    by_distance None e none = none d j
+    by_distance (Some e) is far =
+        let low : said_of parts s t ≤ e = said_low parts m s t e is in
+        let few : e < 2 ^ 48 = laws.bound s t e is in
+        omega (arith, most, low, few)
+
+-- ---- if no distance is below the greatest number
+
+pub none_far : (parts : Parts) → DistanceLaws parts → (s t : ℕ) → ((d : ℕ) → distance parts s t ≡ Some d → 18446744073709551615 ≤ d) → (d : ℕ) → Joins parts s t d → ⊥
+none_far parts laws s t far d j = by_distance (distance parts s t) refl (laws.least s t)
+  where
+    by_distance : (o : Option ℕ) → distance parts s t ≡ o → IsDistance parts s t o → ⊥
+    by_distance None e none = none d j
+    by_distance (Some e) is least =
+        let most : 18446744073709551615 ≤ e = far e is in
+        let few : e < 2 ^ 48 = laws.bound s t e is in
+        omega (arith, most, few)

@@ -1,10 +1,9 @@
--- What HYP finds.
-use Rattle.std.proofs.Common.{◌≡◌, ◌↔◌, ℕ, suc, ◌+◌, ◌<◌, ◌≤◌, ◌*◌, ◌==◌, nat_eq, nat_lt, nat_le, Bool, true, false, cond, IsTrue, Option, None, Some, List, [], ◌∷◌, ◌++◌, ◌⊎◌, inl, inr, map, length, drop, drop-cons, get_or, slice_get, count_by, refl, arith, ap, sym, ◌∙◌, subst}
+-- What HYP gathers.
+use Rattle.std.proofs.Common.{◌≡◌, ℕ, suc, ◌+◌, ◌<◌, ◌≤◌, ◌*◌, ◌==◌, nat_eq, nat_lt, nat_le, Bool, true, false, cond, IsTrue, Option, None, Some, List, [], ◌∷◌, ◌++◌, ◌⊎◌, inl, inr, map, length, drop, drop-cons, get_or, slice_get, count_by, refl, arith, ap, sym, ◌∙◌, subst}
 use Rattle.std.specs.List.{Contains, IsDistinct, filter_map, cons_option}
 use Rattle.std.specs.List.Sorted.{IsStrictlySortedBy}
 use Rattle.std.specs.Ordering.{nat_cmp}
 use Rattle.std.specs.Option.{option_map}
-use Rattle.std.specs.BTreeSet.{BTreeSet, contains}
 use Rattle.std.proofs.lemmas.List.{append_assoc}
 use Rattle.std.proofs.lemmas.List.Kept.{IsStrictlySortedBy-filter}
 use Rattle.std.proofs.lemmas.List.Sums.{length-filter, count_by-le-length}
@@ -37,7 +36,7 @@ use Rattle.proof_method.specs.Gathering.{Lists, Wanted, IsPairAt, IsWantedAt, Is
 use Rattle.proof_method.proofs.Picks.{picked_from, picked_to, kept_from, kept_to}
 use Rattle.proof_judge.proofs.ItemLaws.{find_some}
 use Rattle.method_books.specs.HypBooks.{hyp_book, cell_extra, with_length, IsInRow, IsWantedPlace, Adds, AddsAll}
-use Rattle.method_books.proofs.HypLaws.{leaf_at_place, keys_have, have_keys}
+use Rattle.method_books.proofs.HypLaws.{leaf_at_place}
 
 same_number : (x y : ℕ) → nat_eq x y ≡ true → x ≡ y
 same_number x y h = grind (arith, h)
@@ -95,49 +94,21 @@ with_is len xs b c = let r = picked_from (with_length len) xs b c in by_length r
 is_with : (len : ℕ → Option ℕ) (xs : List ℕ) (x p : ℕ) → Contains xs x → len x ≡ Some p → Contains (filter_map (with_length len) xs) (x, p)
 is_with len xs x p c e = picked_to (with_length len) xs x (x, p) c (ap (option_map (λ (k : ℕ). (x, k))) e)
 
--- the numbers of a set in order
-pub set_lists : (P : ℕ → Type 0) (old set : BTreeSet ℕ) (v : List ℕ) → old.keys ≡ [] → v ≡ set.keys → IsStrictlySortedBy nat_cmp set.keys → ((n : ℕ) → (IsTrue (contains nat_cmp set n) → IsTrue (contains nat_cmp old n) ⊎ P n) × (IsTrue (contains nat_cmp old n) ⊎ P n → IsTrue (contains nat_cmp set n))) → Lists P v
-set_lists P old set v none is sorted adds = record {
-  rising = subst (IsStrictlySortedBy nat_cmp) (sym is) sorted;
+-- numbers that were added to none, in order
+pub added_listed : (P : ℕ → Type 0) (old all v : List ℕ) → old ≡ [] → Lists (Contains all) v → Adds P old all → Lists P v
+added_listed P old all v none lists adds = record {
+  rising = lists.rising;
   same = λ n. (
-    λ c. elim ((adds n).0 (have_keys set.keys n (subst (λ xs. Contains xs n) is c))) [
-      | inl o ↦ absurd (Contains-none n (subst (λ xs. Contains xs n) none (keys_have old.keys n o)))
+    λ c. elim ((adds n).0 ((lists.same n).0 c)) [
+      | inl o ↦ absurd (Contains-none n (subst (λ xs. Contains xs n) none o))
       | inr p ↦ p
     ],
-    λ p. subst (λ xs. Contains xs n) (sym is) (keys_have set.keys n ((adds n).1 (inr p))),
+    λ p. (lists.same n).1 ((adds n).1 (inr p)),
   );
 }
 
--- what is added is the same under another name
-pub adds_same : (P Q : ℕ → Type 0) (old new : BTreeSet ℕ) → ((n : ℕ) → P n ↔ Q n) → Adds P old new → Adds Q old new
-adds_same P Q old new same adds n = (
-  λ h. elim ((adds n).0 h) [ inl o ↦ inl o | inr p ↦ inr ((same n).0 p) ],
-  λ h. elim h [ inl o ↦ (adds n).1 (inl o) | inr q ↦ (adds n).1 (inr ((same n).1 q)) ],
-)
-
--- the ids of three kinds, put into a set one kind after another
-pub ids_listed : (On Near Far : ℕ → Type 0) (s0 s1 s2 s3 : BTreeSet ℕ) (v : List ℕ) → s0.keys ≡ [] → v ≡ s3.keys → IsStrictlySortedBy nat_cmp s3.keys
-    → Adds On s0 s1 → Adds Near s1 s2 → Adds Far s2 s3 → Lists (λ id. On id ⊎ Near id ⊎ Far id) v
-ids_listed On Near Far s0 s1 s2 s3 v none is sorted first second third = set_lists (λ id. On id ⊎ Near id ⊎ Far id) s0 s3 v none is sorted (λ n. (
-  λ h. elim ((third n).0 h) [
-    | inl k ↦ elim ((second n).0 k) [
-      | inl l ↦ elim ((first n).0 l) [ inl o ↦ inl o | inr a ↦ inr (inl a) ]
-      | inr b ↦ inr (inr (inl b))
-    ]
-    | inr c ↦ inr (inr (inr c))
-  ],
-  λ h. elim h [
-    | inl o ↦ (third n).1 (inl ((second n).1 (inl ((first n).1 (inl o)))))
-    | inr p ↦ elim p [
-      | inl a ↦ (third n).1 (inl ((second n).1 (inl ((first n).1 (inr a)))))
-      | inr (inl b) ↦ (third n).1 (inl ((second n).1 (inr b)))
-      | inr (inr c) ↦ (third n).1 (inr c)
-    ]
-  ],
-))
-
 -- the rows over the borders that were reached
-pub rows_of : (pairs : List PairLeaf) (among : List ℕ) (near far : ℕ → Option ℕ) (most : ℕ) (xs ys : List (ℕ × ℕ)) (old new : BTreeSet ℕ) → xs ≡ filter_map (with_length near) among → ys ≡ filter_map (with_length far) among → AddsAll (IsInRow pairs most ys) xs old new → Adds (IsWantedPlace pairs among near far most) old new
+pub rows_of : (pairs : List PairLeaf) (among : List ℕ) (near far : ℕ → Option ℕ) (most : ℕ) (xs ys : List (ℕ × ℕ)) (old new : List ℕ) → xs ≡ filter_map (with_length near) among → ys ≡ filter_map (with_length far) among → AddsAll (IsInRow pairs most ys) xs old new → Adds (IsWantedPlace pairs among near far most) old new
 rows_of pairs among near far most xs ys old new e f h = subst (λ zs. Adds (λ n. (b : ℕ × ℕ) × Contains zs b × IsInRow pairs most (filter_map (with_length far) among) b n) old new) e (subst (λ zs. Adds (λ n. (b : ℕ × ℕ) × Contains xs b × IsInRow pairs most zs b n) old new) f h)
 
 pub places_same : (pairs other : List PairLeaf) (among others : List ℕ) (near far : ℕ → Option ℕ) (most : ℕ) (places : List ℕ) → pairs ≡ other → among ≡ others → Lists (IsWantedPlace pairs among near far most) places → Lists (IsWantedPlace other others near far most) places

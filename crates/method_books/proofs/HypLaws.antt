@@ -1,19 +1,15 @@
--- The leaves of a map's cells, and the places of border pairs.
-use Rattle.std.proofs.Common.{◌≡◌, ◌≢◌, ℕ, ◌*◌, ◌<◌, ◌≤◌, ◌==◌, min, max, ◌||◌, Bool, true, false, Option, None, Some, IfSome, IfNone, IsSome, List, [], ◌∷◌, ◌++◌, ◌⊎◌, inl, inr, length, slice_get, refl, arith, ap, sym, ◌∙◌, subst}
+-- The leaves of a map's cells, and the indices of border pairs.
+use Rattle.std.proofs.Common.{◌≡◌, ◌≢◌, ℕ, ◌*◌, ◌<◌, ◌≤◌, ◌==◌, min, max, true, Option, None, Some, IfSome, IfNone, IsSome, List, [], ◌∷◌, ◌++◌, ◌⊎◌, inl, inr, length, slice_get, refl, arith, ap, sym, ◌∙◌, subst}
 use Rattle.std.specs.List.{Contains}
 use Rattle.std.specs.Option.{option_map}
 use Rattle.std.specs.Ordering.{nat_cmp}
 use Rattle.std.specs.List.Sorted.{IsStrictlySortedBy}
-use Rattle.std.specs.BTreeSet.{BTreeSet, contains}
-use Rattle.std.specs.BTreeMap.{is_at}
-use Rattle.std.specs.List.{list_any}
-use Rattle.std.proofs.lemmas.Bool.{cases_eq}
 use Rattle.std.proofs.lemmas.List.Elements.{Contains-append_cases, Contains-append_left, Contains-append_right}
 use Rattle.std.proofs.Math.Nat.{mul-le-mul_right, mul-le-mul_left}
 use Rattle.road_map.specs.declared.parts.Node.{Node}
 use Rattle.road_map.specs.declared.parts.Parts.{Parts}
 use Rattle.road_map.specs.Maps.{IsMap, IsById}
-use Rattle.road_map.proofs.Among.{place_at, Contains-none, Contains-here, Contains-there, Contains-cases}
+use Rattle.road_map.proofs.Among.{place_at, Contains-none, Contains-here, Contains-cases}
 use Rattle.road_leaf.specs.declared.leaf.Extra.{Extra}
 use Rattle.road_leaf.specs.declared.pair.PairLeaf.{PairLeaf}
 use Rattle.book_model.specs.Nodes.{node_at}
@@ -109,52 +105,22 @@ table_small dist ids pairs all few =
 
 -- ---- numbers that are added
 
-pub apart_at : (k n : ℕ) → n ≢ k → is_at (nat_cmp k) n ≡ false
-apart_at k n ne = grind (arith, ne)
-
-key_is : (n k : ℕ) → is_at (nat_cmp n) k ≡ true → n ≡ k
-key_is n k h = grind (arith, h)
-
-is_key : (n : ℕ) → is_at (nat_cmp n) n ≡ true
-is_key n = grind arith
-
--- the keys of a set are its numbers
-pub keys_have : (keys : List ℕ) (n : ℕ) → list_any (is_at (nat_cmp n)) keys ≡ true → Contains keys n
-keys_have [] n h = cc
-keys_have (k ∷ ks) n h = by_test (is_at (nat_cmp n) k) refl h (keys_have ks n)
-  where
-    by_test : (b : Bool) → is_at (nat_cmp n) k ≡ b → (b || list_any (is_at (nat_cmp n)) ks) ≡ true → (list_any (is_at (nat_cmp n)) ks ≡ true → Contains ks n) → Contains (k ∷ ks) n
-    by_test true e h rest = subst (Contains (k ∷ ks)) (sym (key_is n k e)) (Contains-here k ks)
-    by_test false e h rest = Contains-there k n ks (rest h)
-
-pub have_keys : (keys : List ℕ) (n : ℕ) → Contains keys n → list_any (is_at (nat_cmp n)) keys ≡ true
-have_keys [] n c = absurd (Contains-none n c)
-have_keys (k ∷ ks) n c = by_cases (Contains-cases k n ks c) (have_keys ks n)
-  where
-    any_or : (a b : Bool) → b ≡ true → (a || b) ≡ true
-    any_or true b h = refl
-    any_or false b h = h
-
-    by_cases : (k ≡ n) ⊎ Contains ks n → (Contains ks n → list_any (is_at (nat_cmp n)) ks ≡ true) → (is_at (nat_cmp n) k || list_any (is_at (nat_cmp n)) ks) ≡ true
-    by_cases (inl e) rest = ap (λ b. b || list_any (is_at (nat_cmp n)) ks) (ap (is_at (nat_cmp n)) e ∙ is_key n)
-    by_cases (inr d) rest = any_or (is_at (nat_cmp n) k) (list_any (is_at (nat_cmp n)) ks) (rest d)
-
-pub adds_one : (P : ℕ → Type 0) (old new : BTreeSet ℕ) (k : ℕ) → P k → ((n : ℕ) → P n → n ≡ k) → contains nat_cmp new k ≡ true → ((n : ℕ) → n ≢ k → contains nat_cmp new n ≡ contains nat_cmp old n) → Adds P old new
-adds_one P old new k here only now others n = (
-  λ c. elim (cases_eq n k) [
-    | inl e ↦ inr (subst P (sym e) here)
-    | inr ne ↦ inl (sym (others n ne) ∙ c)
+pub adds_one : (P : ℕ → Type 0) (old new : List ℕ) (k : ℕ) → P k → ((n : ℕ) → P n → n ≡ k) → new ≡ old ++ k ∷ [] → Adds P old new
+adds_one P old new k here only pushed n = (
+  λ c. elim (Contains-append_cases old (k ∷ []) n (subst (λ xs. Contains xs n) pushed c)) [
+    | inl d ↦ inl d
+    | inr d ↦ elim (Contains-cases k n [] d) [ inl e ↦ inr (subst P e here) | inr none ↦ absurd (Contains-none n none) ]
   ],
-  λ h. elim (cases_eq n k) [
-    | inl e ↦ ap (contains nat_cmp new) e ∙ now
-    | inr ne ↦ elim h [ inl c ↦ others n ne ∙ c | inr p ↦ absurd (ne (only n p)) ]
-  ],
+  λ h. subst (λ xs. Contains xs n) (sym pushed) (elim h [
+    | inl c ↦ Contains-append_left old (k ∷ []) n c
+    | inr p ↦ Contains-append_right old (k ∷ []) n (subst (Contains (k ∷ [])) (sym (only n p)) (Contains-here k []))
+  ]),
 )
 
-pub adds_none : {X : Type 0} (P : X → ℕ → Type 0) (set : BTreeSet ℕ) → AddsAll P [] set set
+pub adds_none : {X : Type 0} (P : X → ℕ → Type 0) (set : List ℕ) → AddsAll P [] set set
 adds_none P set n = (λ c. inl c, λ h. elim h [ inl c ↦ c | inr p ↦ absurd (Contains-none p.0 p.1) ])
 
-pub adds_more : {X : Type 0} (P : X → ℕ → Type 0) (xs : List X) (x : X) (a b c : BTreeSet ℕ) → AddsAll P xs a b → Adds (P x) b c → AddsAll P (xs ++ x ∷ []) a c
+pub adds_more : {X : Type 0} (P : X → ℕ → Type 0) (xs : List X) (x : X) (a b c : List ℕ) → AddsAll P xs a b → Adds (P x) b c → AddsAll P (xs ++ x ∷ []) a c
 adds_more P xs x a b c first second n = (
   λ h. elim ((second n).0 h) [
     | inl k ↦ elim ((first n).0 k) [ inl old ↦ inl old | inr p ↦ inr (p.0, Contains-append_left xs (x ∷ []) p.0 p.1, p.2) ]
@@ -170,16 +136,6 @@ adds_more P xs x a b c first second n = (
       ]
     ]
   ],
-)
-
--- ids that were added one after another
-abbrev pub Is : ℕ → ℕ → Type 0
-Is x n = x ≡ n
-
-pub adds_ids : (xs : List ℕ) (old new : BTreeSet ℕ) → AddsAll Is xs old new → Adds (Contains xs) old new
-adds_ids xs old new h n = (
-  λ c. elim ((h n).0 c) [ inl o ↦ inl o | inr p ↦ inr (subst (Contains xs) p.2 p.1) ],
-  λ d. elim d [ inl o ↦ (h n).1 (inl o) | inr c ↦ (h n).1 (inr (n, c, refl)) ],
 )
 
 pub pair_only : (pairs : List PairLeaf) → PairsRise pairs → (most : ℕ) (near far : ℕ × ℕ) (k n : ℕ) → StandsAt pairs (min near.0 far.0) (max near.0 far.0) k → IsPairAt pairs most near far n → n ≡ k

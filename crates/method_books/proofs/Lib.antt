@@ -1,4 +1,5 @@
 pub mod WithinLaws
+pub mod GatedBooks
 pub mod FullLaws
 pub mod ExtraLaws
 pub mod NodeLaws
@@ -8,3 +9,5 @@ pub mod FoundLaws
 pub mod GridLaws
 pub mod HypLaws
 pub mod HypFound
+pub mod CodeBounds
+pub mod MarkedNodes

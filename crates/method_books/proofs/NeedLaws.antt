@@ -21,14 +21,14 @@ use Rattle.method_books.specs.LdmBooks.{reference_in, IsNear, IsNeeded}
 pub never_both : (b : Bool) → b ≡ true → b ≡ false → ⊥
 never_both b holds fails = cc
 
--- what a list contains, by other lists that are the same
+-- the contents of a list, given by other lists that are equal
 pub renamed : (P : ℕ → Type 0) (found start near start' near' : List ℕ) → start ≡ start' → near ≡ near' → ((id : ℕ) → Contains found id ↔ (Contains start id ⊎ (Contains near id × P id))) → (id : ℕ) → Contains found id ↔ (Contains start' id ⊎ (Contains near' id × P id))
 renamed P found start near start' near' e f has =
     subst (λ (xs : List ℕ). (id : ℕ) → Contains found id ↔ (Contains xs id ⊎ (Contains near' id × P id))) e
     (subst (λ (ys : List ℕ). (id : ℕ) → Contains found id ↔ (Contains start id ⊎ (Contains ys id × P id))) f has)
 
 module _ (P : ℕ → Type 0) (start near : List ℕ) where
-  -- what the list at the start contains, and those of the first ids of which the fact holds
+  -- the contents of the list at the start, and those of the first ids for which the fact holds
   abbrev pub HasFirst : ℕ → List ℕ → Type 0
   HasFirst k found = (id : ℕ) → Contains found id ↔ (Contains start id ⊎ (Contains (take k near) id × P id))
 
@@ -109,9 +109,9 @@ one_referred f xs k start before after lt so_far pushed =
     let more : filter_map f (take (k + 1) xs) ≡ front ++ last = ap (filter_map f) (take_more xs k 0 lt) ∙ one_more f (take k xs) (get_or xs k 0) in
     pushed ∙ (ap (λ ys. ys ++ last) so_far ∙ (append_assoc start front last ∙ ap (λ ys. start ++ ys) (sym more)))
 
--- ---- all that are needed
+-- ---- all ids that are needed
 
--- a length that is a number of 64 bits is within the greatest of these
+-- a length that is a 64-bit number is at most the greatest of these
 within_all : (o : Option ℕ) → ((d : ℕ) → o ≡ Some d → d < 2 ^ 64) → IsSome o → IsTrue (is_within 18446744073709551615 o)
 within_all None low some = cc
 within_all (Some d) low some = let lt : d < 2 ^ 64 = low d refl in grind arith

@@ -25,7 +25,7 @@ use Rattle.method_books.specs.LdmBooks.{extra_in, ldm_book}
 flips : (x y : ℕ) → nat_eq x y ≡ (y == x)
 flips x y = grind arith
 
--- an id has a node where it is known
+-- an id has a node if it is known
 pub node_known : (nodes : List Node) (id : ℕ) → list_any (nat_eq id) (ids nodes) ≡ is_some (node_at nodes id)
 node_known [] id = refl
 node_known (n ∷ nodes) id = by_test (nat_eq id n.id) (n.id == id) (flips id n.id) (node_known nodes id)
@@ -43,7 +43,7 @@ same_id x y h = grind (arith, h)
 pub node_has : (nodes : List Node) (id : ℕ) (n : Node) → node_at nodes id ≡ Some n → n.id ≡ id
 node_has nodes id n is = same_id n.id id (find_some (λ (m : Node). m.id == id) nodes n is).1
 
--- what the leaf of an id says, where each known id has an entry
+-- the contents of an id's leaf, if each known id has an entry
 pub extra_leaf : (parts : Parts) (entries : List (ℕ × Extra)) (numbers : Numbers) (id : ℕ) → is_some (lookup (nat_eq id) entries) ≡ list_any (nat_eq id) (ids parts.nodes) → lookup (nat_eq id) entries ≡ option_map (λ (n : NodeLeaf). n.extra) (leaf (ldm_book parts entries numbers) id)
 extra_leaf parts entries numbers id covers = by_node (lookup (nat_eq id) entries) (node_at parts.nodes id) refl refl (covers ∙ node_known parts.nodes id)
   where

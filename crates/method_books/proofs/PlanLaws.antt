@@ -21,14 +21,14 @@ use Rattle.proof_method.proofs.Picks.{taken_from}
 use Rattle.proof_judge.proofs.ItemLaws.{find_some}
 use Rattle.method_books.specs.LdmBooks.{extra_in, ldm_book}
 
--- ---- as many extras as ids
+-- ---- there are as many extra contents as ids
 
 pub extras_long : (codes : ℕ → List ℕ) (threshold : ℕ) (kept order : List ℕ) → length (extras_of codes threshold kept order) ≡ length order
 unfolding extras_of
 extras_long codes threshold kept [] = refl
 extras_long codes threshold kept (v ∷ vs) = ap suc (extras_long codes threshold (kept_after (extra_of codes threshold kept v) v kept) vs)
 
--- ---- codes that agree at all ids make the same extras
+-- ---- codes that agree at all ids give the same extra contents
 
 find_same : (p q : ℕ → Bool) (xs : List ℕ) → ((x : ℕ) → Contains xs x → p x ≡ q x) → find p xs ≡ find q xs
 find_same p q [] same = refl

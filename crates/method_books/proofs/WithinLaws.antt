@@ -1,4 +1,4 @@
--- Nodes that are no farther than the end of a route.
+-- Nodes that are at most as far as the end of a route.
 use Rattle.std.proofs.Common.{◌≡◌, ℕ, ◌≤◌, IsTrue, Option, None, Some, List, [], ◌∷◌, ◌++◌, ◌^◌, ◌<◌, ◌⊎◌, inl, inr, refl, arith, sym, ◌∙◌, subst, nat_eq}
 use Rattle.std.specs.List.{Contains, IsDistinct}
 use Rattle.std.specs.List.Sorted.{IsStrictlySortedBy}
@@ -26,7 +26,7 @@ use Rattle.road_search.specs.Passing.{IsLeastPassing}
 use Rattle.road_search.proofs.WholeMapLaws.{whole_same}
 use Rattle.method_books.specs.PlainBooks.{plain_book}
 
--- a walk along arcs up to one of its stops
+-- a walk along arcs, up to one of its stops
 record Front (roads : List Road) (u v most : ℕ) : Type 0 where
   walk : List Arc
   along : AlongArcs roads u walk
@@ -43,7 +43,7 @@ front roads u v (a ∷ walk) along c = elim (Contains-cases u v (stops a.to walk
   | inr d ↦ (let f : Front roads a.to v (walk_length walk) = front roads a.to v walk along.1 d in record { walk = a ∷ f.walk; along = (along.0, f.along); ends = f.ends; within = omega (arith, f.within) })
 ]
 
--- what is on a shortest route is no farther than its end
+-- a node on a shortest route is at most as far as its end
 on_route : (parts : Parts) → IsMap parts → (s t d : ℕ) (route : List ℕ) → IsShortest parts s t route d → (v : ℕ) → Contains route v → Knows parts v × ((e : ℕ) × (distance parts s v ≡ Some e) × (e ≤ d))
 on_route parts m s t d route short v c =
     let f : Front parts.roads s v (walk_length short.arcs) = front parts.roads s v short.arcs short.along (subst (λ r. Contains r v) (sym short.visits) c) in
@@ -51,7 +51,7 @@ on_route parts m s t d route short v c =
     let e : (e : ℕ) × (distance parts s v ≡ Some e) × (e ≤ walk_length f.walk) = at_most parts m s v (walk_length f.walk) j in
     (Joins-known parts (roads_known parts m.joined) s v (walk_length f.walk) j, (e.0, e.1, omega (arith, e.2, f.within, short.sums)))
 
--- a distance is that of a known node
+-- a distance belongs to a known node
 far_known : (parts : Parts) → IsMap parts → (s v e : ℕ) → distance parts s v ≡ Some e → Knows parts v
 far_known parts m s v e is =
     let d : IsDistance parts s v (Some e) = subst (IsDistance parts s v) is (distance-is parts (roads_known parts m.joined) s v) in
@@ -65,11 +65,11 @@ some_within : (most e : ℕ) (o : Option ℕ) → o ≡ Some e → e ≤ most �
 some_within most e None is le = cc
 some_within most e (Some f) is le = let same : f ≡ e = cc in grind (arith, same, le)
 
--- numbers that are those of which a fact holds
+-- exactly the numbers for which a fact holds
 pub lists_same : {P Q : ℕ → Type 0} (xs : List ℕ) → ((n : ℕ) → (P n → Q n) × (Q n → P n)) → Lists P xs → Lists Q xs
 lists_same xs same h = record { rising = h.rising; same = λ n. (λ c. (same n).0 ((h.same n).0 c), λ q. (h.same n).1 ((same n).1 q)) }
 
--- what DIJ finds
+-- the items that DIJ gathers
 pub found_dij : (parts : Parts) → IsMap parts → (q : Query) (d : ℕ) (f : Found) (len : ℕ → Option ℕ) → IsShortest parts q.from q.to f.route d → IsDistinct nat_eq f.route → ((v e : ℕ) → e ≤ d → (len v ≡ Some e → distance parts q.from v ≡ Some e) × (distance parts q.from v ≡ Some e → len v ≡ Some e)) → Lists (λ id. IsTrue (is_within d (len id))) f.nodes → f.pairs ≡ [] → IsFound Dij (plain_book parts []) q d f
 unfolding IsStrictlySortedBy
 found_dij parts m q d f len short distinct lengths listed none = record {
@@ -89,7 +89,7 @@ found_dij parts m q d f len short distinct lengths listed none = record {
     wanted id (inl c) = let r : Knows parts id × ((e : ℕ) × (distance parts q.from id ≡ Some e) × (e ≤ d)) = on_route parts m q.from q.to d f.route short id c in some_within d r.1.0 (len id) ((lengths id r.1.0 r.1.2).1 r.1.1) r.1.2
     wanted id (inr w) = some_within d w.0 (len id) ((lengths id w.0 w.2).1 w.1) w.2
 
--- ---- where no walk leads to the end
+-- ---- if no walk leads to the end
 
 -- the nodes that a search over the whole map finds, and the end
 pub component_is : (parts : Parts) → IsMap parts → DistanceLaws parts → (q : Query) → AreUnjoined parts q → (len : ℕ → Option ℕ) → ((v : ℕ) → IsLeastPassing (map_ways parts) q.from 18446744073709551615 v (len v)) → (near ids : List ℕ) → ((id : ℕ) → (Contains near id → IsTrue (is_within 18446744073709551615 (len id))) × (IsTrue (is_within 18446744073709551615 (len id)) → Contains near id)) → ids ≡ near ++ q.to ∷ [] →
@@ -119,7 +119,7 @@ component_is parts m laws q un len least near ids same is id = (to, from)
     from (inl (inr e)) = subst (λ xs. Contains xs id) (sym is) (Contains-append_right near (q.to ∷ []) id (subst (Contains (q.to ∷ [])) (sym e) (Contains-here q.to [])))
     from (inr h) = found id h.0 h.1
 
--- what DIJ finds where no route exists
+-- the items that DIJ gathers if no route exists
 pub found_apart_dij : (parts : Parts) (q : Query) (f : Found) → AreUnjoined parts q → f.route ≡ [] → Lists (λ id. IsEnd q id ⊎ WantedApart Dij (plain_book parts []) q id) f.nodes → f.pairs ≡ [] → IsFoundApart Dij (plain_book parts []) q f
 unfolding IsStrictlySortedBy
 found_apart_dij parts q f un no_route nodes none = record {
@@ -129,7 +129,7 @@ found_apart_dij parts q f un no_route nodes none = record {
   pairs = subst (Lists (IsPairAt (WantedPairApart Dij (plain_book parts []) q) (plain_book parts []))) (sym none) (record { rising = tt; same = λ n. (λ c. absurd (Contains-none n c), λ w. absurd w.wanted) });
 }
 
--- the items of three lists, by what the second and the third list
+-- the items of three lists, in terms of the second and the third list
 pub any_of_three : (xs ys zs all : List ℕ) (Q R : ℕ → Type 0) → all ≡ (xs ++ ys) ++ zs → ((n : ℕ) → (Contains ys n → Q n) × (Q n → Contains ys n)) → ((n : ℕ) → (Contains zs n → R n) × (R n → Contains zs n)) → (n : ℕ) → (Contains all n → Contains xs n ⊎ Q n ⊎ R n) × (Contains xs n ⊎ Q n ⊎ R n → Contains all n)
 any_of_three xs ys zs all Q R is second third n = (λ c. forth (subst (λ ls. Contains ls n) is c), λ h. subst (λ ls. Contains ls n) (sym is) (back h))
   where

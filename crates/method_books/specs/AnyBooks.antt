@@ -1,4 +1,4 @@
--- Books of any method: what contracts see of them, by their methods.
+-- Books of any method as contracts see them, by their methods.
 use Rattle.std.specs.Prelude.{[]}
 use Rattle.road_map.specs.Maps.{Charted}
 use Rattle.book_model.specs.Books as books

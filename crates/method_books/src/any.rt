@@ -1,4 +1,4 @@
-//! The book of a map, by the method of its settings.
+//! The book of a map, under the method in its settings.
 
 ghost use Rattle.std.specs.Prelude.{◌≡◌};
 
@@ -10,8 +10,7 @@ use road_leaf::{NodeLeaf, PairLeaf};
 use road_map::Map;
 use std::alloc::Global;
 
-/// A book of one of the methods, each of which has a number in settings: 1 is DIJ, 2 FULL, 3 LDM
-/// and 4 HYP.
+/// A book of one of the methods. Settings name them by numbers: 1 is DIJ, 2 FULL, 3 LDM and 4 HYP.
 #[derive(Drop)]
 pub enum AnyBook {
     Dij(DijBook),

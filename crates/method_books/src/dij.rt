@@ -19,8 +19,8 @@ use road_map::{Ids, Map, map_laws};
 use road_search::{Ball, ball_to, knows};
 use std::alloc::Global;
 
-/// A map, whose leaves say nothing beside places and arcs. It brings the leaves of all nodes that
-/// are no farther than the end.
+/// A map whose leaves have nothing besides coordinates and arcs. It gathers the leaves of all nodes that are at
+/// most as far from the start as the end is.
 #[derive(Drop)]
 pub struct DijBook {
     map: Map,
@@ -100,10 +100,11 @@ impl MethodBook for DijBook {
     }
 }
 
-/// Searches a map for a shortest route and for all nodes that are no farther than its end.
+/// Searches a map for a shortest route and for all nodes that are at most as far as its end.
 ///
-/// `UnknownNode` has the start where no node has that id, or else the end; `NoRoute` says that both
-/// are known and that no walk joins them. An end that is not known is told whatever memory there is.
+/// Fails with `UnknownNode` and the start if no node has the start's id, and otherwise with the end if no node has
+/// the end's id. Fails with `NoRoute` if both ends are known and no walk joins them. An unknown end is reported,
+/// however little memory is available.
 #[tactic(auto, using(proof_method::proofs::EndLaws::none_unknown))]
 fn reach_all(alloc: Global, map: &Map, query: Query) -> Result<Ball, GatherError>
     ensures route { IfOk result (λ ball.
@@ -130,7 +131,7 @@ fn reach_all(alloc: Global, map: &Map, query: Query) -> Result<Ball, GatherError
     }
 }
 
-/// The number of the first parameter that is not 0: these methods have none.
+/// Returns the number of the first parameter that is not 0. These methods have no parameters.
 pub fn first_parameter(settings: &Settings) -> Option<u8>
     ensures { (parts : Parts) → result ≡ first_failed 3 (own_tests ByDij parts settings.now) }
 {

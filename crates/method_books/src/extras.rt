@@ -1,10 +1,11 @@
-//! What leaves say of codes, by id.
+//! The contents of leaves about codes, by id.
 
-ghost use Rattle.std.specs.Prelude.{◌≡◌, ℕ, nat_eq, IfOk, is_some, map, length, slice_get};
+ghost use Rattle.std.specs.Prelude.{◌≡◌, ℕ, nat_eq, IfOk, IsTrue, is_some, map, length, slice_get};
 ghost use Rattle.std.specs.Map.{lookup, keys_of};
 ghost use Rattle.std.specs.Option.{option_copied, option_map};
 ghost use Rattle.std.specs.List.{IsDistinct, list_any};
 ghost use Rattle.std.specs.List.Sorted.{IsNonDecreasingBy};
+ghost use Rattle.road_map.specs.Places.{StandsAt};
 ghost use Rattle.method_books.specs.LdmBooks.{extra_in};
 
 use octet_text::{NoMemory, collected, push, room_for};
@@ -13,7 +14,7 @@ use road_map::RisingIds;
 use std::alloc::Global;
 use std::marker::Model;
 
-/// What the leaf of each node says of codes, by ascending id.
+/// For each node, the contents of its leaf about codes, by ascending id.
 #[derive(Drop)]
 pub struct Extras {
     ids: RisingIds,
@@ -31,7 +32,7 @@ impl Model for Extras {
 }
 
 impl Extras {
-    /// Puts by id what a list says in the order of the leaves.
+    /// Sorts the contents of leaves by id. They come in the order of the leaves.
     pub fn new(alloc: Global, order: &[u32], extras: Vec<Extra>) -> Result<Extras, NoMemory>
         requires long { length extras.items ≡ length order.now }
         requires distinct { IsDistinct nat_eq order.now }
@@ -45,7 +46,7 @@ impl Extras {
         Ok(Extras { ids, entries })
     }
 
-    /// What the leaf of an id says of codes, if the id is that of a node.
+    /// Returns the contents of an id's leaf about codes, if a node has the id.
     pub fn get(&self, id: u32) -> Option<&Extra>
         ensures { option_copied result ≡ lookup (nat_eq id) self.now.entries }
     {
@@ -54,9 +55,30 @@ impl Extras {
             Some(place) => extra_at(self.entries.as_slice(), place),
         }
     }
+
+    /// Returns the same, but first looks at the position at which the id should be.
+    pub fn get_from(&self, place: usize, id: u32) -> Option<&Extra>
+        ensures { option_copied result ≡ lookup (nat_eq id) self.now.entries }
+    {
+        if stands_at(self.entries.as_slice(), place, id) {
+            extra_at(self.entries.as_slice(), place)
+        } else {
+            self.get(id)
+        }
+    }
 }
 
-/// What the entry at a place says.
+/// Tests whether the entry of an id is at a position.
+fn stands_at(entries: &[(u32, Extra)], place: usize, id: u32) -> bool
+    ensures { IsTrue result → StandsAt (λ e. e.0) entries.now id place }
+{
+    match entries.get(place) {
+        None => false,
+        Some(entry) => entry.0 == id,
+    }
+}
+
+/// Returns the contents of the entry at an index.
 fn extra_at(entries: &[(u32, Extra)], place: usize) -> Option<&Extra>
     ensures { option_copied result ≡ option_map (λ e. e.1) (slice_get entries.now place) }
 {
@@ -66,7 +88,7 @@ fn extra_at(entries: &[(u32, Extra)], place: usize) -> Option<&Extra>
     }
 }
 
-/// What leaves say of codes, each beside the id of its leaf, in no order.
+/// Returns the contents of leaves about codes, each with the id of its leaf, in no particular order.
 fn with_ids(alloc: Global, order: &[u32], extras: Vec<Extra>) -> Result<Vec<(u32, Extra)>, NoMemory>
     requires long { length extras.items ≡ length order.now }
     requires distinct { IsDistinct nat_eq order.now }
@@ -83,7 +105,7 @@ fn with_ids(alloc: Global, order: &[u32], extras: Vec<Extra>) -> Result<Vec<(u32
     Ok(entries)
 }
 
-/// The same by ascending id.
+/// Returns the same by ascending id.
 fn sorted(alloc: Global, order: &[u32], extras: Vec<Extra>) -> Result<Vec<(u32, Extra)>, NoMemory>
     requires long { length extras.items ≡ length order.now }
     requires distinct { IsDistinct nat_eq order.now }
@@ -98,7 +120,7 @@ fn sorted(alloc: Global, order: &[u32], extras: Vec<Extra>) -> Result<Vec<(u32, 
     Ok(entries)
 }
 
-/// The ids of entries, in their order.
+/// Returns the ids of entries, in the same order.
 fn ids_of(alloc: Global, entries: &[(u32, Extra)]) -> Result<Vec<u32>, NoMemory>
     ensures { IfOk result (λ ids. ids.items ≡ keys_of entries.now) }
 {

@@ -1,35 +1,40 @@
 //! The book of FULL.
 
-ghost use Rattle.std.specs.Prelude.{◌≡◌, ◌≢◌, ◌⊎◌, ℕ, ◌<◌, ◌^◌, min, max, None, Some, IfOk, OnOk, IfErr, slice_get};
+ghost use Rattle.std.specs.Prelude.{◌≡◌, ◌⊎◌, ℕ, None, Some, Err, IfOk, OnOk, IfErr, nat_eq};
+ghost use Rattle.std.specs.List.{IsDistinct};
 ghost use Rattle.octet_text.specs.Want.{no_memory};
+ghost use Rattle.road_map.specs.Routes.{IsShortest};
 ghost use Rattle.road_map.specs.Walks.{Knows, distance};
-ghost use Rattle.road_leaf.specs.declared.pair.PairLeaf.{PairLeaf};
 ghost use Rattle.book_model.specs.Books.{Full as ByFull, method_fault};
 ghost use Rattle.book_model.specs.Orders.{by_id};
 ghost use Rattle.book_model.specs.Pairs.{pairs_of};
 ghost use Rattle.book_model.specs.declared.settings.PlanError.TheVariants as plan_error;
-ghost use Rattle.proof_method.specs.Gathering.{Lists, AreEnds, IsPairAt};
+ghost use Rattle.proof_method.specs.Gathering.{Lists, AreEnds, IsPairAt, IsFirstUnknown, WhyNone};
 ghost use Rattle.method_books.specs.PlainBooks.{plain_book};
 
+use crate::by_table::{ByTable, place_between, said_between};
 use crate::dij::first_parameter;
+use crate::heading::{known_ends, route_headed};
 use crate::rising::rising;
 use book_model::{Numbers, PairLeaves, Places, PlanError, Query, Settings};
 use octet_text::{NoMemory, push};
-use pair_dist::{PairError, pair_leaves, place_of_pair};
-use proof_method::{Found, GatherError, MethodBook, ends, ids_by_id, leaf_adding, reach};
+use pair_dist::{PairError, pair_leaves};
+use proof_method::{Found, GatherError, MethodBook, ends, ids_by_id, leaf_adding};
 use road_leaf::{Extra, NodeLeaf, PairLeaf};
-use road_map::{Ids, Map};
+use road_map::{Ids, Map, map_laws};
+use road_search::Path;
 use std::alloc::Global;
 
-/// A map, and the leaves of all pairs of its nodes, of which it brings that of the two ends.
+/// A map with the leaves of all pairs of its nodes. It gathers the leaf of the two ends.
 #[derive(Drop)]
 pub struct FullBook {
-    map: Map,
-    pairs: PairLeaves,
+    pub(crate) map: Map,
+    pub(crate) pairs: PairLeaves,
     ghost all: { pairs ≡ pairs_of (distance map.parts) (by_id map.parts.nodes) },
 }
 
-// The leaves of all pairs of a map's nodes, unless a parameter or the number of the nodes forbids the book.
+// Makes the leaves of all pairs of a map's nodes. Fails if a parameter or the number of nodes does not allow the
+// book.
 fn table_over(alloc: Global, map: &Map, settings: &Settings) -> Result<PairLeaves, PlanError>
     ensures pairs { IfOk result (λ pairs.
         pairs ≡ pairs_of (distance map.now.parts) (by_id map.now.parts.nodes)) }
@@ -107,11 +112,11 @@ impl MethodBook for FullBook {
 
     #[tactic(auto, using(proof_method::proofs::EndLaws::none_first))]
     fn gather(&self, alloc: Global, query: Query) -> Result<Found, GatherError> {
-        let reached = reach(alloc, &self.map, query)?;
-        let nodes = rising(alloc, &reached.route)?;
+        let path = route_by_table(alloc, self, query)?;
+        let nodes = rising(alloc, &path.ids)?;
         let pairs = pair_of_ends(alloc, self, query)?;
         Ok(Found {
-            route: reached.route,
+            route: path.ids,
             nodes,
             pairs,
         })
@@ -128,21 +133,31 @@ impl MethodBook for FullBook {
     }
 }
 
-/// The place of the leaf of two different nodes.
-fn place_between(book: &FullBook, query: Query) -> u32
-    requires from { Knows book.now.map.parts query.from }
-    requires to { Knows book.now.map.parts query.to }
-    requires apart { query.from ≢ query.to }
-    ensures { (l : PairLeaf) × (slice_get book.now.pairs result ≡ Some l) ×
-        (l.a ≡ min query.from query.to) × (l.b ≡ max query.from query.to) }
+/// Returns a shortest route between two nodes, along arcs that the table shows to lie on one.
+///
+/// Fails with `UnknownNode` and the start if no node has the start's id, and otherwise with the end if no node has
+/// the end's id. Fails with `NoRoute` if both ends are known and no walk joins them. An unknown end is reported,
+/// however little memory is available.
+#[tactic(auto, using(proof_method::proofs::EndLaws::none_unknown))]
+fn route_by_table(alloc: Global, book: &FullBook, query: Query) -> Result<Path, GatherError>
+    ensures route { IfOk result (λ path.
+        IsShortest book.now.map.parts query.from query.to path.ids path.length) }
+    ensures distinct { IfOk result (λ path. IsDistinct nat_eq path.ids) }
+    ensures refused { IfErr result (WhyNone book.now.map.parts query) }
+    ensures unknown { (id : ℕ) → IsFirstUnknown book.now.map.parts query id
+        → result ≡ Err (GatherError.UnknownNode id) }
 {
+    map_laws();
     let _parts = book.map.parts();
-    let (first, second) = (query.from.min(query.to), query.from.max(query.to));
-    let place = place_of_pair(book.pairs.as_slice(), first, second).unwrap();
-    place as u32
+    known_ends(&book.map, query)?;
+    if said_between(book, query.from, query.to) == u64::MAX {
+        return Err(GatherError::NoRoute);
+    }
+    let bounds = ByTable { book, to: query.to };
+    route_headed(alloc, &book.map, &bounds, query, 0)
 }
 
-/// The place of the leaf of the two ends, and none where they are the same node.
+/// Returns the index of the leaf of the two ends, or `None` if they are the same node.
 fn pair_of_ends(alloc: Global, book: &FullBook, query: Query) -> Result<Places, NoMemory>
     requires from { Knows book.now.map.parts query.from }
     requires to { Knows book.now.map.parts query.to }
@@ -154,6 +169,7 @@ fn pair_of_ends(alloc: Global, book: &FullBook, query: Query) -> Result<Places, 
     if query.from == query.to {
         return Ok(Places::from_vec(places));
     }
-    push(&mut places, place_between(book, query))?;
+    let place = place_between(book, query.from, query.to);
+    push(&mut places, place as u32)?;
     Ok(Places::from_vec(places))
 }

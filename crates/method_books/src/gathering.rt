@@ -1,26 +1,23 @@
-//! What is gathered for a query: the nodes that inner walks reach, and the pairs of borders.
+//! Gathering for a query: the nodes that inner walks reach, and the pairs of borders.
 
 ghost use Rattle.std.specs.Prelude.{◌≡◌, ◌≢◌, ◌⊎◌, ◌<◌, ◌^◌, ℕ, min, max, IsTrue, IfOk, OnOk, Contains, length};
-ghost use Rattle.std.specs.Ordering.{nat_cmp};
 ghost use Rattle.std.specs.List.{filter_map};
-ghost use Rattle.std.specs.BTreeSet as tree_set;
 ghost use Rattle.road_search.specs.Labelling.{length_at};
 ghost use Rattle.road_search.specs.Nearness.{is_within};
 ghost use Rattle.pair_dist.specs.Rising.{PairsRise};
 ghost use Rattle.proof_method.specs.Gathering.{Lists};
 ghost use Rattle.method_books.specs.HypBooks.{with_length, StandsAt, IsPairAt, Adds, AddsAll, HasPairs, IsInRow, IsWantedPlace};
 
+use crate::pair_places::{place_from, place_in_rows};
 use book_model::Places;
-use octet_text::{NoMemory, collected, copied, extend, insert_key, push};
-use pair_dist::place_of_pair;
+use octet_text::{NoMemory, copied, extend, push};
 use proof_method::rising;
 use road_leaf::PairLeaf;
 use road_map::Ids;
 use road_search::Labels;
 use std::alloc::Global;
-use std::collections::BTreeSet;
 
-/// The ids on a route, and those to which one of two searches gives a length up to this one, by
+/// Returns the ids on a route, and those to which one of two searches gives a length of at most `most`, by
 /// ascending id.
 pub fn wanted_nodes(
     alloc: Global,
@@ -41,7 +38,7 @@ pub fn wanted_nodes(
     Ok(rising(ids))
 }
 
-/// The borders that inner walks lead to, by ascending id, each with its least length.
+/// Returns the borders that inner walks reach, by ascending id, each with its least length.
 pub fn reached(alloc: Global, borders: &[u32], labels: &Labels) -> Result<Vec<(u32, u64)>, NoMemory>
     ensures { IfOk result (λ v. v.items ≡ filter_map
         (with_length (length_at labels.now)) borders.now) }
@@ -55,7 +52,12 @@ pub fn reached(alloc: Global, borders: &[u32], labels: &Labels) -> Result<Vec<(u
     Ok(list)
 }
 
-/// The place of the leaf of two borders.
+/// Returns how many of some ascending ids are below an id.
+fn index_in(ids: &[u32], id: u32) -> usize {
+    ids.partition_point(|other| *other < id)
+}
+
+/// Returns the index of the leaf of two borders.
 fn place_between(pairs: &[PairLeaf], borders: &[u32], a: u32, b: u32) -> u32
     requires rise { PairsRise pairs.now }
     requires few { length pairs.now < 2 ^ 32 }
@@ -65,13 +67,14 @@ fn place_between(pairs: &[PairLeaf], borders: &[u32], a: u32, b: u32) -> u32
     requires apart { a ≢ b }
     ensures { StandsAt pairs.now (min a b) (max a b) result }
 {
-    let place = place_of_pair(pairs, a.min(b), a.max(b)).unwrap();
+    let guess = place_in_rows(borders.len(), index_in(borders, a), index_in(borders, b));
+    let place = place_from(pairs, guess, a.min(b), a.max(b)).unwrap();
     place as u32
 }
 
-/// Adds the place of the pair of two borders, if their lengths are together below the limit.
+/// Adds the index of the pair of two borders, if their lengths sum to less than the limit.
 fn add_pair(
-    places: &mut BTreeSet<u32>,
+    places: &mut Vec<u32>,
     pairs: &[PairLeaf],
     borders: &[u32],
     most: u64,
@@ -83,17 +86,18 @@ fn add_pair(
     requires there { HasPairs pairs.now borders.now }
     requires near { Contains borders.now near.0 }
     requires far { Contains borders.now far.0 }
-    ensures { OnOk result (Adds (IsPairAt pairs.now most near far) places.old places.new) }
+    ensures { OnOk result (Adds (IsPairAt pairs.now most near far) places.old.items
+        places.new.items) }
 {
     if near.0 != far.0 && near.1 < most && far.1 < most - near.1 {
-        insert_key(places, place_between(pairs, borders, near.0, far.0))?;
+        push(places, place_between(pairs, borders, near.0, far.0))?;
     }
     Ok(())
 }
 
-/// Adds the places of the pairs of a border near the start with those near the end.
+/// Adds the indices of the pairs of a border near the start with those near the end.
 fn add_row(
-    places: &mut BTreeSet<u32>,
+    places: &mut Vec<u32>,
     pairs: &[PairLeaf],
     borders: &[u32],
     most: u64,
@@ -105,7 +109,8 @@ fn add_row(
     requires there { HasPairs pairs.now borders.now }
     requires near { Contains borders.now near.0 }
     requires far { (c : ℕ × ℕ) → Contains far.now c → Contains borders.now c.0 }
-    ensures { OnOk result (AddsAll (IsPairAt pairs.now most near) far.now places.old places.new) }
+    ensures { OnOk result (AddsAll (IsPairAt pairs.now most near) far.now
+        places.old.items places.new.items) }
 {
     for border in far {
         add_pair(places, pairs, borders, most, near, *border)?;
@@ -113,9 +118,9 @@ fn add_row(
     Ok(())
 }
 
-/// Adds the places of the pairs of the borders near the start with those near the end.
+/// Adds the indices of the pairs of the borders near the start with those near the end.
 fn add_rows(
-    places: &mut BTreeSet<u32>,
+    places: &mut Vec<u32>,
     pairs: &[PairLeaf],
     borders: &[u32],
     most: u64,
@@ -128,7 +133,7 @@ fn add_rows(
     requires near { (b : ℕ × ℕ) → Contains near.now b → Contains borders.now b.0 }
     requires far { (c : ℕ × ℕ) → Contains far.now c → Contains borders.now c.0 }
     ensures { OnOk result (AddsAll
-        (IsInRow pairs.now most far.now) near.now places.old places.new) }
+        (IsInRow pairs.now most far.now) near.now places.old.items places.new.items) }
 {
     for border in near {
         add_row(places, pairs, borders, most, *border, far)?;
@@ -136,17 +141,8 @@ fn add_rows(
     Ok(())
 }
 
-/// The numbers of a set, ascending.
-fn in_order(alloc: Global, set: BTreeSet<u32>) -> Result<Vec<u32>, NoMemory>
-    ensures keys { IfOk result (λ v. v.items ≡ set.keys) }
-    ensures ordered { tree_set.IsOrdered nat_cmp set }
-{
-    let _count = set.len();
-    collected(alloc, set.into_iter())
-}
-
-/// The places of the pairs of a border near the start and another near the end whose lengths are
-/// together below the limit, ascending.
+/// Returns the indices, ascending, of the pairs of a border near the start and a border near the end whose lengths
+/// sum to less than the limit.
 pub fn wanted_pairs(
     alloc: Global,
     pairs: &[PairLeaf],
@@ -163,7 +159,7 @@ pub fn wanted_pairs(
 {
     let near = reached(alloc, borders, near)?;
     let far = reached(alloc, borders, far)?;
-    let mut places = BTreeSet::new(alloc);
+    let mut places = Vec::new(alloc);
     add_rows(
         &mut places,
         pairs,
@@ -172,5 +168,6 @@ pub fn wanted_pairs(
         near.as_slice(),
         far.as_slice(),
     )?;
-    Ok(Places::from_vec(in_order(alloc, places)?))
+    let places = rising(places);
+    Ok(Places::from_vec(places.into_vec()))
 }

@@ -14,13 +14,13 @@ use road_map::{Map, Node};
 #[derive(Clone, Copy, Debug)]
 pub struct Grid {
     pub frame: Frame,
-    /// 1 to 1,024.
+    /// From 1 to 1,024.
     pub columns: u32,
-    /// 1 to 1,024.
+    /// From 1 to 1,024.
     pub rows: u32,
 }
 
-/// The grid over some nodes.
+/// Makes the grid over some nodes.
 pub fn grid_over(nodes: &[Node], columns: u32, rows: u32) -> Grid
     requires some { 0 < length nodes.now }
     requires columns { 1 ≤ columns }
@@ -38,7 +38,7 @@ pub fn grid_over(nodes: &[Node], columns: u32, rows: u32) -> Grid
     }
 }
 
-/// The cell of a node.
+/// Returns the cell of a node.
 fn cell(grid: &Grid, node: Node) -> u32
     requires { Holds grid.now node }
     ensures { result ≡ cell_in (frame grid.now) grid.now.columns grid.now.rows node }
@@ -49,7 +49,7 @@ fn cell(grid: &Grid, node: Node) -> u32
     row * grid.columns + column
 }
 
-/// The cell of the node at a position.
+/// Returns the cell of the node at a position.
 pub fn cell_at(map: &Map, grid: &Grid, position: u32) -> u32
     requires within { position < length map.now.order }
     requires grid { IsGridOf map.now.parts.nodes grid.now }
@@ -61,7 +61,7 @@ pub fn cell_at(map: &Map, grid: &Grid, position: u32) -> u32
     cell(grid, node)
 }
 
-/// Whether a node is in another cell.
+/// Tests whether a node is in another cell.
 fn is_elsewhere(map: &Map, grid: &Grid, id: u32, cell: u32) -> bool
     requires known { Knows map.now.parts id }
     requires grid { IsGridOf map.now.parts.nodes grid.now }
@@ -71,7 +71,7 @@ fn is_elsewhere(map: &Map, grid: &Grid, id: u32, cell: u32) -> bool
     cell_at(map, grid, map.place(id)) != cell
 }
 
-/// Whether the node at a position has a neighbour in another cell.
+/// Tests whether the node at a position has a neighbour in another cell.
 pub fn is_border_at(map: &Map, grid: &Grid, position: u32) -> bool
     requires within { position < length map.now.order }
     requires grid { IsGridOf map.now.parts.nodes grid.now }

@@ -1,4 +1,4 @@
-//! How a book of HYP is planned, and what it brings for a query.
+//! Planning a book of HYP, and gathering from it for a query.
 
 ghost use Rattle.std.specs.Prelude.{◌≡◌, ◌≤◌, ◌⊎◌, ℕ, List, IfOk, OnOk, IfErr, IsTrue, None, Some, Contains, length};
 ghost use Rattle.octet_text.specs.Want.{no_memory};
@@ -10,34 +10,38 @@ ghost use Rattle.method_books.specs.Grids.{IsGridOf};
 ghost use Rattle.road_search.specs.Labelling.{length_at};
 ghost use Rattle.road_search.specs.Nearness.{is_within};
 ghost use Rattle.proof_method.specs.Gathering.{Lists};
-ghost use Rattle.method_books.specs.HypBooks.{hyp_book, cell_extra, IsWantedPlace};
+ghost use Rattle.method_books.specs.HypBooks.{hyp_book, cell_extra, AreMarked, IsWantedPlace};
 
 use crate::gathering::{wanted_nodes, wanted_pairs};
 use crate::grid::{Grid, cell_at, grid_over, is_border_at};
-use crate::hyp_method::{HypBook, borders, first_parameter, table_of};
+use crate::heading::plain_route;
+use crate::hyp_method::{HypBook, borders, first_parameter, marks_of, table_of};
 use crate::inland::Inland;
 use book_model::{Numbers, PairLeaves, Places, PlanError, Query, Settings};
 use octet_text::NoMemory;
 use proof_judge::search_all;
-use proof_method::{Found, GatherError, MethodBook, leaf_adding, reach};
+use proof_method::{Found, GatherError, MethodBook, leaf_adding};
 use road_leaf::{Extra, NodeLeaf, PairLeaf};
 use road_map::{Ids, Map};
-use road_search::{Labels, search};
+use road_search::{Labels, lengths_through};
 use std::alloc::Global;
 
 // A grid of cells, its border nodes by ascending id, and the leaves of all pairs of these.
 #[derive(Drop)]
 struct Celled {
     grid: Grid,
+    marks: Vec<bool>,
     borders: Ids,
     pairs: PairLeaves,
 }
 
-// The grid over a map, unless a parameter or the number of the border nodes forbids the book.
+// Makes the grid over a map, unless a parameter or the number of border nodes forbids the book.
 fn cells_over(alloc: Global, map: &Map, settings: &Settings) -> Result<Celled, PlanError>
     ensures grid { IfOk result (λ c. IsGridOf map.now.parts.nodes c.grid) }
     ensures bordered { IfOk result
         (λ c. c.borders ≡ borders_in map.now.parts c.grid.columns c.grid.rows) }
+    ensures marks { IfOk result (λ c. AreMarked map.now.parts map.now.order c.grid.columns
+        c.grid.rows c.marks.items) }
     ensures few { IfOk result (λ c. length c.borders ≤ 2048) }
     ensures pairs { IfOk result (λ c. c.pairs ≡ pairs_of (distance map.now.parts) c.borders) }
     ensures book { (order : List ℕ) → IfOk result (λ c.
@@ -55,10 +59,12 @@ fn cells_over(alloc: Global, map: &Map, settings: &Settings) -> Result<Celled, P
         settings.p1 as u32,
         settings.p2 as u32,
     );
+    let marks = marks_of(alloc, map, &grid)?;
     let borders = borders(alloc, map, &grid)?;
     let pairs = table_of(alloc, map, &borders)?;
     Ok(Celled {
         grid,
+        marks,
         borders,
         pairs,
     })
@@ -91,6 +97,7 @@ impl MethodBook for HypBook {
             Ok(celled) => Ok(HypBook {
                 map,
                 grid: celled.grid,
+                marks: celled.marks,
                 borders: celled.borders,
                 pairs: celled.pairs,
             }),
@@ -106,6 +113,7 @@ impl MethodBook for HypBook {
         let HypBook {
             map,
             grid: _,
+            marks: _,
             borders: _,
             pairs: _,
         } = self;
@@ -130,14 +138,14 @@ impl MethodBook for HypBook {
     #[tactic(auto, using(proof_method::proofs::EndLaws::none_first))]
     fn gather(&self, alloc: Global, query: Query) -> Result<Found, GatherError> {
         let _parts = self.map.parts();
-        let reached = reach(alloc, &self.map, query)?;
-        let most = reached.length;
+        let path = plain_route(alloc, &self.map, query)?;
+        let most = path.length;
         let inland = Inland { book: self };
-        let near = search(alloc, &inland, query.from, most)?;
-        let far = search(alloc, &inland, query.to, most)?;
-        let brought = bring(alloc, self, &reached.route, &near, &far, most)?;
+        let near = lengths_through(alloc, &self.map, &inland, query.from, most)?;
+        let far = lengths_through(alloc, &self.map, &inland, query.to, most)?;
+        let brought = bring(alloc, self, &path.ids, &near, &far, most)?;
         Ok(Found {
-            route: reached.route,
+            route: path.ids,
             nodes: brought.nodes,
             pairs: brought.pairs,
         })
@@ -158,15 +166,15 @@ impl MethodBook for HypBook {
     }
 }
 
-// What is brought beside a route: nodes, and places of pairs of borders.
+// What is gathered besides a route: nodes, and indices of pairs of borders.
 #[derive(Drop)]
 struct Brought {
     nodes: Ids,
     pairs: Places,
 }
 
-// The ids on a route and those that inner walks from its two ends reach within a length, and the places of
-// the pairs of borders that such walks lead to.
+// Returns the ids on a route and those that inner walks from its two ends reach within a length, and the indices of
+// the pairs of borders that such walks reach.
 fn bring(
     alloc: Global,
     book: &HypBook,
@@ -194,7 +202,7 @@ fn bring(
     Ok(Brought { nodes, pairs })
 }
 
-/// The leaf of a node: its place, its arcs, its cell, and whether it is a border.
+/// Returns the leaf of a node: its place, its arcs, its cell, and whether it is a border.
 fn leaf_of(alloc: Global, book: &HypBook, id: u32) -> Result<NodeLeaf, NoMemory>
     requires { Knows book.now.map.parts id }
     ensures { IfOk result (λ found.

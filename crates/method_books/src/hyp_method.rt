@@ -11,6 +11,7 @@ ghost use Rattle.book_model.specs.Books.{Hyp as ByHyp, borders as borders_in, fi
 ghost use Rattle.book_model.specs.Pairs.{pairs_of};
 ghost use Rattle.book_model.specs.declared.settings.PlanError.TheVariants as plan_error;
 ghost use Rattle.method_books.specs.Grids.{IsGridOf};
+ghost use Rattle.method_books.specs.HypBooks.{AreMarked};
 
 use crate::grid::{Grid, is_border_at};
 use crate::parameters::{first_failed, is_from_to};
@@ -25,16 +26,19 @@ use std::alloc::Global;
 pub struct HypBook {
     pub map: Map,
     pub grid: Grid,
+    /// Which positions are those of border nodes.
+    pub marks: Vec<bool>,
     pub borders: Ids,
     pub pairs: PairLeaves,
     ghost of: { IsGridOf map.parts.nodes grid },
+    ghost marked: { AreMarked map.parts map.order grid.columns grid.rows marks.items },
     ghost bordered: { borders ≡ borders_in map.parts grid.columns grid.rows },
     ghost few: { length borders ≤ 2048 },
     ghost all: { pairs ≡ pairs_of (distance map.parts) borders },
 }
 
-/// The number of the first parameter that is out of its range: 1 to 1,024 columns, 1 to 1,024 rows,
-/// and no third one.
+/// Returns the number of the first parameter that is out of its range: 1 to 1,024 columns, 1 to 1,024 rows, and no
+/// third one.
 pub fn first_parameter(settings: &Settings) -> Option<u8>
     ensures first { (parts : Parts) → result ≡ first_failed 3 (own_tests ByHyp parts settings.now) }
     ensures columns { IfNone result (1 ≤ settings.now.p1) }
@@ -49,7 +53,21 @@ pub fn first_parameter(settings: &Settings) -> Option<u8>
     ])
 }
 
-/// The border nodes of a map in a grid, by ascending id.
+/// Returns which positions of a map are those of border nodes in a grid.
+pub fn marks_of(alloc: Global, map: &Map, grid: &Grid) -> Result<Vec<bool>, NoMemory>
+    requires { IsGridOf map.now.parts.nodes grid.now }
+    ensures { IfOk result (λ marks. AreMarked map.now.parts map.now.order grid.now.columns
+        grid.now.rows marks.items) }
+{
+    let mut marks = Vec::new(alloc);
+    for position in 0..map.count() {
+        let _id = map.node(position).id;
+        push(&mut marks, is_border_at(map, grid, position))?;
+    }
+    Ok(marks)
+}
+
+/// Returns the border nodes of a map in a grid, by ascending id.
 pub fn borders(alloc: Global, map: &Map, grid: &Grid) -> Result<Ids, NoMemory>
     requires { IsGridOf map.now.parts.nodes grid.now }
     ensures { IfOk result (λ ids. ids ≡ borders_in map.now.parts grid.now.columns grid.now.rows) }
@@ -65,7 +83,7 @@ pub fn borders(alloc: Global, map: &Map, grid: &Grid) -> Result<Ids, NoMemory>
     Ok(Ids::from_vec(found))
 }
 
-/// The leaves of all pairs of border nodes; more than 2,048 of these are refused before any search.
+/// Makes the leaves of all pairs of border nodes. More than 2,048 of these are refused before any search.
 pub fn table_of(alloc: Global, map: &Map, borders: &Ids) -> Result<PairLeaves, PlanError>
     requires known { (id : ℕ) → Contains borders.now id → Knows map.now.parts id }
     requires counted { length borders.now ≤ 65536 }

@@ -1,29 +1,36 @@
-//! How a book of LDM is planned, and what it brings for a query.
+//! Planning a book of LDM, and gathering items from it for a query.
 
-ghost use Rattle.std.specs.Prelude.{◌≡◌, ◌⊎◌, ℕ, nat_eq, None, Some, is_some, IfOk, OnOk, IfErr, length};
-ghost use Rattle.std.specs.List.{list_any};
+ghost use Rattle.std.specs.Prelude.{◌≡◌, ◌⊎◌, ◌+◌, ◌<◌, ◌^◌, ℕ, nat_eq, None, Some, Err, is_some, IfOk, OnOk, IfErr, length};
+ghost use Rattle.std.specs.List.{list_any, IsDistinct};
 ghost use Rattle.std.specs.Map.{lookup};
 ghost use Rattle.octet_text.specs.Want.{no_memory};
-ghost use Rattle.road_map.specs.Walks.{ids};
+ghost use Rattle.road_map.specs.Routes.{IsShortest};
+ghost use Rattle.road_map.specs.Walks.{Knows, ids};
+ghost use Rattle.road_search.specs.Labelling.{length_at};
+ghost use Rattle.road_search.specs.Passing.{IsLeastPassing};
+ghost use Rattle.proof_judge.specs.ItemWalks.{live_ways};
 ghost use Rattle.road_map.specs.declared.parts.Parts.{Parts};
-ghost use Rattle.book_model.specs.Books.{Ldm as ByLdm, IsBookOf, own_tests, first_failed, method_fault};
+ghost use Rattle.book_model.specs.Books.{Ldm as ByLdm, IsBookOf, leaf, own_tests, first_failed, method_fault};
 ghost use Rattle.book_model.specs.declared.settings.PlanError.TheVariants as plan_error;
-ghost use Rattle.proof_method.specs.Gathering.{IsOrderOf};
+ghost use Rattle.proof_method.specs.Gathering.{IsOrderOf, IsFirstUnknown, WhyNone};
 ghost use Rattle.proof_method.specs.Vectors.{HasVectors};
 ghost use Rattle.method_books.specs.LdmBooks.{ldm_book};
 
+use crate::by_codes::{ByCodes, Live};
 use crate::extras::Extras;
+use crate::heading::{known_ends, route_headed};
 use crate::ldm_method::{LdmBook, copy};
 use crate::near::needed;
 use crate::parameters::{first_failed, is_from_to};
 use book_model::{Numbers, Places, PlanError, Query, Settings};
 use landmarks::{compress, landmark_codes};
-use method_judges::{Open, live_labels};
+use method_judges::{Lookup, Open};
 use octet_text::NoMemory;
 use proof_judge::search_all;
-use proof_method::{Found, GatherError, MethodBook, ends, leaf_adding, method_laws, reach};
+use proof_method::{Found, GatherError, MethodBook, ends, leaf_adding, method_laws};
 use road_leaf::{NodeLeaf, PairLeaf};
 use road_map::{Ids, Map, map_laws};
+use road_search::{Labels, Path, lengths_through};
 use std::alloc::Global;
 
 impl MethodBook for LdmBook {
@@ -49,6 +56,7 @@ impl MethodBook for LdmBook {
         settings: &Settings,
         order: &[u32],
     ) -> Result<LdmBook, PlanError> {
+        let _parts = map.parts();
         match codes_over(alloc, &map, settings, order) {
             Ok(coded) => Ok(LdmBook {
                 map,
@@ -85,11 +93,11 @@ impl MethodBook for LdmBook {
     fn gather(&self, alloc: Global, query: Query) -> Result<Found, GatherError> {
         map_laws();
         let _parts = self.map.parts();
-        let reached = reach(alloc, &self.map, query)?;
-        let labels = live_labels(alloc, self, self.numbers.first, query, reached.length)?;
-        let nodes = needed(alloc, self, &reached.route, &labels)?;
+        let path = route_by_codes(alloc, self, query)?;
+        let labels = live_labels(alloc, self, query, path.length)?;
+        let nodes = needed(alloc, self, &path.ids, &labels)?;
         Ok(Found {
-            route: reached.route,
+            route: path.ids,
             nodes,
             pairs: Places::from_vec(Vec::new(alloc)),
         })
@@ -112,14 +120,59 @@ impl MethodBook for LdmBook {
     }
 }
 
-// What the leaves of a book say of codes, and the step and the count of landmarks.
+/// A number that exceeds the length of any road.
+const ABOVE_ROADS: u64 = 4294967296;
+
+/// Returns the least lengths of live walks, towards an end and below a limit, to all nodes that they reach.
+///
+/// The search goes one road beyond the limit, since a neighbour of a live node may be there.
+fn live_labels(alloc: Global, book: &LdmBook, query: Query, most: u64) -> Result<Labels, NoMemory>
+    requires known { Knows book.now.map.parts query.from }
+    requires short { most < 2 ^ 48 }
+    ensures { IfOk result (λ found. (v : ℕ) → IsLeastPassing (live_ways book.now.numbers.first
+        (leaf (ldm_book book.now.map.parts book.now.extras.entries book.now.numbers)) query.to most)
+        query.from (most + 2 ^ 32) v (length_at found v)) }
+{
+    let _parts = book.map.parts();
+    let end = book.extra(query.to);
+    let to = query.to;
+    let bounds = ByCodes { book, to, end };
+    let live = Live { bounds, most };
+    let labels = lengths_through(alloc, &book.map, &live, query.from, most + ABOVE_ROADS)?;
+    Ok(labels)
+}
+
+/// Returns a shortest route between two nodes, using the bounds from codes.
+///
+/// Fails with `UnknownNode` and the start if no node has the start's id, and otherwise with the end if no node has
+/// the end's id. Fails with `NoRoute` if both ends are known and no walk joins them. An unknown end is reported,
+/// however little memory is available.
+#[tactic(auto, using(proof_method::proofs::EndLaws::none_unknown))]
+fn route_by_codes(alloc: Global, book: &LdmBook, query: Query) -> Result<Path, GatherError>
+    ensures route { IfOk result (λ path.
+        IsShortest book.now.map.parts query.from query.to path.ids path.length) }
+    ensures distinct { IfOk result (λ path. IsDistinct nat_eq path.ids) }
+    ensures refused { IfErr result (WhyNone book.now.map.parts query) }
+    ensures unknown { (id : ℕ) → IsFirstUnknown book.now.map.parts query id
+        → result ≡ Err (GatherError.UnknownNode id) }
+{
+    let _parts = book.map.parts();
+    known_ends(&book.map, query)?;
+    let end = book.extra(query.to);
+    let to = query.to;
+    let bounds = ByCodes { book, to, end };
+    let slack = book.numbers.first.saturating_mul(2);
+    route_headed(alloc, &book.map, &bounds, query, slack)
+}
+
+// The contents of a book's leaves about codes, and the step and the number of landmarks.
 #[derive(Drop)]
 struct Coded {
     extras: Extras,
     numbers: Numbers,
 }
 
-// The codes of a map's nodes, unless a parameter forbids the book.
+// Makes the codes of a map's nodes. Fails if a parameter does not allow the book.
 fn codes_over(
     alloc: Global,
     map: &Map,
@@ -152,8 +205,8 @@ fn codes_over(
     Ok(Coded { extras, numbers })
 }
 
-/// The number of the first parameter that is out of its range, over a map of so many nodes: 1 to 64
-/// landmarks and no more than nodes, 1 to 16 bits of a code, a threshold of at most 65,534.
+/// Returns the number of the first parameter that is out of its range, for a map of `nodes` nodes: 1 to 64
+/// landmarks, but at most one for each node; 1 to 16 bits of a code; a threshold of at most 65,534.
 fn refused_parameter(settings: &Settings, nodes: usize) -> Option<u8>
     ensures { (parts : Parts) → nodes ≡ length parts.nodes →
         result ≡ first_failed 3 (own_tests ByLdm parts settings.now) }

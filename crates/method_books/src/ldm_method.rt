@@ -1,10 +1,11 @@
-//! The book of a map under the landmark method.
+//! The book of a map under LDM.
 
-ghost use Rattle.std.specs.Prelude.{◌≡◌, ℕ, nat_eq, IfOk, is_some};
+ghost use Rattle.std.specs.Prelude.{◌≡◌, ℕ, nat_eq, IfOk, is_some, slice_get};
 ghost use Rattle.std.specs.Map.{lookup};
 ghost use Rattle.std.specs.List.{list_any};
 ghost use Rattle.road_map.specs.Walks.{ids, Knows};
-ghost use Rattle.method_books.specs.LdmBooks.{extra_in};
+ghost use Rattle.road_search.specs.Headed.{IsLowerBound};
+ghost use Rattle.method_books.specs.LdmBooks.{extra_in, ldm_book, bound_from};
 
 use crate::extras::Extras;
 use book_model::Numbers;
@@ -16,7 +17,7 @@ use road_search::placed_ids;
 use std::alloc::Global;
 use std::rc::Rc;
 
-/// A map, what the leaf of each of its nodes says of codes, and the step and the count of landmarks.
+/// A map, the contents of the leaf of each node about codes, and the step and the number of landmarks.
 #[derive(Drop)]
 pub struct LdmBook {
     pub(crate) map: Map,
@@ -24,6 +25,9 @@ pub struct LdmBook {
     pub(crate) numbers: Numbers,
     ghost covers: { (id : ℕ) → is_some (lookup (nat_eq id) extras.entries) ≡ list_any (nat_eq id)
         (ids map.parts.nodes) },
+    // Gives the fact that the distance from a node to an id is at least the bound from their codes.
+    ghost low: { (to : ℕ) → IsLowerBound map.parts map.order to
+        (λ p. bound_from (ldm_book map.parts extras.entries numbers) to (slice_get map.order p)) },
 }
 
 impl Lookup for LdmBook {
@@ -53,7 +57,7 @@ impl Lookup for LdmBook {
 }
 
 impl LdmBook {
-    /// What the leaf of a node says of codes.
+    /// Returns the contents of a node's leaf about codes.
     pub(crate) fn extra_at(&self, id: u32) -> &Extra
         requires { Knows self.now.map.parts id }
         ensures { result.now ≡ extra_in self.now.extras.entries id }
@@ -62,7 +66,7 @@ impl LdmBook {
     }
 }
 
-/// A copy of what a leaf says of codes.
+/// Copies the contents of a leaf about codes.
 pub fn copy(alloc: Global, extra: &Extra) -> Result<Extra, NoMemory>
     ensures { IfOk result (λ copy. copy ≡ extra.now) }
 {

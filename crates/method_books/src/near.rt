@@ -1,4 +1,4 @@
-//! The nodes whose leaves show that a route is shortest, or that there is none.
+//! The nodes whose leaves show that a route is shortest, or that no route exists.
 
 ghost use Rattle.std.specs.Prelude.{◌≡◌, ◌++◌, ◌⊎◌, ◌↔◌, ◌<◌, ◌^◌, ℕ, IfOk, OnOk, Contains, Some};
 ghost use Rattle.std.specs.List.{filter_map};
@@ -17,7 +17,7 @@ use road_map::{Ids, Map};
 use road_search::{Labels, knows};
 use std::alloc::Global;
 
-/// Adds those of some ids that are nodes of the map.
+/// Appends those of some ids that belong to nodes of the map.
 fn add_known(ids: &mut Vec<u32>, map: &Map, near: &[u32]) -> Result<(), NoMemory>
     ensures { OnOk result ((id : ℕ) → Contains ids.new.items id ↔
         (Contains ids.old.items id ⊎ (Contains near.now id × Knows map.now.parts id))) }
@@ -30,7 +30,7 @@ fn add_known(ids: &mut Vec<u32>, map: &Map, near: &[u32]) -> Result<(), NoMemory
     Ok(())
 }
 
-/// Adds the node whose codes stand for those of a node, if there is one.
+/// Appends the node whose codes replace those of a node, if there is such a node.
 fn add_reference(ids: &mut Vec<u32>, book: &LdmBook, id: u32) -> Result<(), NoMemory>
     ensures { OnOk result (ids.new.items ≡ ids.old.items ++ option_to_list
         (reference_in book.now.extras.entries id)) }
@@ -41,7 +41,7 @@ fn add_reference(ids: &mut Vec<u32>, book: &LdmBook, id: u32) -> Result<(), NoMe
     Ok(())
 }
 
-/// The ids, and then the nodes whose codes stand for theirs.
+/// Returns the ids, followed by the nodes whose codes replace theirs.
 fn with_references(alloc: Global, book: &LdmBook, ids: &[u32]) -> Result<Vec<u32>, NoMemory>
     ensures { IfOk result (λ all. all.items ≡ ids.now ++ filter_map
         (reference_in book.now.extras.entries) ids.now) }
@@ -53,8 +53,8 @@ fn with_references(alloc: Global, book: &LdmBook, ids: &[u32]) -> Result<Vec<u32
     Ok(all)
 }
 
-/// The nodes on a route, or the two ends of none, and those that walks lead to, with the nodes whose
-/// codes stand for theirs, each once, by ascending id.
+/// Returns the nodes on a route, or the two ends if there is no route, together with the nodes that walks reach and
+/// the nodes whose codes replace theirs. Each appears once, by ascending id.
 pub fn needed(alloc: Global, book: &LdmBook, route: &Ids, labels: &Labels) -> Result<Ids, NoMemory>
     requires { (v d : ℕ) → length_at labels.now v ≡ Some d → d < 2 ^ 64 }
     ensures { IfOk result (Lists (IsNeeded book.now.map.order book.now.extras.entries route.now

@@ -1,4 +1,4 @@
-//! Nodes that a walk leads to.
+//! Nodes that a walk reaches.
 
 ghost use Rattle.std.specs.Prelude.{[], ◌⊎◌, IfOk};
 ghost use Rattle.book_model.specs.Books.{Dij as ByDij};
@@ -10,10 +10,11 @@ use book_model::Query;
 use octet_text::{NoMemory, push};
 use proof_method::rising;
 use road_map::{Ids, Map, map_laws};
-use road_search::{WholeMap, search};
+use road_search::{NoGate, lengths_through};
 use std::alloc::Global;
 
-/// The ids to which a walk leads from the start, and the end, to which none does, by ascending id.
+/// Returns the ids that a walk from the start reaches, together with the end, which no walk from the start reaches.
+/// The ids are in ascending order.
 pub fn component(alloc: Global, map: &Map, query: Query) -> Result<Ids, NoMemory>
     requires { AreUnjoined map.now.parts query }
     ensures { IfOk result (Lists (λ id. IsEnd query id ⊎
@@ -21,7 +22,7 @@ pub fn component(alloc: Global, map: &Map, query: Query) -> Result<Ids, NoMemory
 {
     map_laws();
     let _parts = map.parts();
-    let labels = search(alloc, &WholeMap { map }, query.from, u64::MAX)?;
+    let labels = lengths_through(alloc, map, &NoGate, query.from, u64::MAX)?;
     let mut ids = labels.near(alloc, u64::MAX)?;
     push(&mut ids, query.to)?;
     Ok(rising(ids))

@@ -1,4 +1,4 @@
--- Borders in a map by id.
+-- Border nodes in a map by id.
 use Rattle.std.proofs.Common.{◌≡◌, ℕ, ◌<◌, ◌==◌, ◌&&◌, Bool, true, false, cond, Option, None, Some, IsSome, is_some, List, [], ◌∷◌, ◌++◌, ◌⊎◌, refl, arith, ap, sym, ◌∙◌, subst, map, nat_lt}
 use Rattle.std.specs.List.{AllByRecursion}
 use Rattle.std.specs.List.Sorted.{IsStrictlySortedBy}
@@ -75,7 +75,7 @@ border_list nodes len m ordered is = record {
   );
 }
 
--- the listed borders are all of them, each with its least length
+-- the list has all border nodes, each with its least length
 pub listed_borders : (nodes : List NodeLeaf) (len : ℕ → Option ℕ) (P : ℕ → ℕ → Type 0) (bs : List (ℕ × ℕ)) → ((v : ℕ) → IsLeast (P v) (len v)) → IsBorderList nodes len bs → AreBorders (Marked nodes P) bs
 listed_borders nodes len P bs lengths l = record { rising = l.rising; all = λ b p. (λ c. to b p (marks (item_at nodes b)) refl ((l.all b p).0 c), λ a. (l.all b p).1 (back b p a (marks (item_at nodes b)) refl)) }
   where
@@ -87,7 +87,7 @@ listed_borders nodes len P bs lengths l = record { rising = l.rising; all = λ b
     back b p a true e = IsLeast-unique (P b) (len b) (Some p) (lengths b) a.1
     back b p a false e = let t : marks (item_at nodes b) ≡ true = a.0 in cc
 
--- the tests of HYP, from two searches
+-- the tests of HYP, from the results of two searches
 pub hyp_tests : (g : Items) (q : Query) (d : ℕ) (near far : ℕ → Option ℕ) (m n : Option ℕ) →
     ((v : ℕ) → IsLeastPassing (inner_ways (item_at g.nodes)) q.from d v (near v)) → ((v : ℕ) → IsLeastPassing (inner_ways (item_at g.nodes)) q.to d v (far v)) →
     IsLeast (λ v. IsSome (near v) × ((inner_ways (item_at g.nodes)).arcs v ≡ None)) m → IsLeast (λ v. IsSome (far v) × ((inner_ways (item_at g.nodes)).arcs v ≡ None)) n →
@@ -101,7 +101,7 @@ hyp_tests g q d near far m n near_is far_is m_is n_is v t = by_missing (lesser m
     by_missing None h t = (None, h, (near q.to, near_is q.to, t))
     by_missing (Some id) h t = (Some id, h, t)
 
--- the tests of HYP where no route is shown, from two searches over the same items
+-- the tests of HYP if no route is given, from the results of two searches over the same items
 pub inner_tests : (g : Items) (q : Query) (nodes : List NodeLeaf) → nodes ≡ g.nodes → (near far : ℕ → Option ℕ) (m n : Option ℕ) →
     ((v : ℕ) → IsLeast (Leads (inner_ways (item_at nodes)) q.from v) (near v)) → ((v : ℕ) → IsLeast (Leads (inner_ways (item_at nodes)) q.to v) (far v)) →
     IsLeast (λ v. IsSome (near v) × ((inner_ways (item_at nodes)).arcs v ≡ None)) m → IsLeast (λ v. IsSome (far v) × ((inner_ways (item_at nodes)).arcs v ≡ None)) n →

@@ -1,4 +1,4 @@
--- Live walks over items are searched below a limit.
+-- The search for live walks over items stays below a limit.
 use Rattle.std.proofs.Common.{◌≡◌, ℕ, ◌+◌, ◌^◌, ◌≤◌, ◌<◌, nat_lt, Bool, true, false, cond, IsTrue, Option, None, Some, IsSome, List, [], ◌∷◌, refl, arith, sym, subst, map}
 use Rattle.std.specs.List.{Contains}
 use Rattle.std.specs.Option.{option_map}
@@ -28,7 +28,7 @@ short_arc nodes short u a out e c = by_item (item_at nodes u) refl e
 below_most : (x p d : ℕ) → IsTrue (nat_lt (p + x) d) → p < d
 below_most x p d h = grind (arith, h)
 
--- the arcs in leaves are numbers of 32 bits
+-- the arcs in leaves are 32-bit numbers
 abbrev pub ShortLeaves : (ℕ → Option NodeLeaf) → Type 0
 ShortLeaves leaf = (u : ℕ) (a : Arc) (out : List Arc) → option_map (λ (n : NodeLeaf). n.arcs) (leaf u) ≡ Some out → Contains out a → a.length < 2 ^ 32
 

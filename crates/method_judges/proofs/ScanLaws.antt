@@ -1,4 +1,4 @@
--- The scan of border pairs finds the first that fails.
+-- The scan of pairs of border nodes finds the first pair that fails.
 use Rattle.std.proofs.Common.{◌≡◌, ℕ, ◌+◌, ◌≤◌, ◌<◌, ◌^◌, nat_lt, Bool, true, false, cond, Option, None, Some, Ok, Err, List, [], ◌∷◌, inl, inr, refl, arith, ap, sym, ◌∙◌, subst}
 use Rattle.std.specs.List.{Contains}
 use Rattle.std.specs.Option.{option_or}
@@ -28,7 +28,7 @@ above_rising : (id : ℕ) (bs : List (ℕ × ℕ)) → AboveAll id bs → AreRis
 above_rising id [] h = tt
 above_rising id (x ∷ bs) h = h.1
 
--- a border of a row that fails
+-- a border node of a row that fails
 pub record RowFails (fault : PairFault) (most b p : ℕ) (far : List (ℕ × ℕ)) (c r : ℕ) (e : Refusal) : Type 0 where
   among : Contains far (c, r)
   below : p + r < most
@@ -63,7 +63,7 @@ module _ (fault : PairFault) (most b p : ℕ) where
   row_none [] h c r e f = Contains-none (c, r) f.among
   row_none (x ∷ far) h c r e f = row_none-step x far c r e (λ d h. row_none far h c r e (record { among = d; below = f.below; faulty = f.faulty })) f (here x) refl h
 
-  -- the first of a row that fails
+  -- the first border node of a row that fails
   pub record FirstOfRow (far : List (ℕ × ℕ)) (e : Refusal) : Type 0 where
     c : ℕ
     r : ℕ
@@ -100,7 +100,7 @@ module _ (fault : PairFault) (most b p : ℕ) where
   row_some (x ∷ far) e rise h = row_some-step x far e rise (λ h. row_some far e (above_rising x.0 far rise) h) (here x) refl h
 
 module _ (fault : PairFault) (most : ℕ) (far : List (ℕ × ℕ)) (far_rise : AreRising far) where
-  -- two borders that fail
+  -- two border nodes that fail
   pub record BothFail (near : List (ℕ × ℕ)) (b p c r : ℕ) (e : Refusal) : Type 0 where
     among : Contains near (b, p)
     row : RowFails fault most b p far c r e
@@ -157,7 +157,7 @@ module _ (fault : PairFault) (most : ℕ) (far : List (ℕ × ℕ)) (far_rise : 
   scan_some [] e rise h = cc
   scan_some (x ∷ near) e rise h = some-step x near e rise (λ h. scan_some near e (above_rising x.0 near rise) h) (scan_row fault most x.0 x.1 far) refl h
 
--- two borders with their lengths, of which two facts hold, and their fault
+-- two border nodes with their lengths, for which two facts hold, and their fault
 pub record AreFaulty (fault : PairFault) (most : ℕ) (Near Far : ℕ → ℕ → Type 0) (b c : ℕ) (e : Refusal) : Type 0 where
   pub p : ℕ
   pub r : ℕ
@@ -166,7 +166,7 @@ pub record AreFaulty (fault : PairFault) (most : ℕ) (Near Far : ℕ → ℕ �
   pub below : p + r < most
   pub faulty : fault b c (p + r) ≡ Some e
 
--- none fail, or these are the first that do
+-- no pair fails, or this is the first pair that does
 abbrev pub First : (ℕ → ℕ → Refusal → Type 0) → Option Refusal → Type 0
 First Fails None = NoneFails Fails
 First Fails (Some e) = FirstFails Fails e
@@ -175,7 +175,7 @@ pub first_same : (P Q : ℕ → ℕ → Refusal → Type 0) (o : Option Refusal)
 first_same P Q None to back h = λ b c e f. h b c e (back b c e f)
 first_same P Q (Some e) to back h = (h.0, h.1, to h.0 h.1 e h.2, λ b c e' f. h.3 b c e' (back b c e' f))
 
--- a scan of all borders finds the first that are at fault
+-- a scan of all border nodes finds the first pair at fault
 scan_first : (fault : PairFault) (most : ℕ) (Near Far : ℕ → ℕ → Type 0) (near far : List (ℕ × ℕ)) → AreBorders Near near → AreBorders Far far → (o : Option Refusal) → scan fault most near far ≡ o → First (AreFaulty fault most Near Far) o
 scan_first fault most Near Far near far a b None is = λ x y e f. scan_none fault most far b.rising near is x f.p y f.r e (record { among = (a.all x f.p).1 f.near; row = record { among = (b.all y f.r).1 f.far; below = f.below; faulty = f.faulty } })
 scan_first fault most Near Far near far a b (Some e) is =
@@ -186,7 +186,7 @@ scan_first fault most Near Far near far a b (Some e) is =
       λ b' c' e' h. f.first b' h.p c' h.r e' (record { among = (a.all b' h.p).1 h.near; row = record { among = (b.all c' h.r).1 h.far; below = h.below; faulty = h.faulty } }),
     )
 
--- over listed borders
+-- the same over listed border nodes
 pub scan_finds : (fault : PairFault) (most : ℕ) (nodes : List NodeLeaf) (near far : ℕ → Option ℕ) (P Q : ℕ → ℕ → Type 0) → ((v : ℕ) → IsLeast (P v) (near v)) → ((v : ℕ) → IsLeast (Q v) (far v)) → (o : Option Refusal) → IsScan fault most nodes near far o → First (AreFaulty fault most (Marked nodes P) (Marked nodes Q)) o
 scan_finds fault most nodes near far P Q near_is far_is o s = scan_first fault most (Marked nodes P) (Marked nodes Q) s.near_borders s.far_borders (listed_borders nodes near P s.near_borders near_is s.near) (listed_borders nodes far Q s.far_borders far_is s.far) o s.finds
 
@@ -194,7 +194,7 @@ abbrev pub scanned : ℕ → Option Refusal → Verdict
 scanned most None = Ok most
 scanned most (Some e) = Err e
 
--- the verdict on border pairs after a route, by the scan of all borders
+-- the verdict on pairs of border nodes after a route, by the scan of all border nodes
 pub scan_tests : (g : Items) (q : Query) (most : ℕ) (near far : ℕ → Option ℕ) → ((v : ℕ) → IsLeastPassing (inner_ways (item_at g.nodes)) q.from most v (near v)) → ((v : ℕ) → IsLeastPassing (inner_ways (item_at g.nodes)) q.to most v (far v)) → (o : Option Refusal) → IsScan (pair_fault g.pairs most) most g.nodes near far o → PairTests g q most (scanned most o)
 scan_tests g q most near far near_is far_is o s =
     by_first o (first_same (AreFaulty (pair_fault g.pairs most) most Near Far) (PairFails g q most) o
@@ -212,7 +212,7 @@ scan_tests g q most near far near_is far_is o s =
     by_first None h = (refl, h)
     by_first (Some e) h = h
 
--- the verdict on border pairs where no route is shown
+-- the verdict on pairs of border nodes if no route is given
 pub border_tests : (g : Items) (q : Query) (near far : ℕ → Option ℕ) → ((v : ℕ) → IsLeast (Leads (inner_ways (item_at g.nodes)) q.from v) (near v)) → ((v : ℕ) → IsLeast (Leads (inner_ways (item_at g.nodes)) q.to v) (far v)) →
     ((v d : ℕ) → near v ≡ Some d → d < 2 ^ 48) → ((v d : ℕ) → far v ≡ Some d → d < 2 ^ 48) → (o : Option Refusal) → IsScan (joined_fault g.pairs) 18446744073709551615 g.nodes near far o → BorderTests g q (by_fault o)
 border_tests g q near far near_is far_is near_low far_low o s =

@@ -1,4 +1,4 @@
--- The scan of border pairs, by ascending ids.
+-- The scan of the pairs of border nodes, by ascending ids.
 use Rattle.std.specs.Prelude.{◌≡◌, ℕ, ◌+◌, ◌^◌, ◌<◌, ◌↔◌, nat_lt, Option, None, Some, if◌then◌else◌, List, [], ◌∷◌, Contains}
 use Rattle.std.specs.Option.{option_or}
 use Rattle.road_map.specs.Least.{IsLeast}
@@ -7,19 +7,19 @@ use Rattle.proof_judge.specs.declared.refusal.Refusal.{Refusal}
 use Rattle.proof_judge.specs.ItemWalks.{item_at, marks, inner_ways}
 use Rattle.proof_judge.specs.Apart.{Leads}
 
--- why two borders are at fault, by the sum of their inner lengths
+-- the fault of two border nodes, given the sum of their inner lengths
 abbrev pub PairFault : Type 0
 PairFault = ℕ → ℕ → ℕ → Option Refusal
 
--- the first fault of a border with those of a list, where their inner lengths are together below a
--- limit
+-- the first fault of a border node with one of a list, among those for which the inner lengths of the two sum to
+-- less than a limit
 abbrev pub scan_row : PairFault → ℕ → ℕ → ℕ → List (ℕ × ℕ) → Option Refusal
 scan_row fault most b p [] = None
 scan_row fault most b p (c ∷ far) = option_or
     (if nat_lt (p + c.1) most then fault b c.0 (p + c.1) else None)
     (scan_row fault most b p far)
 
--- the first fault of two lists of borders
+-- the first fault of two lists of border nodes
 abbrev pub scan : PairFault → ℕ → List (ℕ × ℕ) → List (ℕ × ℕ) → Option Refusal
 scan fault most [] far = None
 scan fault most (b ∷ near) far = option_or (scan_row fault most b.0 b.1 far)
@@ -33,22 +33,22 @@ abbrev pub AreRising : List (ℕ × ℕ) → Type 0
 AreRising [] = Unit {0}
 AreRising (b ∷ bs) = AboveAll b.0 bs
 
--- the least inner length of an id, if it is a border
+-- the least inner length of an id, if the id belongs to a border node
 abbrev pub border_length : List NodeLeaf → (ℕ → Option ℕ) → ℕ → Option ℕ
 border_length nodes len id = if marks (item_at nodes id) then len id else None
 
--- the borders among items by ascending id, each with its length
+-- the border nodes among the items by ascending id, each with its length
 pub record IsBorderList (nodes : List NodeLeaf) (len : ℕ → Option ℕ)
     (bs : List (ℕ × ℕ)) : Type 0 where
   pub rising : AreRising bs
   pub all : (b p : ℕ) → Contains bs (b, p) ↔ (border_length nodes len b ≡ Some p)
 
--- the least lengths of inner walks from an end, however long, none of them near 2 to the 64th
+-- the least lengths of inner walks from an end, without a limit; none of them comes near 2 to the 64th
 pub record AreInner (nodes : List NodeLeaf) (from : ℕ) (len : ℕ → Option ℕ) : Type 0 where
   pub least : (v : ℕ) → IsLeast (Leads (inner_ways (item_at nodes)) from v) (len v)
   pub low : (v d : ℕ) → len v ≡ Some d → d < 2 ^ 48
 
--- what a scan of all borders finds, which two searches lead to after these lengths
+-- the result of a scan of all border nodes that two searches reach, with these lengths
 pub record IsScan (fault : PairFault) (most : ℕ) (nodes : List NodeLeaf)
     (near_length far_length : ℕ → Option ℕ) (found : Option Refusal) : Type 0 where
   pub near_borders : List (ℕ × ℕ)

@@ -14,7 +14,7 @@ use road_search::Labels;
 use std::alloc::Global;
 use std::collections::BTreeMap;
 
-/// The least inner length of an id, if it is a border.
+/// Returns the least inner length of an id, if the id belongs to a border node and has one.
 fn inner_length(by_id: &NodesById<'_>, labels: &Labels, id: u32) -> Option<u64>
     ensures { result ≡ border_length by_id.now (length_at labels.now) id }
 {
@@ -25,7 +25,7 @@ fn inner_length(by_id: &NodesById<'_>, labels: &Labels, id: u32) -> Option<u64>
     }
 }
 
-/// Notes a length, if it is there.
+/// Adds the length of an id to the list, if there is a length.
 fn note(near: &mut BTreeMap<u32, u64>, id: u32, length: Option<u64>) -> Result<(), NoMemory>
     ensures { OnOk result ((q : ℕ) →
         get nat_cmp near.new q ≡ (if is_some length &&
@@ -37,7 +37,7 @@ fn note(near: &mut BTreeMap<u32, u64>, id: u32, length: Option<u64>) -> Result<(
     Ok(())
 }
 
-/// All borders with their least inner lengths.
+/// Returns all border nodes with their least inner lengths.
 fn borders(
     alloc: Global,
     nodes: &NodeLeaves,
@@ -57,7 +57,7 @@ fn borders(
     Ok(near)
 }
 
-/// The borders by ascending id.
+/// Returns the border nodes by ascending id.
 fn in_order(alloc: Global, near: BTreeMap<u32, u64>) -> Result<Vec<(u32, u64)>, NoMemory>
     ensures entries { IfOk result (λ v. v.items ≡ near.entries) }
     ensures ordered { IsOrdered nat_cmp near }
@@ -66,7 +66,7 @@ fn in_order(alloc: Global, near: BTreeMap<u32, u64>) -> Result<Vec<(u32, u64)>, 
     collected(alloc, near.into_iter())
 }
 
-/// All borders by ascending id, each with its least inner length.
+/// Returns all border nodes by ascending id, each with its least inner length.
 pub fn listed(
     alloc: Global,
     nodes: &NodeLeaves,

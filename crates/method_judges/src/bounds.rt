@@ -1,4 +1,4 @@
-//! Lower bounds of distances, by the codes at hand.
+//! Lower bounds of distances, from the codes at hand.
 
 ghost use Rattle.std.specs.Prelude.{◌≡◌, ℕ, ◌^◌, ◌<◌, Option, IfOk, length};
 ghost use Rattle.std.specs.Option.{option_map, option_copied};
@@ -15,35 +15,35 @@ use road_map::{Arc, RisingIds};
 use std::alloc::Global;
 use std::rc::Rc;
 
-/// The code that says that no walk joins a node and a landmark.
+/// The code which states that no walk joins a node and a landmark.
 const NO_CODE: u16 = 65535;
 
 /// Leaves at hand, by id.
 pub trait Lookup {
-    // What contracts see of it: the leaf of an id, where it is at hand.
+    // The leaf of an id, if it is at hand. This is how contracts see the look-up.
     ghost leaves: { Self → ℕ → Option NodeLeaf };
 
-    /// The arcs in the leaf of an id, if it is at hand.
+    /// Returns the arcs in the leaf of an id, if the leaf is at hand.
     fn arcs(&self, id: u32) -> Option<&[Arc]>
         ensures { option_copied result ≡ option_map (λ n. n.arcs) (leaves self.now id) };
 
-    /// What the leaf of an id says beside the node's place and arcs, if it is at hand.
+    /// Returns the extra contents of an id's leaf, if the leaf is at hand.
     fn extra(&self, id: u32) -> Option<ExtraView<'_>>
         ensures { option_map extra_seen result ≡ option_map (λ n. n.extra) (leaves self.now id) };
 
-    /// Ids for whose marks a search makes room by place: best all whose leaves are at hand.
+    /// Returns the ids for which a search reserves room. Ideally these are all ids whose leaves are at hand.
     fn ids(&self, alloc: Global) -> Result<Rc<RisingIds>, NoMemory>
         ensures { IfOk result (λ ids. AreRising ids.value) };
 }
 
-/// Codes, one for each landmark, and by how much at most each may be off.
+/// Codes, one for each landmark, and the greatest error of each.
 #[derive(Clone, Copy)]
 struct Vector<'a> {
     codes: &'a [u16],
     error: u16,
 }
 
-/// The codes that a leaf keeps itself, off by an error.
+/// Returns the codes that a leaf itself holds, with this error.
 fn own(extra: ExtraView<'_>, error: u16) -> Option<Vector<'_>>
     ensures { option_map shown result ≡ own_vector error (extra_seen extra.entry) }
 {
@@ -53,7 +53,7 @@ fn own(extra: ExtraView<'_>, error: u16) -> Option<Vector<'_>>
     }
 }
 
-/// The codes at hand of an id: its own, or those of the node that its leaf refers to.
+/// Returns the codes that are at hand for an id: its own, or those of the node to which its leaf refers.
 fn vector_at<L: Lookup>(at: &L, id: u32) -> Option<Vector<'_>>
     ensures { option_map shown result ≡ vector_at (L.leaves at.now) (L.leaves at.now id) }
 {
@@ -67,7 +67,7 @@ fn vector_at<L: Lookup>(at: &L, id: u32) -> Option<Vector<'_>>
     }
 }
 
-/// How far two codes are surely apart, where they may be off by an error together.
+/// Returns the least possible difference of two codes whose errors add up to at most `error`.
 fn gap_of(error: u32, a: u16, b: u16) -> u32
     ensures value { result ≡ gap error a b }
     ensures small { result < 2 ^ 16 }
@@ -77,7 +77,7 @@ fn gap_of(error: u32, a: u16, b: u16) -> u32
         .saturating_sub(1)
 }
 
-/// The greatest bound of a landmark to which both have a code.
+/// Returns the greatest bound over the landmarks for which both vectors have a code.
 fn greatest_of(step: u64, error: u32, v: &[u16], t: &[u16]) -> u128
     requires { length v.now ≡ length t.now }
     ensures value { result ≡ greatest_bound step error v.now t.now }
@@ -95,8 +95,7 @@ fn greatest_of(step: u64, error: u32, v: &[u16], t: &[u16]) -> u128
     best
 }
 
-/// The bound of two vectors, 0 where one is not at hand or they are of different counts of
-/// landmarks.
+/// Returns the bound that two vectors give, or 0 if one is not at hand or they have different numbers of landmarks.
 fn bound_between(step: u64, v: Option<Vector<'_>>, t: Option<Vector<'_>>) -> u128
     ensures value { result ≡ bound_of step (option_map shown v.entry) (option_map shown t.entry) }
     ensures small { result < 2 ^ 80 }
@@ -114,8 +113,8 @@ fn bound_between(step: u64, v: Option<Vector<'_>>, t: Option<Vector<'_>>) -> u12
     }
 }
 
-/// A length that no walk between two nodes falls below, by the leaves at hand: 0 where these say
-/// nothing.
+/// Returns a lower bound of the length of every walk between two nodes, from the leaves at hand. The bound is 0 if
+/// the leaves give none.
 pub fn bound<L: Lookup>(step: u64, at: &L, v: u32, t: u32) -> u128
     ensures value { result ≡ bound step (L.leaves at.now) (L.leaves at.now v) (L.leaves at.now t) }
     ensures small { result < 2 ^ 80 }
@@ -123,14 +122,14 @@ pub fn bound<L: Lookup>(step: u64, at: &L, v: u32, t: u32) -> u128
     bound_between(step, vector_at(at, v), vector_at(at, t))
 }
 
-/// Whether just one of two codes says that no walk joins its node and the landmark.
+/// Tests whether exactly one of two codes states that no walk joins its node and the landmark.
 fn is_split(a: u16, b: u16) -> bool
     ensures { result ≡ is_split a b }
 {
     (a == NO_CODE) != (b == NO_CODE)
 }
 
-/// Whether just one of two vectors lacks a walk at some landmark.
+/// Tests whether at some landmark exactly one of two vectors lacks a walk.
 fn are_split(v: &[u16], t: &[u16]) -> bool
     requires { length v.now ≡ length t.now }
     ensures { result ≡ are_split v.now t.now }
@@ -143,8 +142,8 @@ fn are_split(v: &[u16], t: &[u16]) -> bool
     false
 }
 
-/// Whether no walk joins two nodes, by the leaves at hand: their codes lack a walk at different
-/// landmarks. False where these say nothing.
+/// Tests whether the leaves at hand show that no walk joins two nodes: at some landmark, exactly one of the two has
+/// the code for no walk. Returns false if the codes are not at hand.
 pub fn apart<L: Lookup>(at: &L, v: u32, t: u32) -> bool
     ensures { result ≡ are_apart (L.leaves at.now) (L.leaves at.now v) (L.leaves at.now t) }
 {

@@ -9,8 +9,8 @@ use proof_judge::{Judge, NodesById, Refusal, are_narrow, begin, begin_apart, wal
 use road_search::search;
 use std::alloc::Global;
 
-/// The method that sends the leaves of all nodes that are no farther than the end, over which the
-/// client repeats the search.
+/// The method that sends the leaves of all nodes that are at most as far from the start as the end is. The client
+/// repeats the search over them.
 pub struct Dij;
 
 impl Judge for Dij {
@@ -40,7 +40,7 @@ impl Judge for Dij {
     }
 }
 
-/// The tests after the route, which has this length.
+/// Runs the tests that follow the test of the route. `length` is the length of the route.
 fn tests(alloc: Global, by_id: &NodesById<'_>, query: Query, length: u64) -> Result<u64, Refusal>
     ensures { UnlessMemory (DijTests by_id.now query length) result }
 {

@@ -9,7 +9,7 @@ use proof_judge::{Judge, Refusal, begin, begin_apart, find_pair, joined_fault};
 use road_leaf::PairLeaf;
 use std::alloc::Global;
 
-/// The method that signs the distance of each pair of nodes, and sends that of the two ends.
+/// The method that signs the distance of each pair of nodes and sends the distance of the two ends.
 pub struct Full;
 
 impl Judge for Full {
@@ -38,8 +38,8 @@ impl Judge for Full {
     }
 }
 
-/// The tests after the route, which has this length: the pair of the two ends says how far apart
-/// they are.
+/// Runs the test that follows the test of the route: the pair of the two ends has the distance `length`, which is
+/// the length of the route.
 fn tests(pairs: &[PairLeaf], query: Query, length: u64) -> Result<u64, Refusal>
     ensures { result ≡ full_judged pairs.now query length }
 {
@@ -61,7 +61,7 @@ fn tests(pairs: &[PairLeaf], query: Query, length: u64) -> Result<u64, Refusal>
     }
 }
 
-/// The tests of the pair of the two ends, where no route is shown: it says that no walk joins them.
+/// Runs the test of the pair of the two ends if no route is given: the pair states that no walk joins them.
 fn pair_tests(pairs: &[PairLeaf], query: Query) -> Result<(), Refusal>
     ensures { result ≡ by_fault (joined_fault pairs.now query.from query.to 0) }
 {

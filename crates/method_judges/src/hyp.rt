@@ -19,12 +19,12 @@ use proof_judge::{
 use road_search::{Labels, search};
 use std::alloc::Global;
 
-/// The method that signs the distances of all pairs of border nodes of a grid of cells, so that the
-/// client searches the cells of the two ends alone.
+/// The method that signs the distances of all pairs of border nodes of a grid of cells. The client then searches
+/// only the cells of the two ends.
 ///
-/// After the tests that all methods share come an inner walk to an id without an item, a shorter
-/// inner walk to the end, and a shorter walk over two borders; where no route is shown, any inner
-/// walk to the end, and any walk over two borders.
+/// The tests that all methods share come first. The further tests look for an inner walk to an id without an item,
+/// a shorter inner walk to the end, and a shorter walk over two border nodes. If no route is given, any inner walk
+/// to the end and any walk over two border nodes fails a test.
 pub struct Hyp;
 
 impl Judge for Hyp {
@@ -54,7 +54,7 @@ impl Judge for Hyp {
     }
 }
 
-/// The tests of the border pairs.
+/// Runs the tests of the pairs of border nodes.
 fn pair_tests(
     alloc: Global,
     items: &Items,
@@ -83,7 +83,7 @@ fn pair_tests(
     }
 }
 
-/// The lesser of two ids that may be there.
+/// Returns the lesser of two ids, or the only one given, or `None` if none is given.
 fn lesser_of(a: Option<u32>, b: Option<u32>) -> Option<u32>
     ensures { result ≡ lesser a b }
 {
@@ -94,7 +94,7 @@ fn lesser_of(a: Option<u32>, b: Option<u32>) -> Option<u32>
     }
 }
 
-/// The tests after the route, which has this length.
+/// Runs the tests that follow the test of the route. `length` is the length of the route.
 fn tests(
     alloc: Global,
     items: &Items,
@@ -117,7 +117,7 @@ fn tests(
     pair_tests(alloc, items, by_id, query, &near, &far, length)
 }
 
-/// The tests of the border pairs, where no route is shown.
+/// Runs the tests of the pairs of border nodes if no route is given.
 fn border_tests(
     alloc: Global,
     items: &Items,
@@ -140,7 +140,7 @@ fn border_tests(
     }
 }
 
-/// The tests where both ends have an item and no route is shown.
+/// Runs the tests if both ends have an item and no route is given.
 fn inner_tests(
     alloc: Global,
     items: &Items,

@@ -21,7 +21,7 @@ fn is_border(extra: ExtraView<'_>) -> bool
     }
 }
 
-/// Whether the item of an id marks it as a border node.
+/// Tests whether the item of an id marks it as a border node.
 pub fn is_marked(by_id: &NodesById<'_>, id: u32) -> bool
     ensures { result ≡ marks (item_at by_id.now id) }
 {
@@ -31,8 +31,8 @@ pub fn is_marked(by_id: &NodesById<'_>, id: u32) -> bool
     }
 }
 
-/// Items as a ground of inner walks: an id with an item has the item's arcs, and no walk goes on
-/// from a border node.
+/// Items as the ground of a search for inner walks. An id with an item has the item's arcs. No walk continues from
+/// a border node.
 #[derive(Clone, Copy)]
 pub struct Inner<'a, 'b> {
     pub by_id: &'a NodesById<'b>,

@@ -14,8 +14,8 @@ use proof_judge::{
 };
 use std::alloc::Global;
 
-/// The method whose leaves say how far each node is from some landmarks, so that the client repeats
-/// a search that heads for the end.
+/// The method whose leaves tell how far each node is from some landmarks. With these distances the client repeats a
+/// goal-directed search.
 pub struct Ldm;
 
 impl Judge for Ldm {
@@ -46,14 +46,14 @@ impl Judge for Ldm {
     }
 }
 
-/// A length that may be there, if it is below a limit.
+/// Returns a length if it is given and below a limit.
 fn below(found: Option<u64>, limit: u64) -> Option<u64>
     ensures { result ≡ below found limit }
 {
     found.filter(|length| *length < limit)
 }
 
-/// The tests after the route, which has this length.
+/// Runs the tests that follow the test of the route. `length` is the length of the route.
 fn tests(
     alloc: Global,
     by_id: &NodesById<'_>,

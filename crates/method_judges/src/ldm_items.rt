@@ -10,7 +10,7 @@ use road_map::{Arc, RisingIds};
 use std::alloc::Global;
 use std::rc::Rc;
 
-/// The items that a client was sent, by id.
+/// The items of a reply, by id.
 #[derive(Clone, Copy)]
 pub struct ItemLeaves<'a, 'b> {
     pub by_id: &'a NodesById<'b>,

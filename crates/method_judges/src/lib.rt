@@ -1,6 +1,5 @@
-//! What a client concludes from a reply's items, method by method: a search over what is shown under DIJ
-//! and FULL, lower bounds by landmarks under LDM, with which the client repeats a search that heads for
-//! the end, and cells and borders under HYP.
+//! The judgement of a reply's items under each method. DIJ and FULL use a search over the items. LDM uses lower
+//! bounds by landmarks, with which the client repeats a goal-directed search. HYP uses cells and border nodes.
 #![tactic(auto)]
 
 pub use bounds::{Lookup, apart, bound};

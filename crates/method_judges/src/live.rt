@@ -1,4 +1,4 @@
-//! Live walks: the search that both the owner's server and the client make.
+//! Live walks: the search that both the server and the client perform.
 
 ghost use Rattle.std.specs.Prelude.{◌≡◌, ◌^◌, ◌+◌, ◌<◌, ℕ, IfOk, None, IsSome};
 ghost use Rattle.road_map.specs.Least.{IsLeast};
@@ -14,11 +14,11 @@ use road_search::{Ground, Labels, search};
 use std::alloc::Global;
 use std::rc::Rc;
 
-/// More than the length of any arc.
+/// A length above that of every arc.
 const ABOVE_ARCS: u64 = 4294967296;
 
-/// Leaves at hand as a ground of walks towards an end: an id with a leaf has the leaf's arcs, and
-/// lets a length pass while the length and the bound to the end stay below a limit.
+/// Leaves at hand as the ground of a search towards an end. An id with a leaf has the leaf's arcs. A length passes
+/// if the sum of it and the bound to the end is below a limit.
 #[derive(Clone, Copy)]
 struct Live<'a, L: Lookup> {
     leaves: &'a L,
@@ -51,7 +51,7 @@ impl<L: Lookup> Ground for Live<'_, L> {
         (L.leaves w.leaves.now w.to)) w.most short long le h };
 }
 
-/// The least lengths of live walks to all nodes that these lead to, towards an end below a limit.
+/// Returns the least lengths of live walks towards an end below a limit, for all nodes that such walks reach.
 ///
 /// The search goes one arc beyond the limit, since a neighbour of a live node may lie there.
 pub fn live_labels<L: Lookup>(

@@ -1,4 +1,4 @@
-//! Open walks: the search that shows that no walk leads to an end.
+//! Open walks: the search that shows that no walk reaches an end.
 
 ghost use Rattle.proof_judge.specs.Apart.{open_ways};
 
@@ -9,8 +9,8 @@ use road_search::Ground;
 use std::alloc::Global;
 use std::rc::Rc;
 
-/// Leaves at hand as a ground of walks towards an end: an id with a leaf has the leaf's arcs, and no
-/// walk goes on from an id that is apart from the end.
+/// Leaves at hand as the ground of a search towards an end. An id with a leaf has the leaf's arcs. No walk
+/// continues from an id that is apart from the end.
 #[derive(Clone, Copy)]
 pub struct Open<'a, L: Lookup> {
     pub leaves: &'a L,

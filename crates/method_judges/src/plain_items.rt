@@ -1,4 +1,4 @@
-//! Items over which every length passes.
+//! Items as the ground of a search in which every length passes.
 
 ghost use Rattle.proof_judge.specs.ItemWalks.{item_at, any_ways};
 
@@ -9,7 +9,7 @@ use road_search::Ground;
 use std::alloc::Global;
 use std::rc::Rc;
 
-/// Items as a ground: an id with an item has the item's arcs, and lets every length pass.
+/// Items as the ground of a search. An id with an item has the item's arcs, and every length passes.
 #[derive(Clone, Copy)]
 pub struct Anywhere<'a, 'b> {
     pub by_id: &'a NodesById<'b>,

@@ -1,4 +1,4 @@
-//! The pairs of a border near the start and a border near the end, by ascending ids.
+//! The pairs of a border node near the start and one near the end, by ascending ids.
 
 ghost use Rattle.std.specs.Prelude.{nat_lt, ◌≡◌, ◌+◌, ◌<◌, ℕ, None, IfOk, if◌then◌else◌};
 ghost use Rattle.road_search.specs.Labelling.{length_at};
@@ -11,25 +11,25 @@ use road_leaf::NodeLeaves;
 use road_search::Labels;
 use std::alloc::Global;
 
-/// What two borders are at fault with, where their inner lengths are together below a limit.
+/// Which pairs of border nodes are at fault, among those whose inner lengths sum to less than a limit.
 pub trait Faults {
     // The limit.
     ghost limit: { Self → ℕ };
 
-    // The fault of two borders, whose inner lengths sum to a length.
+    // The fault of two border nodes, given the sum of their inner lengths.
     ghost fault_of: { Self → PairFault };
 
-    /// The limit.
+    /// Returns the limit.
     fn most(&self) -> u64
         ensures { result ≡ limit self.now };
 
-    /// Why two borders, whose inner lengths sum to a length below the limit, are at fault.
+    /// Returns the fault of two border nodes, if they have one. The sum of their inner lengths is below the limit.
     fn fault(&self, b: u32, c: u32, sum: u64) -> Option<Refusal>
         requires { sum < limit self.now }
         ensures { result ≡ fault_of self.now b c sum };
 }
 
-/// Two borders over which a walk is shorter than the route, by the pair items.
+/// The fault is a walk over two border nodes that the pair items show to be shorter than the route.
 #[derive(Clone, Copy)]
 pub struct Detours<'a, 'b> {
     pub pairs: &'a PairsById<'b>,
@@ -62,7 +62,7 @@ impl Faults for Detours<'_, '_> {
     }
 }
 
-/// Two borders that show a walk between the ends, or lack a pair item.
+/// The fault is a walk over two border nodes between the ends, or a missing pair item.
 #[derive(Clone, Copy)]
 pub struct Joined<'a, 'b> {
     pub pairs: &'a PairsById<'b>,
@@ -84,7 +84,7 @@ impl Faults for Joined<'_, '_> {
     }
 }
 
-/// The fault of two borders with their inner lengths, if these are together short.
+/// Returns the fault of two border nodes, if they have one and their inner lengths sum to less than the limit.
 fn fault_below<F: Faults>(faults: &F, near: (u32, u64), far: (u32, u64)) -> Option<Refusal>
     ensures { result ≡ (if nat_lt (near.1 + far.1) (F.limit faults.now) then F.fault_of faults.now
         near.0 far.0 (near.1 + far.1) else None) }
@@ -97,7 +97,7 @@ fn fault_below<F: Faults>(faults: &F, near: (u32, u64), far: (u32, u64)) -> Opti
     }
 }
 
-/// The first fault of a border near the start with those near the end.
+/// Returns the first fault of one border node near the start with a border node near the end.
 fn row<F: Faults>(faults: &F, border: (u32, u64), far: &[(u32, u64)]) -> Option<Refusal>
     ensures { result ≡ scan_row (F.fault_of faults.now) (F.limit faults.now) border.0 border.1
         far.now }
@@ -110,7 +110,7 @@ fn row<F: Faults>(faults: &F, border: (u32, u64), far: &[(u32, u64)]) -> Option<
     None
 }
 
-/// The first fault of a border near the start with one near the end.
+/// Returns the first fault of any border node near the start with one near the end.
 fn first_fault<F: Faults>(faults: &F, near: &[(u32, u64)], far: &[(u32, u64)]) -> Option<Refusal>
     ensures { result ≡ scan (F.fault_of faults.now) (F.limit faults.now) near.now far.now }
 {
@@ -122,8 +122,8 @@ fn first_fault<F: Faults>(faults: &F, near: &[(u32, u64)], far: &[(u32, u64)]) -
     None
 }
 
-/// The first fault of a border that one search leads to with one that the other leads to, by ascending
-/// ids.
+/// Returns the first fault, by ascending ids, of a border node that one search reaches with a border node that the
+/// other search reaches.
 pub fn scanned<F: Faults>(
     alloc: Global,
     faults: &F,

@@ -1,3 +1,4 @@
 pub mod Promising
 pub mod Spreading
+pub mod Parting
 mod Worked

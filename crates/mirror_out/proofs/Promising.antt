@@ -1,11 +1,11 @@
--- What a mirror in memory promises.
+-- The promises of a mirror in memory.
 use Rattle.std.proofs.Common.{◌≡◌, ℕ, ◌+◌, ◌-◌, ◌^◌, ◌<◌, ◌≤◌, List, [], ◌∷◌, arith, refl, true, false, Bool, nat_eq, inl, inr, ◌||◌, ◌⊎◌}
 use Rattle.std.specs.List.{list_any}
 use Rattle.std.proofs.lemmas.Bool.{eqb-true}
 use Rattle.std.proofs.lemmas.Bool.Decides.{nat_tests}
 use Rattle.mirror_out.specs.Promises.{puts_before}
 
--- one call takes one put at most from what is promised
+-- one call takes at most one put from the promise
 pub puts_before_step : (fails : List ℕ) (calls : ℕ) → puts_before fails calls ≤ puts_before fails (calls + 1) + 1
 puts_before_step [] calls = omega arith
 puts_before_step (f ∷ fs) calls = let h : puts_before fs calls ≤ puts_before fs (calls + 1) + 1 = puts_before_step fs calls in grind (arith, nat_tests)
@@ -38,7 +38,7 @@ puts_before_planned (f ∷ fs) calls h =
       | inr later ↦ after_first fs f calls (puts_before_planned fs calls later)
     ]
 
--- before a call that is not planned to fail some are promised
+-- before a call that is not planned to fail, at least one put is promised
 pub puts_before_unplanned : (fails : List ℕ) (calls : ℕ) → calls < 2 ^ 64 - 1 → list_any (λ y. nat_eq y calls) fails ≡ false → 0 < puts_before fails calls
 puts_before_unplanned [] calls l h = omega arith
 puts_before_unplanned (f ∷ fs) calls l h =

@@ -1,4 +1,4 @@
--- What the words of mirrors say of one or two of them, so that a changed word is seen.
+-- The definitions of mirrors evaluated at one or two of them, so that a changed definition is noticed.
 use Rattle.std.proofs.Common.{◌≡◌, ℕ, ◌+◌, ◌≤◌, List, [], ◌∷◌, length, arith, inl, inr, subst}
 use Rattle.std.specs.declared.option.Option.{Option}
 use Rattle.std.specs.Io.KnownBytes.{Appends}

@@ -1,4 +1,5 @@
 pub mod FileMirror
+pub mod Gone
 pub mod MemMirror
 pub mod Mirrors
 pub mod Promises

@@ -15,13 +15,13 @@ promised_puts mirror = puts_before mirror.fails.items mirror.calls
 abbrev pub free_room : MemMirror → ℕ
 free_room mirror = mirror.room - length (held_in mirror)
 
--- a put was counted, and the plan and the room are as before
+-- a put was counted, and the plan and the room are unchanged
 pub record CountsPut (old new : MemMirror) : Type 0 where
   pub counted : new.calls ≡ min (old.calls + 1) (2 ^ 64 - 1)
   pub plan : new.fails.items ≡ old.fails.items
   pub room_is : new.room ≡ old.room
 
--- it holds nothing, has not been called or handed anything and has not failed
+-- it holds nothing, has not been called or handed anything, and has not failed
 pub record IsNewMirror (label room : ℕ) (fails : List ℕ) (mirror : MemMirror) : Type 0 where
   pub empty : held_in mirror ≡ []
   pub labelled : mirror.label ≡ label

@@ -6,6 +6,6 @@ use Rattle.mirror_out.specs.declared.spreader.Spreader.{Spreader}
 abbrev pub lost_of : Spreader → List ℕ
 lost_of spreader = spreader.lost.items
 
--- how many mirrors there were when it was made
+-- the number of mirrors when it was made
 abbrev pub most_of : Spreader → ℕ
 most_of spreader = spreader.most

@@ -1,15 +1,16 @@
-//! A mirror in a file: an adapter over the real thing, which tells what it was answered to have taken.
-ghost use Rattle.std.specs.Prelude.{◌≡◌, [], length};
+//! A mirror in a file: an adapter over the real file, which states the octets that it reported as taken.
+ghost use Rattle.std.specs.Prelude.{◌≡◌, ◌≢◌, ◌∷◌, [], length, IfErr, IsOk, OnOk, OnErr};
+ghost use Rattle.std.specs.IoError.{error_kind};
 ghost use Rattle.std.specs.declared.option.Option.TheVariants.{Some};
 
 use crate::Mirror;
-use road_io::{Failed, Record};
+use road_io::{Failed, Record, append_noted};
 use std::fs::File;
-use std::io::{self, ErrorKind, Write};
+use std::io::{self, ErrorKind};
 
-/// A file, which takes each piece where it was left, or one that could not be opened, which takes none.
-/// It promises nothing. It tells the pieces that it was answered to have taken, which stand after what
-/// the file held before. A put that fails may leave a prefix of its piece, of which nothing is told.
+/// A file that appends each piece, or a file that could not be opened and takes none. It promises nothing. It
+/// states the pieces that it reported as taken, which follow the old contents of the file. A put that fails may
+/// leave a prefix of its piece, of which the mirror states nothing.
 #[derive(Drop)]
 pub struct FileMirror {
     label: u32,
@@ -22,7 +23,7 @@ pub struct FileMirror {
 impl FileMirror {
     ghost use Rattle.mirror_out.specs.FileMirror.{label_of};
 
-    /// A mirror with a label in a file, which stands where the first piece goes.
+    /// Makes a mirror with a label, in a file that is positioned where the first piece goes.
     pub fn new(label: u32, file: File) -> FileMirror
         ensures label { label_of result ≡ label }
         ensures taken { result.history.events ≡ [] }
@@ -38,7 +39,7 @@ impl FileMirror {
         }
     }
 
-    /// A mirror with a label whose file could not be opened. Each put fails.
+    /// Makes a mirror with a label, for a file that could not be opened. Each put fails.
     pub fn lost(label: u32) -> FileMirror
         ensures label { label_of result ≡ label }
         ensures taken { result.history.events ≡ [] }
@@ -54,28 +55,38 @@ impl FileMirror {
         }
     }
 
-    /// Makes stable what it has taken. A device that takes no sync needs none.
+    /// Makes the octets that it has taken durable. A device that cannot sync counts as synced.
     pub fn sync(&self) -> io::Result<()> {
-        let Some(file) = &self.file else {
-            return Ok(());
-        };
-        match file.sync_all() {
-            Err(e) if e.kind() == ErrorKind::InvalidInput => Ok(()),
-            answer => answer,
+        match &self.file {
+            Some(file) => excused(file.sync_all()),
+            None => Ok(()),
         }
     }
 
-    // Writes a piece to the file, if there is one.
+    // Writes a piece to the file, if there is a file, and records the octets that the file took.
     fn write(&mut self, piece: &[u8]) -> io::Result<()>
         ensures label { self.new.label ≡ self.old.label }
         ensures faults { self.new.faults ≡ self.old.faults }
-        ensures history { self.new.history.events ≡ self.old.history.events }
         ensures handed { self.new.handed.events ≡ self.old.handed.events }
+        ensures noted { OnOk result
+            (self.new.history.events ≡ ([], piece.now) ∷ self.old.history.events) }
+        ensures kept { OnErr result (self.new.history.events ≡ self.old.history.events) }
     {
         match &mut self.file {
-            Some(file) => file.write_all(piece),
+            Some(file) => append_noted(file, piece, &mut self.history),
             None => Err(io::Error::from(ErrorKind::NotFound)),
         }
+    }
+}
+
+// Returns the result of a sync. It is not an error if a device cannot be synced.
+fn excused(answer: io::Result<()>) -> io::Result<()>
+    ensures failed { IfErr answer (λ e. error_kind e ≢ ErrorKind.InvalidInput → result ≡ answer) }
+    ensures synced { OnOk answer (IsOk result) }
+{
+    match answer {
+        Err(e) if e.kind() == ErrorKind::InvalidInput => Ok(()),
+        answer => answer,
     }
 }
 
@@ -101,10 +112,7 @@ impl Mirror for FileMirror {
     fn put(&mut self, piece: &[u8]) -> Result<(), Failed> {
         self.handed.note(&[], piece);
         match self.write(piece) {
-            Ok(()) => {
-                self.history.note(&[], piece);
-                Ok(())
-            }
+            Ok(()) => Ok(()),
             Err(_) => {
                 self.faults = self.faults.saturating_add(1);
                 Err(Failed)

@@ -1,5 +1,5 @@
-//! Copies of what is written, in further places: mirrors, which promise how much they will take, and
-//! a spreader that hands each piece to all of them and drops those that fail.
+//! Copies of the output in further places: mirrors, which promise how much they will take, and a spreader, which
+//! hands each piece to all mirrors and drops those that fail.
 #![tactic(auto)]
 
 pub use file_mirror::FileMirror;

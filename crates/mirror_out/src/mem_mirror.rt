@@ -1,4 +1,4 @@
-//! A mirror in memory, which tells what it holds.
+//! A mirror in memory, which states its contents.
 ghost use Rattle.std.specs.Prelude.{◌≡◌, ◌-◌, ◌≤◌, ◌+◌, ◌<◌, ◌^◌, ℕ, length, min, vec_len, vec_capacity, IfOk, OnOk, OnErr};
 ghost use Rattle.std.specs.declared.option.Option.TheVariants.{Some};
 ghost use Rattle.std.specs.Bool.{OnTrue, OnFalse};
@@ -8,9 +8,9 @@ use crate::Mirror;
 use road_io::{Failed, Record};
 use std::alloc::{AllocError, Global};
 
-/// A mirror in memory, with room for so many octets. Its puts are numbered from 0. It promises those
-/// before the next that was planned to fail, and the octets of its free room, and fails exactly
-/// outside these.
+/// A mirror in memory, with room for a number of octets. Its puts are numbered from 0. It promises the puts before
+/// the next one that is planned to fail, and the octets of its free room. It fails exactly if a promise does not
+/// cover a put.
 #[derive(Drop)]
 pub struct MemMirror {
     label: u32,
@@ -24,7 +24,7 @@ pub struct MemMirror {
     ghost within: { vec_len taken ≤ room },
 }
 
-// Whether a call is to fail: the last that a u64 counts does.
+// Tests whether a call is planned to fail. The last call that a u64 can count always fails.
 fn is_planned(fails: &[u64], call: u64) -> bool
     ensures planned { OnTrue result (puts_before fails.now call ≡ 0) }
     ensures unplanned { OnFalse result (0 < puts_before fails.now call) }
@@ -36,7 +36,7 @@ fn is_planned(fails: &[u64], call: u64) -> bool
 impl MemMirror {
     ghost use Rattle.mirror_out.specs.MemMirror.{held_in, IsNewMirror};
 
-    /// A mirror that holds nothing. The puts whose numbers stand in `fails` will fail.
+    /// Makes an empty mirror. The puts with the numbers in `fails` will fail.
     pub fn new(
         alloc: Global,
         label: u32,
@@ -57,7 +57,7 @@ impl MemMirror {
         })
     }
 
-    /// The octets that it holds.
+    /// Returns the octets that the mirror holds.
     pub fn held(&self) -> &[u8]
         ensures { result.now ≡ held_in self.now }
     {
@@ -93,6 +93,7 @@ impl Mirror for MemMirror {
         ensures label { self.new.label ≡ self.old.label }
         ensures err { OnErr result
             (PromisedLess 1 piece.now (promised_puts self.old) (free_room self.old)) }
+        ensures left { OnErr result (Some (held_in self.new) ≡ Some (held_in self.old)) }
         ensures puts { OnOk result (promised_puts self.old ≤ promised_puts self.new + 1) }
         ensures room { OnOk result (free_room self.old ≤ free_room self.new + length piece.now) }
         ensures kept { OnOk result (self.new.faults ≡ self.old.faults) }

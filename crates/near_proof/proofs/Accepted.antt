@@ -1,5 +1,5 @@
--- What is accepted is accepted under lower minimum versions, by keys alone, and with a route for one
--- query.
+-- Octets that are accepted are also accepted under lower minimum versions, only under public keys, and, if they
+-- have a route, for only one query.
 use Rattle.std.proofs.Common.{◌≡◌, ℕ, ◌+◌, ◌≤◌, ◌==◌, Bool, true, false, cond, not, List, [], ◌∷◌, length, Option, Some, None, is_some, Result, Ok, Err, refl, sym, ap, subst, arith, ◌∙◌}
 use Rattle.std.proofs.lemmas.Bool.Decides.{nat_tests}
 use Rattle.octet_text.specs.Format.{whole}
@@ -96,7 +96,7 @@ goes_on nodes t index r q d route e = by_node (item_at nodes r) (walked_from nod
     by_node None v s e = cc
     by_node (Some n) v s e = by_length (arc_to n.arcs q) v s e
 
--- two walks of one route end at one id
+-- two walks of one route end at the same id
 same_end : (nodes more : List NodeLeaf) (t u index i r d e : ℕ) (route : List ℕ) → walked_from nodes t index r route ≡ Ok d → walked_from more u i r route ≡ Ok e → t ≡ u
 same_end nodes more t u index i r d e [] one two = sym (ends_here nodes t index r d one) ∙ ends_here more u i r e two
 same_end nodes more t u index i r d e (q ∷ route) one two =
@@ -104,7 +104,7 @@ same_end nodes more t u index i r d e (q ∷ route) one two =
     let so = goes_on more u i r q e route two in
     same_end nodes more t u (index + 1) (i + 1) q on.0 so.0 route on.1 so.1
 
--- a route that is walked
+-- a route that is a walk
 record Starts (nodes : List NodeLeaf) (q : Query) (first : ℕ) (rest : List ℕ) (d : ℕ) : Type 0 where
   pub start : first ≡ q.from
   pub goes : walked_from nodes q.to 0 first rest ≡ Ok d
@@ -128,7 +128,7 @@ one_walk nodes more q r (first ∷ rest) d e one two =
     let b = starts more r first e rest two in
     same_query q r (sym a.start ∙ b.start) (same_end nodes more q.to r.to 0 0 first d e rest a.goes b.goes)
 
--- what is judged good was walked
+-- a route that the judgement accepts is a walk
 judged_walk : (k : Kind) (n : Numbers) (g : Items) (q : Query) (d : ℕ) → Judged k n g q (Ok d) → (m : ℕ) × (walked g.nodes q g.route ≡ Ok m)
 judged_walk k n g q d h =
     let t = tests_passed (StandsTwice g.nodes) RepeatedNode (OnRoute (walked g.nodes q g.route) (OwnTests k n g q)) d h in

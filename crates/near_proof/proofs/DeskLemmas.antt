@@ -12,11 +12,11 @@ use Rattle.key_desk.specs.Links.{link_from, links_of}
 use Rattle.near_proof.specs.Honest.{keys_along}
 use Rattle.near_proof.specs.DeskKeys.{LinksLead}
 
--- how many links a desk has
+-- the number of a desk's links
 count_of_links : (desk : Desk) → length (links_of desk) ≡ length desk.earlier
 count_of_links desk = length-map (range_with_len 0 (length desk.earlier)) (link_from desk) ∙ length-range_with_len 0 (length desk.earlier)
 
--- the key of an area after another is that of a link
+-- the key of an area after the first is that of a link
 key_behind : (desk : Desk) (area : ℕ) → area < length desk.earlier → Contains (map (λ (l : Link). l.key) (links_of desk)) (public_key (key_of desk (suc area)))
 key_behind desk area before =
     let within : area < length (links_of desk) = omega (arith, before, count_of_links desk) in

@@ -1,4 +1,4 @@
--- Honest replies are accepted, or told.
+-- Honest replies are accepted, or state that an end is unknown.
 use Rattle.std.proofs.Common.{◌≡◌, ◌≢◌, ℕ, ◌≤◌, ◌⊎◌, inl, inr, Some, List, [], ◌∷◌, length, map, slice_get, Result, Ok, Err, refl, sym, ap, subst, ◌∙◌}
 use Rattle.std.specs.List.{Contains, filter_map}
 use Rattle.std.proofs.lemmas.List.{length-map}
@@ -48,7 +48,7 @@ use Rattle.near_proof.proofs.Chosen.{node_texts_chosen, pair_texts_chosen, is_co
 use Rattle.near_proof.proofs.Ordered.{is_order, has_vectors}
 use Rattle.octet_text.specs.Want.{no_memory}
 
--- the laws of every method that honest replies rest on
+-- the laws of every method that are used for honest replies
 pub record MethodLaws : Type 0 where
   pub complete : (k : Kind) → IsComplete k
   pub gathered : (k : Kind) → BringsAll k
@@ -57,7 +57,7 @@ pub record MethodLaws : Type 0 where
   pub gathered_apart : (k : Kind) → BringsAllApart k
   pub known_apart : (k : Kind) → FindsKnownApart k
 
--- what is known of an honest answer: the book, and the header over it
+-- the known facts about an honest answer: the book, and its header
 pub record Over (hash sha : List ℕ → List ℕ) (p : Publication) (q : Query) (kind : Kind) (b : Book) (IsGathered : Found → Type 0) (a : answers.Answer) : Type 0 where
   pub is_map : IsMap p.parts
   pub lists : IsOrderOf p.parts (leaf_order sha p.parts p.settings)
@@ -88,7 +88,7 @@ module _ (hash sha : List ℕ → List ℕ) (p : Publication) (q : Query) (kind 
       (subst (λ (n : ℕ). IsRising n a.node_places) (sym node_count) over.answer.rising)
       (ap (λ (h : Header). h.node_root) over.header ∙ ap (λ (f : ℕ). root_or_zeros hash f (node_texts (leaves_of b order))) (sym same))
 
-  -- the places of pairs ascend, and their leaves are brought
+  -- the indices of pairs ascend, and the reply has their leaves
   pub pairs_rising : MethodLaws → IsRising (length b.pairs) a.pair_places
   pairs_rising laws =
       let order = leaf_order sha p.parts p.settings in
@@ -140,11 +140,11 @@ is_apart hash sha p q kind b a over has laws =
     let vectors = has_vectors sha p.parts p.settings kind b over.is_map has.allowed (record { method = over.method; book = over.book }) in
     rw (same_numbers hash sha p q kind b (IsFoundApart kind b q) a over) (laws.complete_apart kind b a.items q (book_map hash sha p q kind b (IsFoundApart kind b q) a over) vectors gathered)
 
--- without a link a key leads to itself
+-- without links a key leads to itself
 pub leads_itself : (key : List ℕ) → Leads key [] key
 leads_itself key = record { chain = refl; among = Contains-here key [] }
 
--- a text that is verified under one of the keys of a chain is verified along it
+-- a text that verifies under one of the keys of a chain verifies along the chain
 pub verified_among : (first : List ℕ) (links : List Link) (text signature key : List ℕ) → Contains (keys_along first links) key → verified key text signature ≡ Ok tt → verified_along first links text signature ≡ Ok tt
 verified_among first [] text signature key among good =
     elim (Contains-cases first key [] among) [
@@ -161,7 +161,7 @@ verified_among first (link ∷ links) text signature key among good =
     or_last (Ok u) rest is = refl
     or_last (Err why) rest is = is
 
--- what an answer says, it is accepted as
+-- the answer is accepted with its own content
 accept_answer : (hash sha : List ℕ → List ℕ) (key first : List ℕ) (links : List Link) (octets : List ℕ) (p : Publication) (q : Query) (least : ℕ) (kind : Kind) (b : Book) (IsGathered : Found → Type 0) (a : answers.Answer) (x : Checked)
     → Over hash sha p q kind b IsGathered a → IsSigned hash sha key p → Leads first links key → least ≤ p.header.version → MethodLaws → Says kind a q x → HoldsIn p.parts q x → formats.reply.Fits (reply_by x a) → octets ≡ formats.reply.spell (reply_by x a)
     → AreAccepted hash first links octets q least p.parts
@@ -183,7 +183,7 @@ accept_answer hash sha key first links octets p q least kind b IsGathered a x ov
       holds = holds;
     }
 
--- ---- by what the reply is
+-- ---- by the kind of the reply
 
 both_known : (parts : Parts) (q : Query) (id : ℕ) → AreKnown parts q → IsFirstUnknown parts q id → ⊥
 both_known parts q id known (inl h) = h.1 known.from
@@ -243,7 +243,7 @@ answers_accepted one laws hash sha key first links octets p q least signed leads
 same_ok : (h j : Header) → ◌≡◌ {A = Result Header BuildError} (Ok h) (Ok j) → h ≡ j
 same_ok h j e = cc
 
--- one header at most, of what is made at most once
+-- there is at most one header, and at most one book
 pub one_of : ((hash sha : List ℕ → List ℕ) (parts : Parts) (s : Settings) (v w : Result Header BuildError) → Makes hash sha parts s v → Makes hash sha parts s w → v ≢ Err (build.Memory no_memory) → w ≢ Err (build.Memory no_memory) → v ≡ w)
     → (hash sha : List ℕ → List ℕ) (parts : Parts) (s : Settings) (h j : Header) → HasHeader hash sha parts s h → HasHeader hash sha parts s j → h ≡ j
 one_of law hash sha parts s h j has other = same_ok h j (law hash sha parts s (Ok h) (Ok j) has other (λ e. absurd cc) (λ e. absurd cc))

@@ -1,5 +1,5 @@
--- What is accepted for a range query is accepted under lower minimum versions, by keys alone, and for no
--- route.
+-- Octets accepted for a range query are also accepted under lower minimum versions, only under public keys, and not
+-- for a route.
 use Rattle.std.proofs.Common.{◌≡◌, ℕ, zero, suc, ◌+◌, ◌≤◌, ◌<◌, Bool, true, false, cond, List, [], ◌∷◌, length, take, drop, Result, Ok, Err, refl, sym, ap, arith, ◌∙◌, nat_lt}
 use Rattle.std.specs.Prelude.{get_or}
 use Rattle.std.specs.Int.{w8, from_be_bytes}
@@ -45,7 +45,7 @@ keys hash key (link ∷ links) octets query least x bad is = not_verified key _ 
 
 -- ---- the first octet
 
--- what was bound was read
+-- a bound value was read
 bound : {A B : Type 0} (r : Result A ℕ) (k : A → Result B ℕ) (y : B) → (r >>= k) ≡ Ok y → (x : A) × (r ≡ Ok x)
 bound (Ok x) k y e = (x, refl)
 bound (Err d) k y e = absurd cc
@@ -56,14 +56,14 @@ passed true t e x y h = absurd cc
 passed false true e x y h = refl
 passed false false e x y h = absurd cc
 
--- a route's reply begins with one of four numbers
+-- a reply for a route begins with one of four numbers
 route_octet : (text : List ℕ) (y : ℕ × Left) → number_at w8 (between 0 3) (record { at = 0; text = text }) ≡ Ok y → (first : ℕ) (rest : List ℕ) → text ≡ first ∷ rest → first ≤ 3
 route_octet text y read first rest is =
     let test : between 0 3 (from_be_bytes w8 (take 1 text)) ≡ true = passed _ _ _ _ y read in
     let here : between 0 3 first ≡ true = ap (λ (t : List ℕ). between 0 3 (from_be_bytes w8 (take 1 t))) (sym is) ∙ test in
     grind (arith, nat_tests, here)
 
--- one to a range query with a letter
+-- a reply to a range query begins with a letter
 near_octet : (text : List ℕ) (y : List ℕ × Left) → octets_at 4 (bytes_eq near_name) (record { at = 0; text = text }) ≡ Ok y → get_or text 0 0 ≡ 0x52
 near_octet text y read =
     let same : near_name ≡ take 4 text = (bytes_eq-Decides near_name (take 4 text)).0 (passed _ _ _ _ y read) in

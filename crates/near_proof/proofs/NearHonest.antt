@@ -49,7 +49,7 @@ use Rattle.route_audit.proofs.NearSound.{alone, authentic_alone, items_listed}
 use Rattle.near_proof.specs.NearLaws.{AreAccepted, NearRepliesAreAccepted}
 use Rattle.near_proof.proofs.NearMarks.{marks_of, all_listed}
 
--- ---- leaves of ids that differ
+-- ---- leaves of distinct ids
 
 count_none : (id : ℕ) (xs : List NodeLeaf) → ((n : NodeLeaf) → Contains xs n → n.id ≡ id → ⊥) → count_by (λ (n : NodeLeaf). n.id == id) xs ≡ 0
 count_none id [] h = refl
@@ -81,7 +81,7 @@ leaves_once b (x ∷ xs) h id = by_head (leaf b x) refl (leaves_once b xs (IsDis
 same_self : (n : ℕ) → (n == n) ≡ true
 same_self n = grind arith
 
--- ---- what is known of an honest reply: the book, and the header over it
+-- ---- the known facts about an honest reply: the book, and its header
 
 pub record Over (hash sha : List ℕ → List ℕ) (p : Publication) (q : NearQuery) (kind : Kind) (b : Book) (a : NearReply) : Type 0 where
   pub is_map : IsMap p.parts
@@ -128,7 +128,7 @@ once_each hash sha p q kind b a over id two =
     subst (λ (xs : List NodeLeaf). count_by (λ (n : NodeLeaf). n.id == id) xs ≤ 1) (sym over.reply.nodes) (leaves_once b (ids_at (leaf_order sha p.parts p.settings) a.places) over.reply.distinct id) in
     omega (arith, one, two)
 
--- each node within the radius has its item
+-- each node within the radius has an item
 has_item : (hash sha : List ℕ → List ℕ) (p : Publication) (q : NearQuery) (kind : Kind) (b : Book) (a : NearReply) → Over hash sha p q kind b a → (id : ℕ) → Knows p.parts id → IsWithin p.parts q id → IsSome (item_at a.nodes id)
 has_item hash sha p q kind b a over id known within =
     let ids = ids_at (leaf_order sha p.parts p.settings) a.places in
@@ -136,7 +136,7 @@ has_item hash sha p q kind b a over id known within =
     let among : Contains a.nodes n.0 = subst (λ (xs : List NodeLeaf). Contains xs n.0) (sym over.reply.nodes) (picked_to (leaf b) ids id n.0 ((over.reply.same id).1 within) n.1) in
     found_some (λ (n : NodeLeaf). n.id == id) a.nodes n.0 among (ap (λ x. x == id) (leaf_id b.parts b.extra_of id n.0 n.1) ∙ same_self id)
 
--- so no walk within the radius lacks one
+-- so every walk within the radius ends at an item
 none_lacks : (hash sha : List ℕ → List ℕ) (p : Publication) (q : NearQuery) (kind : Kind) (b : Book) (a : NearReply) → Over hash sha p q kind b a → (id : ℕ) → ¬ LacksItem a.nodes q id
 none_lacks hash sha p q kind b a over id lacks =
     let w : Ways = any_ways (item_at a.nodes) in

@@ -1,4 +1,4 @@
--- The marks of a map within a radius: they can be listed.
+-- The marks of a map within a radius can be listed.
 use Rattle.std.proofs.Common.{◌≡◌, ℕ, ◌<◌, ◌≤◌, Bool, true, Option, None, Some, List, [], ◌∷◌, map, refl, arith, ap, sym, ◌∙◌, subst}
 use Rattle.std.specs.Prelude.{nat_le}
 use Rattle.std.specs.List.{Contains, AllByRecursion, filter}
@@ -70,7 +70,7 @@ module _ (parts : Parts) (q : NearQuery) where
       by_distance None e t = cc
       by_distance (Some d) e t = record { distance_is = e ∙ sym (ap (λ (o : Option ℕ). Some (unwrap_or o 0)) e); within = subst (λ (n : ℕ). n ≤ q.radius) (sym (ap (λ (o : Option ℕ). unwrap_or o 0) e)) (le_of d q.radius t) }
 
-  -- they are what lies within the radius, where each distance is that of a node
+  -- they are the nodes within the radius, if each distance is that of a node
   pub all_listed : IsMap parts → ((m : Mark) → IsNear parts q m → Knows parts m.id) → AreWithin parts q marks_of
   unfolding marks_of
   all_listed m known = record {

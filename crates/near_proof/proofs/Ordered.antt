@@ -1,4 +1,4 @@
--- The order and the method of what has a book.
+-- The order and the method of parts and settings that have a book.
 use Rattle.std.proofs.Common.{◌≡◌, ℕ, Option, Some, None, List, subst}
 use Rattle.road_map.specs.declared.parts.Parts.{Parts}
 use Rattle.road_map.specs.Maps.{IsMap}
@@ -12,7 +12,7 @@ use Rattle.road_order.proofs.ListingLaws.{lists}
 use Rattle.route_server.specs.Headers.{IsBook}
 use Rattle.route_server.proofs.Ordered.{order_from_moves}
 
--- the leaves of what has a book stand in an order of its ids
+-- if there is a book, the leaves are in an order of its ids
 pub is_order : (sha : List ℕ → List ℕ) (parts : Parts) (s : Settings) → IsMap parts → IsOrderOf parts (leaf_order sha parts s)
 is_order sha parts s is_map = order_from_moves parts (leaf_order sha parts s) is_map (lists (λ u. sha (seed_text s.seed u)) parts s.order is_map)
 
@@ -24,6 +24,6 @@ own_allowed (Some n) rest e = cc
 pub method_allowed : (parts : Parts) (s : Settings) (k : Kind) → plan_fault (kind_of s.method) parts s ≡ None → kind_of s.method ≡ Some k → method_fault k parts s ≡ None
 method_allowed parts s k allowed is = own_allowed (first_failed 1 (common_tests s)) (method_fault k parts s) (subst (λ o. plan_fault o parts s ≡ None) is allowed)
 
--- the book of a method has vectors, where the method asks for them
+-- the book of a method has vectors, if the method requires them
 pub has_vectors : (sha : List ℕ → List ℕ) (parts : Parts) (s : Settings) (k : Kind) (b : Book) → IsMap parts → plan_fault (kind_of s.method) parts s ≡ None → IsBook sha parts s k b → HasVectors k b
 has_vectors sha parts s k b is_map allowed is = gives_vectors k parts s (leaf_order sha parts s) b is_map (is_order sha parts s is_map) is.book (method_allowed parts s k allowed is.method)

@@ -47,7 +47,7 @@ own_header one hash sha p kind b has is =
     one hash sha p.parts p.settings p.header (book_header hash p.settings (leaf_order sha p.parts p.settings) b) has
     (record { is_map = has.is_map; allowed = has.allowed; kind = kind; book = b; is_book = is; is = refl })
 
--- and has the fan-out of its settings
+-- and it has the fan-out of its settings
 own_fan : (hash : List ℕ → List ℕ) (p : Publication) (order : List ℕ) (b : Book) → p.header ≡ book_header hash p.settings order b → p.header.fan ≡ p.settings.fan
 unfolding header_of
 own_fan hash p order b is = ap (λ (h : Header). h.fan) is
@@ -75,7 +75,7 @@ module _ (hash sha : List ℕ → List ℕ) (p : Publication) (q : Query) (kind 
   own : IsOwn hash sha p a
   own = record { kind = kind; book = b; is_book = is_book; nodes = nodes_own; pairs = pairs_own }
 
-  -- what is accepted of it is right
+  -- the accepted result is right
   right_of : (first : List ℕ) (links : List Link) (octets : List ℕ) → AreAccepted hash first links octets q 0 p.parts → SpellsAnswer octets a → IsAuthentic b a.items → AreRight routes hash sha first links octets q p
   unfolding own
   right_of first links octets taken spelled authentic = record {

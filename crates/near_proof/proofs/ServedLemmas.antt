@@ -1,4 +1,4 @@
--- What a service answers is accepted, or told.
+-- The answers of a service are accepted, or state that an end is unknown.
 use Rattle.std.proofs.Common.{◌≡◌, ℕ, ◌≤◌, List, Some, false, nat_lt, arith, refl, subst}
 use Rattle.std.proofs.lemmas.Bool.Decides.{nat_tests}
 use Rattle.book_model.specs.declared.items.Query.{Query}
@@ -12,7 +12,7 @@ use Rattle.near_proof.specs.Honest.{AnswersAreAccepted, UnknownNodesAreTold}
 use Rattle.near_proof.specs.Served.{Asks, Brings, ServedAnswersAreAccepted, ServedUnknownNodesAreTold}
 
 module _ (hash sha : List ℕ → List ℕ) where
-  -- a question in a session that is begun is answered over its publication
+  -- a question in an open session is answered over the session's publication
   decided : (state : State) (session : ℕ) (q : Query) (p : Publication) → session ≤ 15 → state.pinned session ≡ Some p → decision hash sha state (Ask session q.from q.to) ≡ Answers session p q
   decided state session q p number pinned =
       let low : nat_lt 15 session ≡ false = grind (arith, nat_tests, number) in

@@ -7,8 +7,8 @@ use Rattle.key_desk.specs.Desk.{key_of}
 use Rattle.key_desk.specs.Links.{links_of}
 use Rattle.near_proof.specs.Honest.{Leads}
 
--- where each of a desk's links is signed under the key before it, as those that `links` hands out
--- are, they lead from the first of the desk's keys to each of them
+-- if each of a desk's links is signed under the previous key, as the links that `links` returns are, they lead from
+-- the first of the desk's keys to each of them
 abbrev pub LinksLead : Type 0
 LinksLead = (desk : Desk) (area : ℕ) → area ≤ length desk.earlier
     → chained (public_key (key_of desk 0)) (links_of desk) ≡ Ok tt

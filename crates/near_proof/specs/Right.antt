@@ -1,6 +1,5 @@
--- What an audit finds of honest replies: that they are right.
--- Source: Yiu, Lin and Mouratidis, ICDE 2010: an honest provider sends tuples of the owner's own
--- trees, and their integrity proof.
+-- An audit finds honest replies to be right. Source: Yiu, Lin and Mouratidis, ICDE 2010: an honest provider sends
+-- tuples of the owner's own trees, and their integrity proof.
 use Rattle.std.specs.Prelude.{◌≡◌, ℕ, List}
 use Rattle.book_model.specs.declared.items.Query.{Query}
 use Rattle.lms_tree.specs.declared.links.Link.{Link}
@@ -13,8 +12,8 @@ use Rattle.route_audit.specs.Kinds.{ReplyKind}
 use Rattle.route_audit.specs.Routes.{routes}
 use Rattle.near_proof.specs.Honest.{IsSigned, Leads, AreKnown}
 
--- octets that a client accepts as an answer with the publication's header: all that it brings is of
--- the publication's trees, and what is taken holds in its map
+-- a client accepts these octets as an answer with the publication's header, everything that they carry comes from
+-- the publication's trees, and the result is true of its map
 pub record AreRight {Q A X E : Type 0} (kind : ReplyKind Q A X E) (hash sha : List ℕ → List ℕ)
     (key : List ℕ) (links : List Link) (octets : List ℕ) (q : Q) (p : Publication) : Type 0 where
   pub taken : X
@@ -30,7 +29,7 @@ HonestRepliesAreRight = (hash sha : List ℕ → List ℕ) (key first : List ℕ
     Leads first links key → AreKnown p.parts q → IsHonest hash sha p q octets →
     AreRight routes hash sha first links octets q p
 
--- and so are those to a range query
+-- honest replies to a range query are right
 abbrev pub HonestReachesAreRight : Type 0
 HonestReachesAreRight = (hash sha : List ℕ → List ℕ) (key first : List ℕ) (links : List Link)
     (octets : List ℕ) (p : Publication) (q : NearQuery) → IsSigned hash sha key p →

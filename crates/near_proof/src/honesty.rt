@@ -1,4 +1,4 @@
-//! What an audit finds of honest replies.
+//! The findings of an audit about honest replies.
 ghost use Rattle.near_proof.specs.Right.{HonestReachesAreRight, HonestRepliesAreRight};
 
 use crate::honest_laws;
@@ -7,10 +7,12 @@ use proof_method::method_laws;
 use road_map::map_laws;
 use route_server::server_laws;
 
-/// Over a publication whose header is that of its parts and settings, and signed under a key, every
-/// honest reply is accepted as one that is right: all that it brings is of the publication's own trees,
-/// and what the client takes of it holds in the map. So an audit finds no collision in it. That holds
-/// of a route, of the proof that there is none, and of the nodes within a radius.
+/// Every honest reply over a signed publication is accepted and right: everything that it carries comes from the
+/// publication's own trees, and the result that the client takes from it is true of the map. So an audit finds no
+/// collision in it.
+///
+/// The publication's header is the one that its own parts and settings give, and is signed under a key. The law
+/// covers routes, proofs that no route exists, and the nodes within a radius.
 pub fn right_laws()
     ensures routes { HonestRepliesAreRight }
     ensures radii { HonestReachesAreRight }

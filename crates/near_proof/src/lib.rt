@@ -1,10 +1,10 @@
-//! What holds between the parties: what an honest server replies over a signed publication, a client
-//! accepts, and an audit finds right.
+//! Laws between the parties: what an honest server replies over a signed publication, what a client accepts, and
+//! what an audit finds to be right.
 //!
-//! Nodes within a radius, authenticated: a server answers which nodes lie within a radius of a node,
-//! a client checks the answer with the owner's public key alone, and an audit turns an accepted false
-//! answer into evidence. Each party's crate has its calls for radii beside those for routes; here these
-//! calls stand together, and what holds between them.
+//! They include authenticated queries for nodes within a radius. A server tells which nodes lie within a radius of
+//! a node, a client checks the answer with only the owner's public key, and an audit turns an accepted false answer
+//! into evidence. The crate of each party has its functions for radii and those for routes. This crate uses these
+//! functions together and states the laws between them.
 #![tactic(auto)]
 
 pub use acceptance::near_acceptance_laws;

@@ -1,12 +1,12 @@
-//! What holds of whatever a client accepts.
+//! Laws of all octets that a client accepts.
 ghost use Rattle.near_proof.specs.Acceptance.{HeadersAreNoLinks, LowerVersionsAccept, OnlyKeysAccept, RoutesAnswerOneQuery, TrueAnswersAgree};
 
 use proof_octets::length_laws;
 
-/// Whatever octets a client accepts, honest or not: it accepts them under each lower minimum version
-/// too; the key has the form of a public key; where they bring a route, they are accepted for no other
-/// query; two answers to one query that hold in one map agree; and what the owner signed as a header is
-/// no link to a later key.
+/// Laws of all octets that a client accepts, honest or not. The client also accepts them under each lower minimum
+/// version. The key has the form of a public key. Octets with a route are accepted for no other query. If two
+/// answers to one query are true of one map, they agree. A header that the owner signed is not a link to a later
+/// key.
 pub fn acceptance_laws()
     ensures lower { LowerVersionsAccept }
     ensures keys { OnlyKeysAccept }

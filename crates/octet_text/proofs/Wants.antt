@@ -1,4 +1,4 @@
--- Want of memory has one value.
+-- Out of memory has only one value.
 use Rattle.std.specs.Prelude.{◌≡◌, refl}
 use Rattle.octet_text.specs.declared.errors.NoMemory.{NoMemory}
 use Rattle.octet_text.specs.Want.{no_memory}

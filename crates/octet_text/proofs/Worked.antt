@@ -1,5 +1,5 @@
--- Two lists of numbers to which the words of SHA-256 give one digest: they are no collision, since
--- one of them isn't octets.
+-- Two lists of numbers to which the definition of SHA-256 gives the same digest. They are not a collision, since
+-- one of them does not consist of octets.
 use Rattle.std.proofs.Common.{◌≡◌, ◌≢◌, ℕ, zero, suc, ◌+◌, ◌<◌, List, [], ◌∷◌, ◌++◌, take, arith, refl, ap}
 use Rattle.sha2.specs.Sha256.{sha256, padded_message, first_words, next_word, schedule, rounds, add_state, compress, hash_after, digest_bytes, initial_hash_256}
 use Rattle.octet_text.specs.Collisions.{AreCollision}

@@ -1,19 +1,18 @@
-//! Growing lists. Each of these asks the system for room, and answers `NoMemory` exactly where that
-//! was refused; a list that was to grow is then as it was.
+//! Growing lists. Each function asks the system for memory, and fails with `NoMemory` exactly if the system refuses
+//! it. The list is then unchanged.
 ghost use Rattle.std.specs.Prelude.{◌≡◌, ◌+◌, ◌*◌, ◌++◌, ◌∷◌, ◌≤◌, ◌^◌, [], List, if◌then◌else◌, ◌-◌, length, is_ok, ◌<◌, replicate, take, vec_len, vec_capacity, string_bytes, IsPermutation, true, not, Some, IfOk, OnOk, OnErr};
 ghost use Rattle.std.specs.List.{insert as insert_item};
 ghost use Rattle.std.specs.Iterator.{DrainsIf, HoldsAlong, IsFinite};
 ghost use Rattle.std.specs.Iterator.Runs.{WholeRun};
 ghost use Rattle.std.specs.List.Sorted.{IsSortedByKeyClosure, IsStableByKeyClosure};
-ghost use Rattle.std.specs.Fmt.{AppendsText};
 ghost use Rattle.std.specs.BTreeMap.{get, insert_entry, Updates};
 ghost use Rattle.std.specs.BinaryHeap.{heap_items, KeepsHeap};
+ghost use Rattle.octet_text.specs.Room.{IsBorneOut, AreBorneOut};
 ghost use Rattle.std.specs.BTreeSet.{contains, insert_key, Updates as KeyUpdates};
 
 use crate::NoMemory;
 use std::alloc::Global;
 use std::collections::{BTreeMap, BTreeSet, BinaryHeap};
-use std::fmt::Display;
 use std::rc::Rc;
 
 /// Appends an item.
@@ -29,7 +28,7 @@ pub fn push<T: Drop>(list: &mut Vec<T>, item: T) -> Result<(), NoMemory>
     }
 }
 
-/// Puts an item among the others.
+/// Inserts an item.
 pub fn insert_at<T: Drop>(list: &mut Vec<T>, place: usize, item: T) -> Result<(), NoMemory>
     requires { place ≤ length list.old.items }
     ensures items { list.new.items ≡ (if is_ok result then
@@ -41,7 +40,7 @@ pub fn insert_at<T: Drop>(list: &mut Vec<T>, place: usize, item: T) -> Result<()
     }
 }
 
-/// Appends a copy of items.
+/// Appends copies of items.
 pub fn extend<T: Copy>(list: &mut Vec<T>, more: &[T]) -> Result<(), NoMemory>
     ensures items { list.new.items ≡
         (if is_ok result then list.old.items ++ more.now else list.old.items) }
@@ -54,7 +53,7 @@ pub fn extend<T: Copy>(list: &mut Vec<T>, more: &[T]) -> Result<(), NoMemory>
     }
 }
 
-/// A copy of items.
+/// Copies items.
 pub fn copied<T: Copy>(alloc: Global, items: &[T]) -> Result<Vec<T>, NoMemory>
     ensures items { IfOk result (λ copy. copy.items ≡ items.now) }
     ensures len { IfOk result (λ copy. vec_len copy ≡ length items.now) }
@@ -65,8 +64,10 @@ pub fn copied<T: Copy>(alloc: Global, items: &[T]) -> Result<Vec<T>, NoMemory>
     }
 }
 
-/// No item, with room for as many as are at hand.
+/// Returns an empty list with room for as many items as `at_hand` has. The items take at most 16 octets for each
+/// octet of `at_hand`.
 pub fn room_for<T, S>(alloc: Global, at_hand: &[S]) -> Result<Vec<T>, NoMemory>
+    requires borne_out { IsBorneOut T.row S.row }
     ensures items { IfOk result (λ list. list.items ≡ []) }
     ensures len { IfOk result (λ list. vec_len list ≡ 0) }
     ensures capacity { IfOk result (λ list. length at_hand.now ≤ vec_capacity list) }
@@ -77,10 +78,10 @@ pub fn room_for<T, S>(alloc: Global, at_hand: &[S]) -> Result<Vec<T>, NoMemory>
     }
 }
 
-/// No item, with room for so many, which what is at hand bears out: at most 1,024 for each of its items,
-/// and 1,024.
+/// Returns an empty list with room for `count` items, which take at most 1,024 octets for each octet of `at_hand`,
+/// plus 1,024 octets.
 pub fn with_room<T, S>(alloc: Global, count: usize, at_hand: &[S]) -> Result<Vec<T>, NoMemory>
-    requires borne_out { count ≤ 1024 * length at_hand.now + 1024 }
+    requires borne_out { AreBorneOut T.row count S.row (length at_hand.now) }
     ensures items { IfOk result (λ list. list.items ≡ []) }
     ensures len { IfOk result (λ list. vec_len list ≡ 0) }
 {
@@ -90,8 +91,8 @@ pub fn with_room<T, S>(alloc: Global, count: usize, at_hand: &[S]) -> Result<Vec
     }
 }
 
-/// Appends an item until there are so many. It asks for room as the list grows: each time for at most as
-/// many items as it holds, and 64.
+/// Appends copies of an item until the list has `count` items. Asks for memory as the list grows, each time for at
+/// most as many items as the list holds, plus 64.
 pub fn fill_up<T: Copy>(list: &mut Vec<T>, count: usize, item: T) -> Result<(), NoMemory>
     ensures items { OnOk result
         (list.new.items ≡ list.old.items ++ replicate (count - vec_len list.old) item) }
@@ -105,7 +106,7 @@ pub fn fill_up<T: Copy>(list: &mut Vec<T>, count: usize, item: T) -> Result<(), 
     Ok(())
 }
 
-/// Appends the same item so many times.
+/// Appends `more` copies of an item.
 fn append<T: Copy>(list: &mut Vec<T>, more: usize, item: T) -> Result<(), NoMemory>
     requires room { vec_len list.old + more < 2 ^ 64 }
     requires borne_out { more ≤ vec_len list.old + 64 }
@@ -119,7 +120,7 @@ fn append<T: Copy>(list: &mut Vec<T>, more: usize, item: T) -> Result<(), NoMemo
     }
 }
 
-/// So many times the same item.
+/// Makes a list of `count` copies of an item.
 pub fn filled<T: Copy>(alloc: Global, item: T, count: usize) -> Result<Vec<T>, NoMemory>
     ensures items { IfOk result (λ list. list.items ≡ replicate count item) }
 {
@@ -128,7 +129,7 @@ pub fn filled<T: Copy>(alloc: Global, item: T, count: usize) -> Result<Vec<T>, N
     Ok(list)
 }
 
-/// Puts a value under a key, and answers the one that stood there.
+/// Inserts a value under a key, and returns the value that it replaces.
 pub fn insert<K: Ord + Drop, V: Drop>(
     map: &mut BTreeMap<K, V>,
     key: K,
@@ -146,7 +147,7 @@ pub fn insert<K: Ord + Drop, V: Drop>(
     }
 }
 
-/// Adds a key, and tells whether it is new.
+/// Inserts a key, and returns whether it is new.
 pub fn insert_key<K: Ord + Drop>(set: &mut BTreeSet<K>, key: K) -> Result<bool, NoMemory>
     ensures added { IfOk result (λ added. added ≡ not (contains K.cmp set.old key)) }
     ensures updates { OnOk result (KeyUpdates K.cmp set.old set.new key true) }
@@ -159,7 +160,7 @@ pub fn insert_key<K: Ord + Drop>(set: &mut BTreeSet<K>, key: K) -> Result<bool, 
     }
 }
 
-/// A value that several hold.
+/// Makes a shared value.
 pub fn shared<T: Drop>(alloc: Global, value: T) -> Result<Rc<T>, NoMemory>
     ensures ok { IfOk result (λ shared. shared.value ≡ value) }
 {
@@ -169,7 +170,7 @@ pub fn shared<T: Drop>(alloc: Global, value: T) -> Result<Rc<T>, NoMemory>
     }
 }
 
-/// The same shared value once more.
+/// Returns another reference to a shared value.
 pub fn share<T: Drop>(value: &Rc<T>) -> Result<Rc<T>, NoMemory>
     ensures same { IfOk result (λ shared. shared.value ≡ value.now.value) }
 {
@@ -179,7 +180,7 @@ pub fn share<T: Drop>(value: &Rc<T>) -> Result<Rc<T>, NoMemory>
     }
 }
 
-/// A copy of a text.
+/// Copies a text.
 pub fn text_of(alloc: Global, text: &str) -> Result<String, NoMemory>
     ensures ok { IfOk result (λ copy. string_bytes copy ≡ text.now) }
 {
@@ -200,7 +201,7 @@ pub fn push_str(text: &mut String, more: &str) -> Result<(), NoMemory>
     }
 }
 
-/// Puts an item into a heap.
+/// Pushes an item onto a heap.
 pub fn push_heap<T: Ord + Drop>(heap: &mut BinaryHeap<T>, item: T) -> Result<(), NoMemory>
     ensures permutation { OnOk result
         (IsPermutation (item ∷ heap_items heap.old) (heap_items heap.new)) }
@@ -214,18 +215,7 @@ pub fn push_heap<T: Ord + Drop>(heap: &mut BinaryHeap<T>, item: T) -> Result<(),
     }
 }
 
-/// Appends what `format_args!` makes of texts and numbers.
-pub fn print<D: Display + Drop>(text: &mut String, value: D) -> Result<(), NoMemory>
-    ensures bytes { OnOk result
-        (AppendsText (string_bytes text.old) (string_bytes text.new) (D.output value)) }
-{
-    match text.write_fmt(value) {
-        Ok(()) => Ok(()),
-        Err(_) => Err(NoMemory::refused()),
-    }
-}
-
-/// What an iterator gives, collected.
+/// Collects the items of an iterator.
 pub fn collected<B: FromIterator<I::Item>, I: Iterator>(
     alloc: B::Alloc,
     items: I,
@@ -244,7 +234,7 @@ pub fn collected<B: FromIterator<I::Item>, I: Iterator>(
     }
 }
 
-/// Sorts by a key; items of the same key keep their order.
+/// Sorts by a key; items with the same key keep their order.
 pub fn sort_by_key<T: Drop, K: Ord + Drop, F: FnMut(&T) -> K>(
     list: &mut Vec<T>,
     key: F,

@@ -6,7 +6,7 @@ use crate::NoMemory;
 use hex::FromHexError;
 use std::alloc::Global;
 
-/// The hex digits of octets, in lower case.
+/// Encodes octets as hex digits, in lower case.
 pub fn hex_of(alloc: Global, octets: &[u8]) -> Result<String, NoMemory>
     ensures { IfOk result (λ text. string_bytes text ≡ encode_lower octets.now) }
 {
@@ -16,7 +16,7 @@ pub fn hex_of(alloc: Global, octets: &[u8]) -> Result<String, NoMemory>
     }
 }
 
-/// The octets that hex digits encode, or why they encode none.
+/// Decodes hex digits. Fails with the reason why they do not encode octets.
 pub fn octets_of_hex(
     alloc: Global,
     digits: &[u8],

@@ -1,7 +1,7 @@
-//! Arrays at offsets of a text. A number is one by `from_be_bytes` and `to_be_bytes`.
+//! Arrays at offsets in a text. `from_be_bytes` and `to_be_bytes` convert them to numbers and back.
 ghost use Rattle.std.specs.Prelude.{◌≡◌, ◌+◌, ◌≤◌, ◌++◌, length, take, drop};
 
-/// The octets from an offset on, as many as the array has.
+/// Returns the octets from offset `at` on, as many as the array has.
 pub fn array_at<const N: usize>(octets: &[u8], at: usize) -> [u8; N]
     requires { at + N ≤ length octets.now }
     ensures { result ≡ take N (drop at octets.now) }
@@ -11,7 +11,7 @@ pub fn array_at<const N: usize>(octets: &[u8], at: usize) -> [u8; N]
     array
 }
 
-/// Writes an array over the octets from an offset on.
+/// Overwrites the octets from offset `at` on with an array.
 pub fn write_array<const N: usize>(out: &mut [u8], at: usize, array: &[u8; N])
     requires { at + N ≤ length out.old }
     ensures written { take (at + N) out.new ≡ take at out.old ++ array.now }

@@ -1,4 +1,4 @@
--- What follows of a result from what its value, or its error, has.
+-- What follows for a result from its value or its error.
 use Rattle.std.proofs.Common.{Result, Ok, Err, IfOk, IfErr}
 
 pub if_ok : {T E : Type 0} (r : Result T E) (P Q : T → Type 0) → ((x : T) → P x → Q x) → IfOk r P → IfOk r Q

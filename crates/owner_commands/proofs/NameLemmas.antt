@@ -1,4 +1,4 @@
--- No two open areas have keys of one identifier, where a desk fits the disk.
+-- No two open areas have keys with the same identifier, if a desk fits the disk.
 use Rattle.std.proofs.Common.{◌≡◌, inl, inr, ℕ, ◌<◌, ◌≤◌, List, length, arith, refl, sym, ap, ◌∙◌}
 use Rattle.std.proofs.lemmas.Bool.{cases_lt}
 use Rattle.road_io.specs.declared.disk.Disk.{Ghosts}
@@ -13,8 +13,10 @@ use Rattle.desk_areas.proofs.Growth.{open_upto}
 use Rattle.key_desk.specs.declared.desk.Desk.{Desk}
 use Rattle.key_desk.specs.Desk.{key_of, HasAreas, IsSound, Fits}
 use Rattle.key_desk.specs.Stands.{key_in, SameKeys}
+use Rattle.key_desk.proofs.Puts.{puts_outside}
 use Rattle.key_desk.proofs.ReadGood.{key_is}
 use Rattle.key_desk.proofs.KeptKeys.{stays_keys, slot_keys}
+use Rattle.proof_octets.specs.Headers.{header_text}
 use Rattle.route_owner.specs.Published.{SignsHeader}
 use Rattle.owner_commands.specs.Names.{HasDistinctNames}
 
@@ -32,7 +34,7 @@ distinct_in desk i sound there a b open_a open_b same =
       ]
     ]
 
--- the key of an area of a desk stands there
+-- the key of a desk's area is in the image
 pub held_in : (desk : Desk) (i : List ℕ) → IsSound desk → HasAreas desk i → (area : ℕ) → area ≤ length desk.earlier → key_in i area ≡ key_of desk area
 held_in desk i sound areas area le = key_is (key_of desk area) (base_of i area) i (areas.keys area le) (sound.named area le)
 
@@ -47,9 +49,9 @@ names_on g desk disk fits i now = names_in desk i fits.sound (fits.areas i now)
 -- signing a header keeps the keys
 pub keys_signed : {D : Type 0} (g : Ghosts D) (old new : D) (hash : List ℕ → List ℕ) (parts : Parts) (s : Settings) → SignsHeader g old new hash parts s → AtEachMoment g old new SameKeys
 keys_signed g old new hash parts s signs = weaker g old new _ SameKeys signs.each
-    (λ d i now h. elim h [ inl is ↦ stays_keys d i is | inr one ↦ slot_keys signs.slot d i one.outside (omega (arith, one.early)) ])
+    (λ d i now h. elim h [ inl is ↦ stays_keys d i is | inr one ↦ slot_keys signs.slot d i (puts_outside signs.slot (header_text signs.header) d i (let short = one.short in omega (arith, short)) one.alone) (omega (arith, one.early)) ])
 
--- steps that keep the keys, and open no area
+-- steps that keep the keys and open no area
 module _ {D : Type 0} (g : Ghosts D) (desk : Desk) (mid new : D) (fits : Fits g desk mid) (keys : AtEachMoment g mid new SameKeys) (current : EachImage g new (λ i. IsCurrent i (length desk.earlier))) where
   pub held_after : (i : List ℕ) → Image g new i → (area : ℕ) → area ≤ length desk.earlier → key_in i area ≡ key_of desk area
   held_after i now area le =

@@ -1,4 +1,4 @@
--- Over their files and what the disk holds, `key`, `desk` and `publish` have one end.
+-- `key`, `desk` and `publish` each have one result over their files and the disk's contents.
 use Rattle.std.proofs.Common.{◌≡◌, ℕ, ◌+◌, ◌<◌, List, refl, sym, ap, ◌∙◌, arith}
 use Rattle.std.specs.declared.option.Option.TheVariants.{Some}
 use Rattle.std.specs.declared.result.Result.{Result}
@@ -25,7 +25,7 @@ use Rattle.owner_commands.specs.OwnerKey.{EndsKey, ends_key}
 use Rattle.owner_commands.specs.OwnerDesk.{TellsDesk, EndsDesk}
 use Rattle.owner_commands.specs.Publishing.{EndsSigning, EndsPublish, IsSignedFrom, AllSpent, ends_publish}
 
--- over what a disk holds, `key` has one end
+-- over the contents of a disk, `key` has one end
 one_key_end : (content : List ℕ) (kind : ℕ) (secret : List ℕ) (o p : Result Conclusion Fault) (s t : List ℕ) → EndsKey (Some content) kind secret o s → EndsKey (Some content) kind secret p t → o ≡ p
 one_key_end content kind secret (Ok Done) (Ok Done) s t h k = refl
 one_key_end content kind secret (Ok Done) (Err Held) s t h k = absurd (h.0 content refl (k.0 content refl))
@@ -35,7 +35,7 @@ one_key_end content kind secret (Err Held) (Err Held) s t h k = refl
 one_key_end content kind secret (Err Held) p s t h k = absurd k
 one_key_end content kind secret o p s t h k = absurd h
 
--- a one-time key that was not used is none of those that were all used
+-- a one-time key that was not used cannot be one of those that have all been used
 unused_left : (content : List ℕ) (h : Header) (p : Publication) → IsSignedFrom content h p → AllSpent content → ⊥
 unused_left content h p is all =
     let here : is.on_disk.area ≡ all.area = one_current content is.on_disk.area all.area is.on_disk.current all.current in

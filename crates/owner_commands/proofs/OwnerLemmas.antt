@@ -29,7 +29,7 @@ use Rattle.owner_commands.specs.OwnerDesk.{IsDeskLine, TellsDesk, EndsDesk}
 use Rattle.owner_commands.specs.Signing.{StaysRefused}
 
 module _ (files : Option Folder) (name secret : List ℕ) (content : Option (List ℕ)) (kind : ℕ) (DiskFailed : Type 0) (l l' k k' : ℕ) (read : IfSome files (λ folder. secret_at folder name ≡ Ok secret)) (old : Option (List ℕ)) where
-  -- what the file of a secret calls for
+  -- what the file of a secret requires
   calls : (o : Result Conclusion Fault) (text : List ℕ) → EndsKey content kind secret o text → CallsFor (ends_key content name kind) files o text
   calls o text h =
       over files (λ folder. secret_at folder name ≡ Ok secret) (λ folder. ends_key content name kind folder o text)
@@ -44,24 +44,24 @@ module _ (files : Option Folder) (name secret : List ℕ) (content : Option (Lis
       → Promises (ends_key content name kind) TellsNone DiskFailed files l l' old new k k' o
   key_told new o text line same is w = written_done (ends_key content name kind) TellsNone DiskFailed files l l' k k' old (EndsKey content kind secret) calls new Done o text line same is w
 
--- the key of the secret that was read is that of the file's
+-- the key of the secret that was read is the key of the file's secret
 pub makes_key : {D : Type 0} (g : Ghosts D) (disk : D) (files : Option Folder) (name : List ℕ) (kind : ℕ) (secret : List ℕ) → IfSome files (λ folder. secret_at folder name ≡ Ok secret)
     → EachImage g disk (IsBlank (key_from kind secret)) → EachImage g disk HasDistinctNames → MakesKey g disk files name kind
 makes_key g disk files name kind secret read blank names = record { secret = secret; of_file = read; blank = blank; names = names }
 
--- what holds whatever a call answers
+-- a fact that holds whatever a call returns
 pub on_any : {T E : Type 0} (r : Result T E) (P : Type 0) → P → OnOk r P
 on_any (Ok x) P p = p
 on_any (Err e) P p = tt
 
--- work that was done, or whose text the sink did not take, is no refusal
+-- work that was done is not a refusal; nor is work whose text the sink did not take
 pub written_stays : {D : Type 0} (g : Ghosts D) (before now : D) (text : List ℕ) (old new : Option (List ℕ)) (k k' : ℕ) (o : Result Conclusion Fault) → Writes (Ok Done) text old new k k' o → IfErr o (StaysRefused g before now)
 written_stays g before now text old new k k' o w = elim w [
   | inl h ↦ subst (λ (r : Result Conclusion Fault). IfErr r (StaysRefused g before now)) (sym h.0) tt
   | inr h ↦ subst (λ (r : Result Conclusion Fault). IfErr r (StaysRefused g before now)) (sym h.0) tt
 ]
 
--- the line of an opened desk is that of what the disk holds
+-- the line of an opened desk is that of the disk's contents
 pub desk_told : (content : Option (List ℕ)) (desk : Desk) (left : ℕ) (text : List ℕ) → HasBlocks content desk → IsSound desk → ForSome content (λ c. left ≡ keys_left c desk.base)
     → text ≡ desk_line (public_key desk.key) left (slots_of desk.key.kind - 1) → ForSome content (λ c. IsDeskLine c text)
 desk_told content desk left text blocks sound counted line c is =
@@ -76,7 +76,7 @@ module _ (content : Option (List ℕ)) (DiskFailed : Type 0) (k k' : ℕ) (old :
   any : (files : Option Folder) (o : Result Conclusion Fault) (text : List ℕ) → EndsDesk content o text → CallsFor (λ folder. EndsDesk content) files o text
   any files o text h = over_any files (λ folder. EndsDesk content o text) (λ folder. h)
 
-  -- a desk that doesn't open
+  -- a desk that does not open
   pub desk_refused : (f : Fault) → WhyNot DiskFailed (EndsOpening content NoEnd) f → PromisesWithoutFiles (EndsDesk content) DiskFailed old old k k' (Err f)
   desk_refused f h files faults =
       refused (λ folder. EndsDesk content) TellsNone DiskFailed files faults faults k k' old (EndsDesk content) (any files) f

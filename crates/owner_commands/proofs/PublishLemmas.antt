@@ -26,10 +26,10 @@ use Rattle.proof_octets.specs.declared.header.Header.{Header}
 use Rattle.proof_octets.specs.Headers.{header_text}
 use Rattle.proof_octets.specs.declared.publication.Publication.{Publication}
 use Rattle.proof_octets.specs.Publications.{publication_text}
-use Rattle.route_owner.specs.Published.{slot_of, IsPublication, IsSealed, SignsInSlot, SignsHeader}
+use Rattle.route_owner.specs.Published.{slot_of, IsPublication, IsSealed, SignsLowest, SignsLowestHeader}
 use Rattle.route_server.specs.Headers.{HasHeader, Makes}
 use Rattle.route_server.specs.declared.errors.BuildError.{BuildError}
-use Rattle.command_files.specs.Reading.{parts_at}
+use Rattle.command_files.specs.Reading.{IsOfFiles, parts_at}
 use Rattle.command_files.specs.Endings.{Ending, EndsReading, NoEnd, Promises, WhyNot, Writes}
 use Rattle.command_files.specs.declared.fault.Fault.{Fault}
 use Rattle.command_files.specs.declared.fault.Fault.TheVariants.{Sink, Disk, KeysUsedUp, MirrorLost}
@@ -43,21 +43,22 @@ use Rattle.command_books.specs.Installing.{EndsBuilding, fault_of_build}
 use Rattle.command_books.proofs.Installings.{no_book}
 use Rattle.owner_commands.proofs.NameLemmas.{held_after, names_after}
 use Rattle.owner_commands.specs.Publishing.{IsSignedFrom, AllSpent, EndsSigning, EndsPublish, TellsLost, ends_publish}
+use Rattle.owner_commands.specs.Losing.{LosesWhatFails}
 use Rattle.owner_commands.specs.Signing.{IsSealedOnDisk, SignsAtMostHeader, SignsAtMostOne, StaysRefused, WroteSealed, SealsWhatItWrites}
 
 module _ {D : Type 0} (g : Ghosts D) (old mid new : D) where
-  -- a slot that the desk counts as spent, and is not the last, is spent on the disk
+  -- a slot before the last that counts as spent on the desk is spent on the disk
   spent_here : (desk : Desk) → Fits g desk mid → desk.is_open ≡ true → (c : List ℕ) → Image g mid c → (number : ℕ) → number + 1 < slots_of desk.key.kind → count_at desk number ≡ counts.Spent
       → 0 < gate_of c (slot_here desk number)
   spent_here desk fits opened c image number early spent =
       let there = fits.spent opened c c image image (slot_here desk number) (own_here desk number (omega (arith, early))) (count_here desk (slot_here desk number) refl ∙ spent) in
       there.open_gate
 
-  -- a slot is free or spent, and so one that is not free is spent
+  -- a slot is free or spent, so a slot that is not free is spent
   not_free : (desk : Desk) → ((s : ℕ) → (count_at desk s ≡ counts.Free) ⊎ (count_at desk s ≡ counts.Spent)) → (number : ℕ) → count_at desk number ≢ counts.Free → count_at desk number ≡ counts.Spent
   not_free desk either number taken = elim (either number) [ inl free ↦ absurd (taken free) | inr spent ↦ spent ]
 
-  -- what was published over the opened desk is what was promised over the disk
+  -- the publication over the opened desk is the one that was promised over the disk
   pub sealed_on_disk : (desk : Desk) (parts : Parts) (s : Settings) (p : Publication) → ((c : List ℕ) → g.content mid ≡ Some c → Image g mid c) → ((c : List ℕ) → still_told g old new ≡ Some c → g.content mid ≡ Some c)
       → IsOpened g old mid desk → ((number : ℕ) → number < slot_of p → count_at desk number ≢ counts.Free)
       → IsPublication sha256 desk.key parts s p → IsSealed g mid new (length desk.earlier) p → AtEachMoment g mid new SameKeys → IsSealedOnDisk g old new parts s p
@@ -90,7 +91,7 @@ module _ {D : Type 0} (g : Ghosts D) (old mid new : D) where
         lowest = λ number below. spent_here desk o.fits o.is_open c (reads c (told c at)) number (omega (arith, below, is.slot)) (not_free desk o.counts number (lowest number below));
       }
 
-  -- a desk without a free slot but the last stands on a disk where all others are spent
+  -- if a desk has no free slot except the last, all others are spent on its disk
   pub all_spent : (desk : Desk) → Fits g desk mid → desk.is_open ≡ true → ((s : ℕ) → (count_at desk s ≡ counts.Free) ⊎ (count_at desk s ≡ counts.Spent)) → IsUsedUp desk
       → ((c : List ℕ) → g.content mid ≡ Some c → Image g mid c) → ((c : List ℕ) → still_told g old new ≡ Some c → g.content mid ≡ Some c) → ForSome (still_told g old new) AllSpent
   all_spent desk fits opened either none reads told c is =
@@ -104,8 +105,8 @@ module _ {D : Type 0} (g : Ghosts D) (old mid new : D) where
             spent_here desk fits opened c image number early (not_free desk either number (none number early));
       }
 
-  -- opening changes no image, and signing one slot at most
-  pub signs_after : (parts : Parts) (s : Settings) → AtEachMoment g old mid Stays → SignsHeader g mid new sha256 parts s → SignsAtMostHeader g old new parts s
+  -- opening changes no image, and signing changes at most one slot
+  pub signs_after : (parts : Parts) (s : Settings) → AtEachMoment g old mid Stays → SignsLowestHeader g mid new sha256 parts s → SignsAtMostHeader g old new parts s
   signs_after parts s opening signing = inr (record {
     slot = signing.slot;
     header = signing.header;
@@ -114,45 +115,45 @@ module _ {D : Type 0} (g : Ghosts D) (old mid new : D) where
   })
     where
       Step : List ℕ → List ℕ → Type 0
-      Step d i = (i ≡ d) ⊎ SignsInSlot signing.slot (header_text signing.header) d i
+      Step d i = (i ≡ d) ⊎ SignsLowest signing.slot (header_text signing.header) d i
 
       there : (d e i : List ℕ) → Image g old d → Image g mid e → Stays d e → Step e i → Step d i
       there d e i at after is step = subst (λ x. Step x i) is step
 
-  -- so what stands stays
+  -- so signed pairs remain signed
   pub stands_after : (parts : Parts) (s : Settings) → SignsAtMostHeader g old new parts s → KeepsStanding g old new
   stands_after parts s (inl stays) = standing_same g old new stays
-  stands_after parts s (inr signs) = standing g old new (λ d i. (i ≡ d) ⊎ SignsInSlot signs.slot (header_text signs.header) d i) signs.each
+  stands_after parts s (inr signs) = standing g old new (λ d i. (i ≡ d) ⊎ SignsLowest signs.slot (header_text signs.header) d i) signs.each
       (λ d i h t text signed. elim h [ inl is ↦ subst (λ x. IsSigned x t text) (sym is) signed | inr one ↦ one.signs.keeps t text signed ])
 
 -- ---- why nothing is published
 
--- a desk that doesn't open
+-- a desk that does not open
 pub not_opened : (DiskFailed : Type 0) (content : Option (List ℕ)) (s : Settings) (parts : Parts) (f : Fault) → WhyNot DiskFailed (EndsOpening content NoEnd) f → WhyNot DiskFailed (EndsPublish content s parts) f
 not_opened DiskFailed content s parts =
     why_map DiskFailed DiskFailed (EndsOpening content NoEnd) (EndsPublish content s parts) (λ x. x) (shut content (EndsBuilding parts s (EndsSigning content parts s)))
 
--- parts and settings that have no book, after a desk that opened
+-- parts and settings without a book, after a desk that opened
 pub not_built : (DiskFailed : Type 0) (content : Option (List ℕ)) (s : Settings) (parts : Parts) (e : BuildError) → ForSome content IsUsable → Makes sha256 sha256 parts s (Err e)
     → WhyNot DiskFailed (EndsPublish content s parts) (fault_of_build e)
 not_built DiskFailed content s parts e usable h =
     why_map DiskFailed DiskFailed (EndsBuilding parts s (EndsSigning content parts s)) (EndsPublish content s parts) (λ x. x) (λ o text is. inr (inr (usable, is)))
     (fault_of_build e) (no_book DiskFailed parts s (EndsSigning content parts s) e h)
 
--- a key that is used up
+-- a key without a remaining one-time key
 pub used_up : (content : Option (List ℕ)) (s : Settings) (parts : Parts) (h : Header) → ForSome content IsUsable → ForSome content AllSpent → HasHeader sha256 sha256 parts s h → EndsPublish content s parts (Err KeysUsedUp) []
 used_up content s parts h usable spent has = inr (inr (usable, record { made = Ok h; makes = has; follows = (spent, refl) }))
 
 -- ---- the command
 
 module _ (files : Option Folder) (name : List ℕ) (content : Option (List ℕ)) (s : Settings) (parts : Parts) (DiskFailed : Type 0) (l l' k k' : ℕ) (read : IfSome files (λ folder. parts_at folder name ≡ Ok parts)) (old : Option (List ℕ)) where
-  -- what the road file calls for
+  -- what the road file requires
   calls : (o : Result Conclusion Fault) (text : List ℕ) → EndsPublish content s parts o text → CallsFor (ends_publish content name s) files o text
   calls o text h =
       over files (λ folder. parts_at folder name ≡ Ok parts) (λ folder. ends_publish content name s folder o text)
       (λ folder is. reads (parts_at folder name) parts (EndsPublish content s) o text is h) read
 
-  -- a reason why nothing is published
+  -- a reason why no publication is made
   pub publish_refused : (f : Fault) → WhyNot DiskFailed (EndsPublish content s parts) f → Promises (ends_publish content name s) TellsLost DiskFailed files l l' old old k k' (Err f)
   publish_refused f h = refused (ends_publish content name s) TellsLost DiskFailed files l l' k k' old (EndsPublish content s parts) calls f h
 
@@ -165,15 +166,27 @@ module _ (files : Option Folder) (name : List ℕ) (content : Option (List ℕ))
     published o w =
         written_done (ends_publish content name s) TellsLost DiskFailed files l l' k k' old (EndsPublish content s parts) calls new Done o (publication_text p) (publication_text p) refl (ended content is_content) w
 
-    -- and one that was written, though a mirror was lost
+    -- and one that was written although a mirror was lost
     pub published_lost : Appends old new (publication_text p) → Promises (ends_publish content name s) TellsLost DiskFailed files l l' old new k k' (Err MirrorLost)
     published_lost app = lost (ends_publish content name s) TellsLost DiskFailed files l l' k k' old (EndsPublish content s parts) calls new (publication_text p) (ended content is_content) tt app
 
--- where the signing came to nothing, nothing was written
+-- if the signing failed, nothing was written
 pub seals_none : {D : Type 0} (g : Ghosts D) (d e : D) (DiskFailed : Type 0) (E : Ending) (old new : Option (List ℕ)) (f : Fault) → WhyNot DiskFailed E f → SealsWhatItWrites g d e old new (Err f)
 seals_none g d e DiskFailed E old new Sink h = absurd h
 seals_none g d e DiskFailed E old new MirrorLost h = absurd h
 seals_none g d e DiskFailed E old new f h = tt
+
+-- if nothing was written, no mirror is gone
+module _ {M : Type 0} (octets : M → Option (List ℕ)) (label handed puts room faults : M → ℕ) {D : Type 0} (g : Ghosts D) (d e : D) (old new : Option (List ℕ)) (mirrors kept gone : List M) where
+  pub loses_none : (DiskFailed : Type 0) (E : Ending) (f : Fault) → WhyNot DiskFailed E f → LosesWhatFails octets label handed puts room faults g d e old new mirrors kept gone gone (Err f)
+  loses_none DiskFailed E Sink h = absurd h
+  loses_none DiskFailed E MirrorLost h = absurd h
+  loses_none DiskFailed E f h = record { sealed = tt; still = refl }
+
+  pub loses_none_unread : (f : Fault) → IsOfFiles f → LosesWhatFails octets label handed puts room faults g d e old new mirrors kept gone gone (Err f)
+  loses_none_unread Sink h = absurd h
+  loses_none_unread MirrorLost h = absurd h
+  loses_none_unread f h = record { sealed = tt; still = refl }
 
 -- one slot is signed by the header of the file's parts
 pub signs_file : {D : Type 0} (g : Ghosts D) (old new : D) (files : Option Folder) (name : List ℕ) (s : Settings) (parts : Parts) → IfSome files (λ folder. parts_at folder name ≡ Ok parts)
@@ -181,15 +194,15 @@ pub signs_file : {D : Type 0} (g : Ghosts D) (old new : D) (files : Option Folde
 signs_file g old new files name s parts read (inl stays) = inl stays
 signs_file g old new files name s parts read (inr signs) = inr (record { parts = parts; of_file = read; one = signs })
 
--- ---- what a refusal leaves
+-- ---- what a refusal leaves unchanged
 
--- where no image changes, none does whatever the fault
+-- if no image changes, none does for any fault
 pub stays_refused : {D : Type 0} (g : Ghosts D) (old new : D) (f : Fault) → AtEachMoment g old new Stays → StaysRefused g old new f
 stays_refused g old new Sink m = tt
 stays_refused g old new Disk m = tt
 stays_refused g old new MirrorLost m = tt
 stays_refused g old new f m = m
 
--- opening the desk changes none, and then nothing was done
+-- opening the desk changes no image, and then nothing was done
 pub stays_opened : {D : Type 0} (g : Ghosts D) (old mid new : D) (f : Fault) → AtEachMoment g old mid Stays → new ≡ mid → StaysRefused g old new f
 stays_opened {D = D} g old mid new f m same = stays_refused g old new f (subst (λ (d : D). AtEachMoment g old d Stays) (sym same) m)

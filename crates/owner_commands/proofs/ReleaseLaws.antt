@@ -1,4 +1,4 @@
--- How released signatures stand in images, and that no one-time key makes two of them.
+-- Released signatures are in images, and no one-time key makes two of them.
 use Rattle.std.proofs.Common.{◌≡◌, ◌≢◌, ◌⊎◌, inl, inr, ℕ, zero, suc, ◌+◌, ◌-◌, ◌<◌, ◌≤◌, List, [], ◌∷◌, ◌++◌, map, Some, length, arith, refl, sym, ap, subst, ◌∙◌}
 use Rattle.std.specs.List.{All, range_with_len}
 use Rattle.std.specs.declared.option.Option.{Option}
@@ -16,7 +16,9 @@ use Rattle.std.proofs.lemmas.Bool.{cases_eq}
 use Rattle.desk_areas.proofs.Areas.{slot_cases, slot_eq, open_first, open_down, open_link}
 use Rattle.key_desk.specs.Stands.{AllSigned, Stands, key_in, SameKeys}
 use Rattle.key_desk.proofs.KeptKeys.{stays_keys, slot_keys}
+use Rattle.key_desk.proofs.Puts.{puts_outside}
 use Rattle.proof_octets.specs.declared.publication.Publication.{Publication}
+use Rattle.proof_octets.specs.Headers.{header_text}
 use Rattle.route_owner.specs.Published.{SignsInSlot, slot_in}
 use Rattle.owner_commands.specs.Signing.{StandsOnDisk, SignsAtMostOne}
 use Rattle.owner_commands.specs.StandingKeys.{last_of, next_text, link_by, KeysStand, FollowsAnother}
@@ -37,7 +39,7 @@ unmapped : {X Y : Type 0} (P : Y → Type 0) (f : X → Y) (xs : List X) → All
 unmapped P f [] h = All-nil (λ x. P (f x))
 unmapped P f (x ∷ xs) h = All-cons (λ y. P (f y)) x xs (All-head P (f x) (map f xs) h) (unmapped P f xs (All-tail P (f x) (map f xs) h))
 
--- what holds at each number of a range
+-- a fact about each number of a range
 each_of : (f : ℕ → Release) (P : Release → Type 0) (start n : ℕ) → ((a : ℕ) → start ≤ a → a < start + n → P (f a)) → All P (map f (range_with_len start n))
 each_of f P start zero h = All-nil P
 each_of f P start (suc n) h =
@@ -55,7 +57,7 @@ parts a b key slot text octets =
     let f : KeyOf → SlotId → List ℕ → List ℕ → Release = λ k s t o. record { key = k; slot = s; text = t; octets = o } in
     ap (λ (k : KeyOf). f k a.slot a.text a.octets) key ∙ ap (λ (s : SlotId). f b.key s a.text a.octets) slot ∙ ap (λ (t : List ℕ). f b.key b.slot t a.octets) text ∙ ap (λ (o : List ℕ). f b.key b.slot b.text o) octets
 
--- two releases of one slot of an image are one
+-- two releases from one slot of an image are equal
 one_release : (i : List ℕ) (a b : Release) → IsReleasedFrom i a → IsReleasedFrom i b → a.slot ≡ b.slot → a ≡ b
 one_release i a b h k same =
     let key : a.key ≡ b.key = sym h.held ∙ ap (λ (s : SlotId). key_in i s.area) same ∙ k.held in
@@ -72,14 +74,14 @@ two_slots i names a b h k other = elim (cases_eq a.slot.number b.slot.number) [
       other (slot_eq a.slot b.slot (names a.slot.area b.slot.area h.signed.area k.signed.area (ap (λ (x : KeyOf). x.i) h.held ∙ is ∙ ap (λ (x : KeyOf). x.i) (sym k.held))) number))
 ]
 
--- a link that is given out beside what was
+-- a link that is released besides the earlier releases
 apart_link : (i : List ℕ) → HasDistinctNames i → (a b : Release) → IsReleasedFrom i a → IsReleasedFrom i b → IsLink b.text → AreApart a b
 apart_link i names a b h k link = elim (slot_cases a.slot b.slot) [
   | inl same ↦ let one = one_release i a b h k same in inr (inr (one, subst (λ (r : Release). IsLink r.text) (sym one) link))
   | inr ne ↦ two_slots i names a b h k ne
 ]
 
--- a slot whose gate is closed has made none of these
+-- a slot with a closed gate has made none of these
 others_fresh : (c : List ℕ) (before : List Release) (r : Release) → All (IsReleasedFrom c) before → gate_of c r.slot ≡ 0 → All (λ a. a.slot ≢ r.slot) before
 others_fresh c before r given shut = All-weaker (IsReleasedFrom c) (λ a. a.slot ≢ r.slot)
     (λ a h is. let gate : 0 < gate_of c r.slot = subst (λ (s : SlotId). 0 < gate_of c s) is h.signed.spent.gate in omega (arith, gate, shut)) before given
@@ -91,7 +93,7 @@ apart_append (r ∷ rest) given h k cross = (
   apart_append rest given h.1 k (All-tail (λ a. All (AreApart a) given) r rest cross),
 )
 
--- ---- the links of keys that stand
+-- ---- the links of keys on the disk
 
 module _ {D : Type 0} (g : Ghosts D) (disk : D) (last : ℕ) (keys : ℕ → KeyOf) (stand : KeysStand g disk last keys) (i : List ℕ) (now : Image g disk i) where
   link_is : (area : ℕ) → area < last → IsLink (next_text keys area)
@@ -107,7 +109,7 @@ module _ {D : Type 0} (g : Ghosts D) (disk : D) (last : ℕ) (keys : ℕ → Key
   link_given : (area : ℕ) → area < last → IsReleasedFrom i (link_release keys area)
   link_given area lt = record { signed = stand.linked i now area lt; held = stand.held i now area (omega (arith, lt)); sealed_by = refl }
 
-  -- two of them are by keys of two areas
+  -- two links are made by keys of two areas
   chain_apart : (start n : ℕ) → start + n ≤ last → AllApart (map (link_release keys) (range_with_len start n))
   chain_apart start zero le = tt
   chain_apart start (suc n) le = (
@@ -118,9 +120,9 @@ module _ {D : Type 0} (g : Ghosts D) (disk : D) (last : ℕ) (keys : ℕ → Key
     chain_apart (start + 1) n (omega (arith, le)),
   )
 
--- ---- what is given out beside what was
+-- ---- what is released besides the earlier releases
 
--- what is given out stands in every image, and is apart from all before
+-- a release is in every image, and differs from all earlier ones
 pub record Adds {D : Type 0} (g : Ghosts D) (disk : D) (before given : List Release) : Type 0 where
   pub stand : EachImage g disk (AllStand given)
   pub apart : AllApart given
@@ -142,7 +144,7 @@ module _ {D : Type 0} (g : Ghosts D) (disk : D) (before : List Release) where
   }
 
   module _ (n : List ℕ) (image : Image g disk n) (given : All (IsReleasedFrom n) before) where
-    -- a header's signature, by a slot that was free in what the disk read
+    -- the signature of a header, by a slot that was free in the content that the disk read
     pub adds_header : (old : D) (c : List ℕ) → still_told g old disk ≡ Some c → All (IsReleasedFrom c) before → (p : Publication) (on_disk : StandsOnDisk g old disk p) → Adds g disk before (header_release on_disk.key on_disk.area p ∷ [])
     adds_header old c told was p on_disk =
         let stand : EachImage g disk (λ i. IsReleasedFrom i (header_release on_disk.key on_disk.area p)) = λ i now. record { signed = on_disk.stands i now; held = on_disk.held i now; sealed_by = on_disk.exact } in
@@ -168,7 +170,7 @@ module _ {D : Type 0} (g : Ghosts D) (disk : D) (before : List Release) where
         (All-weaker (IsReleasedFrom n) (λ a. AreApart a (link_release it.keys it.before))
         (λ a h. apart_link n (it.stand.names n image) a (link_release it.keys it.before) h (link_given g disk (suc it.before) it.keys it.stand n image it.before (omega arith)) (link_is g disk (suc it.before) it.keys it.stand n image it.before (omega arith))) before given)
 
--- ---- what a call keeps
+-- ---- what a call leaves unchanged
 
 module _ {D : Type 0} (g : Ghosts D) (old new : D) where
   pub keys_stay : AtEachMoment g old new Stays → AtEachMoment g old new SameKeys
@@ -178,7 +180,7 @@ module _ {D : Type 0} (g : Ghosts D) (old new : D) where
   pub keys_published : (files : Option Folder) (roads : List ℕ) (s : Settings) → SignsAtMostOne g old new files roads s → AtEachMoment g old new SameKeys
   keys_published files roads s (inl stays) = keys_stay stays
   keys_published files roads s (inr file) = weaker g old new _ SameKeys file.one.each
-      (λ d i now h. elim h [ inl is ↦ stays_keys d i is | inr one ↦ slot_keys file.one.slot d i one.outside (omega (arith, one.early)) ])
+      (λ d i now h. elim h [ inl is ↦ stays_keys d i is | inr one ↦ slot_keys file.one.slot d i (puts_outside file.one.slot (header_text file.one.header) d i (let short = one.short in omega (arith, short)) one.alone) (let early = one.free.early in omega (arith, early)) ])
 
 -- releases as pairs of a slot and a text
 abbrev pub pair_of : Release → SlotId × List ℕ
@@ -188,26 +190,26 @@ pub stand_as_pairs : {D : Type 0} (g : Ghosts D) (disk : D) (given : List Releas
 stand_as_pairs g disk given stand i now =
     All-map (λ pair. IsSigned i pair.0 pair.1) pair_of given (All-weaker (IsReleasedFrom i) (λ r. IsSigned i r.slot r.text) (λ r h. h.signed) given (stand i now))
 
--- what stands, with the keys that stay, is still given
+-- signed pairs, together with keys that remain, are still released
 pub given_after : (d i : List ℕ) (given : List Release) → SameKeys d i → AllStand given d → AllSigned (map pair_of given) i → AllStand given i
 given_after d i given same before signed =
     both (IsReleasedFrom d) (λ r. IsSigned i r.slot r.text) (IsReleasedFrom i) given (λ r h k. given_kept d i r same h k) before (unmapped (λ pair. IsSigned i pair.0 pair.1) pair_of given signed)
 
--- where something was given out, the key gate is open
+-- if something was released, the key gate is open
 pub given_open : (c : List ℕ) (r : Release) (rest : List Release) → AllStand (r ∷ rest) c → IsOpen c
 given_open c r rest all =
     let given = All-head (IsReleasedFrom c) r rest all in
     record { long = omega (arith, given.signed.place.whole); gate = open_first c (open_down c 0 r.slot.area (omega arith) given.signed.area) }
 
--- ---- what the words refuse
+-- ---- what the definitions exclude
 
--- one one-time key on two texts
+-- one one-time key for two texts
 pub two_texts : (a b : Release) → a.key.i ≡ b.key.i → a.slot.number ≡ b.slot.number → a.text ≢ b.text → AreApart a b → ⊥
 two_texts a b key number text (inl other) = other key
 two_texts a b key number text (inr (inl other)) = other number
 two_texts a b key number text (inr (inr same)) = text (ap (λ (r : Release). r.text) same.0)
 
--- or twice on a text that is no link text
+-- or twice for a text that is not a link text
 pub two_headers : (a b : Release) → a.key.i ≡ b.key.i → a.slot.number ≡ b.slot.number → (IsLink a.text → ⊥) → AreApart a b → ⊥
 two_headers a b key number plain (inl other) = other key
 two_headers a b key number plain (inr (inl other)) = other number

@@ -1,4 +1,4 @@
--- The keys of a desk and their links stand in every image of its disk.
+-- The keys of a desk and their links are in every image of its disk.
 use Rattle.std.proofs.Common.{◌≡◌, ◌⊎◌, inl, inr, ℕ, suc, ◌-◌, ◌<◌, ◌≤◌, List, length, arith, refl, sym, ap, subst, ◌∙◌}
 use Rattle.std.specs.declared.option.Option.{Option}
 use Rattle.std.specs.declared.result.Result.{Result}
@@ -31,7 +31,7 @@ use Rattle.owner_commands.proofs.NameLemmas.{held_in, names_on}
 use Rattle.owner_commands.specs.Signing.{OnWriting}
 use Rattle.owner_commands.specs.StandingKeys.{last_of, next_text, KeysStand, FollowsAnother, IsStandingChain, ChainsWhatItWrites}
 
--- the link to the key after an area's stands in an image that has a desk's areas
+-- the link to the key after an area's key is in an image that has a desk's areas
 link_stands : (desk : Desk) (i : List ℕ) → HasAreas desk i → (area : ℕ) → area < length desk.earlier → IsSigned i (last_of (key_of desk) area) (next_text (key_of desk) area)
 link_stands desk i areas area lt =
     let is_open = open_down i (suc area) (length desk.earlier) lt areas.current.is_open in
@@ -52,7 +52,7 @@ module _ {D : Type 0} (g : Ghosts D) (desk : Desk) (disk : D) (fits : Fits g des
     linked = λ i now area lt. link_stands desk i (fits.areas i now) area lt;
   }
 
-  -- the current key, where it follows another
+  -- the current key, if it follows another key
   pub key_follows : (key : KeyOf) → 0 < length desk.earlier → desk.key ≡ key → FollowsAnother g disk key
   key_follows key some is =
       let there : length desk.earlier ≡ suc (length desk.earlier - 1) = omega (arith, some) in
@@ -72,11 +72,11 @@ module _ {D : Type 0} (g : Ghosts D) (desk : Desk) (disk : D) (fits : Fits g des
     spelled = spelled ∙ ap (λ (l : List Link). chain_file.spell l) are;
   }
 
--- where no call was made on a disk, its keys stay
+-- if no call was made to a disk, its keys remain
 pub no_keys : {D : Type 0} (g : Ghosts D) (d : D) → AtEachMoment g d d SameKeys
 no_keys g d = weaker g d d Stays SameKeys (no_moment g d) (λ x i now is. stays_keys x i is)
 
--- ---- what was written
+-- ---- the octets written
 
 pub on_writing : (o : Result Conclusion Fault) (P : Type 0) → P → OnWriting o P
 on_writing (Ok v) P p = p
@@ -90,7 +90,7 @@ none_written DiskFailed E Sink P h = absurd h
 none_written DiskFailed E MirrorLost P h = absurd h
 none_written DiskFailed E f P h = tt
 
--- nor has a file that was not read
+-- and nothing is written if a file was not read
 pub files_written : (f : Fault) (P : Type 0) → IsOfFiles f → OnWriting (Err f) P
 files_written Sink P h = absurd h
 files_written MirrorLost P h = absurd h

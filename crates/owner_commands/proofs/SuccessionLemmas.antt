@@ -26,7 +26,7 @@ use Rattle.key_desk.specs.declared.succeed.SucceedError.{SucceedError}
 use Rattle.key_desk.specs.declared.succeed.SucceedError.TheVariants as why
 use Rattle.key_desk.specs.Desk.{key_of, HasAreas, IsSound, Fits}
 use Rattle.key_desk.specs.Links.{link_of, link_from, links_of}
-use Rattle.key_desk.specs.Succession.{IsUnspent, SignsLink, Refuses, IsCalledFor}
+use Rattle.key_desk.specs.Succession.{IsUnspent, RaisesNext, SignsLink, Refuses, IsCalledFor}
 use Rattle.key_desk.proofs.ReadGood.{key_is}
 use Rattle.key_desk.proofs.Refusals.{one_reason}
 use Rattle.command_desks.specs.Opening.{HasBlocks, EndsOpening}
@@ -46,7 +46,7 @@ use Rattle.octet_text.specs.Want.{no_memory}
 
 -- ---- a succession
 
--- why no key follows, by what the disk tells after the call
+-- why no key follows, by the content that the disk states after the call
 pub not_followed : (DiskFailed : Type 0) (old new : Option (List ℕ)) (kind : ℕ) (secret : List ℕ) (e : SucceedError) → (e ≢ why.DiskFault → Narrows old new) → IsCalledFor new (take 16 secret) e → (e ≡ why.DiskFault → DiskFailed)
     → WhyNot DiskFailed (EndsSuccession (option_and new old) kind secret) (fault_of e)
 not_followed DiskFailed old new kind secret why.NoKey narrows called failed = inr (why.NoKey, refl, still_so old new (λ c. Refuses c (take 16 secret) why.NoKey) (narrows (λ is. cc)) called, refl)
@@ -57,17 +57,17 @@ not_followed DiskFailed old new kind secret why.SameSecret narrows called failed
 not_followed DiskFailed old new kind secret why.DiskFault narrows called failed = failed refl
 not_followed DiskFailed old new kind secret (why.Memory _) narrows called failed = tt
 
--- an answer that was given
+-- a result that was returned
 abbrev pub given : {X : Type 0} → X → Result X SucceedError
 given x = Ok x
 
--- what succeeded was refused by nothing
+-- a success means that there was no reason to refuse
 pub unrefused : {X : Type 0} (content : Option (List ℕ)) (secret : List ℕ) (desk : X)
     → ForSome content (λ c. (e : SucceedError) → Refuses c (take 16 secret) e → (given desk ≡ Err e) ⊎ ((given desk ≡ Err why.DiskFault) ⊎ (given desk ≡ Err (why.Memory no_memory))))
     → ForSome content (λ c. (e : SucceedError) → Refuses c (take 16 secret) e → ⊥)
 unrefused content secret desk else_so c is e h = elim (else_so c is e h) [ inl x ↦ cc | inr other ↦ elim other [ inl x ↦ cc | inr x ↦ cc ] ]
 
--- the line of the key that follows, after no refusal
+-- the line of the next key, if there was no refusal
 pub next_line : {X : Type 0} (content : Option (List ℕ)) (kind number : ℕ) (secret line public : List ℕ) (desk : X) (key : KeyOf) → number ≡ kind → key ≡ key_from number secret → public ≡ public_key key
     → line ≡ encode_lower public ++ codes "\n"
     → ForSome content (λ c. (e : SucceedError) → Refuses c (take 16 secret) e → (given desk ≡ Err e) ⊎ ((given desk ≡ Err why.DiskFault) ⊎ (given desk ≡ Err (why.Memory no_memory))))
@@ -77,18 +77,21 @@ next_line content kind number secret line public desk key is made of_key spelled
     inl (refl, unrefused content secret desk else_so, spelled ∙ ap (λ (p : List ℕ). encode_lower p ++ codes "\n") (of_key ∙ ap public_key of_kind))
 
 -- at each moment, of the key of a kind
+pub raises_kind : {D : Type 0} (g : Ghosts D) (d e : D) (kind number : ℕ) (secret : List ℕ) → number ≡ kind → AtEachMoment g d e (λ x i. (i ≡ x) ⊎ RaisesNext (key_from number secret) x i) → AtEachMoment g d e (λ x i. (i ≡ x) ⊎ RaisesNext (key_from kind secret) x i)
+raises_kind g d e kind number secret is each = subst (λ (n : ℕ). AtEachMoment g d e (λ x i. (i ≡ x) ⊎ RaisesNext (key_from n secret) x i)) is each
+
 pub links_kind : {D : Type 0} (g : Ghosts D) (d e : D) (kind number : ℕ) (secret : List ℕ) → number ≡ kind → AtEachMoment g d e (λ x i. (i ≡ x) ⊎ SignsLink (link_text (public_key (key_from number secret))) x i)
     → AtEachMoment g d e (λ x i. (i ≡ x) ⊎ SignsLink (link_text (public_key (key_from kind secret))) x i)
 links_kind g d e kind number secret is each = subst (λ (n : ℕ). AtEachMoment g d e (λ x i. (i ≡ x) ⊎ SignsLink (link_text (public_key (key_from n secret))) x i)) is each
 
--- the key of a desk that fits stands in the last open area of each image, and no slot there is spent
+-- the key of a desk that fits is in the last open area of each image, and no slot of that area is spent
 pub next_on : {D : Type 0} (g : Ghosts D) (disk : D) (desk : Desk) (key : KeyOf) → Fits g desk disk → EachImage g disk (IsUnspent desk.key desk.base) → desk.key ≡ key → EachImage g disk (IsNextKey key)
 next_on g disk desk key fits unspent is i now =
     let areas = fits.areas i now in
     subst (λ (k : KeyOf). IsNextKey k i) is
     (record { on_disk = key_on desk i fits.sound areas; unspent = subst (λ (b : ℕ). IsUnspent desk.key b i) (sym areas.based) (unspent i now) })
 
--- over what a disk holds, a succession has one end
+-- over the contents of a disk, a succession has one end
 one_succession : (content : List ℕ) (kind : ℕ) (secret : List ℕ) (o p : Result Conclusion Fault) (s t : List ℕ) → EndsSuccession (Some content) kind secret o s → EndsSuccession (Some content) kind secret p t → o ≡ p
 one_succession content kind secret o p s t (inl h) (inl k) = h.0 ∙ sym k.0
 one_succession content kind secret o p s t (inl h) (inr k) = absurd (h.1 content refl k.0 (k.2 content refl))
@@ -109,16 +112,16 @@ module _ (files : Option Folder) (name secret : List ℕ) (content : Option (Lis
   pub next_refused : (f : Fault) → WhyNot DiskFailed (EndsSuccession content kind secret) f → Promises (ends_succession content name kind) TellsNone DiskFailed files l l' old old k k' (Err f)
   next_refused f h = refused (ends_succession content name kind) TellsNone DiskFailed files l l' k k' old (EndsSuccession content kind secret) calls f h
 
-  -- the line of a key that follows
+  -- the line of the next key
   pub next_told : (new : Option (List ℕ)) (o : Result Conclusion Fault) (text line : List ℕ) → text ≡ line → EndsSuccession content kind secret (Ok Done) line → Writes (Ok Done) text old new k k' o
       → Promises (ends_succession content name kind) TellsNone DiskFailed files l l' old new k k' o
   next_told new o text line same is w = written_done (ends_succession content name kind) TellsNone DiskFailed files l l' k k' old (EndsSuccession content kind secret) calls new Done o text line same is w
 
-  -- what was signed is the link to the key of the file
-  pub links_file : {D : Type 0} (g : Ghosts D) (d e : D) → AtEachMoment g d e (λ x i. (i ≡ x) ⊎ SignsLink (link_text (public_key (key_from kind secret))) x i) → LinksFile g d e files name kind
-  links_file g d e each = record { secret = secret; of_file = read; each = each }
+  -- the link that was signed leads to the key of the file
+  pub links_file : {D : Type 0} (g : Ghosts D) (d e : D) → AtEachMoment g d e (λ x i. (i ≡ x) ⊎ SignsLink (link_text (public_key (key_from kind secret))) x i) → AtEachMoment g d e (λ x i. (i ≡ x) ⊎ RaisesNext (key_from kind secret) x i) → LinksFile g d e files name kind
+  links_file g d e each raises = record { secret = secret; of_file = read; each = each; raises = raises }
 
--- a refused succession leaves each image
+-- a refused succession leaves each image unchanged
 pub stays_followed : {D : Type 0} (g : Ghosts D) (old new : D) (e : SucceedError) → (e ≢ why.DiskFault → AtEachMoment g old new Stays) → StaysRefused g old new (fault_of e)
 stays_followed g old new why.NoKey m = m (λ is. cc)
 stays_followed g old new why.BadBlock m = m (λ is. cc)
@@ -144,7 +147,7 @@ links_there desk c sound areas =
         ap (λ (k : KeyOf). link_of k (public_key (key_of desk (suc a)))) (key_there a (omega (arith, lt)))
         ∙ ap (λ (k : KeyOf). link_of (key_at c (base_of c a)) (public_key k)) (key_there (suc a) (omega (arith, lt)))
 
--- the chain of an opened desk is that of what the disk holds
+-- the chain of an opened desk is that of the disk's contents
 pub chain_told : (content : Option (List ℕ)) (desk : Desk) (text : List ℕ) (links : List Link) → HasBlocks content desk → IsSound desk → links ≡ links_of desk → text ≡ chain_file.spell links → ForSome content (λ c. IsChainOn c text)
 chain_told content desk text links blocks sound are spelled c is =
     let areas = (blocks c is).1 in
@@ -166,7 +169,7 @@ module _ (content : Option (List ℕ)) (DiskFailed : Type 0) (k k' : ℕ) (old :
   any : (files : Option Folder) (o : Result Conclusion Fault) (text : List ℕ) → EndsLinks content o text → CallsFor (λ folder. EndsLinks content) files o text
   any files o text h = over_any files (λ folder. EndsLinks content o text) (λ folder. h)
 
-  -- a desk that doesn't open
+  -- a desk that does not open
   pub links_refused : (f : Fault) → WhyNot DiskFailed (EndsOpening content NoEnd) f → PromisesWithoutFiles (EndsLinks content) DiskFailed old old k k' (Err f)
   links_refused f h files faults =
       refused (λ folder. EndsLinks content) TellsNone DiskFailed files faults faults k k' old (EndsLinks content) (any files) f

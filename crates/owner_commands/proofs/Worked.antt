@@ -1,4 +1,4 @@
--- What the words of the owner's promises say at some ends, so that a weaker word is seen.
+-- The definitions of the owner's guarantees, evaluated for some results. A weakened definition fails here.
 use Rattle.std.proofs.Common.{◌≡◌, ◌≢◌, ◌⊎◌, inl, inr, ℕ, suc, ◌+◌, ◌-◌, ◌<◌, ◌≤◌, List, [], ◌∷◌, length, arith, refl, sym, ap, ◌∙◌, subst}
 use Rattle.std.specs.declared.option.Option.{Option}
 use Rattle.std.specs.declared.option.Option.TheVariants.{None, Some}
@@ -38,7 +38,7 @@ use Rattle.owner_commands.specs.StandingKeys.{KeysStand, last_of, next_text, Wro
 use Rattle.owner_commands.specs.Releases.{Release, header_release, link_release, AreApart, AllApart, AllStand}
 use Rattle.octet_text.specs.Want.{no_memory}
 
--- ---- what was refused changes no image
+-- ---- a refused command changes no image
 
 module _ {D : Type 0} (g : Ghosts D) (old new : D) where
   at_no_file : StaysRefused g old new Missing → AtEachMoment g old new Stays
@@ -65,7 +65,7 @@ module _ {D : Type 0} (g : Ghosts D) (old new : D) where
   at_bad_block : StaysRefused g old new BadBlock → AtEachMoment g old new Stays
   at_bad_block h = h
 
-  -- a key by a file that is missing, or by short memory, changes none, and no more does a next key
+  -- after a missing file, or if memory ran out, a key changes no image, and neither does a next key
   no_key_without_a_file : (files : Option Folder) (secret : List ℕ) (kind : ℕ) → KeepsKey g old new files secret kind (Err Missing) → AtEachMoment g old new Stays
   no_key_without_a_file files secret kind h = h.untouched
 
@@ -75,7 +75,7 @@ module _ {D : Type 0} (g : Ghosts D) (old new : D) where
   no_next_key_without_memory : (files : Option Folder) (name : List ℕ) (kind : ℕ) → AddsKey g old new files name kind (Err (Memory no_memory)) → AtEachMoment g old new Stays
   no_next_key_without_memory files name kind h = h.untouched
 
-  -- where the disk failed, an image with an open gate is one from before, or has the key of the file's secret
+  -- if the disk failed, an image with an open gate is an old one, or has the key of the file's secret
   only_the_key_of_the_file : (folder : Folder) (name secret : List ℕ) (kind : ℕ) → secret_at folder name ≡ Ok secret → (m : MakesByFile g old new (Some folder) name kind) → (i : List ℕ) → g.clock old ≤ g.clock new → m.turns.turn ≤ g.clock new
       → g.image_at new (g.clock new) i → IsOpen i → IsBlank (key_from kind secret) i
   only_the_key_of_the_file folder name secret kind read m i later turned now opened =
@@ -85,10 +85,10 @@ module _ {D : Type 0} (g : Ghosts D) (old new : D) where
         | inr blank ↦ subst (λ (s : List ℕ). IsBlank (key_from kind s) i) same blank
       ]
 
--- ---- what was written
+-- ---- the octets written
 
 module _ {D : Type 0} (g : Ghosts D) (old new : D) (taken_before taken_now : Option (List ℕ)) where
-  -- all of a publication, also where a mirror was lost, and a prefix where the sink failed
+  -- a whole publication is written, also if a mirror was lost; a prefix is written if the sink failed
   whole : (w : WroteSealed g old new taken_before taken_now (Ok Done)) → Appends taken_before taken_now (publication_text w.publication)
   whole w = w.written
 
@@ -104,14 +104,14 @@ module _ {D : Type 0} (g : Ghosts D) (old new : D) (taken_before taken_now : Opt
   sealed_when_cut : SealsWhatItWrites g old new taken_before taken_now (Err Sink) → WroteSealed g old new taken_before taken_now (Err Sink)
   sealed_when_cut h = h
 
-  -- all of a chain, and a prefix where the sink failed
+  -- a whole chain is written, or a prefix if the sink failed
   whole_chain : (w : WroteChain g new taken_before taken_now (Ok Done)) → Appends taken_before taken_now w.text
   whole_chain w = w.written
 
   chain_when_cut : ChainsWhatItWrites g new taken_before taken_now (Err Sink) → WroteChain g new taken_before taken_now (Err Sink)
   chain_when_cut h = h
 
-  -- nothing where the disk failed, memory was short or all keys were used
+  -- nothing is written if the disk failed, memory ran out, or all keys have been used
   silent_at : (f : Fault) → f ≢ Sink → (TellsLost f → ⊥) → IsSilent TellsLost taken_before taken_now (Err f) → Keeps taken_before taken_now
   silent_at f other untold silent = silent f refl other untold
 
@@ -125,7 +125,7 @@ module _ {D : Type 0} (g : Ghosts D) (old new : D) (taken_before taken_now : Opt
   silent_at_used_up = silent_at KeysUsedUp (λ is. cc) (λ told. told)
 
 module _ {M : Type 0} (octets : M → Option (List ℕ)) (label handed puts room : M → ℕ) {D : Type 0} (g : Ghosts D) (old new : D) (taken_before taken_now : Option (List ℕ)) (before now : List M) where
-  -- the mirrors took all and stay where the work was done, and fewer stay where one is said to be lost
+  -- if the work was done, all mirrors took the text and remain; if one is reported as lost, fewer remain
   mirrors_whole : (w : SpreadSealed octets label handed puts room g old new taken_before taken_now before now (Ok Done))
       → Mirrors octets label handed puts room (pieces_in (publication_text w.publication)) (publication_text w.publication) before now × (length now ≡ length before)
   mirrors_whole w = w.mirrored
@@ -134,14 +134,14 @@ module _ {M : Type 0} (octets : M → Option (List ℕ)) (label handed puts room
       → Mirrors octets label handed puts room (pieces_in (publication_text w.publication)) (publication_text w.publication) before now × (length now < length before)
   mirrors_lost w = w.mirrored
 
-  -- and they are as they were where nothing was written
+  -- if nothing was written, the mirrors are unchanged
   mirrors_still : SealsWhatItMirrors octets label handed puts room g old new taken_before taken_now before now (Err Disk) → now ≡ before
   mirrors_still h = h.still
 
--- ---- what went out
+-- ---- released signatures
 
 module _ (a b : Release) (key : a.key.i ≡ b.key.i) (number : a.slot.number ≡ b.slot.number) where
-  -- two texts by one one-time key are not apart, nor are two signatures by it
+  -- two texts signed by one one-time key are not distinct releases, nor are two signatures by it
   two_texts_of_one_key : (a.text ≡ b.text → ⊥) → AreApart a b → ⊥
   two_texts_of_one_key other (inl keys) = keys key
   two_texts_of_one_key other (inr (inl numbers)) = numbers number
@@ -152,13 +152,13 @@ module _ (a b : Release) (key : a.key.i ≡ b.key.i) (number : a.slot.number ≡
   two_signatures_of_one_key other (inr (inl numbers)) = numbers number
   two_signatures_of_one_key other (inr (inr (equal, link))) = other (ap (λ (r : Release). r.octets) equal)
 
-  -- nor where it stands in two areas
+  -- nor if the one-time key is in two areas
   one_key_in_two_areas : (a.slot.area ≡ b.slot.area → ⊥) → AreApart a b → ⊥
   one_key_in_two_areas other (inl keys) = keys key
   one_key_in_two_areas other (inr (inl numbers)) = numbers number
   one_key_in_two_areas other (inr (inr (equal, link))) = other (ap (λ (r : Release). r.slot.area) equal)
 
-  -- and no header is signed twice by it
+  -- and it signs no header twice
   a_header_twice : (IsLink a.text → ⊥) → AreApart a b → ⊥
   a_header_twice header (inl keys) = keys key
   a_header_twice header (inr (inl numbers)) = numbers number
@@ -177,22 +177,22 @@ module _ (a b : Release) where
   each_is_of_its_key : (i : List ℕ) → AllStand (a ∷ b ∷ []) i → b.octets ≡ sealed b.key b.slot.number b.text
   each_is_of_its_key i h = let given = h 1 b (omega arith) in given.sealed_by
 
--- two open areas with one identifier are one
+-- two open areas with the same identifier are the same area
 one_area : (i : List ℕ) → HasDistinctNames i → IsAreaOpen i 0 → IsAreaOpen i 1 → (key_in i 0).i ≡ (key_in i 1).i → ⊥
 one_area i names first second same = omega (arith, names 0 1 first second same)
 
--- the key of a new area is that of some secret, also where no file is told
+-- the key of a new area is that of some secret, even if no file is known
 made_of_some_secret : {D : Type 0} (g : Ghosts D) (old new : D) (name : List ℕ) (kind : ℕ) → KeepsKey g old new None name kind (Ok Done) → (secret : List ℕ) × EachImage g new (IsBlank (key_from kind secret))
 made_of_some_secret g old new name kind h = (h.made.secret, h.made.blank)
 
--- so is the next key, also where its line was cut, and no slot of it is spent
+-- so is the next key, even if its line was cut, and no slot of it is spent
 next_of_some_secret : {D : Type 0} (g : Ghosts D) (old new : D) (name : List ℕ) (kind : ℕ) → AddsKey g old new None name kind (Err Sink) → (secret : List ℕ) × EachImage g new (IsNextKey (key_from kind secret))
 next_of_some_secret g old new name kind h = (h.made.secret, h.made.unspent)
 
 no_slot_of_it_is_spent : (key : KeyOf) (i : List ℕ) (n : IsNextKey key i) (number : ℕ) → number < slots_of key.kind → gate_of i (record { area = n.on_disk.area; number = number }) ≡ 0
 no_slot_of_it_is_spent key i n number lt = n.unspent.blank.zero (place_in (base_of i n.on_disk.area) number) (omega arith) (omega (arith, lt))
 
--- the key of an area signs the link to the next by its last one-time key
+-- the last one-time key of an area's key signs the link to the next key
 last_is : (keys : ℕ → KeyOf) (area : ℕ) → last_of keys area ≡ record { area = area; number = slots_of (keys area).kind - 1 }
 last_is keys area = refl
 
@@ -211,7 +211,7 @@ on_its_header key area p = refl
 by_its_key : (keys : ℕ → KeyOf) (area : ℕ) → (link_release keys area).key ≡ keys area
 by_its_key keys area = refl
 
--- what stands of keys: up to the last, and each link before it
+-- the keys on the disk up to the last one, and each link before it
 module _ {D : Type 0} (g : Ghosts D) (disk : D) (last : ℕ) (keys : ℕ → KeyOf) where
   last_key_stands : KeysStand g disk last keys → EachImage g disk (λ i. key_in i last ≡ keys last)
   last_key_stands h i now = h.held i now last (omega arith)

@@ -1,4 +1,4 @@
--- What `links` writes.
+-- The output of `links`.
 use Rattle.std.specs.Prelude.{◌≡◌, ℕ, suc, List, map}
 use Rattle.std.specs.List.{range_with_len}
 use Rattle.std.specs.declared.option.Option.{Option}
@@ -14,7 +14,7 @@ use Rattle.command_desks.specs.Opening.{EndsOpening}
 use Rattle.command_files.specs.Endings.{Ending}
 use Rattle.command_files.specs.declared.ended.Conclusion.TheVariants.{Done}
 
--- the link from the key of an area of the disk to that of the area after it
+-- the link from the key of an area of the disk to that of the next area
 abbrev pub link_on : List ℕ → ℕ → Link
 link_on image area = link_of (key_at image (base_of image area))
     (public_key (key_at image (base_of image (suc area))))
@@ -25,11 +25,11 @@ pub record IsChainOn (image text : List ℕ) : Type 0 where
   pub current : IsCurrent image area
   pub spelled : text ≡ chain_file.spell (map (link_on image) (range_with_len 0 area))
 
--- the chain is written of what the disk holds
+-- the chain is written from the disk's contents
 abbrev pub TellsLinks : Option (List ℕ) → Ending
 TellsLinks content (Ok Done) text = ForSome content (λ c. IsChainOn c text)
 TellsLinks content outcome text = ⊥
 
--- `links` over what the disk holds: the desk opens first
+-- `links` over the disk's contents; it opens the desk first
 abbrev pub EndsLinks : Option (List ℕ) → Ending
 EndsLinks content = EndsOpening content (TellsLinks content)

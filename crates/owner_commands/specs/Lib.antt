@@ -8,3 +8,4 @@ pub mod Publishing
 pub mod Signing
 pub mod StandingKeys
 pub mod Releases
+pub mod Losing

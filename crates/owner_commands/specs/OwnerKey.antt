@@ -1,4 +1,4 @@
--- What `key` writes, and does to the owner's disk.
+-- The output of `key`, and its effect on the owner's disk.
 use Rattle.std.specs.Prelude.{◌≡◌, ◌≢◌, ◌⊎◌, ℕ, List, [], ◌++◌, codes, OnOk, IfSome, IfErr}
 use Rattle.std.specs.declared.option.Option.{Option}
 use Rattle.std.specs.declared.result.Result.{Result}
@@ -22,12 +22,11 @@ use Rattle.command_files.specs.declared.ended.Conclusion.TheVariants.{Done}
 use Rattle.owner_commands.specs.Names.{HasDistinctNames}
 use Rattle.owner_commands.specs.Signing.{StaysRefused}
 
--- the public key of a secret and a type, in lower case hex, and a line end
+-- the public key of a secret and a type, in lower-case hex, and a line end
 abbrev pub key_line : ℕ → List ℕ → List ℕ
 key_line kind secret = encode_lower (public_key (key_from kind secret)) ++ codes "\n"
 
--- `key` with a secret: the line of the public key where the disk holds no key, and a refusal where
--- it does
+-- `key` with a secret: the line of the public key if the disk holds no key, else a refusal
 abbrev pub EndsKey : Option (List ℕ) → ℕ → List ℕ → Ending
 EndsKey content kind secret (Ok Done) text = ForSome content (λ c. IsOpen c → ⊥) ×
     (text ≡ key_line kind secret)
@@ -38,8 +37,8 @@ EndsKey content kind secret outcome text = ⊥
 abbrev pub ends_key : Option (List ℕ) → List ℕ → ℕ → Folder → Ending
 ends_key content secret kind folder = EndsReading (secret_at folder secret) (EndsKey content kind)
 
--- The key of the file's secret stands in every image: the gate is open, the block is that of the secret
--- and the type, and no slot is spent. Where no file is told, it is the key of some secret.
+-- The key of the file's secret is in every image: the gate is open, the block is that of the secret and the
+-- type, and no slot is spent. If no file is known, it is the key of some secret.
 pub record MakesKey {D : Type 0} (g : Ghosts D) (disk : D) (files : Option Folder)
     (name : List ℕ) (kind : ℕ) : Type 0 where
   pub secret : List ℕ
@@ -47,16 +46,16 @@ pub record MakesKey {D : Type 0} (g : Ghosts D) (disk : D) (files : Option Folde
   pub blank : EachImage g disk (IsBlank (key_from kind secret))
   pub names : EachImage g disk HasDistinctNames
 
--- from some moment on each image has a closed gate, or the whole block of the file's secret and no
--- spent slot; before that moment each is one from entry
+-- from some moment on, each image has a closed gate, or the whole block of the file's secret and no spent slot;
+-- before that moment each image is one from the entry
 pub record MakesByFile {D : Type 0} (g : Ghosts D) (old new : D) (files : Option Folder)
     (name : List ℕ) (kind : ℕ) : Type 0 where
   pub secret : List ℕ
   pub of_file : IfSome files (λ folder. secret_at folder name ≡ Ok secret)
   pub turns : Turns g.clock g.image_at old new (IsFresh (key_from kind secret))
 
--- A key is made where the disk holds none, and nothing is changed where it holds one. No other key
--- than that of the file's secret is ever made, and what is refused leaves every image.
+-- A key is made if the disk holds none, and nothing changes if it holds one. Only the key of the file's
+-- secret is ever made, and a refusal changes no image.
 pub record KeepsKey {D : Type 0} (g : Ghosts D) (old new : D) (files : Option Folder)
     (secret : List ℕ) (kind : ℕ) (outcome : Result Conclusion Fault) : Type 0 where
   pub made : OnOk outcome (MakesKey g new files secret kind)

@@ -1,4 +1,4 @@
--- What `publish` writes.
+-- The output of `publish`.
 use Rattle.std.specs.Prelude.{◌≡◌, ℕ, ◌+◌, ◌<◌, List, []}
 use Rattle.std.specs.declared.option.Option.{Option}
 use Rattle.std.specs.declared.result.Result.TheVariants.{Ok, Err}
@@ -21,16 +21,16 @@ use Rattle.command_files.specs.declared.fault.Fault.{Fault}
 use Rattle.command_files.specs.declared.fault.Fault.TheVariants.{KeysUsedUp, MirrorLost}
 use Rattle.command_files.specs.declared.ended.Conclusion.TheVariants.{Done}
 
--- all one-time keys of the last open area were used but the last, which is kept for the next key
+-- all one-time keys of the last open area have been used, except the last, which signs the next key
 pub record AllSpent (image : List ℕ) : Type 0 where
   pub area : ℕ
   pub current : IsCurrent image area
   pub spent : (number : ℕ) → number + 1 < slots_at image (base_of image area) →
       0 < gate_of image (record { area = area; number = number })
 
--- The signature is the key's, by the first one-time key that was not used, which is not the last. It is
--- the one that this key makes of the header, so no octet of it is anybody's choice: an image, a map and
--- settings have one publication.
+-- The signature is the key's, by the first unused one-time key, which is not the last. It is the one that this key
+-- makes of the header, so nobody can choose any octet of it: an image, a map and settings determine one
+-- publication.
 pub record IsSignedFrom (image : List ℕ) (h : Header) (p : Publication) : Type 0 where
   pub key : KeyOf
   pub on_disk : IsKeyOn image key
@@ -50,23 +50,23 @@ pub record IsPublicationOf (content : Option (List ℕ)) (parts : Parts) (s : Se
   pub signed : ForSome content (λ c. IsSignedFrom c h p)
   pub fits : publication.Fits p
 
--- a header is signed, and the publication written, unless all one-time keys were used
+-- a header is signed and the publication written, unless all one-time keys have been used
 abbrev pub EndsSigning : Option (List ℕ) → Parts → Settings → Header → Ending
 EndsSigning content parts s h (Ok Done) text = (p : Publication) ×
     IsPublicationOf content parts s h p × (text ≡ publication_text p)
 EndsSigning content parts s h (Err KeysUsedUp) text = ForSome content AllSpent × (text ≡ [])
 EndsSigning content parts s h outcome text = ⊥
 
--- `publish` over the parts of a file: the desk opens first
+-- `publish` over the parts of a file; it opens the desk first
 abbrev pub EndsPublish : Option (List ℕ) → Settings → Parts → Ending
 EndsPublish content s parts = EndsOpening content
     (EndsBuilding parts s (EndsSigning content parts s))
 
--- the same over the road file of this name
+-- the same over the road file with this name
 abbrev pub ends_publish : Option (List ℕ) → List ℕ → Settings → Folder → Ending
 ends_publish content roads s folder = EndsReading (parts_at folder roads) (EndsPublish content s)
 
--- where a mirror was lost, the sink has taken all of the text
+-- if a mirror was lost, the sink has taken the whole text
 abbrev pub TellsLost : Fault → Type 0
 TellsLost MirrorLost = Unit {0}
 TellsLost fault = ⊥

@@ -1,6 +1,6 @@
--- Signatures that went out of the program, and one-time keys that made them.
--- Source: RFC 8554, sections 1.2 and 9.2: a one-time key signs one text. A key makes the same one-time key again
--- where it has the same identifier I, number and seed (appendix A).
+-- Signatures released by the program, and the one-time keys that made them. Source: RFC 8554, sections 1.2
+-- and 9.2: a one-time key signs one text. A key with the same identifier I, number and seed makes the same
+-- one-time key again (appendix A).
 use Rattle.std.specs.Prelude.{◌≡◌, ◌≢◌, ◌⊎◌, ℕ, List, [], ◌∷◌}
 use Rattle.std.specs.List.{All}
 use Rattle.lms_tree.specs.Signatures.{KeyOf, sealed}
@@ -12,15 +12,14 @@ use Rattle.proof_octets.specs.Headers.{header_text}
 use Rattle.route_owner.specs.Published.{slot_in}
 use Rattle.owner_commands.specs.StandingKeys.{last_of, next_text, link_by}
 
--- A signature that went out: the key that made it, the slot of its one-time key, the text that it is
--- on, and its octets.
+-- A released signature: the key that made it, the slot of its one-time key, its text, and its octets.
 pub record Release : Type 0 where
   pub key : KeyOf
   pub slot : SlotId
   pub text : List ℕ
   pub octets : List ℕ
 
--- a publication's signature on its header, by a one-time key of this key in this area
+-- a publication's signature of its header, by a one-time key of this key in this area
 abbrev pub header_release : KeyOf → ℕ → Publication → Release
 header_release key area p = record {
   key = key;
@@ -29,7 +28,7 @@ header_release key area p = record {
   octets = p.signature;
 }
 
--- the signature on the link text of the key after an area's, by that area's last one-time key
+-- the signature of the link text of the key after an area's key, by the last one-time key of that area
 abbrev pub link_release : (ℕ → KeyOf) → ℕ → Release
 link_release keys area = record {
   key = keys area;
@@ -38,19 +37,19 @@ link_release keys area = record {
   octets = (link_by keys area).signature;
 }
 
--- The text of a release stands in its slot of the image, in an area of its key, and its octets are the
--- signature that this key makes of the text by the one-time key of the slot's number.
+-- The text of a release is in its slot of the image, in an area of its key. Its octets are the signature that this
+-- key makes of the text with the one-time key of the slot's number.
 pub record IsReleasedFrom (image : List ℕ) (r : Release) : Type 0 where
   pub signed : IsSigned image r.slot r.text
   pub held : key_in image r.slot.area ≡ r.key
   pub sealed_by : r.octets ≡ sealed r.key r.slot.number r.text
 
--- so it is with each of these
+-- the same for each of these
 abbrev pub AllStand : List Release → List ℕ → Type 0
 AllStand given image = All (IsReleasedFrom image) given
 
--- Two signatures are by keys of two identifiers, or by one-time keys of two numbers, or they are equal
--- octets on one link text.
+-- Two signatures were made by keys with different identifiers, or by one-time keys with different numbers; or they
+-- consist of equal octets, of the same link text.
 abbrev pub AreApart : Release → Release → Type 0
 AreApart a b = (a.key.i ≢ b.key.i) ⊎ ((a.slot.number ≢ b.slot.number) ⊎ ((a ≡ b) × IsLink a.text))
 

@@ -17,7 +17,7 @@ use road_io::{Disk, Sink};
 use road_line::line_of_desk;
 use std::alloc::Global;
 
-/// Writes the owner's public key, and how many of its one-time keys are left.
+/// Writes the owner's public key, and the number of its remaining one-time keys.
 pub fn desk<K: Sink, D: Disk>(
     alloc: Global,
     sink: &mut K,
@@ -34,7 +34,7 @@ pub fn desk<K: Sink, D: Disk>(
     write_text(sink, &line)
 }
 
-/// The line of the desk over the key on the disk.
+/// Returns the line of the desk over the key on the disk.
 fn line_on<D: Disk>(alloc: Global, disk: &mut D) -> Result<Vec<u8>, Fault>
     ensures usable { IfOk result (λ line. ForSome (still_told D.Disk disk.old disk.new) IsUsable) }
     ensures line { IfOk result (λ line.

@@ -1,5 +1,5 @@
-//! The owner's commands: a key is made, and the next one after it, what is left is told, publications are signed, and
-//! the links between keys are handed out.
+//! The owner's commands: they make a key, make the next key after it, report the number of remaining one-time keys,
+//! sign publications, and write the links between keys.
 #![tactic(auto)]
 
 pub use counting::desk;

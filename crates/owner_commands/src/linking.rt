@@ -19,7 +19,7 @@ use key_desk::LinksError;
 use road_io::{Disk, Sink};
 use std::alloc::Global;
 
-/// Writes the chain file that leads from the owner's first key to the current one.
+/// Writes the chain file that leads from the owner's first key to the current key.
 pub fn links<K: Sink, D: Disk>(
     alloc: Global,
     sink: &mut K,
@@ -38,7 +38,7 @@ pub fn links<K: Sink, D: Disk>(
     write_text(sink, &chain)
 }
 
-/// The chain file of the desk over the keys on the disk, verified.
+/// Returns the verified chain file of the desk over the keys on the disk.
 fn chain_on<D: Disk>(alloc: Global, disk: &mut D) -> Result<Vec<u8>, Fault>
     ensures usable { IfOk result (λ chain. ForSome (still_told D.Disk disk.old disk.new) IsUsable) }
     ensures chain { IfOk result (λ chain.

@@ -57,7 +57,7 @@ pub fn key<L: Library, K: Sink, D: Disk>(
     write_text(sink, &line)
 }
 
-/// Makes the owner's key on the disk, and answers the line of its public key.
+/// Makes the owner's key on the disk, and returns the line of its public key.
 fn make_key<D: Disk>(
     alloc: Global,
     disk: &mut D,
@@ -90,7 +90,7 @@ fn make_key<D: Disk>(
     }
 }
 
-/// The line of a public key: lower case hex, and a line end.
+/// Returns the line of a public key: lower-case hex and a line end.
 pub(crate) fn line_of_key(public: &[u8; 56]) -> [u8; 113]
     ensures { result ≡ encode_lower public.now ++ codes "\n" }
 {

@@ -7,7 +7,9 @@ ghost use Rattle.desk_areas.specs.Calls.{CalledUpTo};
 ghost use Rattle.key_desk.specs.Stands.{KeepsStanding};
 ghost use Rattle.command_files.specs.Endings.{Promises, WhyNot};
 ghost use Rattle.command_files.specs.Spared.{SparesLibrary, SparesBut};
+ghost use Rattle.mirror_out.specs.Gone.{HasRoom};
 ghost use Rattle.owner_commands.specs.Calls.{most_publish_calls};
+ghost use Rattle.owner_commands.specs.Losing.{LosesWhatFails};
 ghost use Rattle.owner_commands.specs.Publishing.{EndsPublish, TellsLost, ends_publish};
 ghost use Rattle.owner_commands.specs.Signing.{SignsAtMostOne, SignsAtMostHeader, StaysRefused, IsSealedOnDisk, SealsWhatItMirrors, SealsWhatItWrites};
 
@@ -26,15 +28,16 @@ use road_map::Parts;
 use route_owner::PublishError;
 use std::alloc::Global;
 
-/// Signs the header of a file's map under settings, and hands the publication on in pieces of 4,096 octets as
-/// they are made, each to the sink and then to the mirrors. What drops a mirror is made before anything is
-/// signed.
+/// Signs the header of a file's map under settings, and sends the publication as it is made, in pieces of 4,096
+/// octets, each to the sink and then to the mirrors. What drops a mirror is made before anything is signed. The mirrors
+/// that fail are appended to `gone`, if it has room for all.
 pub fn publish<L: Library, K: Sink, D: Disk, M: Mirror>(
     alloc: Global,
     library: &mut L,
     sink: &mut K,
     disk: &mut D,
     mirrors: &mut Vec<M>,
+    gone: &mut Vec<M>,
     roads: &str,
     settings: &Settings,
 ) -> Result<Conclusion, Fault>
@@ -50,6 +53,9 @@ pub fn publish<L: Library, K: Sink, D: Disk, M: Mirror>(
         (K.taken sink.new) result }
     ensures mirrored { SealsWhatItMirrors M.octets M.named M.handed M.puts M.room D.Disk disk.old
         disk.new (K.taken sink.old) (K.taken sink.new) mirrors.old.items mirrors.new.items result }
+    ensures gone { HasRoom gone.old mirrors.old → LosesWhatFails M.octets M.named M.handed M.puts
+        M.room M.faults D.Disk disk.old disk.new (K.taken sink.old) (K.taken sink.new)
+        mirrors.old.items mirrors.new.items gone.old.items gone.new.items result }
     ensures signs { SignsAtMostOne D.Disk disk.old disk.new
         (L.files library.new) roads.now settings.now }
     ensures untouched { IfErr result (StaysRefused D.Disk disk.old disk.new) }
@@ -63,14 +69,14 @@ pub fn publish<L: Library, K: Sink, D: Disk, M: Mirror>(
         Err(none) => return Err(Fault::Memory(none)),
     };
     let publication = signed(alloc, disk, parts, settings)?;
-    match send(&publication, sink, &mut spreader, mirrors) {
+    match send(&publication, sink, &mut spreader, mirrors, gone) {
         Err(_) => Err(Fault::Sink),
         Ok(()) if spreader.lost().is_empty() => Ok(Conclusion::Done),
         Ok(()) => Err(Fault::MirrorLost),
     }
 }
 
-/// The publication of parts and settings, signed by the key on the disk, and verified.
+/// Returns the verified publication of parts and settings, signed by the key on the disk.
 fn signed<D: Disk>(
     alloc: Global,
     disk: &mut D,

@@ -8,7 +8,7 @@ ghost use Rattle.lms_tree.specs.Signatures.{public_key};
 ghost use Rattle.desk_areas.specs.Calls.{CalledUpTo};
 ghost use Rattle.desk_areas.specs.Keys.{key_from};
 ghost use Rattle.key_desk.specs.Stands.{KeepsStanding, SameKeys};
-ghost use Rattle.key_desk.specs.Succession.{SignsLink};
+ghost use Rattle.key_desk.specs.Succession.{RaisesNext, SignsLink};
 ghost use Rattle.road_command.specs.View.{type_of};
 ghost use Rattle.command_files.specs.Endings.{Promises, TellsNone, WhyNot};
 ghost use Rattle.command_files.specs.Spared.{SparesLibrary, SparesBut};
@@ -24,7 +24,8 @@ use road_command::KeyKind;
 use road_io::{Disk, Library, Sink};
 use std::alloc::Global;
 
-/// Makes the next key on the disk, which the current key signs with its last one-time key, and writes its public key.
+/// Makes the next key on the disk, which the current key signs with its last one-time key, and writes its public
+/// key.
 pub fn succeed<L: Library, K: Sink, D: Disk>(
     alloc: Global,
     library: &mut L,
@@ -51,7 +52,7 @@ pub fn succeed<L: Library, K: Sink, D: Disk>(
     write_text(sink, &line)
 }
 
-/// Makes the next key on the disk, and answers the line of its public key, whose link is verified.
+/// Makes the next key on the disk, and returns the line of its public key. The link to it is verified.
 fn make_next<D: Disk>(
     alloc: Global,
     disk: &mut D,
@@ -69,6 +70,8 @@ fn make_next<D: Disk>(
     ensures links { AtEachMoment D.Disk disk.old disk.new
         (λ d i. (i ≡ d) ⊎ SignsLink
         (link_text (public_key (key_from (type_of kind) secret.now))) d i) }
+    ensures raises { AtEachMoment D.Disk disk.old disk.new
+        (λ d i. (i ≡ d) ⊎ RaisesNext (key_from (type_of kind) secret.now) d i) }
     ensures keys { AtEachMoment D.Disk disk.old disk.new SameKeys }
     ensures follows { OnOk result
         (FollowsAnother D.Disk disk.new (key_from (type_of kind) secret.now)) }
@@ -83,7 +86,7 @@ fn make_next<D: Disk>(
     }
 }
 
-/// The fault that a refused succession is.
+/// Returns the fault that corresponds to a refused succession.
 fn not_followed(e: SucceedError) -> Fault
     ensures { result ≡ fault_of e }
 {

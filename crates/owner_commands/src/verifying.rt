@@ -1,7 +1,7 @@
-//! What is verified before an octet of it is written: that each signature is the owner's, on its text.
+//! Verification before any octet is written: each signature is the owner's, and signs its text.
 //!
-//! By the contracts of what makes them they are. Where memory or a processor has turned a bit meanwhile they are not,
-//! and such a signature, given out, can help to forge another.
+//! The contracts of the code that makes the signatures already guarantee this. But if memory or a processor flips a
+//! bit in the meantime, it may be false, and such a signature, once released, can help to forge another.
 
 ghost use Rattle.std.specs.Prelude.{◌≡◌, ◌++◌, codes, Ok, Err, IfOk, IfErr, ◌≤◌, ◌<◌, length};
 ghost use Rattle.octet_text.specs.Want.{no_memory};
@@ -18,7 +18,8 @@ use lms_tree::{Link, follow, verify, write_links};
 use proof_octets::Publication;
 use std::alloc::Global;
 
-/// A publication, whose signature is verified under the desk's key. `BadBlock` where it is not.
+/// Returns a publication whose signature verifies under the desk's key. Fails with `BadBlock` if the signature does
+/// not verify.
 pub(crate) fn verified_publication(
     desk: &Desk,
     publication: Publication,
@@ -34,7 +35,8 @@ pub(crate) fn verified_publication(
     }
 }
 
-/// The chain file of links, each of which is verified under the key before it. `BadBlock` where one is not.
+/// Returns the chain file of links, each of which verifies under the previous key. Fails with `BadBlock` if a link
+/// does not verify.
 pub(crate) fn verified_chain(
     alloc: Global,
     first: &[u8; 56],
@@ -54,8 +56,8 @@ pub(crate) fn verified_chain(
     }
 }
 
-/// The line of the public key of a desk whose key is linked to the one before it, by a link that is verified.
-/// `BadBlock` where it is not.
+/// Returns the line of the public key of a desk. A link that verifies must lead to the desk's key from the previous
+/// key. Fails with `BadBlock` if the link does not verify.
 pub(crate) fn line_of_next(desk: &Desk) -> Result<[u8; 113], Fault>
     requires { 0 < length desk.now.earlier }
     ensures { result ≡ Ok (encode_lower (public_key desk.now.key) ++ codes "\n") }

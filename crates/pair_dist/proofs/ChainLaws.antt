@@ -1,4 +1,4 @@
--- A walk between two positions is a chain of walks that stop at walls.
+-- A walk between two positions consists of walks that stop at walls.
 use Rattle.std.proofs.Common.{◌≡◌, ℕ, ◌+◌, ◌<◌, ◌≤◌, ◌==◌, ◌||◌, not, Bool, true, false, IsTrue, None, Some, List, [], ◌∷◌, ◌++◌, inl, inr, length, slice_get, get_or, refl, arith, ap, sym, ◌∙◌, subst}
 use Rattle.std.specs.Option.{unwrap_or}
 use Rattle.std.proofs.lemmas.Bool.{cases_eq}
@@ -23,7 +23,7 @@ module _ (rows : List (List Arc)) (walls : List Bool) (places : List ℕ) (chain
   free start u k l [] h = tt
   free start u k l (a ∷ walk) h = (net_leaves start u a h.0, refl, free start a.to (k + a.length) (l + a.length) walk h.2)
 
-  -- one arc more from where walls let on
+  -- one more arc from a position at which walls let the walk pass
   abbrev lets_on : ℕ → ℕ → Type 0
   lets_on start u = IsTrue ((u == start) || not (unwrap_or (slice_get walls u) false))
 
@@ -56,8 +56,8 @@ module _ (rows : List (List Arc)) (walls : List Bool) (places : List ℕ) (chain
         ends = rest.ends ∙ ap Some (sym end);
       }
 
-  -- ---- and for each walk over the rows the chain has one that is no longer
-  -- a walk from a position so far, that may go on
+  -- ---- for each walk over the rows, the chain has one that is not longer
+  -- a walk from a position so far, which may continue
   record Inner (p u e : ℕ) : Type 0 where
     walk : List Arc
     passes : Passes (walled_ways rows walls p) p 0 walk

@@ -1,4 +1,4 @@
--- Links are added position by position, and their rows make the chain.
+-- Adding links, position by position; their rows form the chain.
 use Rattle.std.proofs.Common.{◌≡◌, ℕ, ◌+◌, ◌<◌, ◌≤◌, ◌==◌, Bool, true, false, cond, Option, None, Some, List, [], ◌∷◌, ◌++◌, ◌⊎◌, inl, inr, length, slice_get, set, refl, arith, ap, sym, ◌∙◌, subst, length-append}
 use Rattle.std.specs.List.{Contains}
 use Rattle.std.proofs.lemmas.List.Elements.{Contains-append_left, Contains-append_right, Contains-append_cases}
@@ -28,7 +28,7 @@ module _ (rows : List (List Arc)) (walls : List Bool) (places : List ℕ) (i p :
     all = λ j q d lt. absurd (omega (arith, lt));
   }
 
-  -- none to the position itself
+  -- no link to the position itself
   pub own_link : (n : ℕ) (row : List Arc) → n ≡ i → IsLinkBelow rows walls places i p n row → IsLinkBelow rows walls places i p (n + 1) row
   own_link n row own h = record {
     walks = h.walks;
@@ -38,7 +38,7 @@ module _ (rows : List (List Arc)) (walls : List Bool) (places : List ℕ) (i p :
     ];
   }
 
-  -- none where no walk leads
+  -- no link if no walk leads there
   pub missing_link : (n q : ℕ) (row : List Arc) (o : Option ℕ) → slice_get places n ≡ Some q → o ≡ None → IsLeastPassing (walled_ways rows walls p) p too_long q o → IsLinkBelow rows walls places i p n row → IsLinkBelow rows walls places i p (n + 1) row
   missing_link n q row o at none least h = record {
     walks = h.walks;
@@ -48,7 +48,7 @@ module _ (rows : List (List Arc)) (walls : List Bool) (places : List ℕ) (i p :
     ];
   }
 
-  -- and one as long as the least
+  -- otherwise a link as long as the least walk
   pub new_link : (n q l : ℕ) (row new : List Arc) (a : Arc) (o : Option ℕ) → slice_get places n ≡ Some q → o ≡ Some l → a.to ≡ n → a.length ≡ l → new ≡ row ++ a ∷ [] → IsLeastPassing (walled_ways rows walls p) p too_long q o → IsLinkBelow rows walls places i p n row → IsLinkBelow rows walls places i p (n + 1) new
   new_link n q l row new a o at some leads long pushed least h = subst (IsLinkBelow rows walls places i p (n + 1)) (sym pushed) (record {
     walks = λ b c. elim (Contains-append_cases row (a ∷ []) b c) [
@@ -70,7 +70,7 @@ module _ (rows : List (List Arc)) (walls : List Bool) (places : List ℕ) (i p :
   pub all_links : (n : ℕ) (row : List Arc) → length places ≤ n → IsLinkBelow rows walls places i p n row → IsLink rows walls places i p row
   all_links n row le h = record { walks = h.walks; all = λ j q d apart to r. h.all j q d (let lt : j < length places = slice_get_within places j q to in omega (arith, lt, le)) apart to r }
 
--- one row more
+-- one more row
 pub chain_more : (rows : List (List Arc)) (walls : List Bool) (places : List ℕ) (n p : ℕ) (chain new : List (List Arc)) (row : List Arc) → slice_get places n ≡ Some p → new ≡ chain ++ row ∷ [] → IsLink rows walls places n p row → IsChainBelow rows walls places n chain → IsChainBelow rows walls places (n + 1) new
 chain_more rows walls places n p chain new row at pushed link h = subst (IsChainBelow rows walls places (n + 1)) (sym pushed) (
   (let l : length (chain ++ row ∷ []) ≡ length chain + 1 = length-append chain (row ∷ []) in let m : length chain ≡ n = h.0 in omega (arith, l, m)),
@@ -80,7 +80,7 @@ chain_more rows walls places n p chain new row at pushed link h = subst (IsChain
   ],
 )
 
--- a wall at one position more
+-- a wall at one more position
 pub wall_more : (places : List ℕ) (walls : List Bool) (i p : ℕ) → slice_get places i ≡ Some p → p < length walls → AreWalls places walls → AreWalls places (set walls p true)
 wall_more places walls i p at lt h = λ q wall. by_test q (p == q) refl wall
   where

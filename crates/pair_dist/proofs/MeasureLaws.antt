@@ -1,4 +1,4 @@
--- What searches over a net, and over a chain, find at the stations of ids.
+-- The lengths that searches over a net, and over a chain, find at the stations of ids.
 use Rattle.std.proofs.Common.{◌≡◌, ℕ, ◌<◌, Some, List, length, slice_get, get_or, arith, ◌∙◌, subst}
 use Rattle.std.proofs.lemmas.Option.{slice_get-get_or, slice_get_within}
 use Rattle.road_map.specs.declared.arc.Arc.{Arc}

@@ -12,7 +12,7 @@ use Rattle.pair_dist.specs.Placing.{ArePlaces}
 beyond : (xs : List ℕ) (p r : ℕ) → p ≡ length xs → slice_get xs p ≡ Some r → ⊥
 beyond xs p r e h = let lt : p < length xs = slice_get_within xs p r h in omega (arith, lt, e)
 
--- one id more
+-- the ids with one more
 pub places-snoc : (order : List Node) (chosen places : List ℕ) (id p : ℕ) → ArePlaces order chosen places → IsPlace order id p → ArePlaces order (chosen ++ id ∷ []) (places ++ p ∷ [])
 places-snoc order chosen places id p h at = record {
   long = (let a : length (chosen ++ id ∷ []) ≡ length chosen + 1 = length-append chosen (id ∷ []) in let b : length (places ++ p ∷ []) ≡ length places + 1 = length-append places (p ∷ []) in omega (arith, a, b, h.long));
@@ -29,18 +29,18 @@ place_for order chosen places i d e h lt = h.each i (get_or chosen i d) (get_or 
 abbrev leaf_with : ℕ → ℕ → ℕ → PairLeaf
 leaf_with a b d = record { a = a; b = b; distance = d }
 
--- what was found is what the leaf says
+-- the length that was found is the one in the leaf
 pub leaf_found : (dist : ℕ → ℕ → Option ℕ) (found : ℕ → Option ℕ) (a b p d : ℕ) → found p ≡ dist a b → d ≡ said (found p) → leaf_with a b d ≡ pair_leaf dist a b
 leaf_found dist found a b p d e is = ap (leaf_with a b) (is ∙ ap said e)
 
--- a position is one of a node
+-- a position belongs to a node
 pub place_within : (order : List Node) (chosen places : List ℕ) (i p : ℕ) → ArePlaces order chosen places → slice_get places i ≡ Some p → p < length order
 place_within order chosen places i p h at =
     let lt : i < length places = slice_get_within places i p at in
     let is : IsPlace order (get_or chosen i 0) p = h.each i (get_or chosen i 0) p (slice_get-get_or chosen i 0 (omega (arith, lt, h.long))) at in
     slice_get_within order p is.0 is.1
 
--- one leaf more of a row
+-- one more leaf of a row
 pub row_more : (f : ℕ → PairLeaf) (xs : List ℕ) (i : ℕ) (old new all : List PairLeaf) (leaf : PairLeaf) → i < length xs → leaf ≡ f (get_or xs i 0) → old ++ map f (drop i xs) ≡ all → new ≡ old ++ leaf ∷ [] → new ++ map f (drop (i + 1) xs) ≡ all
 row_more f xs i old new all leaf lt is so_far pushed =
     let next : suc i ≡ i + 1 = omega arith in

@@ -1,4 +1,5 @@
--- An arc may go where two shorter ones lead as far: each walk has one beside it that is no longer.
+-- An arc can be removed if two shorter ones lead to the same end: for each walk there is another that is not
+-- longer.
 use Rattle.std.proofs.Common.{◌≡◌, ◌≢◌, ℕ, zero, suc, ◌+◌, ◌<◌, ◌≤◌, ◌==◌, Bool, true, false, cond, None, Some, List, [], ◌∷◌, ◌++◌, ◌⊎◌, inl, inr, length, slice_get, get_or, set, refl, arith, ap, sym, ◌∙◌, subst}
 use Rattle.std.specs.List.{Contains}
 use Rattle.std.proofs.lemmas.Bool.{cases_eq}
@@ -28,7 +29,7 @@ module _ (rows : List (List Arc)) (n : ℕ) (row thin : List Arc) (at : slice_ge
       by_test false e = refl
       by_test true e = absurd (apart (grind (arith, e)))
 
-  -- each arc that is left was there
+  -- each arc that remains existed before
   left : (u : ℕ) (a : Arc) → Leaves (net_ways (set rows n thin)) u a → Leaves (net_ways rows) u a
   left u a h = elim (cases_eq u n) [
     | inl same ↦ record {
@@ -43,7 +44,7 @@ module _ (rows : List (List Arc)) (n : ℕ) (row thin : List Arc) (at : slice_ge
   left_walk u k [] h = tt
   left_walk u k (a ∷ walk) h = (left u a h.0, refl, left_walk a.to (k + a.length) walk h.2)
 
-  -- and where one went two others lead, and so on while there are shorter ones
+  -- for a removed arc there are two others, and so on while there are shorter ones
   one : (u : ℕ) (a : Arc) → Leaves (net_ways (set rows n thin)) u a → Way (set rows n thin) u a.to a.length
   one u a h = record { links = a ∷ []; passes = λ k. (h, refl, tt); ends = refl; near = omega arith }
 
@@ -89,17 +90,17 @@ module _ (rows : List (List Arc)) (n : ℕ) (row thin : List Arc) (at : slice_ge
   thin_least i j None h = λ d r. let c = to_new i j d r in h c.0 c.1
   thin_least i j (Some d) h = (to_old i j d h.0, λ e r. let c = to_new i j e r in let least : d ≤ c.0 = h.1 c.0 c.1 in let le : c.0 ≤ e = c.2 in omega (arith, least, le))
 
--- one row more is thinned
+-- one more row is thinned
 pub thin_more : (chain rows new : List (List Arc)) (n : ℕ) (row thin : List Arc) → slice_get rows n ≡ Some row → new ≡ set rows n thin → IsThinned rows row thin → Agrees chain rows → Agrees chain new
 thin_more chain rows new n row thin at put is h = subst (Agrees chain) (sym put) (λ i j o l. h i j o (thin_least rows n row thin at is i j o l))
 
--- ---- the arcs that stay
--- of the first arcs of a row those that are not needless
+-- ---- the arcs that remain
+-- of the first arcs of a row, those that are not redundant
 pub record IsNeededBelow (row : List Arc) (lengths : List ℕ) (n : ℕ) (thin : List Arc) : Type 0 where
   pub among : (a : Arc) → Contains thin a → Contains row a
   pub rest : (k : ℕ) (a : Arc) → k < n → slice_get row k ≡ Some a → Contains thin a ⊎ IsNeedless lengths a
 
--- one arc more is put after the others, or is needless
+-- one more arc is appended, or is redundant
 pub needed_more : (row : List Arc) (lengths : List ℕ) (n : ℕ) (old new : List Arc) (a : Arc) → slice_get row n ≡ Some a → (new ≡ old ++ a ∷ []) ⊎ ((new ≡ old) × IsNeedless lengths a) → IsNeededBelow row lengths n old → IsNeededBelow row lengths (n + 1) new
 needed_more row lengths n old new a at (inl put) h = subst (IsNeededBelow row lengths (n + 1)) (sym put) (record {
   among = λ b c. elim (Contains-append_cases old (a ∷ []) b c) [
@@ -125,7 +126,7 @@ needed_more row lengths n old new a at (inr same) h = subst (IsNeededBelow row l
 pub needed_all : (row : List Arc) (lengths : List ℕ) (n : ℕ) (thin : List Arc) → length row ≤ n → IsNeededBelow row lengths n thin → (a : Arc) → Contains row a → Contains thin a ⊎ IsNeedless lengths a
 needed_all row lengths n thin le h a c = let p = place_at row a c in h.rest p.0 a (let lt : p.0 < length row = slice_get_within row p.0 a p.1 in omega (arith, lt, le)) p.1
 
--- lengths that are those of two arcs tell which arcs may go
+-- lengths of two arcs tell which arcs can be removed
 pub thin_by : (rows : List (List Arc)) (row thin : List Arc) (lengths seen : List ℕ) → seen ≡ lengths → AreSteps rows row lengths → ((a : Arc) → Contains thin a → Contains row a) → ((a : Arc) → Contains row a → Contains thin a ⊎ IsNeedless seen a) → IsThinned rows row thin
 thin_by rows row thin lengths seen same steps among rest = record {
   among = among;
@@ -135,12 +136,12 @@ thin_by rows row thin lengths seen same steps among rest = record {
   ];
 }
 
--- one row more of a list of rows is thinned
+-- one more row of a list of rows is thinned
 pub step_more : (chain rows : List (List Arc)) (n e : ℕ) (seen : List (List Arc)) (row thin d : List Arc) → length rows ≡ e → n < e → seen ≡ rows → row ≡ get_or rows n d → IsThinned seen row thin → Agrees chain rows → Agrees chain (set rows n thin)
 step_more chain rows n e seen row thin d long lt same is thinned h =
     let at : slice_get rows n ≡ Some (get_or rows n d) = slice_get-get_or rows n d (omega (arith, long, lt)) in
     thin_more chain rows (set rows n thin) n row thin (at ∙ ap Some (sym is)) refl (subst (λ (xs : List (List Arc)). IsThinned xs row thin) same thinned) h
 
--- and so the chain keeps what it kept
+-- and so the chain preserves what it preserved before
 pub thin_keeps : (rows : List (List Arc)) (places : List ℕ) (chain thin : List (List Arc)) → Keeps rows places chain → Agrees chain thin → Keeps rows places thin
 thin_keeps rows places chain thin keeps agrees i j p q o at to l = keeps i j p q o at to (agrees i j o l)

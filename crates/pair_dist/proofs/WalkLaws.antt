@@ -22,7 +22,7 @@ pub join_end : (u : ℕ) (walk more : List Arc) → last_stop u (walk ++ more) �
 join_end u [] more = refl
 join_end u (a ∷ walk) more = join_end a.to walk more
 
--- a walk from i to j that is at most e long
+-- a walk from i to j of length at most e
 pub record Way (rows : List (List Arc)) (i j e : ℕ) : Type 0 where
   pub links : List Arc
   pub passes : (k : ℕ) → Passes (net_ways rows) i k links

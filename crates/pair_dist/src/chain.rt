@@ -1,4 +1,5 @@
-//! The chain of chosen positions: an arc from each to each that a walk leads to past no third.
+//! The chain of chosen positions. It has an arc from one position to another if a walk joins them without passing a
+//! third.
 
 ghost use Rattle.std.specs.Prelude.{◌≡◌, ◌<◌, ◌≤◌, ◌+◌, ℕ, true, IfOk, IfSome, Some, length, slice_get};
 ghost use Rattle.std.specs.Option.{option_copied};
@@ -14,7 +15,7 @@ use road_search::{Ground, Marks, Numbered, search_in};
 use std::alloc::Global;
 use std::marker::Model;
 
-/// The arcs out of each position, at its number, each to the number of a position.
+/// For each position, given by its number, the arcs to the numbers of other positions.
 #[derive(Drop)]
 pub struct Chain {
     pub(crate) rows: Vec<Arcs>,
@@ -30,7 +31,7 @@ impl Model for Chain {
 }
 
 impl Chain {
-    /// The arcs at a number, where there is one.
+    /// Returns the arcs at a number, if the number exists.
     fn get(&self, number: u32) -> Option<&[Arc]>
         ensures { option_copied result ≡ slice_get self.now number }
     {
@@ -65,7 +66,7 @@ impl Ground for Chain {
     ghost lets_shorter = { λ c id short long le h. h };
 }
 
-/// A wall at each of some positions, among so many positions.
+/// Returns walls for `count` positions, with a wall at each of some positions.
 pub fn walls_at(alloc: Global, count: u32, places: &[u32]) -> Result<Vec<bool>, NoMemory>
     requires { (i p : ℕ) → slice_get places.now i ≡ Some p → p < count }
     ensures { IfOk result (λ walls. AreWalls places.now walls.items) }
@@ -77,7 +78,7 @@ pub fn walls_at(alloc: Global, count: u32, places: &[u32]) -> Result<Vec<bool>, 
     Ok(walls)
 }
 
-/// The length that a search has found, if it has found one.
+/// Returns the length that a search has found, if it has found one.
 pub fn length_of<T: Marks>(marks: &T, position: u32) -> Option<u64>
     ensures { result ≡ length_in (T.mark marks.now) position }
 {
@@ -87,7 +88,8 @@ pub fn length_of<T: Marks>(marks: &T, position: u32) -> Option<u64>
     }
 }
 
-/// Adds the arc to one position more, where a walk leads there past no other. It answers no where that is too long.
+/// Adds the arc to one more position, if a walk leads there without passing another chosen one. Returns false if
+/// the arc is too long.
 fn add_link<T: Marks, R: Rows>(
     row: &mut Vec<Arc>,
     walled: &Walled<'_, R>,
@@ -125,7 +127,8 @@ fn add_link<T: Marks, R: Rows>(
     Ok(true)
 }
 
-/// The arcs from one of the positions to others, as a search has found them, unless one is too long.
+/// Returns the arcs from one of the positions to others, from the result of a search. Returns `None` if one of them
+/// is too long.
 fn link<T: Marks, R: Rows>(
     alloc: Global,
     walled: &Walled<'_, R>,
@@ -149,8 +152,8 @@ fn link<T: Marks, R: Rows>(
     Ok(Some(Arcs::from_vec(copied(alloc, row.as_slice())?)))
 }
 
-/// The chain of some positions, by a search from each that goes on from no other, unless an arc of it
-/// is too long or there are more than so many.
+/// Returns the chain of some positions. Runs a search from each position that stops at every other one. Returns
+/// `None` if an arc is too long or there are more than `most` arcs.
 pub fn chain_of<R: Rows>(
     alloc: Global,
     rows: &R,

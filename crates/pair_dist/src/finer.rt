@@ -1,8 +1,8 @@
-//! More positions than were chosen, along the lines of a grid.
+//! Further positions beside the chosen ones, along the lines of a grid.
 //!
-//! A search that goes on from no other chosen position still covers all that these shut off. Over a large
-//! map searches between positions along finer lines cover less, and over their links the chosen ones are
-//! a few steps apart. Which positions these are changes no distance.
+//! A search that stops at every other chosen position still covers everything that these positions enclose. Over a
+//! large map, searches between positions along finer lines cover less, and the chosen positions are only a few of
+//! their links apart. The choice of positions changes no distance.
 
 ghost use Rattle.std.specs.Prelude.{◌≡◌, ℕ, ◌<◌, ◌≤◌, ◌+◌, ◌*◌, ◌^◌, Some, IfOk, IfSome, length, slice_get};
 ghost use Rattle.std.specs.Option.{unwrap_or};
@@ -17,7 +17,7 @@ use octet_text::{NoMemory, copied, push, room_for};
 use road_map::{Map, Net, Node};
 use std::alloc::Global;
 
-/// The cell of a node, in a grid of as many columns as rows over a frame.
+/// Returns the cell of a node, in a grid with as many columns as rows over a frame.
 fn cell_of(frame: &Frame, columns: u32, node: Node) -> u32
     requires inside { InFrame frame.now node }
     requires some { 0 < columns }
@@ -30,7 +30,7 @@ fn cell_of(frame: &Frame, columns: u32, node: Node) -> u32
     row * columns + column
 }
 
-/// The cells of all nodes, by position.
+/// Returns the cells of all nodes, by position.
 fn cells_of(alloc: Global, map: &Map, columns: u32) -> Result<Vec<u32>, NoMemory>
     requires some { 0 < columns }
     requires few { columns ≤ 65535 }
@@ -47,7 +47,7 @@ fn cells_of(alloc: Global, map: &Map, columns: u32) -> Result<Vec<u32>, NoMemory
     Ok(cells)
 }
 
-/// The cell at a position, or 0.
+/// Returns the cell at a position, or 0.
 fn cell_at(cells: &[u32], position: u32) -> u32
     ensures { result ≡ unwrap_or (slice_get cells.now position) 0 }
 {
@@ -57,7 +57,7 @@ fn cell_at(cells: &[u32], position: u32) -> u32
     }
 }
 
-/// Whether an arc leads from a position into a cell with a greater number.
+/// Tests whether an arc leads from a position into a cell with a greater number.
 fn crosses(net: &Net, cells: &[u32], position: u32) -> bool {
     let Some(arcs) = net.get(position) else {
         return false;
@@ -71,7 +71,7 @@ fn crosses(net: &Net, cells: &[u32], position: u32) -> bool {
     false
 }
 
-/// Some positions, and after them the other positions from where an arc crosses a line.
+/// Returns the given positions, followed by the other positions from which an arc crosses a line.
 fn places_along(
     alloc: Global,
     net: &Net,
@@ -95,11 +95,11 @@ fn places_along(
     Ok(finer)
 }
 
-/// Some positions of a large map, and after them others along the lines of a grid whose cells would
-/// have 1,024 nodes each, where searches from these pay.
+/// Returns some positions of a large map, followed by others along the lines of a grid whose cells would have 1,024
+/// nodes each. Returns no positions if searches from them would not save time.
 ///
-/// They do where so large a map has so many positions that a search from each covers much of it. The
-/// links of the finer positions are some ten for each node of the map, so the positions have more pairs.
+/// They save time if the map is so large and has so many positions that a search from each covers much of it. The
+/// finer positions have about ten links for each node of the map, which is fewer than the pairs of the positions.
 pub fn finer_places(
     alloc: Global,
     map: &Map,

@@ -6,12 +6,12 @@ ghost use Rattle.road_map.specs.declared.arc.Arc.{Arc};
 
 use road_map::{Arc, Net};
 
-/// Rows of arcs, each at its number, to the numbers of rows.
+/// Rows of arcs. Each row and each end of an arc is given by its number.
 pub trait Rows {
-    // What contracts see of them.
+    // The bounds as contracts see them.
     ghost rows: { Self → List (List Arc) };
 
-    /// The arcs at a number, where there is a row.
+    /// Returns the arcs at a number, if the row exists.
     fn at(&self, number: u32) -> Option<&[Arc]>
         ensures { option_copied result ≡ slice_get (rows self.now) number };
 }

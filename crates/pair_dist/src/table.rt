@@ -20,14 +20,14 @@ use road_map::{Map, Net, map_laws};
 use road_search::{Ground, Marks, Numbered, search_in};
 use std::alloc::Global;
 
-/// The distance as a leaf says it: the greatest number where no walk leads there.
+/// Returns the distance as a leaf states it: the greatest number if no walk leads to the station.
 fn said_length<T: Marks>(marks: &T, station: u32) -> u64
     ensures { result ≡ said (length_in (T.mark marks.now) station) }
 {
     length_of(marks, station).unwrap_or(u64::MAX)
 }
 
-/// The positions of some nodes.
+/// Returns the positions of some nodes.
 fn positions(alloc: Global, map: &Map, chosen: &[u32]) -> Result<Vec<u32>, NoMemory>
     requires { (id : ℕ) → Contains chosen.now id → Knows map.now.parts id }
     ensures { IfOk result (λ places. ArePlaces map.now.order chosen.now places.items) }
@@ -40,7 +40,7 @@ fn positions(alloc: Global, map: &Map, chosen: &[u32]) -> Result<Vec<u32>, NoMem
     Ok(places)
 }
 
-/// The numbers up to a count.
+/// Returns the numbers below a count.
 fn numbers(alloc: Global, count: u32) -> Result<Vec<u32>, NoMemory>
     ensures long { IfOk result (λ v. length v.items ≡ count) }
     ensures each { IfOk result (λ v. (i n : ℕ) → slice_get v.items i ≡ Some n → n ≡ i) }
@@ -52,7 +52,7 @@ fn numbers(alloc: Global, count: u32) -> Result<Vec<u32>, NoMemory>
     Ok(found)
 }
 
-/// Adds the leaves of one id, from whose station a search has gone, with each of these from an offset on.
+/// Adds the leaves of one id with each of the other ids from an offset on, after a search from its station.
 fn add_row<T: Marks>(
     leaves: &mut Vec<PairLeaf>,
     chart: &Map,
@@ -82,7 +82,8 @@ fn add_row<T: Marks>(
     Ok(())
 }
 
-/// The leaves of all pairs, by a search from the station of each over a ground that keeps their distances.
+/// Returns the leaves of all pairs. Runs a search from the station of each id, over a ground that preserves their
+/// distances.
 fn leaves_over<G: Ground>(
     alloc: Global,
     ground: &G,
@@ -103,8 +104,8 @@ fn leaves_over<G: Ground>(
     Ok(leaves)
 }
 
-/// A chain of some positions, among so many numbers of rows, that keeps their distances, unless an arc of
-/// it is too long or there are more than so many.
+/// Returns a chain of some positions, among `count` rows, that preserves their distances. Returns `None` if an arc
+/// is too long or there are more than `most` arcs.
 fn chain_over<R: Rows>(
     alloc: Global,
     rows: &R,
@@ -123,8 +124,8 @@ fn chain_over<R: Rows>(
     }
 }
 
-/// A chain of some positions over the chain of finer ones, of which they are the first, or over the net where
-/// the finer chain would have more arcs than the positions have pairs.
+/// Returns a chain of some positions over the chain of finer positions, of which they are the first. Uses the net
+/// instead if the finer chain would have more arcs than the positions have pairs.
 fn chain_by_steps(
     alloc: Global,
     net: &Net,
@@ -148,8 +149,8 @@ fn chain_by_steps(
     }
 }
 
-/// A chain of some positions that keeps their distances, unless an arc of it is too long or the positions are
-/// all that there are.
+/// Returns a chain of some positions that preserves their distances. Returns `None` if an arc is too long or there
+/// are no other positions.
 fn chain_at(alloc: Global, map: &Map, net: &Net, places: &[u32]) -> Result<Option<Chain>, NoMemory>
     requires within { (i p : ℕ) → slice_get places.now i ≡ Some p → p < length map.now.order }
     requires few { length places.now ≤ 2048 }
@@ -165,8 +166,8 @@ fn chain_at(alloc: Global, map: &Map, net: &Net, places: &[u32]) -> Result<Optio
     }
 }
 
-/// The leaves of all pairs of some nodes at these positions: over their chain, or over the whole map where
-/// they have none.
+/// Returns the leaves of all pairs of some nodes at these positions, over their chain or, if they have none, over
+/// the whole map.
 fn leaves_at(
     alloc: Global,
     map: &Map,
@@ -189,11 +190,11 @@ fn leaves_at(
     }
 }
 
-/// The leaves of all pairs of some nodes: each id with each that stands after it, and their distance.
+/// Returns the leaves of all pairs of some nodes: each id with each later id, and their distance.
 ///
-/// One search for each id that goes on from no other of them, and one over the lengths that these have
-/// found. Where a large map has many of them, the first go over lengths that searches between more
-/// positions have found. `TooMany` comes before any search, exactly where more than 2,048 nodes are chosen.
+/// Runs one search for each id that stops at every other id, and one over the lengths that these searches have
+/// found. If a large map has many of the ids, the first searches use lengths found by searches between more
+/// positions. Fails with `TooMany` exactly if more than 2,048 nodes are chosen, before any search.
 pub fn pair_leaves(alloc: Global, map: &Map, chosen: &[u32]) -> Result<PairLeaves, PairError>
     requires { (id : ℕ) → Contains chosen.now id → Knows map.now.parts id }
     ensures leaves { IfOk result (λ leaves. leaves ≡ pairs_of (distance map.now.parts) chosen.now) }

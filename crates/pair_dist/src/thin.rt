@@ -1,4 +1,4 @@
-//! Arcs that two others make needless.
+//! Arcs that two other arcs make redundant.
 
 ghost use Rattle.std.specs.Prelude.{◌≡◌, ◌<◌, ◌+◌, ◌⊎◌, ℕ, true, Some, IfOk, OnOk, [], ◌∷◌, ◌++◌, Contains, slice_get};
 ghost use Rattle.road_map.specs.declared.arc.Arc.{Arc};
@@ -10,7 +10,7 @@ use octet_text::{NoMemory, filled, push, room_for};
 use road_map::{Arc, Arcs};
 use std::alloc::Global;
 
-/// Lowers the length of where the second of two arcs leads to that of both, where each is longer than 0.
+/// If both arcs are longer than 0, lowers the length at the end of the second one to their sum.
 fn lower(lengths: &mut Vec<u64>, first: Arc, second: Arc)
     ensures { (j v : ℕ) → slice_get lengths.new.items j ≡ Some v →
         (slice_get lengths.old.items j ≡ Some v) ⊎ ((second.to ≡ j) × (0 < first.length) ×
@@ -26,7 +26,7 @@ fn lower(lengths: &mut Vec<u64>, first: Arc, second: Arc)
     }
 }
 
-/// Lowers the lengths of where two arcs lead: one, and then any of these.
+/// Lowers the lengths at the ends of two arcs: `first`, and then any of `out`.
 fn lower_each(lengths: &mut Vec<u64>, first: Arc, out: &[Arc])
     ensures { (j v : ℕ) → slice_get lengths.new.items j ≡ Some v →
         (slice_get lengths.old.items j ≡ Some v) ⊎ ((a : Arc) × Contains out.now a × (a.to ≡ j) ×
@@ -37,7 +37,7 @@ fn lower_each(lengths: &mut Vec<u64>, first: Arc, out: &[Arc])
     }
 }
 
-/// Lowers the lengths of where an arc of a row leads with one more out of where it ends.
+/// Lowers the lengths at the ends of an arc of a row followed by one more arc.
 fn lower_beyond(lengths: &mut Vec<u64>, rows: &[Arcs], row: &[Arc], first: Arc)
     requires among { Contains row.now first }
     requires steps { AreSteps rows.now row.now lengths.old.items }
@@ -48,8 +48,8 @@ fn lower_beyond(lengths: &mut Vec<u64>, rows: &[Arcs], row: &[Arc], first: Arc)
     }
 }
 
-/// The least length of two arcs to each number, one of a row and one out of where it leads: the
-/// greatest number where there are none.
+/// Returns, for each number, the least length of two arcs that lead to it: one arc of a row, and one from this
+/// arc's end. The length is the greatest number if there are no such arcs.
 fn lengths_beyond(alloc: Global, rows: &[Arcs], row: &[Arc]) -> Result<Vec<u64>, NoMemory>
     ensures { IfOk result (λ lengths. AreSteps rows.now row.now lengths.items) }
 {
@@ -60,7 +60,7 @@ fn lengths_beyond(alloc: Global, rows: &[Arcs], row: &[Arc]) -> Result<Vec<u64>,
     Ok(lengths)
 }
 
-/// Whether two arcs lead to where this one does, and are together no longer.
+/// Tests whether two other arcs lead to the end of this one and are together not longer.
 fn is_needless(lengths: &[u64], arc: Arc) -> bool
     ensures { result ≡ true → IsNeedless lengths.now arc }
 {
@@ -70,7 +70,7 @@ fn is_needless(lengths: &[u64], arc: Arc) -> bool
     }
 }
 
-/// Puts an arc after others, unless it is needless.
+/// Appends an arc, unless it is redundant.
 fn put_needed(thin: &mut Vec<Arc>, lengths: &[u64], arc: Arc) -> Result<(), NoMemory>
     ensures { OnOk result ((thin.new.items ≡ thin.old.items ++ arc ∷ []) ⊎
         ((thin.new.items ≡ thin.old.items) × IsNeedless lengths.now arc)) }
@@ -81,7 +81,7 @@ fn put_needed(thin: &mut Vec<Arc>, lengths: &[u64], arc: Arc) -> Result<(), NoMe
     Ok(())
 }
 
-/// The arcs of a row that are not needless.
+/// Returns the arcs of a row that are not redundant.
 fn needed(alloc: Global, row: &[Arc], lengths: &[u64]) -> Result<Arcs, NoMemory>
     ensures among { IfOk result (λ thin. (a : Arc) → Contains thin a → Contains row.now a) }
     ensures rest { IfOk result (λ thin. (a : Arc) → Contains row.now a → Contains thin a ⊎
@@ -94,7 +94,7 @@ fn needed(alloc: Global, row: &[Arc], lengths: &[u64]) -> Result<Arcs, NoMemory>
     Ok(Arcs::from_vec(thin))
 }
 
-/// The row at a number, without the arcs that two others are no longer than.
+/// Returns the row at a number without the arcs that two others replace without being longer.
 fn thin_row(alloc: Global, rows: &[Arcs], row: &[Arc]) -> Result<Arcs, NoMemory>
     ensures { IfOk result (IsThinned rows.now row.now) }
 {
@@ -103,8 +103,8 @@ fn thin_row(alloc: Global, rows: &[Arcs], row: &[Arc]) -> Result<Arcs, NoMemory>
     Ok(thin)
 }
 
-/// The chain without the arcs that two others, each of them longer than 0, make needless: row by row, each
-/// over the rows that are thinned and those that are not yet.
+/// Removes the arcs of a chain that two others, each longer than 0, make redundant. Works row by row, over the rows
+/// that are already thinned and those that are not yet.
 pub fn thinned(alloc: Global, chain: Chain) -> Result<Chain, NoMemory>
     ensures { IfOk result (Agrees chain) }
 {

@@ -7,7 +7,7 @@ use crate::rows::Rows;
 use road_map::Arc;
 use road_search::Ground;
 
-/// Whether a wall stands at a number.
+/// Tests whether there is a wall at a number.
 pub fn is_wall(walls: &[bool], number: u32) -> bool
     ensures { result ≡ unwrap_or (slice_get walls.now number) false }
 {
@@ -17,7 +17,7 @@ pub fn is_wall(walls: &[bool], number: u32) -> bool
     }
 }
 
-/// Rows of arcs, with walls at some numbers: from a wall no walk goes on, unless it starts there.
+/// Rows of arcs, with walls at some numbers. No walk continues from a wall, unless it starts there.
 #[derive(Drop)]
 pub struct Walled<'a, R: Rows> {
     pub rows: &'a R,

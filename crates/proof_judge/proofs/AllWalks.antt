@@ -1,5 +1,5 @@
--- Walks of whatever length: since no id stands twice on a least one, and each arc is short, no least
--- length comes near the greatest number of 64 bits.
+-- Walks of any length. A least walk repeats no id and its arcs are short, so no least length comes near the
+-- greatest 64-bit number.
 use Rattle.std.proofs.Common.{◌≡◌, ℕ, ◌+◌, ◌*◌, ◌^◌, ◌<◌, ◌≤◌, inl, inr, Bool, true, IsTrue, Option, None, Some, IfSome, IsSome, List, [], ◌∷◌, length, nat_eq, refl, arith, ap, sym, ◌∙◌, subst}
 use Rattle.std.specs.List.{Contains, IsDistinct}
 use Rattle.std.specs.Option.{option_map}
@@ -28,7 +28,7 @@ use Rattle.proof_judge.proofs.Reaching.{Reaches-start, Reaches-step}
 
 -- ---- walks of any length
 
--- a passing walk leads to where it ends
+-- a passing walk leads to its last stop
 pub walk_leads : (w : Ways) (from to : ℕ) (walk : List Arc) → Passes w from 0 walk → last_stop from walk ≡ to → Leads w from to (walk_length walk)
 walk_leads w from to walk passes ends = (stops from walk, record { walk = walk; passes = passes; visits = refl; ends = ends; sums = refl; below = omega arith })
 
@@ -41,7 +41,7 @@ lacking_way w from id l = ((walk_length l.walk, walk_leads w from id l.walk l.pa
 pub way_lacking : (w : Ways) (from id : ℕ) → HasWay w from id → w.arcs id ≡ None → EndsLacking w from id
 way_lacking w from id h lacks = let p : PassesBy w from (h.0 + 1) id h.1.0 h.0 = h.1.1 in record { walk = p.walk; passes = p.passes; ends = p.ends; lacks = lacks }
 
--- ---- a search below the greatest number of 64 bits
+-- ---- a search below the greatest 64-bit number
 
 pub has_way : (found : Found) (v d : ℕ) → length_at found v ≡ Some d → (r : List ℕ) × (route_at found v ≡ Some r)
 has_way found v d is = by_label (label_at found.labels v) refl is
@@ -57,7 +57,7 @@ module _ (w : Ways) (shorter : LetsShorter w) (narrow : IsNarrow w) where
   fits : (u : ℕ) (a : Arc) → Leaves w u a → a.length < 2 ^ 32
   fits u a h = narrow.short u h.out a h.entry h.among
 
-  -- where the last stop has an entry, each stop has
+  -- if the last stop has an entry, each stop has one
   entries : (u p : ℕ) (walk : List Arc) → Passes w u p walk → IsSome (w.arcs (last_stop u walk)) → (x : ℕ) → Contains (stops u walk) x → IsSome (w.arcs x)
   entries u p [] h last x c = elim (Contains-cases u x [] c) [
     | inl e ↦ subst (λ v. IsSome (w.arcs v)) e last
@@ -72,7 +72,7 @@ module _ (w : Ways) (shorter : LetsShorter w) (narrow : IsNarrow w) where
   walk_bound u p [] h = omega arith
   walk_bound u p (a ∷ walk) h = omega (arith, fits u a h.0, walk_bound a.to (p + a.length) walk h.2)
 
-  -- a way with no id twice to an id with an entry is low
+  -- a walk that repeats no id and leads to an id with an entry is short
   low : (from limit v d : ℕ) (o : Option ℕ) (route : List ℕ) → o ≡ Some d → IsWay w from limit v o route → IsSome (w.arcs v) → d ≤ 4294967295 * 4294967295
   low from limit v d o route is way last =
       let walk = way.passes.walk in
@@ -91,7 +91,7 @@ module _ (w : Ways) (shorter : LetsShorter w) (narrow : IsNarrow w) where
         let r : (r : List ℕ) × (route_at found v ≡ Some r) = has_way found v d is in
         low from 18446744073709551615 v d (length_at found v) r.0 is (subst (λ (o : Option (List ℕ)). IfSome o (IsWay w from 18446744073709551615 v (length_at found v))) r.1 (ways v)) last
 
-    -- a length that is found, at most this one
+    -- a length that is found is at most this one
     HasLength : ℕ → ℕ → Type 0
     HasLength v most = (d : ℕ) × (length_at found v ≡ Some d) × (d ≤ most)
 
@@ -121,7 +121,7 @@ module _ (w : Ways) (shorter : LetsShorter w) (narrow : IsNarrow w) where
         let f : HasLength (last_stop from p.walk) (0 + walk_length p.walk) = further from 0 p.walk begins p.passes in
         (f.0, ap (length_at found) (sym p.ends) ∙ f.1, omega (arith, f.2, p.sums))
 
-    -- each least length that is found is least of all lengths
+    -- each least length that is found is the least of all lengths
     pub any_length : (v : ℕ) → IsLeast (Leads w from v) (length_at found v)
     unfolding HasLength
     any_length v = by_length (length_at found v) refl (least v)
@@ -133,7 +133,7 @@ module _ (w : Ways) (shorter : LetsShorter w) (narrow : IsNarrow w) where
         )
         by_length None is h = λ d r. let f : HasLength v d = ends_at v d r in absurd (let bad : None ≡ Some f.0 = sym is ∙ f.1 in cc)
 
--- ---- the tests that such a search answers
+-- ---- the tests that use the results of such a search
 
 some_way : (w : Ways) (from v : ℕ) (o : Option ℕ) → IsLeast (Leads w from v) o → IsSome o → HasWay w from v
 some_way w from v None h some = cc
@@ -160,7 +160,7 @@ all_tests w q len (Some id) lengths h v t = (Some id, lacking_least w q.from len
 same_number : (x y : ℕ) → nat_eq x y ≡ true → x ≡ y
 same_number x y h = grind (arith, nat_tests)
 
--- walks over items are narrow, since ids and lengths are numbers of 32 bits
+-- walks over items are narrow, since ids and lengths are 32-bit numbers
 pub items_narrow : (nodes : List NodeLeaf) → AreShort nodes → ((n : NodeLeaf) → Contains nodes n → n.id < 2 ^ 32) → (lets : ℕ → ℕ → Bool) → IsNarrow (leaf_ways lets (item_at nodes))
 items_narrow nodes short ids lets = record {
   few = λ xs distinct some. length-le_from_distinct_below xs (2 ^ 32) distinct (λ q e. named q (item_at nodes q) refl (some q (Contains-from_any same_number q xs e)));

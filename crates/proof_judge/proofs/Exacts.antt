@@ -64,7 +64,7 @@ route_unique (Err e) next one = λ v w h k. h ∙ sym k
 pub exact : (k : Kind) → HasOneVerdict k
 exact k n g q v w h j = tests_unique (StandsTwice g.nodes) RepeatedNode (OnRoute (walked g.nodes q g.route) (OwnTests k n g q)) (route_unique (walked g.nodes q g.route) (OwnTests k n g q) (own_unique k n g q)) v w h j
 
--- ---- where no route is shown
+-- ---- if no route is given
 
 walks_unique : (w : Ways) (q : Query) → Unique (WalkTests w q)
 walks_unique w q = tests_unique (EndsLacking w q.from) MissingTuple _ (tests_unique (Leads w q.from q.to) Shorter Passed (λ v w h k. h ∙ sym k))

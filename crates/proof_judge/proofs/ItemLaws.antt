@@ -1,4 +1,4 @@
--- What is found in a list has what was asked for.
+-- An element found in a list has the key that was searched for.
 use Rattle.std.proofs.Common.{◌≡◌, ℕ, ◌==◌, Bool, true, false, cond, Some, List, [], ◌∷◌, refl, arith, subst, find}
 use Rattle.std.specs.List.{Contains}
 use Rattle.road_map.proofs.Among.{Contains-here, Contains-there}

@@ -1,4 +1,4 @@
--- Keys that stand twice, by indices, in lists sorted by the key.
+-- Repeated keys in lists sorted by the key, in terms of indices.
 use Rattle.std.proofs.Common.{◌≡◌, ℕ, zero, suc, ◌+◌, ◌-◌, ◌≤◌, ◌<◌, ◌==◌, Bool, true, false, cond, None, Some, Option, List, [], ◌∷◌, ◌⊎◌, inl, inr, refl, arith, ap, ◌∙◌, count_by, length, slice_get, get_or}
 use Rattle.std.specs.List.{AllAdjacentBelow, find}
 use Rattle.std.specs.List.Sorted.{IsNonDecreasingBy}
@@ -14,7 +14,7 @@ module _ {X : Type 0} (key : X → ℕ) where
   head_counts : (id : ℕ) (x : X) → key x ≡ id → counted (key x == id) ≡ 1
   head_counts id x e = let t : (key x == id) ≡ true = grind (arith, e) in ap counted t
 
-  -- an id stands at the indices that count
+  -- an id is at the indices that are counted
   pub one_counts : (id : ℕ) (xs : List X) (i : ℕ) (m : X) → slice_get xs i ≡ Some m → key m ≡ id → 1 ≤ count_by (is_at key id) xs
   one_counts id [] i m is e = cc
   one_counts id (x ∷ xs) zero m is e = let same : x ≡ m = cc in rw (count-cons key id x xs) (omega (arith, head_counts id x (ap key same ∙ e)))
@@ -26,14 +26,14 @@ module _ {X : Type 0} (key : X → ℕ) where
   two_count id (x ∷ xs) zero (suc j) m n lt a b c d = let same : x ≡ m = cc in rw (count-cons key id x xs) (omega (arith, head_counts id x (ap key same ∙ c), one_counts id xs j n b d))
   two_count id (x ∷ xs) (suc i) (suc j) m n lt a b c d = rw (count-cons key id x xs) (omega (arith, two_count id xs i j m n (omega (arith, lt)) a b c d))
 
-  -- one index of an id
+  -- an id is at one index
   pub record Once (id : ℕ) (xs : List X) : Type 0 where
     pub i : ℕ
     pub m : X
     pub at : slice_get xs i ≡ Some m
     pub same : key m ≡ id
 
-  -- two indices of an id
+  -- an id is at two indices
   pub record Both (id : ℕ) (xs : List X) : Type 0 where
     pub i : ℕ
     pub j : ℕ
@@ -73,7 +73,7 @@ module _ {X : Type 0} (key : X → ℕ) where
       by_head true e le deeper = with_one e (once_from_count id xs (omega (arith, le)))
       by_head false e le deeper = later (deeper (omega (arith, le)))
 
-  -- a key that rises is no less than its index
+  -- an ascending key is at least its index
   pub index_below : (xs : List X) → RiseBy key xs → (k : ℕ) (m : X) → slice_get xs k ≡ Some m → k ≤ key m
   index_below xs rise zero m at = omega arith
   index_below xs rise (suc k) m at =
@@ -83,14 +83,14 @@ module _ {X : Type 0} (key : X → ℕ) where
       let step : key (get_or xs k m) < key m = rise k (suc k) (get_or xs k m) m (omega arith) here at in
       omega (arith, before, step)
 
-  -- there are no more keys than numbers below a bound of the last
+  -- there are at most as many keys as numbers below a bound of the last key
   pub few_keys : (xs : List X) (d : X) (most : ℕ) → RiseBy key xs → 0 < length xs → key (get_or xs (length xs - 1) d) < most → length xs ≤ most
   few_keys xs d most rise some lt =
       let at : slice_get xs (length xs - 1) ≡ Some (get_or xs (length xs - 1) d) = slice_get-get_or xs (length xs - 1) d (omega (arith, some)) in
       let below : length xs - 1 ≤ key (get_or xs (length xs - 1) d) = index_below xs rise (length xs - 1) (get_or xs (length xs - 1) d) at in
       omega (arith, below, lt, some)
 
-  -- keys up to an index rise where no neighbours are equal
+  -- keys up to an index ascend if no two neighbours are equal
   module _ (xs : List X) (sorted : IsNonDecreasingBy key xs) where
     rise_below : (i : ℕ) → i ≤ length xs → AllAdjacentBelow (λ (x y : X). key x < key y) xs i → (j k : ℕ) (m n : X) → j < k → k < i → slice_get xs j ≡ Some m → slice_get xs k ≡ Some n → key m < key n
     rise_below i le up j zero m n lt below a b = omega (arith, lt)
@@ -131,7 +131,7 @@ module _ {X : Type 0} (key : X → ℕ) where
             side : (k m : ℕ) → (k < m) ⊎ (m ≤ k)
             side k m = grind arith
 
-    -- where no key stands twice, the keys ascend
+    -- if no key occurs twice, the keys ascend
     pub keys_rise : ((id : ℕ) → Twice key xs id → ⊥) → RiseBy key xs
     keys_rise distinct i j m n lt a b =
         let le : key (get_or xs i m) ≤ key (get_or xs j m) = sorted i j m (omega arith) (slice_get_within xs j n b) in
@@ -140,7 +140,7 @@ module _ {X : Type 0} (key : X → ℕ) where
         let apart : key m ≡ key n → ⊥ = λ e. distinct (key n) (two_count (key n) xs i j m n lt a b e refl) in
         omega arith
 
-  -- the item at any index of a key that stands once is the first of that key
+  -- an item whose key occurs once is the first item with this key
   pub found_at : (id : ℕ) (xs : List X) (p : ℕ) (n : X) → (Twice key xs id → ⊥) → slice_get xs p ≡ Some n → key n ≡ id → find (is_at key id) xs ≡ Some n
   found_at id [] p n one is e = cc
   found_at id (x ∷ xs) zero n one is e = let same : x ≡ n = cc in let t : (key x == id) ≡ true = grind (arith, ap key same ∙ e) in ap (λ b. cond b (Some x) (find (is_at key id) xs)) t ∙ ap Some same
@@ -150,7 +150,7 @@ module _ {X : Type 0} (key : X → ℕ) where
       by_head true t deeper = absurd (one (rw (count-cons key id x xs ∙ ap (λ b. cond b 1 0 + count_by (is_at key id) xs) t) (omega (arith, one_counts id xs p n is e))))
       by_head false t deeper = ap (λ b. cond b (Some x) (find (is_at key id) xs)) t ∙ deeper
 
-  -- a key that does not count is not found
+  -- a key that occurs zero times is not found
   pub found_none : (id : ℕ) (xs : List X) → count_by (is_at key id) xs ≡ 0 → find (is_at key id) xs ≡ None
   found_none id xs none = by_find (find (is_at key id) xs) refl
     where

@@ -1,4 +1,4 @@
--- Things with ids, counted.
+-- Counting items with an id.
 use Rattle.std.proofs.Common.{◌≡◌, ℕ, ◌+◌, ◌≤◌, ◌==◌, Bool, true, false, cond, Option, Some, List, [], ◌∷◌, ◌++◌, arith, ap, ◌∙◌, count_by}
 use Rattle.std.specs.List.{find}
 use Rattle.std.proofs.lemmas.List.Sums.{sum_by-append}
@@ -24,6 +24,6 @@ module _ {X : Type 0} (key : X → ℕ) where
   find-count id [] n h = cc
   find-count id (x ∷ xs) n h = rw (count-cons id x xs) (some_here (is_at id x) x n (find (is_at id) xs) (count_by (is_at id) xs) (find-count id xs n) h)
 
-  -- how many there are when one more comes in
+  -- the count when one more item is added
   pub one_more : (id : ℕ) (xs : List X) (n : X) → count_by (is_at id) (xs ++ n ∷ []) ≡ count_by (is_at id) xs + cond (is_at id n) 1 0
   one_more id xs n = count-append id xs (n ∷ []) ∙ ap (λ k. count_by (is_at id) xs + k) (omega arith)

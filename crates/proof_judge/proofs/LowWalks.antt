@@ -1,4 +1,4 @@
--- A least walk leaves no id twice, so with few entries it is low.
+-- A least walk repeats no id, so with few entries it is short.
 use Rattle.std.proofs.Common.{◌≡◌, ℕ, ◌+◌, ◌*◌, ◌≤◌, inl, inr, Bool, true, false, Option, None, Some, IfSome, IsSome, List, [], ◌∷◌, length, map, nat_eq, refl, arith, sym, ◌∙◌, subst}
 use Rattle.std.specs.List.{Contains, IsDistinct, AllByRecursion}
 use Rattle.std.specs.Option.{option_map}
@@ -19,7 +19,7 @@ use Rattle.proof_judge.specs.SharedTests.{HasAtMost, IsNarrow}
 use Rattle.proof_judge.proofs.ItemLaws.{item_found}
 use Rattle.proof_judge.proofs.AllWalks.{has_way}
 
--- the ids that a walk leaves
+-- the ids from which a walk's hops leave
 left : ℕ → List Arc → List ℕ
 left u [] = []
 left u (a ∷ walk) = u ∷ left a.to walk
@@ -51,7 +51,7 @@ walk_short : (w : Ways) → IsNarrow w → (u p : ℕ) (walk : List Arc) → Pas
 walk_short w narrow u p [] h = omega arith
 walk_short w narrow u p (a ∷ walk) h = let l : Leaves w u a = h.0 in omega (arith, narrow.short u l.out a l.entry l.among, walk_short w narrow a.to (p + a.length) walk h.2)
 
--- a way with no id twice is low
+-- a walk that repeats no id is short
 way_low : (w : Ways) → IsNarrow w → (most : ℕ) → HasAtMost most w → (from limit v d : ℕ) (o : Option ℕ) (route : List ℕ) → o ≡ Some d → IsWay w from limit v o route → d ≤ most * 4294967295
 way_low w narrow most few from limit v d o route is way =
     let walk = way.passes.walk in
@@ -70,11 +70,11 @@ found_low w narrow from limit found ways most few v d is =
 same_number : (x y : ℕ) → nat_eq x y ≡ true → x ≡ y
 same_number x y h = grind (arith, nat_tests)
 
--- ids that are all among some have no more entries than these
+-- ids from a list have at most as many entries as the list
 pub at_most_from : (w : Ways) (ids : List ℕ) (most : ℕ) → length ids ≤ most → ((id : ℕ) → IsSome (w.arcs id) → Contains ids id) → HasAtMost most w
 at_most_from w ids most few among = λ xs distinct enter. (let fewer : length xs ≤ length ids = length-le_from_is_member nat_eq_equiv xs ids distinct (λ q e. list_any-from_Contains nat_eq_equiv q ids (among q (enter q (Contains-from_any same_number q xs e)))) in omega (arith, fewer, few))
 
--- as many items, as many entries
+-- there are as many entries as items
 pub items_at_most : (nodes : List NodeLeaf) (most : ℕ) → length nodes ≤ most → (lets : ℕ → ℕ → Bool) → HasAtMost most (leaf_ways lets (item_at nodes))
 items_at_most nodes most few lets = at_most_from (leaf_ways lets (item_at nodes)) (map (λ (n : NodeLeaf). n.id) nodes) most (omega (arith, few, length-map nodes (λ (n : NodeLeaf). n.id))) (λ id some. named id (item_at nodes id) refl some)
   where

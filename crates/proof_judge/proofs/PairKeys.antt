@@ -1,4 +1,4 @@
--- Pair items that are sorted by their two ids, and the first that names two ids.
+-- Pair items sorted by their two ids, and the first of them that names two ids.
 use Rattle.std.proofs.Common.{◌≡◌, ℕ, zero, suc, ◌+◌, ◌<◌, ◌≤◌, ◌==◌, ◌&&◌, nat_lt, Bool, true, false, not, cond, None, Some, List, [], ◌∷◌, ◌⊎◌, inl, inr, refl, arith, ap, sym, ◌∙◌, subst, length, slice_get, get_or}
 use Rattle.std.specs.List.{find, filter, IsAllAdjacentAnswer}
 use Rattle.std.specs.List.Sorted.{IsSortedByKey, IsStableByKey, IsPartitionedBy, IsPartitionPoint, ties}
@@ -30,7 +30,7 @@ last_or_before i j le = grind (arith, le)
 abbrev no_earlier : PairLeaf → PairLeaf → Bool
 no_earlier y x = is_before y.a y.b x.a x.b
 
--- what neighbours show, all show
+-- a fact about all neighbours implies it for all items
 pub neighbours_sorted : (xs : List PairLeaf) → ((j : ℕ) (d : PairLeaf) → j + 1 < length xs → no_earlier (get_or xs (j + 1) d) (get_or xs j d) ≡ false) → AreSorted xs
 neighbours_sorted xs h i j d le lt = by_end j i le lt
   where
@@ -53,7 +53,7 @@ neighbours_sorted xs h i j d le lt = by_end j i le lt
 pub all_sorted : (xs : List PairLeaf) → IsSortedByKey ids_of ids_cmp xs → AreSorted xs
 all_sorted xs h = neighbours_sorted xs (λ j d lt. sym (lt_before (get_or xs (j + 1) d).a (get_or xs (j + 1) d).b (get_or xs j d).a (get_or xs j d).b) ∙ h j d (omega arith) lt)
 
--- that an item comes no earlier than the one in front of it, as a test
+-- the test whether an item does not come before the previous one
 abbrev pub in_order : PairLeaf → PairLeaf → Bool
 in_order x y = not (no_earlier y x)
 
@@ -66,7 +66,7 @@ tested_sorted xs false is h = cc
 
 -- ---- the first in another order
 
--- what is found is the first that passes
+-- the item found is the first that passes
 find_filter : (t : PairLeaf → Bool) (xs : List PairLeaf) → find t xs ≡ slice_get (filter t xs) 0
 find_filter t [] = refl
 find_filter t (x ∷ xs) = by_test (t x) (find_filter t xs)
@@ -78,7 +78,7 @@ find_filter t (x ∷ xs) = by_test (t x) (find_filter t xs)
 tied : (a b c d : ℕ) → (not (is_lt (ordering_then (nat_cmp a c) (nat_cmp b d))) && not (is_lt (ordering_then (nat_cmp c a) (nat_cmp d b)))) ≡ ((c == a) && (d == b))
 tied a b c d = grind arith
 
--- a stable sort keeps the first that names two ids
+-- a stable sort keeps the first item that names two ids
 pub same_first : (xs ys : List PairLeaf) → IsStableByKey ids_of ids_cmp xs ys → (a b : ℕ) → named_in ys a b ≡ named_in xs a b
 same_first xs ys h a b =
     let t : PairLeaf → Bool = λ p. (p.a == a) && (p.b == b) in
@@ -104,7 +104,7 @@ names_not a b c d h = grind (arith, h)
 after_other : (a b c d e f : ℕ) → is_before a b e f ≡ false → ((a == e) && (b == f)) ≡ false → is_before c d a b ≡ false → ((c == e) && (d == f)) ≡ false
 after_other a b c d e f h k up = grind (arith, h, k, up)
 
--- the first that passes stands at an index where none before passes
+-- the first item that passes is at an index before which no item passes
 pub find_at : (t : PairLeaf → Bool) (xs : List PairLeaf) (i : ℕ) (x : PairLeaf) → ((k : ℕ) (y : PairLeaf) → k < i → slice_get xs k ≡ Some y → t y ≡ false) → slice_get xs i ≡ Some x → t x ≡ true → find t xs ≡ Some x
 find_at t [] i x none is passes = cc
 find_at t (y ∷ ys) zero x none is passes = let same : y ≡ x = cc in ap (λ b. cond b (Some y) (find t ys)) (ap t same ∙ passes) ∙ ap Some same
@@ -141,6 +141,6 @@ module _ (xs : List PairLeaf) (sorted : AreSorted xs) (a b place : ℕ) (point :
         after_other x.a x.b y.a y.b a b not_before other up
   ]))
 
--- what a look-up by index found stands there
+-- the item that a look-up by index found is at that index
 pub stands : (xs : List PairLeaf) (i : ℕ) (x : PairLeaf) → true ≡ nat_lt i (length xs) → x ≡ get_or xs i x → slice_get xs i ≡ Some x
 stands xs i x lt is = slice_get-get_or xs i x (grind (arith, lt)) ∙ ap Some (sym is)

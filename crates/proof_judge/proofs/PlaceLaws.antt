@@ -1,4 +1,4 @@
--- Indices of items by ascending id.
+-- Indices of items in ascending order of id.
 use Rattle.std.proofs.Common.{set, ◌≡◌, ℕ, zero, suc, ◌+◌, ◌==◌, true, false, Option, None, Some, List, [], ◌∷◌, ◌⊎◌, inl, inr, refl, arith, ap, sym, ◌∙◌, cond, count_by, length, slice_get, get_or, ◌<◌, ◌≤◌, map}
 use Rattle.std.specs.List.Sorted.{IsNonDecreasing, IsPermutation}
 use Rattle.std.proofs.lemmas.List.Sorted.{sum_by-IsPermutation}
@@ -20,24 +20,24 @@ node_id n = n.id
 abbrev itself : ℕ → ℕ
 itself id = id
 
--- the ids of items are as many
+-- there are as many ids as items
 pub as_many_mapped : (nodes : List NodeLeaf) → AsMany nodes (map (λ (n : NodeLeaf). n.id) nodes)
 as_many_mapped [] id = refl
 as_many_mapped (n ∷ ns) id =
     count-cons itself id n.id (map (λ (m : NodeLeaf). m.id) ns) ∙ (ap (λ k. cond (n.id == id) 1 0 + k) (as_many_mapped ns id) ∙ sym (count-cons node_id id n ns))
 
--- the order is free
+-- the order of the list does not matter
 pub as_many_sorted : (nodes : List NodeLeaf) (is js : List ℕ) → IsPermutation is js → AsMany nodes is → AsMany nodes js
 as_many_sorted nodes is js same h id = sum_by-IsPermutation (λ (i : ℕ). cond (i == id) 1 0) is js same ∙ h id
 
--- an id is taken where it stands at two items
+-- an id is repeated if two items have it
 pub taken_twice : (nodes : List NodeLeaf) (ids : List ℕ) (o : Option ℕ) → AsMany nodes ids → IsLeast (IsTaken ids) o → IsLeast (StandsTwice nodes) o
 taken_twice nodes ids o same h = IsLeast-same (IsTaken ids) (StandsTwice nodes) o (λ id two. rw (sym (same id)) two) (λ id two. rw (same id) two) h
 
 pub rising : (ids : List ℕ) → IsNonDecreasing ids → IsLeast (IsTaken ids) None → AreRising ids
 rising ids sorted none = keys_rise itself ids sorted (λ id two. none id two)
 
--- each item's id has a place
+-- each item's id has a position
 pub has_place : (nodes : List NodeLeaf) (ids : List ℕ) → AreRising ids → AsMany nodes ids → (index : ℕ) (n : NodeLeaf) → slice_get nodes index ≡ Some n → (k : ℕ) × (place_in ids n.id ≡ Some k)
 has_place nodes ids rise same index n at =
     let among : 1 ≤ count_by (λ (m : NodeLeaf). m.id == n.id) nodes = one_counts node_id n.id nodes index n at refl in
@@ -54,7 +54,7 @@ equal_test a b e = grind (arith, e)
 other_test : (a b : ℕ) → (a ≡ b → ⊥) → (a == b) ≡ false
 other_test a b e = grind (arith, e)
 
--- one index more
+-- one more index
 pub noted_turn : (nodes : List NodeLeaf) (ids indices after : List ℕ) (end place : ℕ) (n : NodeLeaf) → IsLeast (StandsTwice nodes) None → slice_get nodes end ≡ Some n → place_in ids n.id ≡ Some place → place < length indices → after ≡ set indices place end → AreNoted nodes ids indices end → AreNoted nodes ids after (end + 1)
 noted_turn nodes ids indices after end place n distinct at placed within turned h index m lt there = elim (order index end lt) [
   | inl e ↦
@@ -72,9 +72,9 @@ noted_turn nodes ids indices after end place n distinct at placed within turned 
       )
 ]
 
--- ---- what is found
+-- ---- the item found
 
--- the item that an id's place leads to
+-- the item that an id's position leads to
 record Led (nodes : List NodeLeaf) (indices : List ℕ) (id k : ℕ) : Type 0 where
   index : ℕ
   item : NodeLeaf

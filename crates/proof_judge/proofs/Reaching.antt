@@ -1,4 +1,4 @@
--- Passing walks with an arc more.
+-- Passing walks with one more arc.
 use Rattle.std.proofs.Common.{◌≡◌, ℕ, ◌+◌, ◌<◌, IsTrue, List, [], ◌∷◌, ◌++◌, refl, arith, ap, ◌∙◌, map, add_assoc, add-zero, zero-add}
 use Rattle.road_map.specs.declared.arc.Arc.{Arc}
 use Rattle.road_map.specs.Routes.{last_stop, walk_length}
@@ -19,7 +19,7 @@ sum-snoc (b ∷ walk) a = omega (arith, sum-snoc walk a)
 pub Reaches-start : (w : Ways) (from limit : ℕ) → 0 < limit → Reaches w from limit from 0
 Reaches-start w from limit lt = (from ∷ [], record { walk = []; passes = tt; visits = refl; ends = refl; sums = refl; below = lt })
 
--- a hop more
+-- one more hop
 pub Reaches-step : (w : Ways) (from limit u p : ℕ) (a : Arc) → Reaches w from limit u p → Leaves w u a → IsTrue (w.lets u p) → p + a.length < limit → Reaches w from limit a.to (p + a.length)
 Reaches-step w from limit u p a r leaves lets lt =
     let b : PassesBy w from limit u r.0 p = r.1 in (

@@ -1,4 +1,4 @@
--- Verdicts from the answers of a search.
+-- Verdicts from the results of a search.
 use Rattle.std.proofs.Common.{◌≡◌, ℕ, Option, None, Some, IsSome, Result, Ok, Err, List, ◌⊎◌, inl, inr, refl, ap, sym, ◌∙◌, subst}
 use Rattle.road_map.specs.Least.{IsLeast}
 use Rattle.road_map.proofs.LeastLaws.{IsLeast-same}
@@ -61,33 +61,33 @@ lacks_least w from limit len missing lengths h =
     (λ v s. (some_reach w from limit v (len v) (lengths v) s.0, s.1))
     (λ v l. (reach_some w from limit v (len v) (lengths v) l.0.0 l.0.1, l.1)) h
 
--- the two tests of a search
+-- the two tests that follow a search
 pub search_tests : (w : Ways) (from limit to : ℕ) (len : ℕ → Option ℕ) (missing : Option ℕ) → ((v : ℕ) → IsLeastPassing w from limit v (len v)) → IsLeast (λ v. IsSome (len v) × (w.arcs v ≡ None)) missing → (next : Verdict → Type 0) (v : Verdict) →
     Then MissingTuple (Then Shorter next (len to)) missing v → Tests (Lacks w from limit) MissingTuple (Tests (Reaches w from limit to) Shorter next) v
 search_tests w from limit to len None lengths h next v t = (None, lacks_least w from limit len None lengths h, (len to, lengths to, t))
 search_tests w from limit to len (Some id) lengths h next v t = (Some id, lacks_least w from limit len (Some id) lengths h, t)
 
--- what repeated ids refuse, every method refuses
+-- a repeated id is refused by every method
 pub refused_fault : (g : Items) (q : Query) (nodes : List NodeLeaf) (e : Refusal) → nodes ≡ g.nodes → ((e ≡ Memory no_memory) ⊎ ((id : ℕ) × (e ≡ RepeatedNode id) × IsLeast (StandsTwice nodes) (Some id))) → RefusesBefore g q e
 refused_fault g q nodes e same (inl m) = subst (RefusesBefore g q) (sym m) (λ k n. tt)
 refused_fault g q nodes e same (inr f) = subst (RefusesBefore g q) (sym f.1) (refused_twice g q f.0 (subst (λ xs. IsLeast (StandsTwice xs) (Some f.0)) same f.2))
 
--- and what the walk of the route refuses
+-- and so is a fault on the walk of the route
 pub refused_later : (g : Items) (q : Query) (found nodes : List NodeLeaf) (route : List ℕ) (e : Refusal) → nodes ≡ g.nodes → found ≡ nodes → route ≡ g.route → IsLeast (StandsTwice nodes) None → Err e ≡ walked found q route → RefusesBefore g q e
 refused_later g q found nodes route e same at way distinct is =
     refused_walk g q e (subst (λ xs. IsLeast (StandsTwice xs) None) same distinct) (ap (λ xs. walked xs q g.route) (sym (at ∙ same)) ∙ (ap (walked found q) (sym way) ∙ sym is))
 
--- ---- where no route is shown
+-- ---- if no route is given
 
 -- the whole verdict, from the verdict of the method's own tests
 pub judged_apart : (k : Kind) (n : Numbers) (g : Items) (q : Query) (v : ApartVerdict) → IsLeast (StandsTwice g.nodes) None → end_lacking g.nodes q ≡ None → UnlessMemory (ApartTests k n g q) v → UnlessMemory (JudgedApart k n g q) v
 judged_apart k n g q v distinct ends h = unless-map (ApartTests k n g q) (JudgedApart k n g q) v (λ v own. (None, distinct, subst (λ o. Then MissingTuple (ApartTests k n g q) o v) (sym ends) own)) h
 
--- what repeated ids refuse, every method refuses
+-- a repeated id is refused by every method
 pub apart_fault : (g : Items) (q : Query) (nodes : List NodeLeaf) (e : Refusal) → nodes ≡ g.nodes → ((e ≡ Memory no_memory) ⊎ ((id : ℕ) × (e ≡ RepeatedNode id) × IsLeast (StandsTwice nodes) (Some id))) → RefusesApart g q e
 apart_fault g q nodes e same (inl m) = subst (RefusesApart g q) (sym m) (λ k n. tt)
 apart_fault g q nodes e same (inr f) = subst (RefusesApart g q) (sym f.1) (λ k n. (Some f.0, subst (λ xs. IsLeast (StandsTwice xs) (Some f.0)) same f.2, refl))
 
--- and what an end without an item refuses
+-- and so is an end without an item
 pub apart_end : (g : Items) (q : Query) (id : ℕ) → IsLeast (StandsTwice g.nodes) None → end_lacking g.nodes q ≡ Some id → RefusesApart g q (MissingTuple id)
 apart_end g q id distinct ends = λ k n. (None, distinct, subst (λ o. Then MissingTuple (ApartTests k n g q) o (Err (MissingTuple id))) (sym ends) refl)

@@ -1,4 +1,4 @@
--- What every method judges first: repeated ids, and the walk of the route.
+-- The first tests of every method: repeated ids, and following the route.
 use Rattle.std.specs.Prelude.{◌≡◌, ℕ, ◌^◌, ◌<◌, ◌≤◌, Some, Result, Ok, Err, List, Contains, IsSome, length, nat_eq}
 use Rattle.std.specs.List.{IsDistinct}
 use Rattle.road_map.specs.declared.arc.Arc.{Arc}
@@ -14,31 +14,31 @@ use Rattle.proof_judge.specs.ItemWalks.{item_at}
 use Rattle.proof_judge.specs.Judgement.{Verdict, longer, by_item, Judged}
 use Rattle.proof_judge.specs.Apart.{JudgedApart}
 
--- what a hop says of each route that begins with it
+-- the result that a hop gives for each route that begins with it
 abbrev pub HopSays : List NodeLeaf → ℕ → ℕ → ℕ → Verdict → Type 0
 HopSays nodes index r q (Ok l) = (l < 2 ^ 32) ×
     ((rest : Verdict) → by_item index r q (item_at nodes r) rest ≡ longer l rest)
 HopSays nodes index r q (Err e) = (rest : Verdict) →
     by_item index r q (item_at nodes r) rest ≡ Err e
 
--- what a verdict meets, unless memory runs out
+-- a verdict satisfies the predicate, unless memory runs out
 abbrev pub UnlessMemory : {A : Type 0} → (Result A Refusal → Type 0) → Result A Refusal → Type 0
 UnlessMemory P (Err (Memory _)) = Unit {0}
 UnlessMemory P v = P v
 
--- the refusals that come before the tests of a method's own
+-- the refusals that precede a method's own tests
 abbrev pub RefusesBefore : Items → Query → Refusal → Type 0
 RefusesBefore g q e = (k : Kind) (n : Numbers) → UnlessMemory (Judged k n g q) (Err e)
 
--- the refusals that come before the tests of a method's own, where no route is shown
+-- the refusals that precede a method's own tests, if no route is given
 abbrev pub RefusesApart : Items → Query → Refusal → Type 0
 RefusesApart g q e = (k : Kind) (n : Numbers) → UnlessMemory (JudgedApart k n g q) (Err e)
 
--- the lengths of all arcs are numbers of 32 bits
+-- the lengths of all arcs are 32-bit numbers
 abbrev pub AreShort : List NodeLeaf → Type 0
 AreShort nodes = (n : NodeLeaf) (a : Arc) → Contains nodes n → Contains n.arcs a → a.length < 2 ^ 32
 
--- at most so many ids have an entry
+-- at most this many ids have an entry
 abbrev pub HasAtMost : ℕ → Ways → Type 0
 HasAtMost most w = (xs : List ℕ) → IsDistinct nat_eq xs →
     ((id : ℕ) → Contains xs id → IsSome (w.arcs id)) → length xs ≤ most

@@ -1,4 +1,4 @@
-//! What the judges of no route share: items by id with an item of each end, and a search over all
+//! Code shared by all judgements without a route: items by id with an item for each end, and a search over all
 //! walks.
 
 ghost use Rattle.std.specs.Prelude.{◌≡◌, ◌*◌, ◌≤◌, ℕ, None, Some, IfOk, OnOk, IfErr, IsSome};
@@ -15,7 +15,7 @@ use octet_text::NoMemory;
 use road_search::{Ground, Labels, search};
 use std::alloc::Global;
 
-/// The first of the two ends that has no item.
+/// Returns the first of the two ends for which there is no item, if any.
 fn end_lacking(by_id: &NodesById<'_>, query: Query) -> Option<u32>
     ensures { result ≡ end_lacking by_id.now query }
 {
@@ -28,7 +28,8 @@ fn end_lacking(by_id: &NodesById<'_>, query: Query) -> Option<u32>
     None
 }
 
-/// The tests that all methods share where no route is shown: items by id, and an item of each end.
+/// Runs the tests that all methods share if no route is given: that no id is repeated, and that both ends have an
+/// item. Returns the items by id.
 pub fn begin_apart(alloc: Global, items: &Items, query: Query) -> Result<NodesById<'_>, Refusal>
     ensures nodes { IfOk result (λ by_id. by_id ≡ items.now.nodes) }
     ensures distinct { OnOk result (IsLeast (StandsTwice items.now.nodes) None) }
@@ -42,8 +43,8 @@ pub fn begin_apart(alloc: Global, items: &Items, query: Query) -> Result<NodesBy
     }
 }
 
-/// The least length of a passing walk, of any length, from an id to each id: where few enough ids
-/// have an entry and arcs are short enough, the least lengths are numbers of 64 bits.
+/// Returns, for each id, the least length of a passing walk to it, however long the walk is. If there are few
+/// enough ids with an entry and arcs are short enough, the least lengths fit in 64 bits.
 pub fn search_all<G: Ground>(alloc: Global, ground: &G, from: u32) -> Result<Labels, NoMemory>
     requires { IsNarrow (G.ways ground.now) }
     ensures lengths { IfOk result (λ found. (v : ℕ) →
@@ -58,7 +59,8 @@ pub fn search_all<G: Ground>(alloc: Global, ground: &G, from: u32) -> Result<Lab
     Ok(labels)
 }
 
-/// Nothing, where no walk from the start ends at an id without an entry and none ends at the end.
+/// Succeeds if no walk from the start ends at an id without an entry and no walk from it ends at the end of the
+/// query.
 pub fn walk_tests<G: Ground>(alloc: Global, ground: &G, query: Query) -> Result<(), Refusal>
     requires { IsNarrow (G.ways ground.now) }
     ensures { UnlessMemory (WalkTests (G.ways ground.now) query) result }

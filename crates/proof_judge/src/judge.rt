@@ -10,18 +10,18 @@ use crate::refusal::Refusal;
 use book_model::{Items, Numbers, Query};
 use std::alloc::Global;
 
-/// How a client judges what an answer brings, under one method. It needs no book.
+/// A client's judgement of an answer's items under one method. It needs no book.
 pub trait Judge {
     // The method.
     ghost kind: { Kind };
 
-    /// The length of the route, or the first test that the items do not pass.
+    /// Returns the length of the route, or the first test that the items fail.
     fn judge(alloc: Global, numbers: Numbers, items: &Items, query: Query) -> Result<u64, Refusal>
         requires { length items.now.route ≤ 65536 }
         ensures { UnlessMemory (Judged kind numbers items.now query) result };
 
-    /// Nothing, where the items show that no walk joins the two ends, or the first test that they do
-    /// not pass. The route is not looked at.
+    /// Succeeds if the items show that no walk joins the two ends. Otherwise returns the first test that they fail.
+    /// Ignores the route.
     fn judge_apart(
         alloc: Global,
         numbers: Numbers,

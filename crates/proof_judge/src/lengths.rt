@@ -1,4 +1,4 @@
-//! What the type of items says of their lengths and ids.
+//! The facts about lengths and ids that the types of the items guarantee.
 
 ghost use Rattle.std.specs.Prelude.{ℕ, ◌<◌, ◌^◌, Bool, Contains};
 ghost use Rattle.road_map.specs.declared.arc.Arc.{Arc};
@@ -23,7 +23,7 @@ fn lengths_fit(arcs: &[Arc])
     }
 }
 
-/// The lengths of all arcs are numbers of 32 bits, as their type says.
+/// Gives the fact that the lengths of all arcs are 32-bit numbers, by their type.
 pub fn are_short(nodes: &NodeLeaves)
     ensures { AreShort nodes.now }
 {
@@ -38,7 +38,7 @@ fn id_fits(node: &NodeView<'_>)
     let _id = node.id;
 }
 
-/// All ids are numbers of 32 bits, as their type says.
+/// Gives the fact that all ids are 32-bit numbers, by their type.
 fn ids_fit(nodes: &NodeLeaves)
     ensures { (n : NodeLeaf) → Contains nodes.now n → n.id < 2 ^ 32 }
 {
@@ -47,7 +47,7 @@ fn ids_fit(nodes: &NodeLeaves)
     }
 }
 
-/// Walks over the items go over few ids with an item, and by short arcs, whatever these let pass.
+/// Gives the fact that walks over the items use few ids and short arcs, whatever lengths the items let pass.
 pub fn are_narrow(nodes: &NodeLeaves)
     ensures { (lets : ℕ → ℕ → Bool) → IsNarrow (leaf_ways lets (item_at nodes.now)) }
 {

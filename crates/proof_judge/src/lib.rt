@@ -1,6 +1,5 @@
-//! How a client judges items: the tests of each method and their answers, the tests that all
-//! methods share, and the trait of judges. Nothing here knows how an owner or a server makes a
-//! book.
+//! A client's judgement of a reply's items: the trait of judges, the tests that all methods share, and the results
+//! of each method's tests. It does not depend on how an owner or a server makes a book.
 #![tactic(auto)]
 
 pub use apart::{begin_apart, search_all, walk_tests};

@@ -1,4 +1,4 @@
-//! Node items at hand by their ids.
+//! Node items by id.
 
 ghost use Rattle.std.specs.Prelude.{◌≡◌, ℕ, None, Some, IfOk, OnOk, IfErr, ◌⊎◌};
 ghost use Rattle.octet_text.specs.Want.{no_memory};
@@ -17,7 +17,7 @@ use std::alloc::Global;
 use std::marker::Model;
 use std::rc::Rc;
 
-/// Node items, their ids, which rise, and the index of each id among the items. Searches share the ids.
+/// Node items, their ids in ascending order, and the index of each id's item. Searches share the ids.
 #[derive(Drop)]
 pub struct NodesById<'a> {
     nodes: &'a NodeLeaves,
@@ -38,7 +38,7 @@ impl<'a> Model for NodesById<'a> {
 }
 
 impl<'a> NodesById<'a> {
-    /// Puts node items by id, unless two carry the same.
+    /// Sorts node items by id. Fails if two items have the same id.
     pub fn new(alloc: Global, nodes: &'a NodeLeaves) -> Result<NodesById<'a>, Refusal>
         ensures nodes { IfOk result (λ by_id. by_id ≡ nodes.now) }
         ensures distinct { OnOk result (IsLeast (StandsTwice nodes.now) None) }
@@ -64,7 +64,7 @@ impl<'a> NodesById<'a> {
         }
     }
 
-    /// The item of an id.
+    /// Returns the item of an id.
     pub fn find(&self, id: u32) -> Option<NodeView<'_>>
         ensures { option_map seen result ≡ item_at self.now id }
     {
@@ -74,7 +74,7 @@ impl<'a> NodesById<'a> {
         }
     }
 
-    /// The ids of the items, shared.
+    /// Returns the ids of the items. The list is shared, not copied.
     pub fn ids(&self) -> Result<Rc<RisingIds>, NoMemory>
         ensures { IfOk result (λ ids. AreRising ids.value) }
     {

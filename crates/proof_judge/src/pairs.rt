@@ -8,14 +8,14 @@ ghost use Rattle.proof_judge.specs.Apart.{joined_fault};
 use crate::refusal::Refusal;
 use road_leaf::PairLeaf;
 
-/// Whether a pair item names two ids, in this order.
+/// Tests whether a pair item names these two ids, in this order.
 pub(crate) fn names(pair: PairLeaf, first: u32, second: u32) -> bool
     ensures { result ≡ ((pair.a == first) && (pair.b == second)) }
 {
     pair.a == first && pair.b == second
 }
 
-/// The first pair item that names two ids, in this order.
+/// Returns the first pair item that names these two ids, in this order.
 fn find_named(pairs: &[PairLeaf], first: u32, second: u32) -> Option<PairLeaf>
     ensures { result ≡ find (λ p. (p.a == first) && (p.b == second)) pairs.now }
 {
@@ -27,15 +27,16 @@ fn find_named(pairs: &[PairLeaf], first: u32, second: u32) -> Option<PairLeaf>
     None
 }
 
-/// The first pair item that names two ids.
+/// Returns the first pair item that names these two ids, in either order.
 pub fn find_pair(pairs: &[PairLeaf], b: u32, c: u32) -> Option<PairLeaf>
     ensures { result ≡ pair_at pairs.now b c }
 {
     find_named(pairs, b.min(c), b.max(c))
 }
 
-/// Why two ids, to which walks from the two ends lead whose lengths have this sum, show a walk
-/// between these or lack a pair item. The item is the first one that names the two ids.
+/// Returns the fault of two borders `b` and `c`, if they have one: they show a walk between the ends, or no pair
+/// item names them. `sum` is the sum of the lengths of the walks that lead to them from the two ends. `pair` is the
+/// first item that names the two ids.
 pub fn joined_fault(pair: Option<PairLeaf>, b: u32, c: u32, sum: u64) -> Option<Refusal>
     ensures { (pairs : List PairLeaf) → pair ≡ pair_at pairs b c →
         result ≡ joined_fault pairs b c sum }

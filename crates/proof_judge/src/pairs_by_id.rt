@@ -1,4 +1,4 @@
-//! Pair items at hand by their two ids.
+//! Pair items by their two ids.
 
 ghost use Rattle.std.specs.Prelude.{◌≡◌, true, IfOk};
 ghost use Rattle.proof_judge.specs.Judgement.{pair_at};
@@ -10,7 +10,7 @@ use road_leaf::PairLeaf;
 use std::alloc::Global;
 use std::marker::Model;
 
-/// Pair items by their two ids: as they lie, or in a sorted copy where they lie in another order.
+/// Pair items sorted by their two ids. Items that are already sorted are borrowed; others are copied and sorted.
 #[derive(Drop)]
 pub struct PairsById<'a> {
     pairs: &'a [PairLeaf],
@@ -30,7 +30,7 @@ impl<'a> Model for PairsById<'a> {
         IfSome s.sorted (λ copy. IsSortedCopy s.pairs.now copy.items) };
 }
 
-/// Items sorted by their two ids, those of the same two in the order that they had.
+/// Returns a copy of the items, sorted by their two ids. Items with the same two ids keep their order.
 fn sorted_copy(alloc: Global, pairs: &[PairLeaf]) -> Result<Vec<PairLeaf>, NoMemory>
     ensures { IfOk result (λ copy. IsSortedCopy pairs.now copy.items) }
 {
@@ -39,21 +39,21 @@ fn sorted_copy(alloc: Global, pairs: &[PairLeaf]) -> Result<Vec<PairLeaf>, NoMem
     Ok(copy)
 }
 
-/// Whether an item's ids come before two others.
+/// Tests whether an item's two ids come before two given ids.
 fn precedes(pair: &PairLeaf, a: u32, b: u32) -> bool
     ensures { result ≡ is_before pair.now.a pair.now.b a b }
 {
     pair.a < a || (pair.a == a && pair.b < b)
 }
 
-/// Whether no item's ids come before those of the item in front of it.
+/// Tests whether no item's ids come before those of the previous item.
 fn are_sorted(pairs: &[PairLeaf]) -> bool
     ensures { result ≡ true → AreSorted pairs.now }
 {
     pairs.is_sorted_by(|pair, next| !precedes(next, pair.a, pair.b))
 }
 
-/// The first item that names two ids, in this order, among sorted items.
+/// Returns the first item that names these two ids, in this order, among sorted items.
 fn find_sorted(sorted: &[PairLeaf], a: u32, b: u32) -> Option<PairLeaf>
     requires { AreSorted sorted.now }
     ensures { result ≡ named_in sorted.now a b }
@@ -72,7 +72,7 @@ fn find_sorted(sorted: &[PairLeaf], a: u32, b: u32) -> Option<PairLeaf>
 }
 
 impl<'a> PairsById<'a> {
-    /// Puts pair items by their two ids.
+    /// Sorts pair items by their two ids.
     pub fn new(alloc: Global, pairs: &'a [PairLeaf]) -> Result<PairsById<'a>, NoMemory>
         ensures { IfOk result (λ by_id. by_id ≡ pairs.now) }
     {
@@ -89,7 +89,7 @@ impl<'a> PairsById<'a> {
         })
     }
 
-    /// The items, sorted.
+    /// Returns the items, sorted.
     fn sorted(&self) -> &[PairLeaf]
         ensures { IsSortedCopy self.now result.now }
     {
@@ -99,7 +99,7 @@ impl<'a> PairsById<'a> {
         }
     }
 
-    /// The first pair item that names two ids.
+    /// Returns the first pair item that names these two ids, in either order.
     pub fn find(&self, b: u32, c: u32) -> Option<PairLeaf>
         ensures { result ≡ pair_at self.now b c }
     {

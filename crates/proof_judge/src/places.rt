@@ -1,4 +1,4 @@
-//! The ids of node items by ascending id, and where the item of each stands.
+//! The ids of node items in ascending order, and the index of each item.
 
 ghost use Rattle.std.specs.Prelude.{◌≡◌, ◌<◌, ◌≤◌, ◌^◌, None, IfOk, length, map, set};
 ghost use Rattle.std.specs.List.Sorted.{IsNonDecreasing};
@@ -12,18 +12,18 @@ use road_leaf::NodeLeaves;
 use road_map::RisingIds;
 use std::alloc::Global;
 
-/// The ids of items, in their order.
+/// Returns the ids of the items, in the same order.
 fn ids_of(alloc: Global, nodes: &NodeLeaves) -> Result<Vec<u32>, NoMemory>
     ensures { IfOk result (λ ids. ids.items ≡ map (λ n. n.id) nodes.now) }
 {
-    let mut ids = nodes.room(alloc)?;
+    let mut ids = nodes.room_for_ids(alloc)?;
     for index in 0..nodes.len() {
         push(&mut ids, nodes.at(index).id)?;
     }
     Ok(ids)
 }
 
-/// The ids of items, none less than the one before it.
+/// Returns the ids of the items in ascending order. Repeated ids are kept.
 pub fn sorted_ids(alloc: Global, nodes: &NodeLeaves) -> Result<Vec<u32>, NoMemory>
     ensures sorted { IfOk result (λ ids. IsNonDecreasing ids.items) }
     ensures count { IfOk result (λ ids. length ids.items ≡ length nodes.now) }
@@ -34,7 +34,7 @@ pub fn sorted_ids(alloc: Global, nodes: &NodeLeaves) -> Result<Vec<u32>, NoMemor
     Ok(ids)
 }
 
-/// The least id that stands twice, among sorted ids.
+/// Returns the least id that occurs more than once among sorted ids.
 pub fn repeated_id(ids: &[u32]) -> Option<u32>
     requires { IsNonDecreasing ids.now }
     ensures { IsLeast (IsTaken ids.now) result }
@@ -53,7 +53,7 @@ fn id_fits(id: u32)
     let _id = id;
 }
 
-/// There are no more ids than numbers of 32 bits, where none stands twice.
+/// Gives the fact that distinct ids are at most as many as the 32-bit numbers.
 pub fn are_few(ids: &[u32])
     requires { AreRising ids.now }
     ensures { length ids.now ≤ 2 ^ 32 }
@@ -71,7 +71,7 @@ fn note(indices: &mut Vec<u32>, place: usize, index: u32)
     indices[place] = index;
 }
 
-/// The index of the item of each id.
+/// Returns the index of the item of each id.
 pub fn indices_of(alloc: Global, nodes: &NodeLeaves, ids: &RisingIds) -> Result<Vec<u32>, NoMemory>
     requires rise { AreRising ids.now }
     requires count { length ids.now ≡ length nodes.now }

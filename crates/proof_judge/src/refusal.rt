@@ -6,26 +6,26 @@ ghost use Rattle.proof_judge.specs.declared.refusal.Refusal.TheVariants as refus
 use octet_text::NoMemory;
 use thiserror::Error;
 
-/// The first test that items do not pass.
+/// The first test that items fail.
 #[derive(Clone, Copy, Debug, PartialEq, Eq, Error)]
 pub enum Refusal {
-    /// Two node items carry this id, the least such.
+    /// Several node items have the same id. This is the least id of this kind.
     #[error("Two items are of the node {0}.")]
     RepeatedNode(u32),
-    /// The route fails at this index: it does not begin at the start (0), there is no arc to its id
-    /// at the index, or it ends, at the index before, elsewhere than at the end.
+    /// The route fails at this index: it does not begin at the start (0), no arc leads to its id at this index, or
+    /// it ends just before this index, at a node other than the end.
     #[error("The route is broken at index {0}.")]
     BadRoute(u32),
-    /// A walk comes to this id, which has no item.
+    /// A walk ends at this id, for which there is no item.
     #[error("The item of node {0} is missing.")]
     MissingTuple(u32),
-    /// No item says how far apart these two ids are, the lesser of them first.
+    /// No item has the distance between these two ids. The first is the lesser one.
     #[error("The item of the pair of {0} and {1} is missing.")]
     MissingPair(u32, u32),
     /// The items show a walk of this length, which is shorter than the route.
     #[error("The items show a walk of length {0}, which is shorter.")]
     Shorter(u64),
-    /// The pair of the two ends says this distance, which the route does not have.
+    /// The pair item of the two ends has this distance, which differs from the route's length.
     #[error("The pair of the two ends says the distance {0}.")]
     Disagrees(u64),
     /// Out of memory.

@@ -1,4 +1,4 @@
-//! The walk of a route over items.
+//! Following a route over items.
 
 ghost use Rattle.std.specs.Prelude.{◌≡◌, ℕ, ◌^◌, ◌<◌, ◌≤◌, [], IfSome, IfOk, OnOk, IfErr, None, Ok, length};
 ghost use Rattle.road_map.specs.Least.{IsLeast};
@@ -13,7 +13,7 @@ use book_model::{Items, Query};
 use road_map::Arc;
 use std::alloc::Global;
 
-/// The arcs in the item of an id.
+/// Returns the arcs in the item of an id.
 pub fn arcs_of<'a>(by_id: &'a NodesById<'_>, id: u32) -> Option<&'a [Arc]>
     ensures { option_copied result ≡ option_map (λ n. n.arcs) (item_at by_id.now id) }
 {
@@ -23,7 +23,7 @@ pub fn arcs_of<'a>(by_id: &'a NodesById<'_>, id: u32) -> Option<&'a [Arc]>
     }
 }
 
-/// The length of the arc to an id.
+/// Returns the length of the arc to an id, if there is such an arc.
 fn arc_length(arcs: &[Arc], to: u32) -> Option<u32>
     ensures length { result ≡ arc_to arcs.now to }
     ensures fits { IfSome result (λ l. l < 2 ^ 32) }
@@ -31,7 +31,7 @@ fn arc_length(arcs: &[Arc], to: u32) -> Option<u32>
     arcs.iter().find(|arc| arc.to == to).map(|arc| arc.length)
 }
 
-/// The length of a hop.
+/// Returns the length of one hop of a route. Fails with `BadRoute` if no arc joins its two ids.
 fn hop(by_id: &NodesById<'_>, index: u32, from: u32, to: u32) -> Result<u32, Refusal>
     requires { index < 65536 }
     ensures { HopSays by_id.now index from to result }
@@ -45,7 +45,7 @@ fn hop(by_id: &NodesById<'_>, index: u32, from: u32, to: u32) -> Result<u32, Ref
     }
 }
 
-/// The end of a route.
+/// Tests whether a route ends at the end of the query. Fails with `BadRoute` if not.
 fn arrive(by_id: &NodesById<'_>, index: u32, at: u32, to: u32) -> Result<u64, Refusal>
     requires { index < 65536 }
     ensures { result ≡ walked_from by_id.now to index at [] }
@@ -62,7 +62,7 @@ fn arrive(by_id: &NodesById<'_>, index: u32, at: u32, to: u32) -> Result<u64, Re
     }
 }
 
-/// The rest of a route.
+/// Follows the rest of a route from one of its ids, and returns the length of the rest. Fails at the first fault.
 fn follow(by_id: &NodesById<'_>, to: u32, first: u32, rest: &[u32]) -> Result<u64, Refusal>
     requires { length rest.now < 65536 }
     ensures value { result ≡ walked_from by_id.now to 0 first rest.now }
@@ -79,7 +79,7 @@ fn follow(by_id: &NodesById<'_>, to: u32, first: u32, rest: &[u32]) -> Result<u6
     Ok(total)
 }
 
-/// The length of a route, or its first fault.
+/// Returns the length of a route. Fails with the route's first fault.
 pub fn walk(by_id: &NodesById<'_>, query: Query, route: &[u32]) -> Result<u64, Refusal>
     requires { length route.now ≤ 65536 }
     ensures value { result ≡ walked by_id.now query route.now }
@@ -97,7 +97,7 @@ pub fn walk(by_id: &NodesById<'_>, query: Query, route: &[u32]) -> Result<u64, R
     }
 }
 
-/// The tests that all methods share: items by id, and the length of the route.
+/// Runs the tests that all methods share. Returns the items by id, and the length of the route.
 pub fn begin(alloc: Global, items: &Items, query: Query) -> Result<(NodesById<'_>, u64), Refusal>
     requires { length items.now.route ≤ 65536 }
     ensures nodes { IfOk result (λ begun. begun.0 ≡ items.now.nodes) }

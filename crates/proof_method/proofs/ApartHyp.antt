@@ -1,4 +1,4 @@
--- What a good judgement of no route says of the map under HYP, and that what is gathered is judged good.
+-- Under HYP, a good judgement of no route is true of the map, and gathered items are judged good.
 use Rattle.std.proofs.Common.{◌≡◌, ◌≢◌, ℕ, suc, ◌+◌, ◌≤◌, IsTrue, Option, None, Some, IsSome, Ok, [], ◌⊎◌, inl, inr, refl, arith, sym, ◌∙◌, subst}
 use Rattle.std.specs.List.{Contains}
 use Rattle.road_map.specs.declared.parts.Parts.{Parts}
@@ -36,7 +36,7 @@ module _ (parts : Parts) (m : IsMap parts) (g : Items) (q : Query) (pairs_of : (
   fails p r near far None is = joined_faulty parts m g pairs_of b c (p + r) mid j is
   fails p r near far (Some e) is = none b c e (record { p = p; r = r; near = record { marked = near_mark; least = near }; far = record { marked = far_mark; least = far }; fault = is })
 
-  -- borders that inner walks lead to from the two ends are not joined
+  -- border nodes to which inner walks from the two ends lead are not joined
   pub no_passage : (p r : ℕ) → Leads (inner_ways (item_at g.nodes)) q.from b p → Leads (inner_ways (item_at g.nodes)) q.to c r → ⊥
   no_passage p r near far =
       least_not_not (Leads (inner_ways (item_at g.nodes)) q.from b)
@@ -59,7 +59,7 @@ sound_apart_hyp b g q m is a h =
     (λ d r. two.0 d (reaches_leads w q.from (e + 1) q.to d r)) e j in
     omega (arith, far))
 
--- ---- what is gathered
+-- ---- the gathered items
 
 module _ (b : Book) (g : Items) (q : Query) (m : IsMap b.parts) (h : IsGatheredApart Hyp b q g) where
   -- an inner walk over the items is one over the book
@@ -69,7 +69,7 @@ module _ (b : Book) (g : Items) (q : Query) (m : IsMap b.parts) (h : IsGatheredA
   of_map : IsOfMap b.parts (inner_ways (item_at g.nodes))
   of_map = items_of_map b.parts g.nodes (inner_ways (item_at g.nodes)).lets (have_arcs b g h.authentic)
 
-  -- borders near the start and near the end are not joined
+  -- border nodes near the start and near the end are not joined
   not_joined : (x y p r w : ℕ) → Leads (inner_ways (item_at g.nodes)) q.from x p → Leads (inner_ways (item_at g.nodes)) q.to y r → Joins b.parts x y w → ⊥
   not_joined x y p r w near far j =
       let k : Joins b.parts q.from x p = leads_joins b g (inner_ways (item_at g.nodes)) of_map q.from x p h.unjoined.0 near in

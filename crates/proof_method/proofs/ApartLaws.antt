@@ -1,4 +1,4 @@
--- Two nodes whose codes lack a walk at different landmarks are not joined.
+-- If the codes of two nodes lack a walk at different landmarks, no walk joins the nodes.
 use Rattle.std.proofs.Common.{◌≡◌, ◌≢◌, ℕ, ◌+◌, ◌/◌, ◌==◌, ◌&&◌, ◌||◌, ◌↔◌, not, Bool, true, false, cond, Option, None, Some, List, [], ◌∷◌, refl, arith, length}
 use Rattle.std.specs.List.{Contains}
 use Rattle.road_map.specs.declared.parts.Parts.{Parts}
@@ -13,11 +13,11 @@ use Rattle.proof_judge.specs.Apart.{is_split, are_split, apart_of}
 use Rattle.proof_method.specs.Vectors.{AreNear, AreVectors}
 use Rattle.proof_method.specs.Laws.{PartsUnjoined}
 use Rattle.proof_method.proofs.Along.{Joins-turn, Joins-append}
-use Rattle.proof_method.proofs.BoundLaws.{vector_near}
+use Rattle.proof_method.proofs.BoundLaws.{items_say, vector_near}
 use Rattle.proof_method.proofs.RouteLaws.{roads_known}
 use Rattle.proof_method.proofs.SoundLdm.{leaves_true}
 
--- codes that say the same of there being a walk are not split
+-- codes that agree on whether a walk exists are not split
 split_apart : (a b : ℕ) → is_split a b ≡ true → (a ≡ no_code → b ≡ no_code) → (b ≡ no_code → a ≡ no_code) → ⊥
 split_apart a b h to from = by_tests (a == no_code) (b == no_code) refl refl h
   where
@@ -32,7 +32,7 @@ either true b e none = absurd (none refl)
 either false b e none = e
 
 module _ (parts : Parts) (m : IsMap parts) (step u t d : ℕ) (j : Joins parts u t d) where
-  -- a landmark with a walk to one of the two has one to the other
+  -- if a landmark has a walk to one of the two, it has a walk to the other
   one_landmark : (l a b : ℕ) (o p : Option ℕ) → IsDistance parts l u o → IsDistance parts l t p → ((x : ℕ) → o ≡ Some x → x / step ≢ no_code) → ((x : ℕ) → p ≡ Some x → x / step ≢ no_code) →
       (code_of step o ≡ no_code) ↔ (a ≡ no_code) → (code_of step p ≡ no_code) ↔ (b ≡ no_code) → is_split a b ≡ true → ⊥
   one_landmark l a b None None is_u is_t told_u told_t na nb h = split_apart a b h (λ _. nb.0 refl) (λ _. na.0 refl)
@@ -56,7 +56,7 @@ second : (a b : Bool) → (a && b) ≡ true → b ≡ true
 second true b e = e
 second false b e = cc
 
--- ids that are apart over the leaves at hand are not joined
+-- no walk joins ids that are apart over the leaves at hand
 pub parts_unjoined : PartsUnjoined
 parts_unjoined b g u t m is a apart d j = by_vectors (vector_at (item_at g.nodes) (item_at g.nodes u)) (vector_at (item_at g.nodes) (item_at g.nodes t)) refl refl apart
   where
@@ -67,7 +67,7 @@ parts_unjoined b g u t m is a apart d j = by_vectors (vector_at (item_at g.nodes
     are = is.1
 
     near : (v : ℕ) (c : Vector) → vector_at (item_at g.nodes) (item_at g.nodes v) ≡ Some c → AreNear c.error (codes_of (distance b.parts) b.numbers.first chosen v) c.codes
-    near v c e = vector_near b.parts b.numbers.first chosen b.extra_of are g.nodes (leaves_true b g a) v c (item_at g.nodes v) refl e
+    near v c e = vector_near b.parts b.numbers.first chosen b.extra_of are (item_at g.nodes) (items_say b.parts b.extra_of g.nodes (leaves_true b g a)) v c (item_at g.nodes v) refl e
 
     by_vectors : (v w : Option Vector) → vector_at (item_at g.nodes) (item_at g.nodes u) ≡ v → vector_at (item_at g.nodes) (item_at g.nodes t) ≡ w → apart_of v w ≡ true → ⊥
     by_vectors None w e f h = cc

@@ -1,4 +1,4 @@
--- What is gathered under LDM where no route exists is judged good.
+-- Items gathered under LDM for ends without a route are judged good.
 use Rattle.std.proofs.Common.{◌≡◌, ℕ, ◌+◌, not, IsTrue, Option, None, Some, IsSome, List, ◌⊎◌, inl, inr, refl, ap, sym, ◌∙◌}
 use Rattle.std.specs.Option.{option_map}
 use Rattle.road_leaf.specs.declared.leaf.Extra.TheVariants.{Near}
@@ -29,7 +29,7 @@ module _ (b : Book) (g : Items) (q : Query) (chosen : List ℕ) (are : AreVector
   has_all : (u r e : ℕ) (n : NodeLeaf) → item_at g.nodes u ≡ Some n → n.extra ≡ Near r e → IsSome (item_at g.nodes r)
   has_all u r e n is x = has_reference u r e n is x ((h.nodes u).0 (rw is refl))
 
-  -- items are apart from the end as their leaves are
+  -- an item is apart from the end exactly if its leaf is
   same_apart : (u : ℕ) → IsSome (item_at g.nodes u) → are_apart (item_at g.nodes) (item_at g.nodes u) (item_at g.nodes q.to) ≡ are_apart (leaf b) (leaf b u) (leaf b q.to)
   same_apart u some =
       ap (λ v. apart_of v (vector_at (item_at g.nodes) (item_at g.nodes q.to))) (same_vector b g h.authentic has_all u some)

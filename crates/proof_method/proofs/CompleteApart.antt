@@ -1,4 +1,4 @@
--- What is gathered where no route exists is judged good, under DIJ and FULL.
+-- Items gathered under DIJ and FULL for ends without a route are judged good.
 use Rattle.std.proofs.Common.{◌≡◌, ◌≢◌, ℕ, ◌+◌, ◌==◌, min, max, Bool, true, false, cond, Option, None, Some, is_none, IsSome, Ok, [], inl, inr, refl, arith, ap, sym, ◌∙◌, subst}
 use Rattle.std.specs.List.{Contains}
 use Rattle.road_map.specs.declared.parts.Parts.{Parts}
@@ -24,13 +24,13 @@ use Rattle.proof_method.proofs.Completes.{not_both, no_item}
 use Rattle.proof_method.proofs.PairLaws.{pair_named, named_joins}
 use Rattle.proof_method.proofs.RouteLaws.{have_arcs, items_of_map, roads_known}
 
--- where both ends have an item, none is lacking
+-- if both ends have an item, no end lacks one
 none_lacking : (from to : ℕ) (o p : Option NodeLeaf) → IsSome o → IsSome p → cond (is_none o) (Some from) (cond (is_none p) (Some to) None) ≡ None
 none_lacking from to None p some other = cc
 none_lacking from to (Some a) None some other = cc
 none_lacking from to (Some a) (Some b) some other = refl
 
--- what is gathered passes the tests that all methods share
+-- the gathered items pass the tests that all methods share
 pub begins_apart : (k : Kind) (b : Book) (g : Items) (q : Query) → IsGatheredApart k b q g → ApartTests k b.numbers g q (Ok tt) → JudgedApart k b.numbers g q (Ok tt)
 begins_apart k b g q h own =
     (None, h.distinct, subst (λ o. Then MissingTuple (ApartTests k b.numbers g q) o (Ok tt)) (sym (none_lacking q.from q.to (item_at g.nodes q.from) (item_at g.nodes q.to) ((h.nodes q.from).1 (inl (inl refl))) ((h.nodes q.to).1 (inl (inr refl))))) own)
@@ -51,7 +51,7 @@ complete_apart_dij b g q m is h =
       (None, (λ d r. h.unjoined.2 d (leads_joins b g w of q.from q.to d h.unjoined.0 r)), refl),
     )
 
--- a pair of ids that no walk joins says no distance
+-- the pair of two ids that no walk joins states no distance
 module _ (parts : Parts) (m : IsMap parts) (g : Items) (pairs_of : (p : PairLeaf) → Contains g.pairs p → IsPairOf parts p) (b c sum : ℕ) (apart : (d : ℕ) → Joins parts b c d → ⊥) (differ : b ≢ c) (there : IsSome (pair_at g.pairs b c)) where
   silent : (p : PairLeaf) → pair_at g.pairs b c ≡ Some p → distance_in p ≡ None
   silent p is =
@@ -74,7 +74,7 @@ module _ (parts : Parts) (m : IsMap parts) (g : Items) (pairs_of : (p : PairLeaf
   pub apart_faultless : joined_fault g.pairs b c sum ≡ None
   apart_faultless = by_same (b == c) refl
 
--- ends that no walk joins differ
+-- ends that no walk joins are different
 pub ends_differ : (parts : Parts) (q : Query) → AreUnjoined parts q → q.from ≢ q.to
 ends_differ parts q h same = h.2 0 (record { walk = record { start = q.from; hops = [] }; known = h.0; starts = refl; follows = tt; ends = same; sums = refl })
 

@@ -24,12 +24,12 @@ ends_are q ids h = record { rising = h.rising; same = λ id. (λ c. to id ((h.sa
     from id (inl e) = subst (Contains (q.from ∷ q.to ∷ [])) (sym e) (Contains-here q.from (q.to ∷ []))
     from id (inr e) = subst (Contains (q.from ∷ q.to ∷ [])) (sym e) (Contains-there q.from q.to (q.to ∷ []) (Contains-here q.to []))
 
--- of two known ends none is unknown
+-- if both ends are known, no end is unknown
 pub none_unknown : (parts : Parts) (q : Query) (id : ℕ) (X : Type 0) → Knows parts q.from → Knows parts q.to → IsFirstUnknown parts q id → X
 none_unknown parts q id X from to (inl h) = absurd (h.1 from)
 none_unknown parts q id X from to (inr h) = absurd (h.2 to)
 
--- where a route was reached, no end is unknown
+-- if a route was found, no end is unknown
 pub none_first : {A B : Type 0} (parts : Parts) (q : Query) (x : A) (r : Result B GatherError) → ((id : ℕ) → IsFirstUnknown parts q id → ◌≡◌ {A = Result A GatherError} (Ok x) (Err (UnknownNode id)))
     → (id : ℕ) → IsFirstUnknown parts q id → r ≡ Err (UnknownNode id)
 none_first parts q x r known id first = let e = known id first in absurd cc

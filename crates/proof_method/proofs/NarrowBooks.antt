@@ -1,4 +1,4 @@
--- Walks over a book's leaves go by few ids and short arcs.
+-- Walks over a book's leaves use few ids and short arcs.
 use Rattle.std.proofs.Common.{◌≡◌, ℕ, ◌<◌, ◌≤◌, ◌^◌, Bool, Option, None, Some, IsSome, List, length, refl, arith, subst}
 use Rattle.std.specs.List.{Contains}
 use Rattle.std.proofs.lemmas.List.{length-map}
@@ -23,7 +23,7 @@ module _ (b : Book) (m : IsMap b.parts) (lets : ℕ → ℕ → Bool) where
       by_out None is some = cc
       by_out (Some out) is some = (book_of_map b lets id out is).1
 
-  -- as many as the map has nodes
+  -- at most as many as the map has nodes
   pub book_at_most : HasAtMost 65536 (leaf_ways lets (leaf b))
   book_at_most = at_most_from (leaf_ways lets (leaf b)) (ids b.parts.nodes) 65536 (let few : length b.parts.nodes ≤ 65536 = m.sized.1 in omega (arith, few, length-map b.parts.nodes (λ (n : Node). n.id))) known
 

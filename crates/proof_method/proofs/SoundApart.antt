@@ -1,4 +1,4 @@
--- What a good judgement of no route says of the map, under DIJ, FULL and LDM.
+-- What a good judgement of no route under DIJ, FULL and LDM implies for the map.
 use Rattle.std.proofs.Common.{◌≡◌, ℕ, ◌+◌, ◌≤◌, ◌==◌, not, Bool, true, false, cond, Option, None, Some, is_none, IsSome, Ok, refl, arith, subst}
 use Rattle.std.specs.List.{Contains}
 use Rattle.road_map.specs.declared.parts.Parts.{Parts}
@@ -26,7 +26,7 @@ use Rattle.proof_method.proofs.ApartLaws.{parts_unjoined}
 use Rattle.proof_method.proofs.PairLaws.{pair_named, Says, pair_says}
 use Rattle.proof_method.proofs.RouteLaws.{have_arcs, items_of_map, roads_known, tests_passed, item_known}
 
--- what a good judgement says before the method's own tests
+-- what a good judgement implies before the method's own tests
 pub record BegunApart (k : Kind) (n : Numbers) (g : Items) (q : Query) : Type 0 where
   pub from_item : IsSome (item_at g.nodes q.from)
   pub to_item : IsSome (item_at g.nodes q.to)
@@ -46,7 +46,8 @@ begun_apart k n g q h =
 pub ends_known : (bk : Book) (g : Items) (q : Query) → IsAuthentic bk g → IsSome (item_at g.nodes q.from) → IsSome (item_at g.nodes q.to) → ((d : ℕ) → Joins bk.parts q.from q.to d → ⊥) → AreUnjoined bk.parts q
 ends_known bk g q a from to none = (item_known bk g a q.from from, item_known bk g a q.to to, none)
 
--- where no walk over the entries lacks one or leads to t, and none is cut, no walk of the map joins the two
+-- if no walk over the entries leads to an id without an entry or to t, and none is cut, no walk of the map joins
+-- the two
 pub no_walk : (parts : Parts) → RoadsKnown parts → (w : Ways) → IsOfMap parts w → (s t : ℕ) → ((id : ℕ) → EndsLacking w s id → ⊥) → ((d : ℕ) → Leads w s t d → ⊥) → ((limit whole : ℕ) → Cut parts w s limit t whole → ⊥) → (e : ℕ) → Joins parts s t e → ⊥
 no_walk parts known w of s t whole_closed unled uncut e j =
     let far : e + 1 ≤ e = no_shorter parts known w of s t (e + 1)
@@ -54,7 +55,7 @@ no_walk parts known w of s t whole_closed unled uncut e j =
     (λ d r. unled d (reaches_leads w s (e + 1) t d r)) (λ whole lt c. uncut (e + 1) whole c) e j in
     omega (arith, far)
 
--- what the tests of walks say
+-- the meaning of the tests of walks
 tests_walks : (w : Ways) (q : Query) → WalkTests w q (Ok tt) → ((id : ℕ) → EndsLacking w q.from id → ⊥) × ((d : ℕ) → Leads w q.from q.to d → ⊥)
 tests_walks w q h =
     let one : ((id : ℕ) → EndsLacking w q.from id → ⊥) × Tests (Leads w q.from q.to) Shorter Passed (Ok tt) = tests_passed (EndsLacking w q.from) MissingTuple (Tests (Leads w q.from q.to) Shorter Passed) tt h in

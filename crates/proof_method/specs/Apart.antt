@@ -1,6 +1,5 @@
--- What a method gathers from its book to show that no route joins two nodes.
--- Source: Yiu, Lin and Mouratidis, ICDE 2010: the hints of DIJ, FULL, LDM and HYP, where these tell
--- nodes apart that no walk joins.
+-- The items that a method gathers from its book to show that no route joins two nodes. Source: Yiu, Lin and
+-- Mouratidis, ICDE 2010: the hints of DIJ, FULL, LDM and HYP also show that no walk joins two nodes.
 use Rattle.std.specs.Prelude.{◌≡◌, ◌≢◌, ℕ, ◌↔◌, ◌⊎◌, IsTrue, Some, IsSome, []}
 use Rattle.road_map.specs.Walks.{Joins}
 use Rattle.road_leaf.specs.declared.leaf.Extra.TheVariants.{Near}
@@ -17,7 +16,7 @@ use Rattle.proof_method.specs.Gathering.{IsAuthentic, AreEnds, IsPairAt, Lists, 
 abbrev pub IsEnd : Query → ℕ → Type 0
 IsEnd q id = (id ≡ q.from) ⊎ (id ≡ q.to)
 
--- an open walk of the book leads from the start to a node, which may be the start
+-- an open walk of the book leads from the start to a node, possibly the start itself
 abbrev pub IsOpen : Book → Query → ℕ → Type 0
 IsOpen b q id = HasWay (open_ways (leaf b) q.to) q.from id
 
@@ -25,9 +24,9 @@ IsOpen b q id = HasWay (open_ways (leaf b) q.to) q.from id
 abbrev pub IsInnerWay : Book → ℕ → ℕ → Type 0
 IsInnerWay b from id = HasWay (inner_ways (leaf b)) from id
 
--- the ids whose leaves are gathered besides those of the two ends. DIJ: all that a walk from the
--- start reaches. LDM: all that open walks lead to, and the references of these and of the ends.
--- HYP: all that inner walks lead to from one of the ends.
+-- The ids whose leaves are gathered besides those of the two ends. DIJ: all ids that a walk from the start reaches.
+-- LDM: all ids that open walks reach, and the references of these and of the ends. HYP: all ids that inner walks
+-- from one of the ends reach.
 abbrev pub WantedApart : Kind → Book → Query → ℕ → Type 0
 WantedApart Dij b q id = (d : ℕ) × Joins b.parts q.from id d
 WantedApart Full b q id = ⊥
@@ -36,7 +35,7 @@ WantedApart Ldm b q id = IsOpen b q id ⊎
     (n.extra ≡ Near id e))
 WantedApart Hyp b q id = IsInnerWay b q.from id ⊎ IsInnerWay b q.to id
 
--- a border near the start and another one near the end
+-- a border node near the start and a border node near the end
 pub record AreBordersApart (bk : Book) (q : Query) (b c : ℕ) : Type 0 where
   pub differ : b ≢ c
   pub near_mark : IsTrue (marks (leaf bk b))
@@ -44,13 +43,13 @@ pub record AreBordersApart (bk : Book) (q : Query) (b c : ℕ) : Type 0 where
   pub near : IsInnerWay bk q.from b
   pub far : IsInnerWay bk q.to c
 
--- the pairs that are gathered: FULL's is that of the two ends, HYP's are those of border nodes
+-- the gathered pairs: the pair of the two ends under FULL, and pairs of border nodes under HYP
 abbrev pub WantedPairApart : Kind → Book → Query → ℕ → ℕ → Type 0
 WantedPairApart Full b q = AreEnds q
 WantedPairApart Hyp b q = AreBordersApart b q
 WantedPairApart _ b q = λ _ _. ⊥
 
--- items that are what is gathered for a query, whose ends no walk joins
+-- the items gathered for a query whose ends no walk joins
 pub record IsGatheredApart (k : Kind) (b : Book) (q : Query) (g : Items) : Type 0 where
   pub authentic : IsAuthentic b g
   pub distinct : (id : ℕ) → ¬ StandsTwice g.nodes id
@@ -59,8 +58,8 @@ pub record IsGatheredApart (k : Kind) (b : Book) (q : Query) (g : Items) : Type 
   pub nodes : (id : ℕ) → IsSome (item_at g.nodes id) ↔ (IsEnd q id ⊎ WantedApart k b q id)
   pub pairs : (x y : ℕ) → WantedPairApart k b q x y → IsSome (pair_at g.pairs x y)
 
--- exactly what is gathered for a query, whose ends no walk joins: no route, the ids of leaves, and
--- the indexes of pairs
+-- exactly the items gathered for a query whose ends no walk joins: no route, the ids of leaves, and the indices of
+-- pairs
 pub record IsFoundApart (k : Kind) (b : Book) (q : Query) (f : Found) : Type 0 where
   pub unjoined : AreUnjoined b.parts q
   pub no_route : f.route ≡ []

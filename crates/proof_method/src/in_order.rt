@@ -9,7 +9,7 @@ use octet_text::{NoMemory, push};
 use road_map::Ids;
 use std::alloc::Global;
 
-/// The same ids, each once, by ascending id.
+/// Returns the same ids, each once, in ascending order.
 pub fn rising(mut ids: Vec<u32>) -> Ids
     ensures { Lists (Contains ids.items) result }
 {
@@ -18,7 +18,7 @@ pub fn rising(mut ids: Vec<u32>) -> Ids
     Ids::from_vec(ids)
 }
 
-/// The ids of the two ends, by ascending id.
+/// Returns the ids of the two ends in ascending order.
 pub fn ends(alloc: Global, query: Query) -> Result<Ids, NoMemory>
     ensures { IfOk result (Lists (IsEnd query)) }
 {

@@ -18,27 +18,27 @@ use road_leaf::{NodeLeaf, PairLeaf};
 use road_map::Map;
 use std::alloc::Global;
 
-/// What is kept of a map under a method: how a map becomes a book, and what the book brings for a
-/// query. How a client judges that is the work of the method's judge, which needs no book.
+/// The book of a map under a method: how a map becomes a book, and what the book gathers for a query. A client's
+/// judgement of the gathered items is the task of the method's judge, which needs no book.
 pub trait MethodBook: Drop + Sized {
-    // The method under which settings with a number are planned: a book of one method is planned
-    // under it, whatever the number.
+    // The method for which settings with this number plan a book. A book of a single method is planned for that
+    // method, whatever the number.
     ghost planned: { ℕ → Option Kind };
 
-    // What contracts see of a book: its method, its leaves and numbers, and its map.
+    // A book as contracts see it: its method, its leaves and numbers, and its map.
     ghost kind: { Self → Kind };
 
     ghost shown: { Self → Book };
 
     ghost charted: { Self → Charted };
 
-    /// Whether settings with this number of a method are planned.
+    /// Tests whether settings with this number of a method can be planned.
     fn offers(method: u8) -> bool
         ensures { result ≡ is_some (planned method) };
 
-    /// The book of a map under the settings' method, whose node leaves stand in the given order of
-    /// the map's ids. Refuses exactly what is not offered, and what the method's parameters or the
-    /// size of the map forbid.
+    /// Plans the book of a map under the settings' method, with node leaves in the given order of the map's ids.
+    /// Fails exactly if the method is not offered, or if the method's parameters or the size of the map do not
+    /// allow the book.
     fn plan(alloc: Global, map: Map, settings: &Settings, order: &[u32]) -> Result<Self, PlanError>
         requires order { IsOrderOf map.parts order.now }
         ensures method { IfOk result (λ book. planned settings.now.method ≡ Some (kind book)) }
@@ -52,30 +52,32 @@ pub trait MethodBook: Drop + Sized {
             (λ e. (e ≡ plan_error.Memory no_memory) ⊎
             (own_fault (planned settings.now.method) map.parts settings.now ≡ Some e)) };
 
-    /// The map.
+    /// Returns the map.
     fn map(&self) -> &Map
         ensures map { result.now ≡ charted self.now }
         ensures parts { result.now.parts ≡ (shown self.now).parts };
 
-    /// The map, without a copy.
+    /// Returns the map without copying it.
     fn into_map(self) -> Map
         ensures { result ≡ charted self };
 
-    /// The two numbers that a client needs for the judgement.
+    /// Returns the two numbers that a client needs for the judgement.
     fn numbers(&self) -> Numbers
         ensures { result ≡ (shown self.now).numbers };
 
-    /// The leaf of a node.
+    /// Returns the leaf of a node.
     fn node_leaf(&self, alloc: Global, id: u32) -> Result<NodeLeaf, NoMemory>
         requires { Knows (shown self.now).parts id }
         ensures { IfOk result (λ found. leaf (shown self.now) id ≡ Some found) };
 
-    /// The leaves of pairs, in the order of their tree.
+    /// Returns the leaves of pairs, in the order of their tree.
     fn pairs(&self) -> &[PairLeaf]
         ensures { result.now ≡ (shown self.now).pairs };
 
-    /// What shows a shortest route between two nodes. `UnknownNode` exactly where an end is not
-    /// known, whatever memory there is, and `NoRoute` exactly where both are and no walk joins them.
+    /// Gathers the items that prove a shortest route between two nodes.
+    ///
+    /// Fails with `UnknownNode` exactly if an end is unknown; this does not depend on the available memory. Fails
+    /// with `NoRoute` exactly if both ends are known and no walk joins them.
     fn gather(&self, alloc: Global, query: Query) -> Result<Found, GatherError>
         ensures found { IfOk result
             (λ found. (d : ℕ) × IsFound (kind self.now) (shown self.now) query d found) }
@@ -83,7 +85,7 @@ pub trait MethodBook: Drop + Sized {
         ensures unknown { (id : ℕ) → IsFirstUnknown (shown self.now).parts query id
             → result ≡ Err (GatherError.UnknownNode id) };
 
-    /// What shows that no walk joins two known nodes. It has no route.
+    /// Gathers the items that prove that no walk joins two known nodes. The result has no route.
     fn gather_apart(&self, alloc: Global, query: Query) -> Result<Found, NoMemory>
         requires { AreUnjoined (shown self.now).parts query }
         ensures { IfOk result (IsFoundApart (kind self.now) (shown self.now) query) };

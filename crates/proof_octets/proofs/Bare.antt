@@ -1,4 +1,4 @@
--- A reply that brings no answer is read whatever memory there is.
+-- A reply without an answer is read, however little memory is available.
 use Rattle.std.proofs.Common.{◌≡◌, ◌≢◌, ℕ, List, ◌∙◌, sym, ap, subst, refl, Bool, Result, Ok, Err, ◌==◌, length, true, false, if◌then◌else◌}
 use Rattle.octet_text.specs.Left.{Left}
 use Rattle.octet_text.specs.Format.{◌>>=◌, ended, whole, Reads}
@@ -8,7 +8,7 @@ use Rattle.proof_octets.specs.declared.reply.Reply.{Reply}
 use Rattle.proof_octets.specs.Replies.{reply, BringsNone}
 use Rattle.octet_text.specs.Want.{no_memory}
 
--- what is read whole is read, with nothing left
+-- a text that is read whole is read with nothing left
 if_ended : (b : Bool) (x r : Reply) (at : ℕ) (left : Left) → ◌≡◌ {A = Result Reply ℕ} (if b then Ok x else Err at) (Ok r) →
     (rest : Left) × (◌≡◌ {A = Result (Reply × Left) ℕ} (Ok (x, left)) (Ok (r, rest)))
 if_ended true x r at left e =
@@ -26,7 +26,7 @@ at_first left octets at text =
     ap (λ (n : ℕ). let l : Left = record { at = n; text = left.text } in l) at ∙
     ap (λ (t : List ℕ). let l : Left = record { at = 0; text = t } in l) text
 
--- where memory runs out, no such reply stands before the end
+-- if memory runs out, no such reply ends before that point
 pub short_of_bare : (left : Left) (octets : List ℕ) (P : Type 0) → left.at ≡ 0 → left.text ≡ octets →
     (P → (r : Reply) (rest : Left) → BringsNone r → reply.read left ≢ Ok (r, rest)) →
     P → (r : Reply) → BringsNone r → whole reply octets ≢ Ok r
@@ -35,7 +35,7 @@ short_of_bare left octets P at text memory short r none e =
     let before = read_before_end (reply.read left) r (subst (λ (l : Left). (reply.read l >>= ended) ≡ Ok r) (sym front) e) in
     memory short r before.0 none before.1
 
--- where memory is no answer, what is read is the answer
+-- if out of memory is excluded, the value read is the answer
 pub bare_is_read : (result : Result Reply ReadError) (w : Result Reply ℕ) →
     Reads (λ r. r) result w → (result ≡ Err (Memory no_memory) → (r : Reply) → BringsNone r → w ≢ Ok r) →
     (r : Reply) → BringsNone r → w ≡ Ok r → result ≡ Ok r

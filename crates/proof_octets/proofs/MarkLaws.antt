@@ -1,4 +1,4 @@
--- Lists of marks by ascending id are the same where they have the same marks.
+-- Lists of marks by ascending id are equal if they have the same marks.
 use Rattle.std.proofs.Common.{◌≡◌, ℕ, ◌<◌, List, [], ◌∷◌, ◌⊎◌, inl, inr, map, refl, arith, ap, sym, ◌∙◌, subst}
 use Rattle.std.specs.List.{Contains, AllByRecursion}
 use Rattle.std.specs.List.Sorted.{IsStrictlySortedBy}
@@ -23,7 +23,7 @@ one_head x y xs ys up down (inl e) there = sym e
 one_head x y xs ys up down (inr c) (inl e) = e
 one_head x y xs ys up down (inr c) (inr d) = absurd (omega (arith, behind y x ys down c, behind x y xs up d))
 
--- what stands in a list with the same first mark stands after it, if it does so in the other
+-- a mark after the first one in one list is also after it in another list that begins with the same mark
 in_rest : (x y m : Mark) (xs ys : List Mark) → IsStrictlySortedBy nat_cmp (marked_ids (x ∷ xs)) → x ≡ y → Contains xs m → Contains (y ∷ ys) m → Contains ys m
 in_rest x y m xs ys up same c d = elim (Contains-cases y m ys d) [
   | inr there ↦ there
@@ -42,11 +42,11 @@ marks_same (x ∷ xs) (y ∷ ys) up down to back =
     (λ m c. in_rest y x m ys xs down (sym first) c (back m (Contains-there y m ys c))) in
     ap (λ (z : Mark). z ∷ xs) first ∙ ap (λ (zs : List Mark). y ∷ zs) rest
 
--- a fact of marks is listed in one way at most
+-- there is at most one list of the marks that satisfy a fact
 pub listed_once : (P : Mark → Type 0) (xs ys : List Mark) → ListsMarks P xs → ListsMarks P ys → xs ≡ ys
 listed_once P xs ys one other =
     marks_same xs ys one.rising other.rising (λ m c. (other.same m).1 ((one.same m).0 c)) (λ m c. (one.same m).1 ((other.same m).0 c))
 
--- what is listed of a fact is listed of one that is the same
+-- the list for a fact is also the list for an equivalent fact
 pub listed_same : {P Q : Mark → Type 0} (xs : List Mark) → ((m : Mark) → (P m → Q m) × (Q m → P m)) → ListsMarks P xs → ListsMarks Q xs
 listed_same xs same one = record { rising = one.rising; same = λ m. (λ c. (same m).0 ((one.same m).0 c), λ q. (one.same m).1 ((same m).1 q)) }

@@ -1,4 +1,4 @@
--- What is read after a name began with it.
+-- Octets that are read after a name began with that name.
 use Rattle.std.proofs.Common.{◌≡◌, ℕ, Bool, true, false, cond, List, length, take, Result, Ok, Err, refl, sym}
 use Rattle.std.specs.Prelude.{nat_lt}
 use Rattle.std.specs.Str.{bytes_eq}
@@ -19,7 +19,7 @@ begun left name x e =
     let front = take (length name) left.text in
     sym ((bytes_eq-Decides name front).0 (tested (nat_lt (length left.text) (length name)) (bytes_eq name front) left.at (front, after left (length name)) x e))
 
--- where three steps succeed, the first does
+-- if three steps succeed, the first succeeds
 first_of : {A B C : Type 0} (r : Result A ℕ) (k : A → Result B ℕ) (l : B → Result C ℕ) (y : C) → ((r >>= k) >>= l) ≡ Ok y → (x : A) × (r ≡ Ok x)
 first_of (Ok x) k l y e = (x, refl)
 first_of (Err at) k l y e = absurd cc
@@ -32,7 +32,7 @@ read_named octets a e =
     let first = first_of (octets_at 4 (bytes_eq near_name) left) _ _ a e in
     begun left near_name first.0 first.1
 
--- and so does what encodes it
+-- and so does every encoding of the reply
 pub spelled_named : (a : NearReply) → IsNamed (near_reply.spell a)
 unfolding near_reply
 spelled_named a = refl

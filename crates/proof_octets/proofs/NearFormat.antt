@@ -1,4 +1,4 @@
--- The reply's format is exact; which replies it encodes, how its writer encodes them, and how long they are.
+-- The reply's format is exact: which replies it encodes, how its writer encodes them, and their length.
 use Rattle.std.proofs.Common.{◌≡◌, ◌++◌, ◌+◌, ℕ, ◌^◌, ◌<◌, ◌≤◌, List, length, map, refl, sym, ap, subst, arith, append_assoc, ◌∙◌}
 use Rattle.std.specs.Prelude.{All}
 use Rattle.std.specs.List.{AllByRecursion, flat_map}
@@ -58,9 +58,9 @@ near_fits a good = (
   ),
 )
 
--- ---- what the writer appends, and asks
+-- ---- the octets that the writer appends, and its requirements
 
--- the front of a reply, field by field
+-- the prefix of a reply, field by field
 pub near_first : (h : Header) (s rest : List ℕ) → near_front h s ++ rest ≡ near_name ++ (header.spell h ++ (signature.spell s ++ rest))
 near_first h s rest = append_assoc near_name (header.spell h ++ signature.spell s) rest ∙ ap (λ (t : List ℕ). near_name ++ t) (append_assoc (header.spell h) (signature.spell s) rest)
 
@@ -88,7 +88,7 @@ can_write a fits =
       cover = good.cover.few;
     }
 
--- ---- how long the texts of the leaves are
+-- ---- the lengths of the leaves' texts
 
 fifth : (a b c d e : List ℕ) → length d ≤ length (a ++ (b ++ (c ++ (d ++ e))))
 fifth a b c d e = omega (arith, length-append a (b ++ (c ++ (d ++ e))), length-append b (c ++ (d ++ e)), length-append c (d ++ e), length-append d e)

@@ -1,4 +1,4 @@
--- An outline is that of the reply, and values that are not kept are as many as those that are.
+-- An outline belongs to the reply, and the number of skimmed values is the number of kept ones.
 use Rattle.std.proofs.Common.{◌≡◌, ℕ, zero, suc, Bool, true, false, cond, List, [], ◌∷◌, ◌++◌, length, map, Option, None, Some, Result, Ok, Err, refl, sym, ap, ◌∙◌, subst, nat_eq}
 use Rattle.std.proofs.lemmas.List.{length-map}
 use Rattle.std.specs.Prelude.{IfSome, IfOk}
@@ -28,21 +28,21 @@ use Rattle.proof_octets.proofs.Good.{reply_is, is_routed, is_apart}
 
 -- ---- values that are not kept
 
--- what fails at a step fails after it
+-- a failure of the first step is a failure of the whole
 pub fails_then : {A B : Type 0} (e : ReadError) (r : Result A ℕ) (k : A → Result B ℕ) → Fails e r → Fails e (r >>= k)
 fails_then (errors.Memory _) r k h = tt
 fails_then {A} (errors.Malformed m) r k h = ap (λ (q : Result A ℕ). q >>= k) h
 
--- what was read first
+-- the value that was read first
 abbrev front_of : {A : Type 0} → Result (List A × Left) ℕ → List A
 front_of (Ok x) = x.0
 front_of (Err e) = []
 
--- some rows, and the rows that are still read complete what all of them give
+-- rows that are read, completed by the rows still to be read, are the rows that all steps give
 abbrev pub SomeBegun : {A : Type 0} → (ℕ → Format A) → (A → ℕ) → ℕ → ℕ → Left → Result (List A × Left) ℕ → Type 0
 SomeBegun {A} row next n s left total = (front : List A) × Begun row next front n s left total
 
--- the rows that are read are as many as were asked for
+-- the number of rows read is the requested number
 long_more : {A : Type 0} (x : A) (n : ℕ) (xs : List A) (rest : Left) (r : Result (List A × Left) ℕ) → ((ys : List A) (end : Left) → r ≡ Ok (ys, end) → length ys ≡ n) → ◌≡◌ {A = Result (List A × Left) ℕ} (r >>= λ ys. Ok (x ∷ ys.0, ys.1)) (Ok (xs, rest)) → length xs ≡ suc n
 long_more x n xs rest (Ok ys) long h = ap length (sym (ap front_of h)) ∙ ap suc (long ys.0 ys.1 refl)
 long_more x n xs rest (Err f) long h = absurd cc
@@ -58,7 +58,7 @@ rows_long row next (suc n) s left xs rest e = long_first row next n xs rest ((ro
 pub rows_many : {A : Type 0} (row : ℕ → Format A) (next : A → ℕ) (xs : List A) (n s : ℕ) (left rest : Left) → rows_at row next n s left ≡ Ok (xs, rest) → (rows_at row next n s left >>= seen_as length) ≡ Ok (n, rest)
 rows_many {A} row next xs n s left rest e = ap (λ (q : Result (List A × Left) ℕ). q >>= seen_as length) e ∙ ap (λ (k : ℕ). Ok (k, rest)) (rows_long row next n s left xs rest e)
 
--- how many items there are is how many indices
+-- the number of items is the number of indices
 nodes_parted : (r : Result (List NodeItem × Left) ℕ) (count : ℕ) → ((((r >>= λ y. Ok ((count, y.0), y.1)) >>= seen_as (λ (p : ℕ × List NodeItem). p.1)) >>= seen_as parted) >>= seen_as (λ (p : List ℕ × List NodeLeaf). length p.0)) ≡ (r >>= seen_as length)
 nodes_parted (Ok y) count = ap (λ (k : ℕ). Ok (k, y.1)) (length-map y.0 (λ (i : NodeItem). i.place))
 nodes_parted (Err f) count = refl
@@ -88,7 +88,7 @@ digests_many left mid count e =
     ap (λ (q : Result (ℕ × Left) ℕ). ((q >>= λ x. rows_at (λ _. octets 32 any_octets) none_after x.0 0 x.1 >>= λ y. Ok ((x.0, y.0), y.1)) >>= seen_as (λ (p : ℕ × List (List ℕ)). p.1)) >>= seen_as length) e
     ∙ digests_listed (rows_at (λ _. octets 32 any_octets) none_after count 0 mid) count
 
--- ---- items that are parted as they are read
+-- ---- items that are split as they are read
 
 pub map_push : {A B : Type 0} (f : A → B) (xs : List A) (x : A) (ys : List B) → ys ≡ map f xs → ys ++ f x ∷ [] ≡ map f (xs ++ x ∷ [])
 map_push {A} f xs x ys are = ap (λ zs. zs ++ f x ∷ []) are ∙ behind xs
@@ -97,7 +97,7 @@ map_push {A} f xs x ys are = ap (λ zs. zs ++ f x ∷ []) are ∙ behind xs
     behind [] = refl
     behind (w ∷ ws) = ap (λ zs. f w ∷ zs) (behind ws)
 
--- items as a list of one part and a list of another
+-- items as two lists, one for each part of an item
 abbrev parts_of : {A L : Type 0} → (A → ℕ) → (A → L) → List A → List ℕ × List L
 parts_of place leaf items = (map place items, map leaf items)
 
@@ -106,7 +106,7 @@ parted_done {A} {L} place leaf front total left places leaves e first second =
     ap (λ (q : Result (List A × Left) ℕ). q >>= seen_as (parts_of place leaf)) e
     ∙ (ap (λ (ps : List ℕ). Ok ((ps, map leaf front), left)) (sym first) ∙ ap (λ (ls : List L). Ok ((places, ls), left)) (sym second))
 
--- a number of items that is known, and the items parted
+-- a known number of items, split into parts
 counted_off : {A B : Type 0} (count : ℕ) (part : List A → B) (r : Result (List A × Left) ℕ) → (((r >>= λ y. Ok ((count, y.0), y.1)) >>= seen_as (λ (p : ℕ × List A). p.1)) >>= seen_as part) ≡ (r >>= seen_as part)
 counted_off count part (Ok y) = refl
 counted_off count part (Err f) = refl
@@ -123,9 +123,9 @@ pairs_read left mid count e =
     ap (λ (q : Result (ℕ × Left) ℕ). ((q >>= λ x. rows_at pair_item after_pair x.0 0 x.1 >>= λ y. Ok ((x.0, y.0), y.1)) >>= seen_as (λ (p : ℕ × List PairItem). p.1)) >>= seen_as parted_pairs) e
     ∙ counted_off count parted_pairs (rows_at pair_item after_pair count 0 mid)
 
--- ---- formats that read alike
+-- ---- formats that read in the same way
 
--- a pair of which a second value is read after a first
+-- a pair whose second value is read after the first
 abbrev pair_with : {A B : Type 0} → A → B × Left → Result ((A × B) × Left) ℕ
 pair_with a y = Ok ((a, y.0), y.1)
 
@@ -135,7 +135,7 @@ second_as to p = (p.0, to p.1)
 abbrev both_as : {A B C D : Type 0} → (A → B) → (C → D) → A × C → B × D
 both_as one two p = (one p.0, two p.1)
 
--- a second value after a first: read alike where the seconds are
+-- a second value after a first: two such formats read alike if the formats of the second value do
 seq_alike : {A B C : Type 0} (f : Format A) (g : A → Format B) (h : A → Format C) (to : B → C) → ((a : A) (left : Left) → (h a).read left ≡ ((g a).read left >>= seen_as to)) → (left : Left) → (seq f h).read left ≡ ((seq f g).read left >>= seen_as (second_as to))
 seq_alike {A} {B} {C} f g h to same left = first (f.read left)
   where
@@ -147,7 +147,7 @@ seq_alike {A} {B} {C} f g h to same left = first (f.read left)
     first (Ok x) = ap (λ (q : Result (C × Left) ℕ). q >>= pair_with x.0) (same x.0 x.1) ∙ second x.0 ((g x.0).read x.1)
     first (Err e) = refl
 
--- and where the first is only counted
+-- the same if the first value is only counted
 many_alike : {A B C : Type 0} (count : A → ℕ) (f : Format A) (g : Format B) (h : Format C) (to : B → C) → ((left : Left) → h.read left ≡ (g.read left >>= seen_as to)) → (left : Left) → (seq (many count f) (λ _. h)).read left ≡ ((seq f (λ _. g)).read left >>= seen_as (both_as count to))
 many_alike {A} {B} {C} count f g h to same left = first (f.read left)
   where
@@ -159,7 +159,7 @@ many_alike {A} {B} {C} count f g h to same left = first (f.read left)
     first (Ok x) = ap (λ (q : Result (C × Left) ℕ). q >>= pair_with (count x.0)) (same x.1) ∙ second x.0 (g.read x.1)
     first (Err e) = refl
 
--- the parts of an answer, from the back to the front
+-- the parts of an answer, from the last to the first
 abbrev covers_kept : Format (List (List ℕ) × List (List ℕ))
 covers_kept = seq digests (λ _. digests)
 

@@ -1,4 +1,4 @@
--- Replies whose leaves stand as texts in a list: what is appended, and how long it is.
+-- Replies whose leaves are stored as texts in a list: the appended octets and their number.
 use Rattle.std.proofs.Common.{◌≡◌, ◌+◌, ◌*◌, ◌++◌, ℕ, List, length, ap, arith, ◌∙◌}
 use Rattle.std.specs.List.{flat_map}
 use Rattle.std.specs.Int.{w32, to_be_bytes}
@@ -27,7 +27,7 @@ can_near a texts leaves has =
     let can = can_write (near_with a leaves) has.fits in
     record { signature = can.signature; nodes = can_at texts a.places leaves has.within has.spelled can.nodes; cover = can.cover }
 
--- so many octets
+-- this many octets
 pub near_long : (a : PlacedNear) (texts : List (List ℕ)) (leaves : List NodeLeaf) → HasNearLeaves a texts leaves
     → length (placed_near_text a texts) ≡ 110 + length a.signature + (4 + length (flat_map (λ p. placed_text p (text_at texts p)) a.places)) + (4 + 32 * length a.cover)
 near_long a texts leaves has =

@@ -1,4 +1,4 @@
--- Answers whose node leaves stand as texts in a list: what is appended, and how long it is.
+-- Answers whose node leaves are stored as texts in a list: the appended octets and their number.
 use Rattle.std.proofs.Common.{◌≡◌, ◌+◌, ◌*◌, ◌++◌, ℕ, ◌^◌, ◌<◌, List, [], ◌∷◌, length, map, drop, get_or, refl, sym, ap, subst, arith, ◌∙◌}
 use Rattle.std.specs.Prelude.{All}
 use Rattle.std.specs.List.{AllByRecursion, flat_map}
@@ -24,7 +24,7 @@ use Rattle.proof_octets.proofs.ItemLemmas.{length-joined, length-joined_pairs}
 use Rattle.proof_octets.proofs.TextRoom.{all_short}
 use Rattle.proof_octets.proofs.Writable.{can_write_reply, front_first, written_same}
 
--- ---- which octets they are
+-- ---- the octets
 
 pub one_each : (texts : List (List ℕ)) (places : List ℕ) (leaves : List NodeLeaf) → map (text_at texts) places ≡ map node_leaf_text leaves → length leaves ≡ length places
 one_each texts places leaves e = omega (arith, ap (λ (ts : List (List ℕ)). length ts) e, length-map places (text_at texts), length-map leaves node_leaf_text)
@@ -55,7 +55,7 @@ placed_same a texts leaves has =
     ∙ ap (λ (t : List ℕ). kind_text a.route ++ t) (front_first a.header a.signature a.route (items_text a.node_places leaves ++ back_text a.pair_places a.pairs a.node_cover a.pair_cover))
     ∙ kind_first a.route (with_leaves a leaves) ∙ written_same (reply_of (with_leaves a leaves)) has.fits
 
--- ---- what is asked
+-- ---- the requirements
 
 pub can_at : (texts : List (List ℕ)) (places : List ℕ) (leaves : List NodeLeaf) → All (λ p. p < length texts) places → map (text_at texts) places ≡ map node_leaf_text leaves → CanPut places leaves → CanPutAt texts places
 can_at texts places leaves within spelled can = record {
@@ -87,7 +87,7 @@ can_place a texts leaves has =
 pub placed_good : (a : PlacedAnswer) (texts : List (List ℕ)) (leaves : List NodeLeaf) → HasLeaves a texts leaves → IsGood (with_leaves a leaves)
 placed_good a texts leaves has = (reply_is (with_leaves a leaves)).0 has.fits
 
--- ---- how long it is
+-- ---- the number of octets
 
 all_long : (xs : List (List ℕ)) → AllByRecursion (λ x. length x ≡ 32) xs → length (flat_map (λ x. x) xs) ≡ 32 * length xs
 all_long [] each = omega arith
@@ -113,7 +113,7 @@ kind_long (id ∷ ids) = refl
 pub signature_long : (s : List ℕ) → length (signature.spell s) ≡ 2 + length s
 signature_long s = omega (arith, length-append (to_be_bytes w16 (length s)) s)
 
--- so many octets
+-- this many octets
 pub placed_long : (a : PlacedAnswer) (texts : List (List ℕ)) (leaves : List NodeLeaf) → HasLeaves a texts leaves
     → length (placed_answer_text a texts) ≡ 1 + (106 + length a.signature + length (way_text a.route)) + (4 + length (flat_map (λ p. placed_text p (text_at texts p)) a.node_places)) + (4 + 21 * length a.pair_places) + (4 + 32 * length a.node_cover) + (4 + 32 * length a.pair_cover)
 placed_long a texts leaves has =

@@ -1,4 +1,4 @@
--- How many octets a reply has at most, by how many leaves and digests it brings.
+-- The greatest number of octets in a reply, by the number of its leaves and digests.
 use Rattle.std.proofs.Common.{◌≡◌, ◌+◌, ◌-◌, ◌*◌, ◌++◌, ℕ, ◌^◌, ◌<◌, ◌≤◌, List, [], ◌∷◌, length, refl, ap, arith}
 use Rattle.std.specs.List.{AllByRecursion, flat_map}
 use Rattle.std.specs.Int.{w32, to_be_bytes}
@@ -91,13 +91,13 @@ answer_most a good =
       length-append nc pc,
     )
 
--- the reply has one octet more
+-- the reply has one more octet
 written_long : (ids : List ℕ) (a : answers.Answer) → length (written (reply_with ids a)) ≡ 1 + length (answer_text a)
 written_long [] a = omega arith
 written_long (id ∷ ids) a = omega arith
 
--- An answer over at most 65,536 node leaves and 2,097,152 pair leaves, whose covers have at most 32 times
--- as many digests.
+-- An answer over at most 65,536 node leaves and 2,097,152 pair leaves, with covers of at most 32 times as many
+-- digests.
 pub answer_few : (a : answers.Answer) → IsGood a → length a.node_places ≤ 65536 → length a.pair_places ≤ 2097152 → length a.node_cover ≤ 2097152 → length a.pair_cover ≤ 67108864
     → length (reply_text (reply_of a)) < 2 ^ 32 - 16
 answer_few a good nodes pairs node_cover pair_cover =
@@ -141,7 +141,7 @@ near_few a good nodes cover = omega (arith, near_most a good, nodes, cover, ap l
 
 -- ---- the others
 
--- one octet says that an end is not known
+-- one octet states that an end is unknown
 pub unknown_long : length (reply_text replies.UnknownNode) ≡ 1
 unfolding reply
 unknown_long = refl

@@ -1,4 +1,4 @@
--- How long the text of a node's leaf is.
+-- The length of a node leaf's text.
 use Rattle.std.proofs.Common.{◌≡◌, ℕ, ℤ, ◌+◌, ◌*◌, List, [], ◌∷◌, ◌++◌, length, arith, ◌∙◌}
 use Rattle.std.specs.List.{flat_map}
 use Rattle.std.specs.Int.{w8, w16, w32, to_be_bytes}
@@ -34,7 +34,7 @@ long i x y c arcs added ei ex ey ec =
       ec,
     )
 
--- the text with what its kind adds
+-- the text, with the contents that its kind adds
 with_added : (id : ℕ) (x y : ℤ) (arcs : List Arc) (added : List ℕ)
     → length ((0x4e ∷ []) ++ (to_be_bytes w32 id ++ (i32.spell x ++ (i32.spell y ++ ((to_be_bytes w16 (length arcs) ++ flat_map (arc id 0).spell arcs) ++ added))))) ≡ 15 + 8 * length arcs + length added
 with_added id x y arcs added =

@@ -19,12 +19,12 @@ has_room f xs i d texts text lt few is same =
       octets = omega (arith, ap total_length is, total_length-map f (take i xs), ap length same, length-flat_map-take f xs i d lt, few);
     }
 
--- the texts have so many octets together, where each has as many
+-- the total number of octets of the texts, if each has this many
 pub all_short : {X : Type 0} (f : X → List ℕ) (n : ℕ) → ((x : X) → length (f x) ≡ n) → (xs : List X) → length (flat_map f xs) ≡ n * length xs
 all_short f n each [] = omega arith
 all_short f n each (x ∷ xs) = omega (arith, all_short f n each xs, each x, ap length (flat_map-cons f x xs), length-append (f x) (flat_map f xs))
 
--- one text more
+-- one more text
 pub texts_more : {X : Type 0} (f : X → List ℕ) (xs : List X) (i : ℕ) (d : X) (old new : List (List ℕ)) (text : List ℕ) → i < length xs → old ≡ map f (take i xs) → new ≡ old ++ text ∷ [] → text ≡ f (get_or xs i d) → new ≡ map f (take (i + 1) xs)
 texts_more f xs i d old new text lt is pushed same =
     pushed

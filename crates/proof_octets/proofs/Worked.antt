@@ -1,4 +1,4 @@
--- What the words of a radius say at some marks, so that a changed word is seen.
+-- The definitions of a radius, evaluated for some marks. A changed definition fails here.
 use Rattle.std.proofs.Common.{◌≡◌, ◌+◌, List, [], ◌∷◌, Some, arith}
 use Rattle.std.specs.Ordering.{nat_cmp}
 use Rattle.std.specs.List.Sorted.{IsStrictlySortedBy}
@@ -14,7 +14,7 @@ module _ (parts : Parts) (q : NearQuery) (m : Mark) where
   at_the_radius : distance parts q.from m.id ≡ Some m.distance → m.distance ≡ q.radius → IsNear parts q m
   at_the_radius is same = record { distance_is = is; within = omega (arith, same) }
 
-  -- one a step farther is not
+  -- a node one step farther is not
   behind_the_radius : IsNear parts q m → m.distance ≡ q.radius + 1 → ⊥
   behind_the_radius h is = omega (arith, h.within, is)
 
@@ -27,13 +27,13 @@ module _ (parts : Parts) (q : NearQuery) (m : Mark) where
   id_behind_the_radius : (h : IsWithin parts q m.id) → h.0 ≡ q.radius + 1 → ⊥
   id_behind_the_radius h is = omega (arith, h.2, is)
 
-  -- each node within is listed, and none else
+  -- each node within the radius is listed, and no other node
   listed : AreWithin parts q [] → IsNear parts q m → ⊥
   listed h near = Contains-none m ((h.same m).1 near)
 
   none_else : AreWithin parts q (m ∷ []) → IsNear parts q m
   none_else h = (h.same m).0 (Contains-here m [])
 
--- marks stand by ascending id
+-- marks are ordered by ascending id
 rising : (P : Mark → Type 0) (marks : List Mark) → ListsMarks P marks → IsStrictlySortedBy nat_cmp (marked_ids marks)
 rising P marks h = h.rising

@@ -1,4 +1,4 @@
--- The format of the reply to a query for what lies within a radius, and which replies octets encode.
+-- The format of the reply to a query for the nodes within a radius, and which replies have an encoding.
 use Rattle.std.specs.Prelude.{◌≡◌, ℕ, ◌≤◌, List, [], ◌∷◌, take, length, All}
 use Rattle.octet_text.specs.Format.{Format, behind, seq, mapped}
 use Rattle.road_leaf.specs.declared.leaf.NodeLeaf.{NodeLeaf}
@@ -9,7 +9,7 @@ use Rattle.proof_octets.specs.Headers.{header, leaf_kind}
 use Rattle.proof_octets.specs.Replies.{signature, node_items, digests}
 use Rattle.proof_octets.specs.declared.near_reply.NearReply.{NearReply}
 
--- RPN1
+-- the name RPN1
 abbrev pub near_name : List ℕ
 near_name = 0x52 ∷ 0x50 ∷ 0x4e ∷ 0x31 ∷ []
 

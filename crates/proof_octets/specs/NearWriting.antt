@@ -1,4 +1,4 @@
--- What the writer of a reply appends, without the kind of the leaves, and what it asks.
+-- The octets that the writer of a reply appends, whatever the kind of the leaves, and the writer's requirements.
 use Rattle.std.specs.Prelude.{ℕ, ◌^◌, ◌<◌, List, ◌++◌, length}
 use Rattle.proof_octets.specs.declared.header.Header.{Header}
 use Rattle.proof_octets.specs.Headers.{header}
@@ -7,7 +7,7 @@ use Rattle.proof_octets.specs.Writing.{items_text, CanPut}
 use Rattle.proof_octets.specs.declared.near_reply.NearReply.{NearReply}
 use Rattle.proof_octets.specs.NearReplies.{near_name}
 
--- what stands before the node items of a reply: its name, the header and its signature
+-- everything before the node items of a reply: its name, the header and its signature
 abbrev pub near_front : Header → List ℕ → List ℕ
 near_front h s = near_name ++ (header.spell h ++ signature.spell s)
 

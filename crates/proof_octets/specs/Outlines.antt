@@ -1,4 +1,4 @@
--- What a reply says before its items, and how many node items it brings.
+-- The part of a reply before its items, and the number of its node items.
 use Rattle.std.specs.Prelude.{ℕ, zero, suc, true, false, List, [], length, Option, Some, None, Result, Ok, Err}
 use Rattle.octet_text.specs.Format.{◌>>=◌, Format, between, nothing, never, seq, tagged, seen_as}
 use Rattle.proof_octets.specs.declared.header.Header.{Header}
@@ -17,21 +17,21 @@ outline_of a = record {
   nodes = length a.node_places;
 }
 
--- the outline of the answer that a reply brings, if it brings one
+-- the outline of the answer in a reply, if the reply has an answer
 abbrev pub outline_in : Reply → Option Outline
 outline_in (replies.Answer a) = Some (outline_of a)
 outline_in replies.UnknownNode = None
 outline_in replies.NoRoute = None
 outline_in (replies.Apart a) = Some (outline_of a)
 
--- and of what octets encode
+-- the outline of the reply that octets encode
 abbrev pub outlined : Result Reply ℕ → Result (Option Outline) ℕ
 outlined (Ok r) = Ok (outline_in r)
 outlined (Err at) = Err at
 
--- ---- read without keeping the items
+-- ---- reading without keeping the items
 
--- as a format reads, but only how many there are
+-- a format that reads values and keeps only their number
 abbrev pub many : {A : Type 0} → (A → ℕ) → Format A → Format ℕ
 many count f = record {
   read = λ left. f.read left >>= seen_as count;
@@ -59,7 +59,7 @@ outline way = record {
   Fits = λ _. ⊥;
 }
 
--- as an optional value
+-- a format read as an optional value
 abbrev pub given : Format Outline → Format (Option Outline)
 given f = record {
   read = λ left. f.read left >>= seen_as (λ o. Some o);

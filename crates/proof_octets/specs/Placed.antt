@@ -1,5 +1,5 @@
--- An answer whose node leaves stand, as texts, at its indices in a list: which answer it is, and what
--- its writer appends and asks.
+-- Answers whose node leaves are stored as texts at their indices in a list: the answer that this stands for, the
+-- octets that its writer appends, and the writer's requirements.
 use Rattle.std.specs.Prelude.{◌≡◌, ℕ, ◌^◌, ◌<◌, List, [], ◌∷◌, ◌++◌, length, map, slice_index_or, All}
 use Rattle.std.specs.List.{flat_map}
 use Rattle.std.specs.Int.{w8, w32, to_be_bytes}
@@ -14,7 +14,7 @@ use Rattle.proof_octets.specs.Writing.{placed_text, front_text, back_text}
 abbrev pub text_at : List (List ℕ) → ℕ → List ℕ
 text_at texts place = slice_index_or texts place []
 
--- the answer that brings these node leaves at its indices
+-- the answer with these node leaves at its indices
 abbrev pub with_leaves : PlacedAnswer → List NodeLeaf → answers.Answer
 with_leaves a leaves = record {
   header = a.header;
@@ -26,21 +26,22 @@ with_leaves a leaves = record {
   pair_cover = a.pair_cover;
 }
 
--- its node leaves are these: their texts stand at its indices, and with them it has an encoding
+-- these are the node leaves of the answer: their texts are at its indices in the list, and with them it has an
+-- encoding
 pub record HasLeaves (a : PlacedAnswer) (texts : List (List ℕ)) (leaves : List NodeLeaf) :
     Type 0 where
   pub within : All (λ p. p < length texts) a.node_places
   pub spelled : map (text_at texts) a.node_places ≡ map node_leaf_text leaves
   pub fits : reply.Fits (reply_of (with_leaves a leaves))
 
--- ---- what is appended
+-- ---- the appended octets
 
--- which of the two replies that bring an answer: one with this route, or without one
+-- the kind of a reply with an answer that has this route, or no route
 abbrev pub kind_text : List ℕ → List ℕ
 kind_text [] = to_be_bytes w8 3
 kind_text (id ∷ ids) = to_be_bytes w8 0
 
--- how many node items there are, and they
+-- the number of node items and then the items
 abbrev pub items_at : List (List ℕ) → List ℕ → List ℕ
 items_at texts places = to_be_bytes w32 (length places) ++ flat_map
     (λ p. placed_text p (text_at texts p)) places
@@ -50,9 +51,9 @@ placed_answer_text a texts = kind_text a.route ++ (front_text a.header a.signatu
     (items_at texts a.node_places ++
     back_text a.pair_places a.pairs a.node_cover a.pair_cover))
 
--- ---- what is asked
+-- ---- requirements
 
--- what the writer of node items asks
+-- the requirements of the writer of node items
 pub record CanPutAt (texts : List (List ℕ)) (places : List ℕ) : Type 0 where
   pub few : length places < 2 ^ 32
   pub within : All (λ p. p < length texts) places

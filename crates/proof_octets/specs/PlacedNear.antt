@@ -1,5 +1,5 @@
--- A reply over the nodes within a radius whose leaves stand, as texts, at its places in a list: which
--- reply it is, and what its writer appends and asks.
+-- Replies for a radius whose leaves are stored as texts at their indices in a list: the reply that this stands for,
+-- the octets that its writer appends, and the writer's requirements.
 use Rattle.std.specs.Prelude.{◌≡◌, ℕ, ◌^◌, ◌<◌, List, ◌++◌, length, map, All}
 use Rattle.road_leaf.specs.declared.leaf.NodeLeaf.{NodeLeaf}
 use Rattle.road_leaf.specs.Leaves.{node_leaf_text}
@@ -10,7 +10,7 @@ use Rattle.proof_octets.specs.NearWriting.{near_front}
 use Rattle.proof_octets.specs.Placed.{text_at, items_at, CanPutAt}
 use Rattle.proof_octets.specs.Replies.{digests}
 
--- the reply that brings these leaves at its places
+-- the reply with these leaves at its indices
 abbrev pub near_with : PlacedNear → List NodeLeaf → NearReply
 near_with a leaves = record {
   header = a.header;
@@ -20,7 +20,7 @@ near_with a leaves = record {
   cover = a.cover;
 }
 
--- its leaves are these: their texts stand at its places, and with them it has an encoding
+-- these are the leaves of the reply: their texts are at its indices in the list, and with them it has an encoding
 pub record HasNearLeaves (a : PlacedNear) (texts : List (List ℕ)) (leaves : List NodeLeaf) :
     Type 0 where
   pub within : All (λ p. p < length texts) a.places

@@ -1,6 +1,5 @@
--- Which nodes lie within a radius, each with its distance.
--- Source: Papadias, Zhang, Mamoulis and Tao, VLDB 2003: range search in a road network, by network
--- distance.
+-- The nodes within a radius, each with its distance. Source: Papadias, Zhang, Mamoulis and Tao, VLDB 2003:
+-- range search in a road network, by network distance.
 use Rattle.std.specs.Prelude.{◌≡◌, ℕ, ◌≤◌, ◌↔◌, Some, List, Contains, map}
 use Rattle.std.specs.List.Sorted.{IsStrictlySortedBy}
 use Rattle.std.specs.Ordering.{nat_cmp}
@@ -13,12 +12,12 @@ use Rattle.proof_octets.specs.declared.query.NearQuery.{NearQuery}
 abbrev pub marked_ids : List Mark → List ℕ
 marked_ids marks = map (λ m. m.id) marks
 
--- exactly the marks of which P holds, by ascending id, none twice
+-- exactly the marks that satisfy P, each once, by ascending id
 pub record ListsMarks (P : Mark → Type 0) (marks : List Mark) : Type 0 where
   pub rising : IsStrictlySortedBy nat_cmp (marked_ids marks)
   pub same : (m : Mark) → Contains marks m ↔ P m
 
--- an id at most as far from the query's node as the radius
+-- the distance of the id from the query's node is at most the radius
 abbrev pub IsWithin : Parts → NearQuery → ℕ → Type 0
 IsWithin parts q id = (d : ℕ) × (distance parts q.from id ≡ Some d) × (d ≤ q.radius)
 

@@ -2,11 +2,11 @@
 
 use octet_text::List;
 
-/// A node, and how far it is from the node that was asked about.
+/// A node and its distance from the node of the query.
 #[derive(Clone, Copy, Debug, PartialEq, Eq)]
 pub struct Mark {
     pub id: u32,
-    /// The least length of a walk to it.
+    /// The least length of a walk to the node.
     pub distance: u64,
 }
 

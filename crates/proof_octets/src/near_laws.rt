@@ -1,4 +1,4 @@
-//! What holds of the reply's format.
+//! Laws of the format of replies for a radius.
 ghost use Rattle.std.specs.Prelude.{◌+◌, ◌<◌, ◌↔◌, length};
 ghost use Rattle.std.specs.List.{flat_map};
 ghost use Rattle.road_leaf.specs.Leaves.{node_leaf_text};
@@ -6,12 +6,12 @@ ghost use Rattle.octet_text.specs.Exact.{IsExact};
 ghost use Rattle.proof_octets.specs.declared.near_reply.NearReply.{NearReply};
 ghost use Rattle.proof_octets.specs.NearReplies.{near_reply, IsGoodNear};
 
-/// Each reply that fits has one encoding, and each encoding is read as the reply that it encodes.
+/// Each reply that fits the format has one encoding, and each encoding reads back as the reply that it encodes.
 pub fn near_format_laws()
     ensures { IsExact near_reply }
 {}
 
-/// Which replies fit, in plain words.
+/// Which replies fit the format, in terms of their fields.
 pub fn near_range_laws()
     ensures { (a : NearReply) → near_reply.Fits a ↔ IsGoodNear a }
 {}

@@ -1,4 +1,4 @@
-//! The reply to a query for what lies within a radius.
+//! The reply to a query for the nodes within a radius.
 ghost use Rattle.std.specs.Prelude.{◌≡◌, ◌<◌, ◌^◌, length, Err, IfOk, OnOk};
 ghost use Rattle.octet_text.specs.Want.{no_memory};
 ghost use Rattle.octet_text.specs.Format.{Gives, Reads, IsFound, ReadsAll, whole};
@@ -16,16 +16,16 @@ use octet_text::{Cursor, Digests, Malformed, NoMemory, Octets, ReadError, put_oc
 use road_leaf::NodeLeaves;
 use std::alloc::Global;
 
-/// Leaves of nodes, with all that proves them: their places in the node tree under the signed header,
-/// and the cover of all other places.
+/// Leaves of nodes and their proof: their indices in the node tree, the signed header, and the cover of all other
+/// indices.
 #[derive(Debug, Drop)]
 pub struct NearReply {
     pub header: Header,
     /// The owner's signature of the header's octets.
     pub signature: Octets,
-    /// The places of the leaves in the node tree, by ascending place.
+    /// The indices of the leaves in the node tree, ascending.
     pub places: Places,
-    /// The leaves at these places.
+    /// The leaves at these indices.
     pub nodes: NodeLeaves,
     pub cover: Digests,
 }
@@ -49,7 +49,7 @@ fn read_near(alloc: Global, cursor: &mut Cursor<'_>) -> Result<NearReply, ReadEr
     })
 }
 
-// The reply that octets encode, all of them.
+// Reads the reply that all these octets encode.
 fn read_whole(alloc: Global, octets: &[u8]) -> Result<NearReply, ReadError>
     requires { length octets.now < 2 ^ 32 }
     ensures reads { Reads (λ r. r) result (whole near_reply octets.now) }
@@ -63,7 +63,7 @@ fn read_whole(alloc: Global, octets: &[u8]) -> Result<NearReply, ReadError>
     Ok(reply)
 }
 
-// What stands before the node items of a reply.
+// Appends everything before the node items of a reply.
 pub(crate) fn put_near_front(
     out: &mut Vec<u8>,
     header: &Header,
@@ -79,7 +79,7 @@ pub(crate) fn put_near_front(
     Ok(())
 }
 
-// Appends the octets of a reply. After a refusal a part of them may stand there.
+// Appends the octets of a reply. After an error, part of them may have been appended.
 fn put_near(alloc: Global, out: &mut Vec<u8>, reply: &NearReply) -> Result<(), NoMemory>
     requires { CanWriteNear reply.now }
     ensures { OnOk result (Puts out.old.items out.new.items (near_text reply.now)) }
@@ -91,10 +91,10 @@ fn put_near(alloc: Global, out: &mut Vec<u8>, reply: &NearReply) -> Result<(), N
 }
 
 impl NearReply {
-    /// The reply that octets encode, all of them, or the offset of the first field that can't be read.
+    /// Reads the reply that all these octets encode. Fails with the offset of the first field that cannot be read.
     ///
-    /// A count that the octets left can't hold reserves no memory. Octets that don't begin with the name
-    /// of such a reply are refused whatever memory there is.
+    /// No memory is reserved for a count that the remaining octets cannot hold. Octets that do not begin with the
+    /// name of such a reply are refused, however little memory is available.
     pub fn read(alloc: Global, octets: &[u8]) -> Result<NearReply, ReadError>
         requires { length octets.now < 2 ^ 32 }
         ensures found { IsFound (λ r. r) near_reply octets.now result }
@@ -105,7 +105,7 @@ impl NearReply {
         read_whole(alloc, octets)
     }
 
-    /// The octets of the reply.
+    /// Encodes the reply.
     pub fn write(&self, alloc: Global) -> Result<Vec<u8>, NoMemory>
         requires { near_reply.Fits self.now }
         ensures { IfOk result (λ v. v.items ≡ near_reply.spell self.now) }

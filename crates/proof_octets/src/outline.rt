@@ -1,4 +1,4 @@
-//! What an answer says before its items, and how many node items it has.
+//! The part of an answer before its items, and the number of its node items.
 ghost use Rattle.std.specs.Prelude.{◌≡◌, ◌<◌, ◌^◌, length, IfOk, IfSome};
 ghost use Rattle.octet_text.specs.Format.{Gives, Reads, whole};
 ghost use Rattle.proof_octets.specs.Good.{IsGoodHeader};
@@ -12,13 +12,13 @@ use crate::lists::{read_signature, read_way, skim_digests};
 use octet_text::{Cursor, Malformed, Octets, ReadError};
 use std::alloc::Global;
 
-/// What an answer says before its items, and how many node items it has.
+/// The part of an answer before its items, and the number of its node items.
 #[derive(Debug, Drop)]
 pub struct Outline {
     pub header: Header,
     /// The owner's signature of the header's octets.
     pub signature: Octets,
-    /// How many node items there are.
+    /// The number of node items.
     pub nodes: u32,
 }
 
@@ -52,7 +52,7 @@ fn read_kind(alloc: Global, cursor: &mut Cursor<'_>) -> Result<Option<Outline>, 
     }
 }
 
-// The outline in what octets encode, all of them.
+// Reads the outline of the answer that all these octets encode.
 fn read_whole(alloc: Global, octets: &[u8]) -> Result<Option<Outline>, ReadError>
     requires { length octets.now < 2 ^ 32 }
     ensures { Reads (λ o. o) result (whole outlines octets.now) }
@@ -66,10 +66,10 @@ fn read_whole(alloc: Global, octets: &[u8]) -> Result<Option<Outline>, ReadError
 }
 
 impl Outline {
-    /// The outline of the answer that octets encode, all of them, if they encode a reply that brings one, or
-    /// the offset of the first field that can't be read.
+    /// Reads the outline of the answer that all these octets encode. Returns `None` if they encode a reply without
+    /// an answer. Fails with the offset of the first field that cannot be read.
     ///
-    /// All items are read, and none is kept: it takes no more memory than a signature and a route.
+    /// Reads every item and keeps none, so it takes no more memory than a signature and a route.
     pub fn read(alloc: Global, octets: &[u8]) -> Result<Option<Outline>, ReadError>
         requires { length octets.now < 2 ^ 32 }
         ensures reads { Reads (λ o. o) result (outlined (whole reply octets.now)) }

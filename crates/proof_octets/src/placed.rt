@@ -1,4 +1,4 @@
-//! Answers whose node leaves stand as texts in a list, written as octets.
+//! Writing answers whose node leaves are stored as texts in a list.
 ghost use Rattle.std.specs.Prelude.{◌≡◌, ◌+◌, ◌*◌, ◌<◌, ◌≤◌, ◌^◌, List, length, IfOk, OnOk};
 ghost use Rattle.octet_text.specs.Puts.{Puts};
 ghost use Rattle.road_leaf.specs.declared.leaf.NodeLeaf.{NodeLeaf};
@@ -15,18 +15,18 @@ use octet_text::{Digests, NoMemory, Octets, put_u8, with_room};
 use road_map::Ids;
 use std::alloc::Global;
 
-/// An answer to a query whose node leaves are told by their indices alone, in a list that holds the text
-/// of each leaf of the node tree: who has that list needs no leaf to write the answer.
+/// An answer to a query that names its node leaves by their indices alone. It is written with a list that holds the
+/// text of each leaf of the node tree.
 #[derive(Debug, Drop)]
 pub struct PlacedAnswer {
     pub header: Header,
     /// The owner's signature of the header's octets.
     pub signature: Octets,
-    /// The route, or none.
+    /// The route, which is empty if there is none.
     pub route: Ids,
-    /// The indices of the node leaves in the node tree, by ascending index.
+    /// The indices of the node leaves in the node tree, ascending.
     pub node_places: Places,
-    /// The indices of the pair leaves in the pair tree, by ascending index.
+    /// The indices of the pair leaves in the pair tree, ascending.
     pub pair_places: Places,
     /// The pair leaves at these indices.
     pub pairs: PairLeaves,
@@ -34,7 +34,7 @@ pub struct PlacedAnswer {
     pub pair_cover: Digests,
 }
 
-// Appends the octets of the reply that brings an answer. After a refusal a part of them may stand there.
+// Appends the octets of the reply that carries an answer. After an error, part of them may have been appended.
 fn put_placed(out: &mut Vec<u8>, answer: &PlacedAnswer, texts: &Texts) -> Result<(), NoMemory>
     requires { CanWritePlaced answer.now texts.now }
     ensures { OnOk result (Puts out.old.items out.new.items
@@ -63,7 +63,7 @@ fn put_placed(out: &mut Vec<u8>, answer: &PlacedAnswer, texts: &Texts) -> Result
     Ok(())
 }
 
-// How many octets that reply has.
+// Returns the number of octets in that reply.
 fn placed_length(answer: &PlacedAnswer, texts: &Texts) -> usize
     requires can { CanWritePlaced answer.now texts.now }
     requires told { (leaves : List NodeLeaf) × HasLeaves answer.now texts.now leaves }
@@ -78,8 +78,8 @@ fn placed_length(answer: &PlacedAnswer, texts: &Texts) -> usize
 }
 
 impl PlacedAnswer {
-    /// The octets of the reply that brings the answer with the leaves whose texts stand at its indices.
-    /// They are written into a place of their length.
+    /// Encodes the reply that carries the answer. The list `texts` holds the leaf of each index. The reply is
+    /// written into memory of exactly its length.
     pub fn write(&self, alloc: Global, texts: &Texts) -> Result<Vec<u8>, NoMemory>
         requires { (leaves : List NodeLeaf) × HasLeaves self.now texts.now leaves }
         ensures { (leaves : List NodeLeaf) → HasLeaves self.now texts.now leaves →

@@ -1,4 +1,4 @@
-//! Replies over the nodes within a radius whose leaves stand as texts in a list, written as octets.
+//! Writing replies for a radius whose leaves are stored as texts in a list.
 ghost use Rattle.std.specs.Prelude.{◌≡◌, ◌<◌, ◌^◌, List, length, IfOk, OnOk};
 ghost use Rattle.octet_text.specs.Puts.{Puts};
 ghost use Rattle.road_leaf.specs.declared.leaf.NodeLeaf.{NodeLeaf};
@@ -14,19 +14,19 @@ use merkle_cover::Texts;
 use octet_text::{Digests, NoMemory, Octets, with_room};
 use std::alloc::Global;
 
-/// A reply whose leaves are told by their places alone, in a list that holds the text of each leaf of
-/// the node tree: who has that list needs no leaf to write the reply.
+/// A reply that names its leaves by their indices alone. It is written with a list that holds the text of each leaf
+/// of the node tree.
 #[derive(Debug, Drop)]
 pub struct PlacedNear {
     pub header: Header,
     /// The owner's signature of the header's octets.
     pub signature: Octets,
-    /// The places of the leaves in the node tree, by ascending place.
+    /// The indices of the leaves in the node tree, ascending.
     pub places: Places,
     pub cover: Digests,
 }
 
-// Appends the octets of a reply. After a refusal a part of them may stand there.
+// Appends the octets of a reply. After an error, part of them may have been appended.
 fn put_placed(out: &mut Vec<u8>, reply: &PlacedNear, texts: &Texts) -> Result<(), NoMemory>
     requires { CanWritePlacedNear reply.now texts.now }
     ensures { OnOk result (Puts out.old.items out.new.items (placed_near_text reply.now texts.now)) }
@@ -37,7 +37,7 @@ fn put_placed(out: &mut Vec<u8>, reply: &PlacedNear, texts: &Texts) -> Result<()
     Ok(())
 }
 
-// How many octets the reply has.
+// Returns the number of octets in the reply.
 fn placed_length(reply: &PlacedNear, texts: &Texts) -> usize
     requires can { CanWritePlacedNear reply.now texts.now }
     requires told { (leaves : List NodeLeaf) × HasNearLeaves reply.now texts.now leaves }
@@ -50,8 +50,8 @@ fn placed_length(reply: &PlacedNear, texts: &Texts) -> usize
 }
 
 impl PlacedNear {
-    /// The octets of the reply that brings the leaves whose texts stand at its places. They are written
-    /// into a place of their length.
+    /// Encodes the reply. The list `texts` holds the leaf of each index. The reply is written into memory of
+    /// exactly its length.
     pub fn write(&self, alloc: Global, texts: &Texts) -> Result<Vec<u8>, NoMemory>
         requires { (leaves : List NodeLeaf) × HasNearLeaves self.now texts.now leaves }
         ensures { (leaves : List NodeLeaf) → HasNearLeaves self.now texts.now leaves →

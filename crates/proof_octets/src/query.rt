@@ -1,10 +1,10 @@
-//! What is asked.
+//! Queries for a radius.
 
-/// Which nodes lie within a radius of a node.
+/// A query for the nodes within a radius of a node.
 #[derive(Clone, Copy, Debug, PartialEq, Eq)]
 pub struct NearQuery {
-    /// The id of the node that the walks start from.
+    /// The id of the node from which distances are measured.
     pub from: u32,
-    /// The greatest distance that is within, in the unit of the roads' lengths.
+    /// The radius, in the unit of the roads' lengths. A node at exactly this distance is within it.
     pub radius: u64,
 }

@@ -1,4 +1,4 @@
-//! Values that are read and not kept.
+//! Reading values without keeping them.
 ghost use Rattle.std.specs.Prelude.{◌≡◌, length};
 ghost use Rattle.octet_text.specs.Format.{Gives, rows};
 ghost use Rattle.proof_octets.specs.Outlines.{many};
@@ -6,7 +6,7 @@ ghost use Rattle.proof_octets.specs.Outlines.{many};
 use octet_text::{Cursor, ReadError, Row};
 use std::alloc::Global;
 
-// Reads as many values as this, keeps none of them, and answers how many there are.
+// Reads this many values without keeping them, and returns their number.
 pub(crate) fn skim_rows<R: Row>(
     alloc: Global,
     reader: &R,

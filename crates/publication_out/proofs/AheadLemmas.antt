@@ -1,4 +1,4 @@
--- The steps through a publication's octets.
+-- The steps through the octets of a publication.
 use Rattle.std.proofs.Common.{◌≡◌, ℕ, suc, ◌+◌, ◌-◌, ◌<◌, ◌≤◌, min, List, [], ◌∷◌, ◌++◌, length, take, drop, get_or, refl, sym, ap, ◌∙◌, subst, arith, append_assoc}
 use Rattle.std.specs.Int.{w16, w32, w64, to_be_bytes}
 use Rattle.std.specs.List.{flat_map}
@@ -38,7 +38,7 @@ numbers_step b i len buffer past is text within =
       end = λ none. absurd (omega (arith, none, is));
     }
 
--- a row of a list, and those after it
+-- one row of a list, and the rows after it
 row : {X : Type 0} (spell : X → List ℕ) (xs : List X) (i : ℕ) (x : X) → i < length xs → x ≡ get_or xs i x → flat_map spell (drop i xs) ≡ spell x ++ flat_map spell (drop (i + 1) xs)
 row spell xs i x l is =
     let up : suc i ≡ i + 1 = omega arith in
@@ -86,9 +86,9 @@ pub whole_text : (b : Publication) → front_text b ++ ahead b Signature 0 ≡ p
 unfolding publication
 whole_text b = regroup publication_name (header_text b.header) (to_be_bytes w16 (length b.signature)) b.signature (to_be_bytes w64 b.settings.seed) (to_be_bytes w64 b.settings.p1) (to_be_bytes w64 b.settings.p2) (to_be_bytes w64 b.settings.p3) (to_be_bytes w32 (length b.parts.nodes)) (flat_map node.spell b.parts.nodes) (to_be_bytes w32 (length b.parts.roads)) (flat_map road.spell b.parts.roads)
 
--- ---- what is given
+-- ---- the octets that a call gives
 
--- so many octets more are given
+-- this many more octets are given
 pub given_more : (all old now piece rest : List ℕ) (done count : ℕ) → now ≡ take done all ++ drop done old → done ≤ length all → done + count ≤ length old → length piece ≡ count → drop done all ≡ piece ++ rest
     → (take done now ++ piece ++ drop (done + length piece) now ≡ take (done + count) all ++ drop (done + count) old) × (rest ≡ drop (done + count) all) × (done + count ≤ length all)
 given_more all old now piece rest done count is there room long left =
@@ -107,7 +107,7 @@ given_more all old now piece rest done count is there room long left =
       omega (arith, size, there, long),
     )
 
--- a piece at the front of what is left in a buffer
+-- a piece at the front of the octets that are left in a buffer
 pub left_cut : (buffer more : List ℕ) (at end count : ℕ) → at + count ≤ end → end ≤ length buffer
     → (drop at (take end buffer) ++ more ≡ take count (drop at buffer) ++ (drop (at + count) (take end buffer) ++ more)) × (length (take count (drop at buffer)) ≡ count)
 left_cut buffer more at end count within inside =

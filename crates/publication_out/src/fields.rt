@@ -1,4 +1,4 @@
-//! The fields of a publication, each written over the front of a buffer.
+//! The fields of a publication, each written to the front of a buffer.
 ghost use Rattle.std.specs.Prelude.{◌≡◌, ◌<◌, ◌≤◌, ◌^◌, ◌+◌, ◌++◌, [], length, take};
 ghost use Rattle.std.specs.Int.{w32, to_be_bytes};
 ghost use Rattle.proof_octets.specs.Publications.{node, road};
@@ -9,10 +9,10 @@ use octet_text::write_array;
 use proof_octets::Publication;
 use road_map::{Node, Road};
 
-/// How many octets a buffer for one field has.
+/// The size of a buffer for one field, in octets.
 pub const ROOM: usize = 110;
 
-/// What part of a publication comes next.
+/// The part of a publication that comes next.
 #[derive(Clone, Copy)]
 pub enum Part {
     Signature,
@@ -20,7 +20,7 @@ pub enum Part {
     Roads,
 }
 
-/// How many octets of a buffer a field has, and what comes after it: a part, from an index on.
+/// The number of octets that a field takes in a buffer, and what follows the field: a part, from an index on.
 #[derive(Clone, Copy)]
 pub struct Step {
     pub len: usize,
@@ -28,7 +28,7 @@ pub struct Step {
     pub index: usize,
 }
 
-/// What stands before the octets of the signature.
+/// Encodes everything before the octets of the signature.
 pub fn front(publication: &Publication) -> [u8; ROOM]
     requires { length publication.now.signature < 2 ^ 16 }
     ensures { result ≡ front_text publication.now }
@@ -41,7 +41,7 @@ pub fn front(publication: &Publication) -> [u8; ROOM]
     text
 }
 
-// The four numbers of the settings, and how many nodes there are.
+// Writes the four numbers of the settings and the number of nodes.
 fn write_numbers(buffer: &mut [u8], settings: &Settings, nodes: u32) -> usize
     requires { 36 ≤ length buffer.old }
     ensures len { result ≡ 36 }
@@ -86,7 +86,7 @@ fn write_road(buffer: &mut [u8], item: Road) -> usize
     12
 }
 
-// The prefix of some octets, as much as there is room for.
+// Writes as long a prefix of some octets as fits.
 fn write_front(buffer: &mut [u8], octets: &[u8]) -> usize
     requires { 0 < length buffer.old }
     ensures within { (result ≤ length buffer.old) × (result ≤ length octets.now) }
@@ -98,7 +98,7 @@ fn write_front(buffer: &mut [u8], octets: &[u8]) -> usize
     count
 }
 
-/// Writes what comes next over the front of a buffer: no octet exactly where nothing is ahead.
+/// Writes the next field to the front of a buffer. Writes no octet exactly if nothing is left.
 pub fn next_field(publication: &Publication, part: Part, index: usize, buffer: &mut [u8]) -> Step
     requires buffer { length buffer.old ≡ 110 }
     requires nodes { length publication.now.parts.nodes < 2 ^ 32 }

@@ -1,4 +1,4 @@
-//! Octets of a publication, as many as there is room for.
+//! Copying as many octets of a publication as fit.
 ghost use Rattle.std.specs.Prelude.{◌≡◌, ◌<◌, ◌≤◌, ◌^◌, ◌+◌, ◌++◌, [], length, take, drop, min};
 ghost use Rattle.std.specs.Bool.{OnTrue, OnFalse};
 ghost use Rattle.publication_out.specs.Left.{left_in, HasFewItems};
@@ -6,7 +6,7 @@ ghost use Rattle.publication_out.specs.Left.{left_in, HasFewItems};
 use crate::fields::next_field;
 use crate::rest::Rest;
 
-// Puts octets over others, from a place on.
+// Overwrites octets from an index on.
 fn copy_at(into: &mut [u8], at: usize, octets: &[u8])
     requires { at + length octets.now ≤ length into.old }
     ensures { into.new ≡ take at into.old ++ octets.now ++ drop (at + length octets.now) into.old }
@@ -14,7 +14,7 @@ fn copy_at(into: &mut [u8], at: usize, octets: &[u8])
     into[at..at + octets.len()].copy_from_slice(octets);
 }
 
-// Brings the next field into a buffer that is used up, if there is one.
+// If the buffer is used up, writes the next field into it, if there is one.
 fn refill(rest: &mut Rest<'_>) -> bool
     requires used { rest.old.at ≡ rest.old.end }
     requires few { HasFewItems rest.old.publication.now }
@@ -31,7 +31,7 @@ fn refill(rest: &mut Rest<'_>) -> bool
     step.len > 0
 }
 
-// Sees to it that there is an octet in the buffer, if any is left.
+// Ensures that the buffer holds an octet, if any is left.
 fn is_ready(rest: &mut Rest<'_>) -> bool
     requires { HasFewItems rest.old.publication.now }
     ensures left { left_in rest.new ≡ left_in rest.old }
@@ -45,7 +45,7 @@ fn is_ready(rest: &mut Rest<'_>) -> bool
     refill(rest)
 }
 
-/// Fills from the start with the octets that come next, and answers how many.
+/// Fills the buffer from its start with the next octets, and returns their number.
 pub fn fill(rest: &mut Rest<'_>, into: &mut [u8]) -> usize
     requires { HasFewItems rest.old.publication.now }
     ensures count { result ≡ min (length into.old) (length (left_in rest.old)) }

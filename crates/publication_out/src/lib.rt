@@ -1,5 +1,4 @@
-//! A publication's octets, given piece by piece without a list of all of them, and handed to a sink and
-//! to mirrors as they are made.
+//! Writes a publication piece by piece to a sink and to mirrors, without a list of all its octets.
 #![tactic(auto)]
 
 pub use pieces::{Pieces, pieces_of};

@@ -1,4 +1,4 @@
-//! A publication's octets, piece by piece.
+//! The octets of a publication, piece by piece.
 ghost use Rattle.std.specs.Prelude.{◌≡◌, ◌++◌, length, take, drop, min};
 ghost use Rattle.proof_octets.specs.Publications.{publication as publications, publication_text};
 
@@ -8,7 +8,7 @@ use crate::rest::Rest;
 use proof_octets::Publication;
 use std::marker::Model;
 
-/// The octets of a publication that are left. Contracts see it as the list of them.
+/// The remaining octets of a publication. Contracts treat it as their list.
 #[derive(Drop)]
 pub struct Pieces<'a> {
     rest: Rest<'a>,
@@ -25,7 +25,7 @@ impl<'a> Model for Pieces<'a> {
     ghost invariant = { λ p. HasFewItems p.rest.publication.now };
 }
 
-/// All the octets of a publication. Takes no memory.
+/// Returns all octets of a publication. Takes no memory.
 pub fn pieces_of(publication: &Publication) -> Pieces<'_>
     requires { publications.Fits publication.now }
     ensures { result ≡ publication_text publication.now }
@@ -43,8 +43,8 @@ pub fn pieces_of(publication: &Publication) -> Pieces<'_>
 }
 
 impl Pieces<'_> {
-    /// Fills from the start with the octets that come next, and answers how many: none exactly where
-    /// there is no room or nothing is left. Takes no memory.
+    /// Fills the buffer from its start with the next octets, and returns their number. The number is 0 exactly if
+    /// the buffer has no room or nothing is left. Takes no memory.
     pub fn next(&mut self, into: &mut [u8]) -> usize
         ensures count { result ≡ min (length into.old) (length self.old) }
         ensures given { into.new ≡ take result self.old ++ drop result into.old }

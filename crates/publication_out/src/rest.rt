@@ -1,11 +1,11 @@
-//! What is left of a publication's octets.
+//! The remaining octets of a publication.
 ghost use Rattle.std.specs.Prelude.{◌≤◌};
 
 use crate::fields::{Part, ROOM};
 use proof_octets::Publication;
 
-/// What is left of a publication's octets: those of the buffer from one place to another, and a part
-/// from an index on.
+/// The remaining octets of a publication: those of the buffer from one index up to another, and then those of a
+/// part from an index on.
 #[derive(Drop)]
 pub struct Rest<'a> {
     pub publication: &'a Publication,

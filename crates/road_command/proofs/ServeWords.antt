@@ -1,4 +1,4 @@
--- The arguments after `serve`: a publication's file, or with it a public key's, and a chain's where one is given.
+-- The arguments after `serve`: a publication's file or, with it, a public key's file and, optionally, a chain file.
 use Rattle.std.proofs.Common.{◌≡◌, ℕ, List, [], ◌∷◌, length, drop, Some, None, arith, refl, ap}
 use Rattle.road_command.specs.Requests.{Serve, ServeSigned, serve_words, word_at}
 

@@ -1,4 +1,4 @@
--- What arguments ask for: the command line's grammar.
+-- The grammar of the command line: the command that arguments request.
 use Rattle.std.specs.Prelude.{ℕ, nat_le, ◌&&◌, List, [], ◌∷◌, codes, if◌then◌else◌, Option, Some, None}
 use Rattle.std.specs.List.{slice_index_or}
 use Rattle.std.specs.Str.{bytes_eq}
@@ -7,7 +7,7 @@ use Rattle.book_model.specs.declared.items.Query.{Query}
 use Rattle.book_model.specs.declared.settings.Settings.{Settings}
 use Rattle.proof_octets.specs.declared.query.NearQuery.{NearQuery}
 
--- a command with its arguments read; a name stands as its octets
+-- a command with its arguments parsed; a name is represented by its octets
 pub data Request : Type 0 where
   Route : List ℕ → ℕ → ℕ → Request
   Root : List ℕ → ℕ → Request
@@ -67,13 +67,13 @@ width_of word = do
   width ← natural_of word
   if nat_le 2 width && nat_le width 256 then Some width else None
 
--- how many queries a survey asks, from 1 to 1,000
+-- the number of queries in a survey, from 1 to 1,000
 abbrev pub queries_of : List ℕ → Option ℕ
 queries_of word = do
   queries ← natural_of word
   if nat_le 1 queries && nat_le queries 1000 then Some queries else None
 
--- the ids of two ends
+-- the ids of the two ends
 abbrev pub query_of : List ℕ → List ℕ → Option Query
 query_of from to = do
   from ← natural_of from
@@ -114,7 +114,7 @@ settings_of method version order seed fan p = do
     p3 = p.2;
   })
 
--- a survey of a grid's width and its seed, a method, and how many queries are asked
+-- a survey of a grid's width and seed, a method, and the number of queries
 abbrev pub survey_of : List ℕ → List ℕ → List ℕ → List ℕ → Option Request
 survey_of width seed method queries = do
   width ← width_of width
@@ -125,11 +125,11 @@ survey_of width seed method queries = do
 
 -- ---- the arguments after a command's name
 
--- the argument at an index, from 0
+-- the argument at an index, counted from 0
 abbrev pub word_at : List (List ℕ) → ℕ → List ℕ
 word_at words index = slice_index_or words index []
 
--- a road file's name, and the ids of both ends
+-- a road file's name, and the ids of the two ends
 abbrev pub route_words : List (List ℕ) → Option Request
 route_words (roads ∷ from ∷ to ∷ []) = do
   from ← natural_of from
@@ -144,7 +144,7 @@ root_words (roads ∷ fan ∷ []) = do
   Some (Root roads fan)
 root_words _ = None
 
--- the names of a graph and of its coordinates
+-- the names of a graph's file and of its coordinates' file
 abbrev pub dimacs_words : List (List ℕ) → Option Request
 dimacs_words (graph ∷ places ∷ []) = Some (Dimacs graph places)
 dimacs_words _ = None
@@ -156,19 +156,19 @@ key_words (secret ∷ kind ∷ []) = do
   Some (Key secret kind)
 key_words _ = None
 
--- the same, of the key that follows
+-- the same, for the next key
 abbrev pub succeed_words : List (List ℕ) → Option Request
 succeed_words (secret ∷ kind ∷ []) = do
   kind ← kind_of kind
   Some (Succeed secret kind)
 succeed_words _ = None
 
--- nothing more
+-- no arguments
 abbrev pub links_words : List (List ℕ) → Option Request
 links_words [] = Some Links
 links_words _ = None
 
--- nothing more
+-- no arguments
 abbrev pub desk_words : List (List ℕ) → Option Request
 desk_words [] = Some Desk
 desk_words _ = None
@@ -182,23 +182,23 @@ publish_words (roads ∷ method ∷ version ∷ order ∷ seed ∷ fan ∷ p1 �
   Some (Publish roads settings)
 publish_words _ = None
 
--- a publication file's name, and the ids of both ends
+-- a publication file's name, and the ids of the two ends
 abbrev pub prove_words : List (List ℕ) → Option Request
 prove_words (publication ∷ from ∷ to ∷ []) = do
   query ← query_of from to
   Some (Prove publication query)
 prove_words _ = None
 
--- a publication file's name; and where its signature is to be tested, and that of each that follows,
--- the names of files of a public key, and of a chain, where one is given
+-- a publication file's name; to test the signatures of it and of each later publication, also the name of a public
+-- key's file and, optionally, that of a chain file
 abbrev pub serve_words : List (List ℕ) → Option Request
 serve_words (publication ∷ []) = Some (Serve publication)
 serve_words (publication ∷ key ∷ []) = Some (ServeSigned publication key None)
 serve_words (publication ∷ key ∷ chain ∷ []) = Some (ServeSigned publication key (Some chain))
 serve_words _ = None
 
--- the names of files of a public key and of a reply, the ids of both ends, and the minimum version
--- that is taken; and a chain file's name, where one is given
+-- the names of the files of a public key and of a reply, the ids of the two ends, the minimum version accepted and,
+-- optionally, a chain file's name
 abbrev pub check_of : List ℕ → List ℕ → List ℕ → List ℕ → List ℕ → Option (List ℕ) → Option Request
 check_of key reply from to least chain = do
   query ← query_of from to
@@ -211,8 +211,8 @@ check_words (key ∷ reply ∷ from ∷ to ∷ least ∷ chain ∷ []) =
     check_of key reply from to least (Some chain)
 check_words _ = None
 
--- the names of files of a public key, a publication and a reply, and the ids of both ends; and a
--- chain file's name, where one is given
+-- the names of the files of a public key, a publication and a reply, the ids of the two ends and, optionally, a
+-- chain file's name
 abbrev pub audit_of : List ℕ → List ℕ → List ℕ → List ℕ → List ℕ → Option (List ℕ) → Option Request
 audit_of key publication reply from to chain = do
   query ← query_of from to
@@ -225,7 +225,7 @@ audit_words (key ∷ publication ∷ reply ∷ from ∷ to ∷ chain ∷ []) =
     audit_of key publication reply from to (Some chain)
 audit_words _ = None
 
--- a grid's width and its seed, the method, and how many queries are asked
+-- a grid's width and seed, the method, and the number of queries
 abbrev pub survey_words : List (List ℕ) → Option Request
 survey_words (width ∷ seed ∷ method ∷ queries ∷ []) = survey_of width seed method queries
 survey_words _ = None
@@ -237,8 +237,8 @@ reach_words (publication ∷ from ∷ radius ∷ []) = do
   Some (Reach publication query)
 reach_words _ = None
 
--- the names of files of a public key and of a reply, the id of a node, a radius, and the least
--- version that is taken; and a chain file's name, where one is given
+-- the names of the files of a public key and of a reply, the id of a node, a radius, the minimum version accepted
+-- and, optionally, a chain file's name
 abbrev pub check_reach_of : List ℕ → List ℕ → List ℕ → List ℕ → List ℕ → Option (List ℕ) →
     Option Request
 check_reach_of key reply from radius least chain = do
@@ -253,8 +253,8 @@ check_reach_words (key ∷ reply ∷ from ∷ radius ∷ least ∷ chain ∷ [])
     check_reach_of key reply from radius least (Some chain)
 check_reach_words _ = None
 
--- the names of files of a public key, a publication and a reply, the id of a node, and a radius;
--- and a chain file's name, where one is given
+-- the names of the files of a public key, a publication and a reply, the id of a node, a radius and, optionally, a
+-- chain file's name
 abbrev pub audit_reach_of : List ℕ → List ℕ → List ℕ → List ℕ → List ℕ → Option (List ℕ) →
     Option Request
 audit_reach_of key publication reply from radius chain = do
@@ -268,12 +268,12 @@ audit_reach_words (key ∷ publication ∷ reply ∷ from ∷ radius ∷ chain �
     audit_reach_of key publication reply from radius (Some chain)
 audit_reach_words _ = None
 
--- the names of files of a public key, a text and a signature
+-- the names of the files of a public key, a text and a signature
 abbrev pub reduce_words : List (List ℕ) → Option Request
 reduce_words (key ∷ text ∷ signature ∷ []) = Some (Reduce key text signature)
 reduce_words _ = None
 
--- the command that arguments ask for, if they fit one
+-- the command that arguments request, or none if they fit no command
 abbrev pub request_of : List (List ℕ) → Option Request
 request_of [] = None
 request_of (verb ∷ words) =

@@ -1,4 +1,4 @@
--- A command as what was asked for, without where its arguments lie in memory.
+-- A command as a request, independent of its arguments' place in memory.
 use Rattle.std.specs.Prelude.{ℕ, ◌≤◌, ⊤}
 use Rattle.std.specs.Option.{option_map}
 use Rattle.road_command.specs.Requests.{Request}
@@ -9,7 +9,7 @@ use Rattle.road_command.specs.declared.asked.Survey.{Survey}
 use Rattle.road_command.specs.declared.kind.KeyKind.{KeyKind}
 use Rattle.road_command.specs.declared.kind.KeyKind.TheVariants.{H5, H10}
 
--- the standard's number of a kind of key's type
+-- the number that the standard gives to a kind of key
 abbrev pub type_of : KeyKind → ℕ
 type_of H5 = 5
 type_of H10 = 6
@@ -42,7 +42,7 @@ shown (command.AuditReach key publication reply query chain) = request.AuditReac
     publication.now reply.now query (option_map (λ word. word.now) chain)
 shown (command.Reduce key text signature) = request.Reduce key.now text.now signature.now
 
--- the fan-out of a root that is asked for is one of a tree
+-- the fan-out requested for a root is in the range of a tree's fan-out
 abbrev pub HasFan : Command → Type 0
 HasFan (command.Root roads fan) = (2 ≤ fan) × (fan ≤ 32)
 HasFan asked = ⊤

@@ -1,4 +1,4 @@
-//! The commands, and which of them arguments ask for.
+//! The commands, and the command that arguments request.
 
 ghost use Rattle.std.specs.Prelude.{◌≡◌, ◌<◌, ◌≤◌, length, drop, IfSome};
 ghost use Rattle.std.specs.Option.{option_map};
@@ -13,62 +13,62 @@ use book_model::{Query, Settings};
 use proof_octets::NearQuery;
 use road_reader::{natural, wide_natural};
 
-/// A command, with its arguments read.
+/// A command with its arguments parsed.
 #[derive(Clone, Copy, Debug, PartialEq, Eq)]
 pub enum Command<'a> {
-    /// Write a shortest route between two nodes of a file's map.
+    /// Writes a shortest route between two nodes of the map in a file.
     Route {
         roads: &'a str,
         from: u32,
         to: u32,
     },
-    /// Write how many nodes a file's map has, and the root of the tree over their plain leaves.
+    /// Writes the number of nodes of the map in a file, and the root of the tree over their plain leaves.
     Root {
         roads: &'a str,
         fan: u8,
     },
-    /// Write the road file of a graph and its coordinates, which are files of the DIMACS shortest path challenge.
+    /// Writes the road file of a graph and its coordinates, which are files of the DIMACS shortest path challenge.
     Dimacs {
         graph: &'a str,
         places: &'a str,
     },
-    /// Make the owner's key from a secret file, and write its public key.
+    /// Makes the owner's key from a secret file, and writes its public key.
     Key {
         secret: &'a str,
         kind: KeyKind,
     },
-    /// Make the key that follows the owner's key from a secret file, and write its public key.
+    /// Makes the key that follows the owner's key, from a secret file, and writes its public key.
     Succeed {
         secret: &'a str,
         kind: KeyKind,
     },
-    /// Write the chain file that leads from the owner's first key to the current one.
+    /// Writes the chain file that leads from the owner's first key to the current key.
     Links,
-    /// Write the owner's current public key, and how many of its one-time keys are left.
+    /// Writes the owner's current public key, and the number of its remaining one-time keys.
     Desk,
-    /// Sign a file's map with its hints, and write the publication.
+    /// Signs the map in a file with its hints, and writes the publication.
     Publish {
         roads: &'a str,
         settings: Settings,
     },
-    /// Answer a query over a publication, and write the reply.
+    /// Answers a query over a publication, and writes the reply.
     Prove {
         publication: &'a str,
         query: Query,
     },
-    /// Answer frames over a publication, and those that are installed after it, and write the replies.
+    /// Answers frames over a publication and over those installed later, and writes the replies.
     Serve {
         publication: &'a str,
     },
-    /// Answer frames over a publication that is signed under a public key, or along a chain file where
-    /// one is named, and over those that are installed after it, which must be signed likewise.
+    /// Answers frames over a publication that is signed under a public key or, if a chain file is given, along its
+    /// chain. Also answers over those installed later, which must be signed in the same way.
     ServeSigned {
         publication: &'a str,
         key: &'a str,
         chain: Option<&'a str>,
     },
-    /// Check a reply to a query with a public key, a minimum version that is taken, and a chain file where
-    /// one is named, and write the verdict.
+    /// Checks a reply to a query with a public key, the minimum version accepted and, if given, a chain file.
+    /// Writes the verdict.
     Check {
         key: &'a str,
         reply: &'a str,
@@ -76,8 +76,8 @@ pub enum Command<'a> {
         least: u64,
         chain: Option<&'a str>,
     },
-    /// Find out what an accepted reply is evidence of, with the owner's disk, a publication, and a chain
-    /// file where one is named.
+    /// Finds out what an accepted reply is evidence of, with the owner's disk, a publication and, if given, a chain
+    /// file.
     Audit {
         key: &'a str,
         publication: &'a str,
@@ -85,15 +85,15 @@ pub enum Command<'a> {
         query: Query,
         chain: Option<&'a str>,
     },
-    /// Publish a grid in memory, answer drawn queries over it, check each reply, and write the counts.
+    /// Publishes a grid in memory, answers random queries over it, checks each reply, and writes the counts.
     Survey(Survey),
-    /// Answer over a publication which nodes lie within a radius, and write the reply.
+    /// Answers which nodes lie within a radius, over a publication, and writes the reply.
     Reach {
         publication: &'a str,
         query: NearQuery,
     },
-    /// Check a reply to a range query with a public key, a minimum version that is taken, and a chain file where
-    /// one is named, and write the verdict.
+    /// Checks a reply to a range query with a public key, the minimum version accepted and, if given, a chain file.
+    /// Writes the verdict.
     CheckReach {
         key: &'a str,
         reply: &'a str,
@@ -101,8 +101,8 @@ pub enum Command<'a> {
         least: u64,
         chain: Option<&'a str>,
     },
-    /// Find out what an accepted reply to a range query is evidence of, with the owner's disk, a publication,
-    /// and a chain file where one is named.
+    /// Finds out what an accepted reply to a range query is evidence of, with the owner's disk, a publication and,
+    /// if given, a chain file.
     AuditReach {
         key: &'a str,
         publication: &'a str,
@@ -110,7 +110,7 @@ pub enum Command<'a> {
         query: NearQuery,
         chain: Option<&'a str>,
     },
-    /// Find out what a signature on a text comes down to, with the owner's disk.
+    /// Reduces a signature of a text, with the owner's disk, to a collision or to a value that was never released.
     Reduce {
         key: &'a str,
         text: &'a str,
@@ -118,7 +118,7 @@ pub enum Command<'a> {
     },
 }
 
-/// The command that the arguments ask for, if they fit one.
+/// Returns the command that the arguments request, or `None` if they fit no command.
 pub fn command_of(words: &Words) -> Option<Command<'_>>
     ensures is { option_map shown result ≡ request_of words.now }
     ensures fan { IfSome result HasFan }

@@ -1,15 +1,15 @@
--- When a source has ended, at small cases.
+-- When a source has ended, in small cases.
 use Rattle.std.proofs.Common.{[], ◌∷◌, refl, arith}
 use Rattle.road_io.specs.Given.{IsEnd}
 
--- a read with room that gave nothing, whatever came before
+-- a read with room that gave nothing has ended, whatever came before
 at_the_end : IsEnd ((4 ∷ [], []) ∷ [])
 at_the_end = (omega arith, refl)
 
 behind_octets : IsEnd ((1 ∷ [], []) ∷ (4 ∷ [], 7 ∷ 8 ∷ []) ∷ [])
 behind_octets = (omega arith, refl)
 
--- one without room tells nothing, nor one that gave an octet, nor no read at all
+-- a read without room does not end the source; nor does a read that gave an octet; nor does no read at all
 without_room : IsEnd ((0 ∷ [], []) ∷ []) → ⊥
 without_room h = absurd (omega (arith, h.0))
 

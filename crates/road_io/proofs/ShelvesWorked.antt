@@ -1,9 +1,9 @@
--- The words on what a library holds, at small cases.
+-- The definitions of a library's contents, in small cases.
 use Rattle.std.proofs.Common.{◌≡◌, [], ◌∷◌, List, true, false, refl}
 use Rattle.std.specs.declared.option.Option.TheVariants.{None, Some}
 use Rattle.road_io.specs.Shelves.{Note, shelf, opened, read_of, agrees, told}
 
--- the file "a" of three octets, and "b" without any; "a" stands a second time, which counts for nothing
+-- file "a" has three octets and file "b" has none; "a" occurs a second time, which is ignored
 abbrev world : List Note
 world = (97 ∷ [], 1 ∷ 2 ∷ 3 ∷ []) ∷ (98 ∷ [], []) ∷ (97 ∷ [], 9 ∷ []) ∷ []
 
@@ -16,7 +16,7 @@ empty_file = refl
 no_file : shelf world (99 ∷ []) ≡ None
 no_file = refl
 
--- "a" was opened, and read in two pieces to its end
+-- file "a" was opened, and read in two pieces up to its end
 abbrev whole : List Note
 whole = (3 ∷ [], []) ∷ (2 ∷ [], 3 ∷ []) ∷ (2 ∷ [], 1 ∷ 2 ∷ []) ∷ (0 ∷ [], 97 ∷ []) ∷ []
 
@@ -29,7 +29,7 @@ was_read = refl
 whole_agrees : agrees (shelf world) whole ≡ true
 whole_agrees = refl
 
--- its end came too early, or late, or another octet was read, or it is said to be missing
+-- its end came too early or too late, or another octet was read, or the answer says that it is missing
 early : agrees (shelf world) ((3 ∷ [], []) ∷ (2 ∷ [], 1 ∷ 2 ∷ []) ∷ (0 ∷ [], 97 ∷ []) ∷ []) ≡ false
 early = refl
 
@@ -46,18 +46,18 @@ said_missing = refl
 is_missing_there : agrees (shelf world) ((1 ∷ [], 99 ∷ []) ∷ whole) ≡ true
 is_missing_there = refl
 
--- from the first answer that doesn't agree nothing is told
+-- from the first answer that disagrees, nothing is stated
 untold : told world ((0 ∷ [], 98 ∷ []) ∷ (1 ∷ [], 97 ∷ []) ∷ whole) ≡ None
 untold = refl
 
 told_whole : told world whole ≡ Some (shelf world)
 told_whole = refl
 
--- that a name was opened says nothing of its octets, which a folder lacks too
+-- that a name was opened implies nothing about its octets: a folder can be opened too
 opened_alone : agrees (shelf world) ((0 ∷ [], 99 ∷ []) ∷ []) ≡ true
 opened_alone = refl
 
--- but no octet and no end is read of a file that is not there
+-- but no octet and no end can be read from a missing file
 read_of_none : agrees (shelf world) ((2 ∷ [], 7 ∷ []) ∷ (0 ∷ [], 99 ∷ []) ∷ []) ≡ false
 read_of_none = refl
 

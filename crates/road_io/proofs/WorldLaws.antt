@@ -1,4 +1,4 @@
--- What one more call adds to a history: a moment, and nothing to the moments before.
+-- What one more call adds to a history: one moment. Earlier moments stay unchanged.
 use Rattle.std.proofs.Common.{◌≡◌, ◌⊎◌, ℕ, zero, suc, ◌-◌, ◌≤◌, ◌==◌, List, [], ◌∷◌, Bool, true, false, length, get_or, take, drop, slice_index, if◌then◌else◌, arith, inl, inr, refl, sym, ◌∙◌, ap, subst}
 use Rattle.std.proofs.lemmas.Bool.{cases_lt}
 use Rattle.std.proofs.lemmas.List.{places}
@@ -29,7 +29,7 @@ if_some : (b : Bool) (h h' : Holding) → (if b then Some h else None) ≡ Some 
 if_some true h h' is = cc
 if_some false h h' is = absurd cc
 
--- the step of an image by a call
+-- the step by which a call changes an image
 abbrev pub StepOf : ℕ → ℕ → List ℕ → List ℕ → List ℕ → Type 0
 StepOf (suc (suc zero)) at octets d i = Torn at (length octets) d i
 StepOf (suc (suc (suc zero))) at octets d i = Torn at (length octets) d i
@@ -39,7 +39,7 @@ short : (octets : List ℕ) (l : List ℕ) → length (take (length octets) l) �
 short octets l = grind (arith, places)
 
 module _ (Before : List ℕ → Type 0) (h : Holding) (near : (l : List ℕ) → Before (h.nearest l)) where
-  -- the nearest images are images
+  -- the images by the last call are images
   near_step : (kind at : ℕ) (octets left : List ℕ) (h' : Holding) → after_call kind at octets left h ≡ Some h' → (l : List ℕ)
       → (Some h'.content ≡ Some (h'.nearest l)) ⊎ Comes kind at octets Before (h'.nearest l)
   near_step zero at octets left h' is l = inr (subst (λ (x : Holding). Before (x.nearest l)) (if_some (length h.content == at) h h' is) (near l))
@@ -55,7 +55,7 @@ module _ (Before : List ℕ → Type 0) (h : Holding) (near : (l : List ℕ) →
   near_step (suc (suc (suc (suc (suc n))))) at octets left h' is l =
       inr (subst (λ (x : Holding). Before (x.nearest l)) (some_same _ h' is) (near l))
 
-  -- each image after a call comes by its step
+  -- each image after a call comes by the call's step
   each_step : (kind at : ℕ) (octets left : List ℕ) (h' : Holding) → Before h.content → after_call kind at octets left h ≡ Some h' → (i : List ℕ)
       → (Some h'.content ≡ Some i) ⊎ Comes kind at octets Before i → (d : List ℕ) × Before d × StepOf kind at octets d i
   each_step zero at octets left h' now is i (inl here) =
@@ -140,7 +140,7 @@ module _ (world : List Call) where
         one.2,
       )
 
--- a call that was noted
+-- a call that was recorded
 module _ (world world' history history' : List Call) (call : Call) (same : world' ≡ world) (noted : history' ≡ call ∷ history) where
   plain : (k : ℕ) (i : List ℕ) → LeavesAt world' history' k i → LeavesAt world (call ∷ history) k i
   plain k i h = subst (λ (x : List Call). LeavesAt world x k i) noted (subst (λ (x : List Call). LeavesAt x history' k i) same h)
@@ -166,7 +166,7 @@ module _ (world world' history history' : List Call) (call : Call) (same : world
             (i, subst (λ (x : ℕ). LeavesAt world history x i) e (past_noted k i (omega arith) h), stays i)
       ]
 
--- nothing was noted
+-- nothing was recorded
 module _ (world world' history history' : List Call) (same : world' ≡ world) (kept : history' ≡ history) where
   pub later_kept : length history ≤ length history'
   later_kept = let n : length history' ≡ length history = ap length kept in omega (arith, n)
@@ -197,13 +197,13 @@ read_now world history c is =
     let m : length history - length history ≡ 0 = omega arith in
     record { now = c; agrees = is; leaves = subst (λ (m : ℕ). Leaves world (drop m history) c) (sym m) (reads_left world history c is) }
 
--- what is read came by the step from an image before
+-- the content that a read gives came by the step from an image before
 pub came : (world world' history history' : List Call) (call : Call) → world' ≡ world → history' ≡ call ∷ history → (c : List ℕ) → reads world' history' ≡ Some c
     → (d : List ℕ) × LeavesAt world history (length history) d × StepOf (slice_index call.0 0) (slice_index call.0 1) call.1 d c
 came world world' history history' call same noted c is =
     each_noted world world' history history' call same noted (StepOf (slice_index call.0 0) (slice_index call.0 1) call.1) (reflexive (slice_index call.0 0) (slice_index call.0 1) call.1) (λ d i s. s) (length history') c (later_noted world world' history history' call same noted) (omega arith) (read_now world' history' c is)
 
--- nothing was noted: what is read is an image
+-- nothing was recorded: the content that a read gives is an image
 pub was_image : (world world' history history' : List Call) → world' ≡ world → history' ≡ history → (c : List ℕ) → reads world' history' ≡ Some c → LeavesAt world history (length history) c
 was_image world world' history history' same kept c is =
     read_now world history c (subst (λ (x : List Call). reads world x ≡ Some c) kept (subst (λ (x : List Call). reads x history' ≡ Some c) same is))
@@ -222,7 +222,7 @@ torn_failed world world' history history' at octets same noted c is =
     subst (λ (o : Option (List ℕ)). IsSomeAnd o (λ b. Torn at (length octets) b c)) (sym read)
     (subst (λ (x : List ℕ). Torn at (length octets) was.0.content x) it (torn_part at (length octets) (take (length octets) left) was.0.content (short octets left)))
 
--- ---- by an answer
+-- ---- one answer
 
 put_in : (at : ℕ) (octets left : List ℕ) (o : Option Holding) → option_map (λ h. h.content) (after (2 ∷ at ∷ [], octets) left o) ≡ option_map (written at octets) (option_map (λ h. h.content) o)
 put_in at octets left None = refl

@@ -1,6 +1,6 @@
--- What a library of which only the answers of the system are known holds, in a world: files by name, the first of
--- a name. No clause says which world a library is in. As soon as an answer doesn't agree with the world,
--- nothing is told.
+-- The contents of a library of which only the system's answers are known, in a world: a list of files by name, in
+-- which the first file of each name counts. No clause says in which world a library is. Once an answer disagrees
+-- with the world, the library states nothing.
 use Rattle.std.specs.Prelude.{ℕ, zero, suc, List, [], ◌∷◌, ◌++◌, Bool, true, false, ◌&&◌, length, take, find, slice_index, if◌then◌else◌}
 use Rattle.std.specs.Str.{bytes_eq}
 use Rattle.std.specs.Option.{option_map}
@@ -8,7 +8,7 @@ use Rattle.std.specs.declared.option.Option.{Option}
 use Rattle.std.specs.declared.option.Option.TheVariants.{None, Some}
 use Rattle.road_io.specs.Contents.{Folder}
 
--- numbers and octets, as they are noted
+-- numbers and octets, as recorded
 abbrev pub Note : Type 0
 Note = List ℕ × List ℕ
 
@@ -16,8 +16,8 @@ Note = List ℕ × List ℕ
 abbrev pub shelf : List Note → Folder
 shelf world name = option_map (λ file. file.1) (find (λ file. bytes_eq file.0 name) world)
 
--- ---- the answers of the system, the latest first: a file that was opened (0) or is missing (1), by its
--- name, octets that were read of it (2), or its end (3)
+-- ---- the answers of the system, the latest first: a file was opened (0) or is missing (1), with its name; octets
+-- were read from it (2); or it ended (3)
 
 -- the name that was opened last
 abbrev pub opened_by : ℕ → List ℕ → List ℕ → List ℕ
@@ -29,7 +29,7 @@ abbrev pub opened : List Note → List ℕ
 opened [] = []
 opened (answer ∷ before) = opened_by (slice_index answer.0 0) answer.1 (opened before)
 
--- the octets that were read since
+-- the octets read since then
 abbrev pub read_by : ℕ → List ℕ → List ℕ → List ℕ
 read_by zero name octets = []
 read_by (suc zero) name octets = []
@@ -53,7 +53,7 @@ abbrev pub is_missing : Option (List ℕ) → Bool
 is_missing None = true
 is_missing (Some file) = false
 
--- an answer agrees with the file that was opened last, of which these octets were read by then
+-- an answer agrees with the file that was opened last, from which these octets were read before
 abbrev pub answer_agrees : ℕ → Option (List ℕ) → List ℕ → Bool
 answer_agrees zero file octets = true
 answer_agrees (suc zero) file octets = is_missing file
@@ -71,7 +71,7 @@ agrees folder (answer ∷ before) =
 abbrev pub told : List Note → List Note → Option Folder
 told world history = if agrees (shelf world) history then Some (shelf world) else None
 
--- the names that were asked for, the first in front
+-- the names that were requested, the earliest first
 abbrev pub asked_for : List Note → List (List ℕ)
 asked_for [] = []
 asked_for (asked ∷ names) = asked_for names ++ asked.1 ∷ []

@@ -1,29 +1,46 @@
--- Why a file was not read, and what this says of it.
-use Rattle.std.specs.Prelude.{◌≡◌, ℕ, ◌<◌, List, [], ◌∷◌, length, IsSomeAnd}
+-- Why a file could not be read, and what the reason implies about the file.
+use Rattle.std.specs.Prelude.{◌≡◌, ◌≢◌, ℕ, ◌<◌, List, [], ◌∷◌, length, IsSome, IsSomeAnd}
 use Rattle.std.specs.declared.option.Option.{Option}
 use Rattle.std.specs.declared.option.Option.TheVariants.{None, Some}
 use Rattle.std.specs.declared.result.Result.{Result}
 use Rattle.std.specs.declared.result.Result.TheVariants.{Ok, Err}
 use Rattle.std.specs.declared.vec.Vec.{Vec}
 use Rattle.std.specs.declared.alloc.Global.{Global}
+use Rattle.std.specs.IoError.{error_kind}
+use Rattle.std.specs.declared.io.Error.{Error}
+use Rattle.std.specs.declared.io.ErrorKind.TheVariants as kinds
+use Rattle.road_io.specs.declared.library.LoadError.{LoadError}
+use Rattle.road_io.specs.declared.library.LoadError.TheVariants as load
 use Rattle.road_io.specs.declared.file_library.Unread.{Unread}
 use Rattle.road_io.specs.declared.file_library.Unread.TheVariants.{Missing, Refused, TooLong}
 use Rattle.road_io.specs.Shelves.{Note}
 
--- what a read of at most so many octets says of the file under the name
+-- what a read of at most this many octets implies about the file under the name
 abbrev pub HasRead : Option (List ℕ) → ℕ → Result (Vec ℕ Global) Unread → Type 0
 HasRead file most (Ok octets) = file ≡ Some octets.items
 HasRead file most (Err (Missing e)) = file ≡ None
 HasRead file most (Err TooLong) = IsSomeAnd file (λ octets. most < length octets)
 HasRead file most (Err why) = Unit {0}
 
--- the system refused it for another reason than that it is missing
+-- the system refused the file for a reason other than that it is missing
 abbrev pub IsRefused : Unread → Type 0
 IsRefused (Refused e) = Unit {0}
 IsRefused why = ⊥
 
--- what is noted of a file that is not opened: that it is missing, or nothing
+-- the record of a file that was not opened: that it is missing, if the system says so, or nothing
 abbrev pub NotesRefusal : Unread → List ℕ → List Note → List Note → Type 0
-NotesRefusal (Missing e) name before now = now ≡ (1 ∷ [], name) ∷ before
-NotesRefusal (Refused e) name before now = now ≡ before
+NotesRefusal (Missing e) name before now = (error_kind e ≡ kinds.NotFound) ×
+    (now ≡ (1 ∷ [], name) ∷ before)
+NotesRefusal (Refused e) name before now = (error_kind e ≢ kinds.NotFound) × (now ≡ before)
 NotesRefusal why name before now = ⊥
+
+-- a file is missing only if the system says so
+abbrev pub HasReason : Unread → Type 0
+HasReason (Missing e) = error_kind e ≡ kinds.NotFound
+HasReason why = Unit {0}
+
+-- the system gave a reason exactly if the file is missing or the library failed
+abbrev pub TellsReason : Result (Vec ℕ Global) LoadError → Option Error → Type 0
+TellsReason (Err load.Missing) reason = IsSomeAnd reason (λ e. error_kind e ≡ kinds.NotFound)
+TellsReason (Err load.Failed) reason = IsSome reason
+TellsReason answer reason = reason ≡ None

@@ -1,6 +1,6 @@
--- What a disk of which only a history of calls is known reads, and what a crash may leave of it, in a
--- world: the octets that it began with, and for each call that failed what this one left. No clause
--- says which world a disk is in. As soon as an answer doesn't agree with the world, nothing is told.
+-- What a disk reads and what a crash may leave of it, if only a history of calls is known, in a world: the octets
+-- with which it began, and what each failed call left. No clause says in which world a disk is. Once an answer
+-- disagrees with the world, the disk states nothing.
 use Rattle.std.specs.Prelude.{◌≡◌, ◌⊎◌, ℕ, zero, suc, ◌-◌, ◌==◌, List, [], ◌∷◌, length, get_or, take, drop, slice_index, if◌then◌else◌}
 use Rattle.std.specs.Str.{bytes_eq}
 use Rattle.std.specs.Option.{option_map}
@@ -12,18 +12,18 @@ use Rattle.std.proofs.Common.{inl, subst, sym}
 use Rattle.std.proofs.Math.Nat.{sub_self}
 use Rattle.road_io.specs.Disk.{written, Torn}
 
--- what was asked, as a code and an offset or a length, and the octets
+-- a call, as a code and an offset or a length, and its octets
 abbrev pub Call : Type 0
 Call = List ℕ × List ℕ
 
--- what a read gives; and of the images, the one that has of this list what each write since the last
--- sync may have left of it
+-- the content that a read gives; and, for a list, the image that is left after each write since the last sync took
+-- part of its effect as the list says
 pub record Holding : Type 0 where
   pub content : List ℕ
   pub nearest : List ℕ → List ℕ
 
--- after a call, where its answer agrees: a length, octets that were read, octets that were written,
--- octets of which a front was written, a sync, a sync that failed
+-- the state after a call, if its answer agrees: a length, octets read, octets written, octets of which a prefix was
+-- written, a sync, or a failed sync
 abbrev pub after_call : ℕ → ℕ → List ℕ → List ℕ → Holding → Option Holding
 after_call zero n octets left h = if length h.content == n then Some h else None
 after_call (suc zero) at octets left h =
@@ -42,12 +42,12 @@ after_call (suc (suc (suc (suc zero)))) at octets left h = Some (record {
 })
 after_call _ at octets left h = Some (record { content = h.nearest left; nearest = h.nearest })
 
--- a write as it is noted, by its answer: an offset and the octets
+-- a write as recorded, by its answer: an offset and the octets
 abbrev pub noted_write : {T E : Type 0} → Result T E → ℕ → List ℕ → Call
 noted_write (Ok done) at octets = (2 ∷ at ∷ [], octets)
 noted_write (Err failed) at octets = (3 ∷ at ∷ [], octets)
 
--- and a sync
+-- a sync as recorded, by its answer
 abbrev pub noted_sync : {T E : Type 0} → Result T E → Call
 noted_sync (Ok done) = (4 ∷ [], [])
 noted_sync (Err failed) = (5 ∷ [], [])
@@ -65,11 +65,11 @@ holding world [] = Some (record {
 holding world (call ∷ before) =
     after call (get_or world (suc (length before)) ([], [])).1 (holding world before)
 
--- what a read gives
+-- the content that a read gives
 abbrev pub reads : List Call → List Call → Option (List ℕ)
 reads world history = option_map (λ h. h.content) (holding world history)
 
--- an image that comes by a call from one before it, but for what a read gives
+-- an image that a call makes from an earlier one, whatever a read gives
 abbrev pub Comes : ℕ → ℕ → List ℕ → (List ℕ → Type 0) → List ℕ → Type 0
 Comes (suc (suc zero)) at octets Before i = (d : List ℕ) × Before d × Torn at (length octets) d i
 Comes (suc (suc (suc zero))) at octets Before i =
@@ -83,13 +83,13 @@ Leaves world [] i = reads world [] ≡ Some i
 Leaves world (call ∷ before) i = (reads world (call ∷ before) ≡ Some i) ⊎
     Comes (slice_index call.0 0) (slice_index call.0 1) call.1 (Leaves world before) i
 
--- what a crash at a moment may leave, while all answers agree: after so many of the calls
+-- what a crash may leave at a moment, after this many of the calls, while all answers agree
 pub record LeavesAt (world history : List Call) (moment : ℕ) (i : List ℕ) : Type 0 where
   pub now : List ℕ
   pub agrees : reads world history ≡ Some now
   pub leaves : Leaves world (drop (length history - moment) history) i
 
--- what is read may be left
+-- a crash may leave the content that a read gives
 pub reads_left : (world history : List Call) (c : List ℕ) → reads world history ≡ Some c →
     Leaves world history c
 reads_left world [] c is = is

@@ -1,11 +1,11 @@
-//! A library that keeps the front of each file that was loaded.
-ghost use Rattle.std.specs.Prelude.{◌≡◌};
+//! A library that keeps a prefix of each loaded file.
+ghost use Rattle.std.specs.Prelude.{◌≡◌, IfOk, length, string_bytes, take};
 
 use crate::{Library, LoadError};
-use octet_text::{NoMemory, extend, text_of};
+use octet_text::{NoMemory, copied, text_of};
 use std::alloc::Global;
 
-/// The front of a file that was loaded.
+/// The prefix of a loaded file.
 #[derive(Drop)]
 pub struct Kept {
     name: String,
@@ -14,12 +14,14 @@ pub struct Kept {
 }
 
 impl Kept {
-    /// The front of these octets, at most so many.
-    fn of(alloc: Global, name: &str, octets: &[u8], most: usize) -> Result<Kept, NoMemory> {
+    /// Copies the first octets, at most `most` of them.
+    fn of(alloc: Global, name: &str, octets: &[u8], most: usize) -> Result<Kept, NoMemory>
+        ensures name { IfOk result (λ kept. string_bytes kept.name ≡ name.now) }
+        ensures front { IfOk result (λ kept. kept.front.items ≡ take most octets.now) }
+        ensures length { IfOk result (λ kept. kept.length ≡ length octets.now) }
+    {
         let name = text_of(alloc, name)?;
-        let (text, _) = octets.split_at(octets.len().min(most));
-        let mut front = Vec::new(alloc);
-        extend(&mut front, text)?;
+        let front = copied(alloc, front_of(octets, most))?;
         Ok(Kept {
             name,
             front,
@@ -27,19 +29,30 @@ impl Kept {
         })
     }
 
-    /// The first octets of the file.
+    /// Returns the first octets of the file.
     pub fn front(&self) -> &[u8] {
         &self.front
     }
 
-    /// How many octets the file had.
+    /// Returns the length of the file in octets.
     pub fn length(&self) -> usize {
         self.length
     }
 }
 
-/// A library over another one, which keeps the front of each file that was loaded. Where there is no memory to keep
-/// it, the file is loaded all the same.
+/// Returns the first octets, at most `most`.
+fn front_of(octets: &[u8], most: usize) -> &[u8]
+    ensures { result.now ≡ take most octets.now }
+{
+    if most < octets.len() {
+        &octets[..most]
+    } else {
+        octets
+    }
+}
+
+/// A library over another one, which keeps a prefix of each loaded file. If memory is too short to keep a prefix,
+/// the file is loaded all the same.
 #[derive(Drop)]
 pub struct KeptLibrary<L: Library + Drop> {
     inner: L,
@@ -48,7 +61,7 @@ pub struct KeptLibrary<L: Library + Drop> {
 }
 
 impl<L: Library + Drop> KeptLibrary<L> {
-    /// A library over this one, which keeps at most so many octets of each file.
+    /// Makes a library over this one. It keeps at most `most` octets of each file.
     pub fn new(alloc: Global, inner: L, most: usize) -> KeptLibrary<L>
         ensures { result.inner ≡ inner }
     {
@@ -59,12 +72,12 @@ impl<L: Library + Drop> KeptLibrary<L> {
         }
     }
 
-    /// The library below.
+    /// Returns the underlying library.
     pub fn inner(&self) -> &L {
         &self.inner
     }
 
-    /// What was kept of the file of a name that was loaded last.
+    /// Returns the prefix of the last file that was loaded under a name.
     pub fn kept(&self, name: &str) -> Option<&Kept> {
         let mut found = None;
         for kept in &self.kept {
@@ -75,7 +88,7 @@ impl<L: Library + Drop> KeptLibrary<L> {
         found
     }
 
-    /// Keeps the front of a file.
+    /// Keeps the prefix of a file.
     fn keep(&mut self, alloc: Global, name: &str, octets: &[u8])
         ensures { self.new.inner ≡ self.old.inner }
     {

@@ -1,12 +1,12 @@
-//! A sink that keeps the front of what it took.
+//! A sink that keeps a prefix of the octets that it took.
 ghost use Rattle.std.specs.Prelude.{◌≡◌, ◌≤◌};
 
 use crate::{Failed, Sink};
 
-/// How many octets are kept.
+/// The number of octets kept.
 const MOST: usize = 2048;
 
-/// A sink over another one, which keeps the first 2,048 octets that were taken.
+/// A sink over another one, which keeps the first 2,048 octets that it took.
 #[derive(Drop)]
 pub struct KeptSink<K: Sink + Drop> {
     inner: K,
@@ -16,7 +16,7 @@ pub struct KeptSink<K: Sink + Drop> {
 }
 
 impl<K: Sink + Drop> KeptSink<K> {
-    /// A sink over this one.
+    /// Makes a sink over this one.
     pub fn new(inner: K) -> KeptSink<K>
         ensures { result.inner ≡ inner }
     {
@@ -27,17 +27,17 @@ impl<K: Sink + Drop> KeptSink<K> {
         }
     }
 
-    /// The sink below.
+    /// Returns the underlying sink.
     pub fn inner(&self) -> &K {
         &self.inner
     }
 
-    /// The first octets that were taken, at most 2,048.
+    /// Returns the first octets that the sink took, at most 2,048.
     pub fn front(&self) -> &[u8] {
         &self.front[..self.count]
     }
 
-    /// Keeps octets after those that are kept, as far as there is room.
+    /// Keeps octets after those already kept, as long as room is left.
     fn keep(&mut self, octets: &[u8])
         ensures { self.new.inner ≡ self.old.inner }
     {

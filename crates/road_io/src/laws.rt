@@ -1,9 +1,9 @@
-// What holds of all counts of faults.
+// Laws of all failure counts.
 ghost use Rattle.std.specs.Prelude.{ℕ, ◌+◌, ◌-◌, ◌^◌, ◌<◌, ◌≤◌};
 ghost use Rattle.road_io.specs.Causes.{Rose};
 
-/// A count that stands has not risen, but for one at its end, a count that is one higher has, and what
-/// rose in a part of the time rose in all of it.
+/// A count that has not changed has not risen, unless it is saturated. A count that is one higher has risen. A
+/// count that rose during a part of a run rose during the run.
 pub fn fault_laws()
     ensures stands { (count : ℕ) → count < 2 ^ 64 - 1 → ¬ Rose count count }
     ensures rises { (count : ℕ) → Rose count (count + 1) }

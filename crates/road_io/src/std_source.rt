@@ -1,13 +1,14 @@
-//! Standard input: an adapter over the real thing, which tells what it gave, and nothing of what it has
-//! left.
+//! Standard input: an adapter over the real stream, which states the octets that it gave, but nothing about those
+//! that are left.
 ghost use Rattle.std.specs.Prelude.{◌≡◌, ◌≤◌, [], length, IfOk};
 ghost use Rattle.std.specs.declared.option.Option.TheVariants.{None};
 
+use crate::calls::read_noted;
 use crate::record::Record;
 use crate::{Failed, Source};
-use std::io::{self, Read};
+use std::io;
 
-/// Standard input. Each error counts as a fault.
+/// Standard input. Each error counts as a failure.
 #[derive(Drop)]
 pub struct StdSource<R: Input> {
     reader: R::Reader,
@@ -17,7 +18,7 @@ pub struct StdSource<R: Input> {
 }
 
 impl<R: Input> StdSource<R> {
-    /// The runtime's standard input, which has given nothing.
+    /// Makes the source of the runtime's standard input. It has given nothing.
     pub fn new(rt: &R) -> StdSource<R>
         ensures history { result.history.events ≡ [] }
         ensures faults { result.faults ≡ 0 }
@@ -30,7 +31,7 @@ impl<R: Input> StdSource<R> {
         }
     }
 
-    /// The system's reason why the last read failed, if it has.
+    /// Returns the system's reason why the last read failed, if the source has failed.
     pub fn last_error(&self) -> Option<io::Error> {
         self.last_error
     }
@@ -49,11 +50,8 @@ impl<R: Input> Source for StdSource<R> {
     ghost faults = { λ s. s.faults };
 
     fn read(&mut self, into: &mut [u8]) -> Result<usize, Failed> {
-        match self.reader.read(into) {
-            Ok(count) => {
-                self.history.note(&[into.len() as u64], &into[..count]);
-                Ok(count)
-            }
+        match read_noted(&mut self.reader, into, &mut self.history) {
+            Ok(count) => Ok(count),
             Err(e) => {
                 self.faults = self.faults.saturating_add(1);
                 self.last_error = Some(e);

@@ -1,4 +1,4 @@
--- Leaves whose arcs lie one behind the other.
+-- Leaves whose arcs follow one another in one list.
 use Rattle.std.proofs.Common.{◌≡◌, ℕ, zero, suc, ◌+◌, ◌-◌, ◌<◌, ◌≤◌, None, Some, Result, Ok, Err, List, [], ◌∷◌, ◌++◌, length, slice_get, take, drop, refl, arith, ap, sym, ◌∙◌, if◌then◌else◌, length-drop}
 use Rattle.std.specs.Result.{OnOk, OnErr, is_ok}
 use Rattle.std.proofs.lemmas.List.{take-append-le, drop-append-le, append-nil, append_assoc}
@@ -10,13 +10,13 @@ use Rattle.road_leaf.specs.declared.leaf.NodeLeaf.{NodeLeaf}
 use Rattle.road_leaf.specs.declared.node_leaves.Head.{Head}
 use Rattle.road_leaf.specs.Held.{extra_at, later, leaf_of, leaves_from, start_before, EndAt}
 
--- ---- what leaves say
+-- ---- the extra contents of leaves
 
 pub later_at : (es : List Extra) (i : ℕ) → extra_at (later es) i ≡ extra_at es (suc i)
 later_at [] i = refl
 later_at (e ∷ es) i = refl
 
--- a word for no word changes nothing
+-- adding a note without contents changes nothing
 pub plain_behind : (es : List Extra) (i : ℕ) → extra_at (es ++ Plain ∷ []) i ≡ extra_at es i
 plain_behind [] zero = refl
 plain_behind [] (suc i) = refl
@@ -60,7 +60,7 @@ pub start_within : (start : ℕ) (hs : List Head) (long : ℕ) → EndAt start h
 start_within start [] long h = omega (arith, h)
 start_within start (g ∷ hs) long h = let more : g.end ≤ long = start_within g.end hs long h.1 in omega (arith, h.0, more)
 
--- an end comes behind its start, and within
+-- a part ends at or after its start, and within the list
 pub head_within : (start : ℕ) (hs : List Head) (long index : ℕ) (h : Head) → EndAt start hs long → slice_get hs index ≡ Some h → (start_before start hs index ≤ h.end) × (h.end ≤ long)
 head_within start [] long index h ends at = cc
 head_within start (g ∷ hs) long zero h ends at =
@@ -87,26 +87,26 @@ held_none start (g ∷ hs) arcs es (suc i) h = held_none g.end hs arcs (later es
 
 -- ---- parts of lists
 
--- so many from a start on stand there still once more stand behind
+-- a list of n items from an index on stays there when more items follow
 pub run_more : {A : Type 0} (xs ys : List A) (count start : ℕ) → start + count ≤ length xs → take count (drop start (xs ++ ys)) ≡ take count (drop start xs)
 run_more xs ys count start within =
     let long : length (drop start xs) ≡ length xs - start = length-drop start xs in
     ap (take count) (drop-append-le start xs ys (omega (arith, within))) ∙ take-append-le count (drop start xs) ys (omega (arith, long, within))
 
--- what stands within a list stands there still once more stand behind
+-- items within a list stay there when more items follow
 pub part_more : {A : Type 0} (xs ys : List A) (start end : ℕ) → start ≤ end → end ≤ length xs → take (end - start) (drop start (xs ++ ys)) ≡ take (end - start) (drop start xs)
 part_more xs ys start end order within = run_more xs ys (end - start) start (omega (arith, order, within))
 
--- what was put behind others stands from their end on
+-- items appended to others are found from the end of these on
 pub part_behind : {A : Type 0} (xs ys : List A) (start end : ℕ) → start ≡ length xs → end ≡ length xs + length ys → take (end - start) (drop start (xs ++ ys)) ≡ ys
 part_behind xs ys start end is all =
     let rest : drop start (xs ++ ys) ≡ ys = ap (λ k. drop k (xs ++ ys)) is ∙ drop-append_seam xs ys in
     let long : end - start ≡ length ys = omega (arith, is, all) in
     ap (take (end - start)) rest ∙ (ap (λ k. take k ys) long ∙ take-length ys)
 
--- ---- one leaf more
+-- ---- one more leaf
 
--- what no leaf says is free
+-- a leaf without notes uses no codes
 pub same_words : (start : ℕ) (hs : List Head) (arcs : List Arc) (es fs : List Extra) → ((i : ℕ) → i < length hs → extra_at es i ≡ extra_at fs i) → leaves_from start hs arcs es ≡ leaves_from start hs arcs fs
 same_words start [] arcs es fs h = refl
 same_words start (g ∷ hs) arcs es fs h =
@@ -127,7 +127,7 @@ held_more start (h ∷ hs) arcs more es g ends is =
     let here : take (h.end - start) (drop start (arcs ++ more)) ≡ take (h.end - start) (drop start arcs) = part_more arcs more start h.end ends.0 within in
     rw (here, held_more h.end hs arcs more (later es) g ends.1 is, later_at es (length hs)) refl
 
--- ---- leaves behind others
+-- ---- leaves in the remaining list
 
 pub front_at : (xs ys : List NodeLeaf) (i : ℕ) → i < length xs → slice_get (xs ++ ys) i ≡ slice_get xs i
 front_at [] ys i lt = absurd (omega (arith, lt))
@@ -139,7 +139,7 @@ behind_at [] ys i k is = ap (slice_get ys) (omega (arith, is))
 behind_at (x ∷ xs) ys i zero is = absurd (omega (arith, is))
 behind_at (x ∷ xs) ys i (suc k) is = behind_at xs ys i k (omega (arith, is))
 
--- a leaf more, of which none is behind
+-- one more leaf while no leaf is in the remaining list
 pub front_ok : {T E : Type 0} (r : Result T E) (old new behind all : List NodeLeaf) (x : NodeLeaf) → behind ≡ [] → old ++ behind ≡ all → OnOk r (new ≡ old ++ x ∷ []) → OnOk r (new ++ behind ≡ all ++ x ∷ [])
 front_ok (Ok t) old new behind all x none is more =
     let whole : old ≡ all = (sym (append-nil old) ∙ ap (λ k. old ++ k) (sym none)) ∙ is in
@@ -150,7 +150,7 @@ pub front_err : {T E : Type 0} (r : Result T E) (old new behind all : List NodeL
 front_err (Ok t) old new behind all is same = tt
 front_err (Err e) old new behind all is same = ap (λ l. l ++ behind) same ∙ is
 
--- a leaf more, behind them
+-- one more leaf in the remaining list
 pub behind_ok : {T E : Type 0} (r : Result T E) (front old new all : List NodeLeaf) (x : NodeLeaf) → front ++ old ≡ all → new ≡ (if is_ok r then old ++ x ∷ [] else old) → OnOk r (front ++ new ≡ all ++ x ∷ [])
 behind_ok (Ok t) front old new all x is more = ap (λ k. front ++ k) more ∙ (sym (append_assoc front old (x ∷ [])) ∙ ap (λ l. l ++ x ∷ []) is)
 behind_ok (Err e) front old new all x is more = tt

@@ -1,4 +1,4 @@
--- What notes say over codes that lie in one list.
+-- The meaning of notes, with their codes in one list.
 use Rattle.std.proofs.Common.{◌≡◌, ℕ, ◌<◌, ◌≤◌, Some, List, [], ◌∷◌, ◌++◌, length, slice_get, map, take, refl, arith, ap, sym, ◌∙◌}
 use Rattle.std.specs.List.{All}
 use Rattle.std.specs.Option.{option_map}
@@ -12,7 +12,7 @@ use Rattle.road_leaf.specs.declared.node_leaves.Note.TheVariants as notes
 use Rattle.road_leaf.specs.Held.{extra_at, said, IsWithin}
 use Rattle.road_leaf.proofs.HeldLaws.{plain_behind, cut_at, none_behind, before_last, at_last, there_at, run_more}
 
--- ---- one note more
+-- ---- one more note
 
 pub plain_noted : (codes : List ℕ) (ns : List Note) (i : ℕ) → extra_at (map (said codes) (ns ++ notes.Plain ∷ [])) i ≡ extra_at (map (said codes) ns) i
 plain_noted codes ns i = ap (λ es. extra_at es i) (map-append (said codes) ns (notes.Plain ∷ [])) ∙ plain_behind (map (said codes) ns) i
@@ -51,7 +51,7 @@ noted_more codes more (n ∷ ns) w =
     let tail : map (said (codes ++ more)) ns ≡ map (said codes) ns = noted_more codes more ns (All-tail (IsWithin (length codes)) n ns w) in
     rw (head, tail) refl
 
--- notes say the same once more codes stand behind those that they name
+-- the meaning of notes does not change when codes are appended to those that they refer to
 pub same_noted : (codes new : List ℕ) (ns : List Note) → Begins codes new → All (IsWithin (length codes)) ns → map (said new) ns ≡ map (said codes) ns
 same_noted codes new ns b w = ap (λ list. map (said list) ns) b.is ∙ noted_more codes b.rest ns w
 
@@ -61,13 +61,13 @@ within_more short long le (notes.Own count start) w = omega (arith, le, w)
 within_more short long le (notes.Near error reference) w = tt
 within_more short long le (notes.Cell border cell) w = tt
 
--- notes stay within codes that others stand behind
+-- notes stay valid when codes are appended
 pub all_within : (codes new : List ℕ) (ns : List Note) → Begins codes new → All (IsWithin (length codes)) ns → All (IsWithin (length new)) ns
 all_within codes new ns b w =
     let le : length codes ≤ length new = omega (arith, ap length b.is, length-append codes b.rest) in
     All-weaker (IsWithin (length codes)) (IsWithin (length new)) (within_more (length codes) (length new) le) ns w
 
--- ---- notes that are cut at an index, and padded up to it
+-- ---- notes cut at an index, and padded up to it
 
 pub padded_within : (long n : ℕ) (old cut padded : List Note) → cut ≡ take n old → (All (IsWithin long) cut → All (IsWithin long) padded)
     → All (IsWithin long) old → All (IsWithin long) padded

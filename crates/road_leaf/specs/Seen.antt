@@ -1,4 +1,4 @@
--- Leaves that are lent.
+-- Borrowed leaves.
 use Rattle.road_leaf.specs.declared.leaf.Extra.{Extra}
 use Rattle.road_leaf.specs.declared.leaf.Extra.TheVariants.{Plain, Own, Near, Cell}
 use Rattle.road_leaf.specs.declared.leaf.NodeLeaf.{NodeLeaf}
@@ -6,7 +6,7 @@ use Rattle.road_leaf.specs.declared.view.ExtraView.{ExtraView}
 use Rattle.road_leaf.specs.declared.view.ExtraView.TheVariants as views
 use Rattle.road_leaf.specs.declared.view.NodeView.{NodeView}
 
--- what the leaf says beside its place and arcs
+-- the extra contents of the leaf
 abbrev pub extra_seen : ExtraView → Extra
 extra_seen views.Plain = Plain
 extra_seen (views.Own codes) = Own codes.now

@@ -1,4 +1,4 @@
-//! Leaves of nodes, in few lists.
+//! Leaves of nodes, stored in few lists.
 ghost use Rattle.std.specs.Prelude.{◌≡◌, ◌+◌, ◌-◌, ◌<◌, ◌≤◌, ◌^◌, [], ◌∷◌, ◌++◌, ℕ, List, Some, IfOk, OnOk, OnErr, IsTrue, length, map, take, drop, slice_get, vec_len};
 ghost use Rattle.std.specs.List.{All};
 ghost use Rattle.std.specs.Option.{option_map};
@@ -14,7 +14,8 @@ use std::alloc::Global;
 use std::marker::Model;
 use std::mem::size_of;
 
-/// What a leaf has of its own in these lists: the node's id and coordinates, and where its arcs end.
+/// The part of a leaf that these lists store for it alone: the node's id and coordinates, and the index at which
+/// its arcs end.
 #[derive(Clone, Copy, Debug)]
 pub struct Head {
     pub id: u32,
@@ -23,35 +24,36 @@ pub struct Head {
     pub end: u32,
 }
 
-/// What a leaf says beside its place and arcs, in these lists. Each case has its shorter field first, so that a
-/// note takes eight octets.
+/// The contents of a leaf besides its coordinates and arcs, as stored in these lists. Each case has its shorter
+/// field first, so that a note takes eight octets.
 #[derive(Clone, Copy, Debug)]
 pub enum Note {
     /// Nothing.
     Plain,
-    /// The node's own codes: so many from a start on.
+    /// The node's own codes: `count` codes from index `start` on.
     Own { count: u16, start: u32 },
-    /// By how much at most the node's own codes differ from those that serve, and the node that has these.
+    /// The greatest difference between the node's own codes and those that replace them, and the node that these
+    /// belong to.
     Near { error: u16, reference: u32 },
-    /// Whether a road leads to another cell, and the node's cell.
+    /// Whether a road leads from the node to another cell, and the node's cell.
     Cell { border: bool, cell: u32 },
 }
 
 const _: () = prove!(size_of::<Note>() == 8);
 
-/// Leaves of nodes, in order. While they have fewer than 2^32 arcs together, and as few codes, and none more
-/// than 65,535 codes, no leaf has a list of its own for these. Contracts see them as the list of the leaves.
+/// Leaves of nodes, in order. A leaf has lists of its own only if the leaves have 2^32 arcs or codes in all, or
+/// more than 65,535 codes in one leaf. Contracts treat this as the list of the leaves.
 #[derive(Debug, Drop)]
 pub struct NodeLeaves {
     heads: Vec<Head>,
-    // The arcs of these leaves, one behind the other.
+    // The arcs of these leaves, one leaf after the other.
     arcs: Vec<Arc>,
-    // What each of them says beside its place and arcs, up to the last one that says anything.
+    // The extra contents of each of these leaves, up to the last leaf that has any.
     notes: Vec<Note>,
-    // The codes that the notes name, those of each leaf in one piece.
+    // The codes of the notes; those of each leaf are contiguous.
     codes: Vec<u16>,
-    // The leaves behind these: from the first on whose arcs would end behind 2^32 - 1 arcs, or whose
-    // codes behind as many codes, or that has more than 65,535 codes.
+    // The remaining leaves. The first of them is the first leaf whose arcs would end after 2^32 - 1 arcs, whose
+    // codes would end after 2^32 - 1 codes, or that has more than 65,535 codes.
     further: Vec<NodeLeaf>,
 }
 
@@ -70,7 +72,7 @@ impl Model for NodeLeaves {
 }
 
 impl NodeLeaves {
-    /// No leaf.
+    /// Makes an empty list.
     pub fn new(alloc: Global) -> NodeLeaves
         ensures { result ≡ [] }
     {
@@ -83,7 +85,7 @@ impl NodeLeaves {
         }
     }
 
-    /// These leaves.
+    /// Makes the list of these leaves.
     pub fn of(alloc: Global, leaves: Vec<NodeLeaf>) -> Result<NodeLeaves, NoMemory>
         ensures { IfOk result (λ held. held ≡ leaves.items) }
     {
@@ -94,22 +96,22 @@ impl NodeLeaves {
         Ok(held)
     }
 
-    /// How many leaves there are.
+    /// Returns the number of leaves.
     pub fn len(&self) -> usize
         ensures { result ≡ length self.now }
     {
         self.heads.len() + self.further.len()
     }
 
-    /// No item, with room for one for each leaf whose arcs lie in one list with those of others.
-    pub fn room<T>(&self, alloc: Global) -> Result<Vec<T>, NoMemory>
+    /// Returns an empty list of ids, with room for one id for each leaf whose arcs are in the common list.
+    pub fn room_for_ids(&self, alloc: Global) -> Result<Vec<u32>, NoMemory>
         ensures items { IfOk result (λ list. list.items ≡ []) }
         ensures len { IfOk result (λ list. vec_len list ≡ 0) }
     {
         room_for(alloc, &self.heads)
     }
 
-    /// The leaf at an index, where there is one.
+    /// Returns the leaf at an index, if the index exists.
     pub fn get(&self, index: usize) -> Option<NodeView<'_>>
         ensures { option_map seen result ≡ slice_get self.now index }
     {
@@ -119,7 +121,7 @@ impl NodeLeaves {
         Some(self.at(index))
     }
 
-    /// The leaf at the index of one.
+    /// Returns the leaf at an index, which must exist.
     pub fn at(&self, index: usize) -> NodeView<'_>
         requires { index < length self.now }
         ensures { slice_get self.now index ≡ Some (seen result) }
@@ -138,7 +140,7 @@ impl NodeLeaves {
         }
     }
 
-    /// Puts a leaf behind the others. A refused call leaves them as they were.
+    /// Appends a leaf. After an error the leaves are unchanged.
     pub fn push(&mut self, leaf: NodeLeaf) -> Result<(), NoMemory>
         ensures ok { OnOk result (self.new ≡ self.old ++ leaf ∷ []) }
         ensures err { OnErr result (self.new ≡ self.old) }
@@ -161,7 +163,7 @@ impl NodeLeaves {
     }
 }
 
-// Where the arcs of the leaf at an index begin.
+// Returns the index at which the arcs of the leaf at an index begin.
 fn start_before(heads: &[Head], index: usize) -> u32
     requires { index < length heads.now }
     ensures { result ≡ start_before 0 heads.now index }
@@ -172,7 +174,7 @@ fn start_before(heads: &[Head], index: usize) -> u32
     heads[index - 1].end
 }
 
-// What stands at indices from START on and before END.
+// Returns the items from index `start` up to but not including index `end`.
 fn between<T>(items: &[T], start: usize, end: usize) -> &[T]
     requires order { start ≤ end }
     requires within { end ≤ length items.now }
@@ -181,7 +183,7 @@ fn between<T>(items: &[T], start: usize, end: usize) -> &[T]
     &items[start..end]
 }
 
-// What a note says.
+// Returns the contents that a note stands for.
 fn said(note: Note, codes: &[u16]) -> ExtraView<'_>
     requires { IsWithin (length codes.now) note }
     ensures { extra_seen result ≡ said codes.now note }
@@ -197,7 +199,7 @@ fn said(note: Note, codes: &[u16]) -> ExtraView<'_>
     }
 }
 
-// What the note at an index says: nothing where there is none.
+// Returns the contents that the note at an index stands for, or no contents if the index has no note.
 fn said_at<'a>(notes: &[Note], codes: &'a [u16], index: usize) -> ExtraView<'a>
     requires { All (IsWithin (length codes.now)) notes.now }
     ensures { extra_seen result ≡ extra_at (map (said codes.now) notes.now) index }
@@ -208,7 +210,7 @@ fn said_at<'a>(notes: &[Note], codes: &'a [u16], index: usize) -> ExtraView<'a>
     }
 }
 
-// The codes that a leaf says.
+// Returns the codes in the contents of a leaf.
 fn codes_of(extra: &Extra) -> &[u16]
     ensures { result.now ≡ codes_of extra.now }
 {
@@ -218,7 +220,7 @@ fn codes_of(extra: &Extra) -> &[u16]
     }
 }
 
-// Whether the number of items and of more of them is one of 32 bits.
+// Tests whether the sum of two numbers of items fits in 32 bits.
 fn end_fits<T>(items: &[T], more: &[T]) -> bool
     ensures { IsTrue result → length items.now + length more.now < 2 ^ 32 }
 {
@@ -226,14 +228,14 @@ fn end_fits<T>(items: &[T], more: &[T]) -> bool
     items.len() <= most && more.len() <= most - items.len()
 }
 
-// Whether a note can name so many codes.
+// Tests whether a note can hold the number of these codes.
 fn is_short(codes: &[u16]) -> bool
     ensures { IsTrue result → length codes.now < 2 ^ 16 }
 {
     codes.len() <= u16::MAX as usize
 }
 
-// Puts a leaf behind those whose arcs lie in one list.
+// Appends a leaf to those whose arcs are in the common list.
 fn hold(
     heads: &mut Vec<Head>,
     arcs: &mut Vec<Arc>,
@@ -273,7 +275,7 @@ fn hold(
     }
 }
 
-// Adds that the leaves up to an index say nothing.
+// Adds empty notes up to an index.
 fn pad(notes: &mut Vec<Note>, count: usize) -> Result<(), NoMemory>
     requires { vec_len notes.old ≤ count }
     ensures same { (codes : List ℕ) (i : ℕ) → extra_at (map (said codes) notes.new.items) i
@@ -288,7 +290,7 @@ fn pad(notes: &mut Vec<Note>, count: usize) -> Result<(), NoMemory>
     Ok(())
 }
 
-// The note of what a leaf says, whose codes are put behind the others.
+// Appends the codes of a leaf's contents, and returns the note for these contents.
 fn noted(codes: &mut Vec<u16>, extra: &Extra) -> Result<Note, NoMemory>
     requires fits { length codes.old.items + length (codes_of extra.now) < 2 ^ 32 }
     requires short { length (codes_of extra.now) < 2 ^ 16 }
@@ -314,7 +316,7 @@ fn noted(codes: &mut Vec<u16>, extra: &Extra) -> Result<Note, NoMemory>
     }
 }
 
-// Notes what the leaf at an index says, behind which there is none.
+// Adds the note for the contents of the leaf at an index. No later index has a note.
 fn put_note(
     notes: &mut Vec<Note>,
     codes: &mut Vec<u16>,

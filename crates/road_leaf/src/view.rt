@@ -1,4 +1,4 @@
-//! A leaf of a node, as lists of leaves lend it.
+//! Borrowed leaves of nodes.
 ghost use Rattle.std.specs.Prelude.{◌≡◌, ◌<◌, ◌^◌, length, OnOk, OnErr};
 ghost use Rattle.octet_text.specs.Puts.{Puts};
 ghost use Rattle.road_leaf.specs.Leaves.{node_leaf_text};
@@ -8,20 +8,21 @@ use crate::writing::put_fields;
 use octet_text::NoMemory;
 use road_map::Arc;
 
-/// What the leaf of a node says beside its place and arcs, lent.
+/// The contents of a node's leaf besides its coordinates and arcs, borrowed.
 #[derive(Clone, Copy, Debug)]
 pub enum ExtraView<'a> {
     /// Nothing.
     Plain,
     /// The node's own codes.
     Own(&'a [u16]),
-    /// The node whose codes serve, and by how much at most the node's own differ from them.
+    /// The node whose codes replace the node's own, and the greatest difference between the two lists of codes.
     Near { reference: u32, error: u16 },
-    /// The node's cell, and whether a road leads to another cell.
+    /// The node's cell, and whether a road leads from the node to another cell.
     Cell { cell: u32, border: bool },
 }
 
-/// The leaf of a node, lent: its id, coordinates and arcs, by ascending id, and what its kind adds.
+/// The leaf of a node, borrowed: its id, its coordinates, its arcs in ascending order of id, and the contents that
+/// its kind adds.
 #[derive(Clone, Copy, Debug)]
 pub struct NodeView<'a> {
     pub id: u32,
@@ -32,7 +33,7 @@ pub struct NodeView<'a> {
 }
 
 impl NodeView<'_> {
-    /// Appends the text of the leaf. A refused call leaves the octets as they were.
+    /// Appends the text of the leaf. After an error the octets are unchanged.
     pub fn write(&self, out: &mut Vec<u8>) -> Result<(), NoMemory>
         requires { length self.now.arcs.now < 2 ^ 16 }
         ensures ok { OnOk result (Puts out.old.items out.new.items

@@ -13,16 +13,16 @@ use Rattle.route_client.specs.declared.errors.CheckError.{CheckError}
 use Rattle.route_client.specs.declared.errors.CheckError.TheVariants.{NotAnswer, Malformed, Stale, BadChain, BadSignature, BadCover, Judged, Memory}
 use Rattle.road_line.specs.RouteLine.{route_line}
 
--- an accepted route and its length, or that there is none
+-- an accepted route and its length, or that no route exists
 abbrev pub accepted_words : Checked → List ℕ
 accepted_words (Route x) = route_line x.length x.route
 accepted_words (Apart version header) = codes "none\n"
 
--- what is accepted
+-- an accepted result
 abbrev pub accepted_line : Checked → List ℕ
 accepted_line x = codes "accepted " ++ accepted_words x
 
--- ---- refusals by their names
+-- ---- refusals by name
 
 abbrev pub seal_name : SealError → List ℕ
 seal_name BadKey = codes "BadKey"
@@ -35,7 +35,7 @@ cover_name Short = codes "Short"
 cover_name Long = codes "Long"
 cover_name Differs = codes "Differs"
 
--- why the items don't show a shortest route, or that there is none, with its numbers
+-- the reason why the items do not show a shortest route, or that no route exists, with its numbers
 abbrev pub judged_words : Refusal → List ℕ
 judged_words (judged.RepeatedNode id) = codes "RepeatedNode " ++ decimal id
 judged_words (judged.BadRoute hop) = codes "BadRoute " ++ decimal hop
@@ -45,7 +45,7 @@ judged_words (judged.Shorter length) = codes "Shorter " ++ decimal length
 judged_words (judged.Disagrees distance) = codes "Disagrees " ++ decimal distance
 judged_words (judged.Memory _) = codes "Memory"
 
--- the test that a reply did not pass, with its numbers and names
+-- the test that a reply failed, with its numbers and names
 abbrev pub refused_words : CheckError → List ℕ
 refused_words (NotAnswer kind) = codes "NotAnswer " ++ decimal kind
 refused_words (Malformed at) = codes "Malformed " ++ decimal at

@@ -12,12 +12,12 @@ use Rattle.route_client.specs.declared.near_errors.NearError.TheVariants.{Malfor
 abbrev pub spaced_id : Mark → List ℕ
 spaced_id m = spaced m.id
 
--- how many nodes there are, a colon, each id after a space, and a line end
+-- the number of nodes, a colon, each id after a space, and a line end
 abbrev pub within_line : List Mark → List ℕ
 within_line marks = codes "within " ++ decimal
     (length marks) ++ codes ":" ++ flat_map spaced_id marks ++ codes "\n"
 
--- the test that a reply did not pass, with its numbers and names
+-- the test that a reply failed, with its numbers and names
 abbrev pub refused_near_words : NearError → List ℕ
 refused_near_words (Malformed at) = codes "Malformed " ++ decimal at
 refused_near_words (Stale version) = codes "Stale " ++ decimal version

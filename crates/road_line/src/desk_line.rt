@@ -6,7 +6,8 @@ ghost use Rattle.road_line.specs.DeskLine.{desk_line};
 use octet_text::{NoMemory, hex_of, print};
 use std::alloc::Global;
 
-/// The line of a public key, and of how many one-time keys are left of how many.
+/// Returns the line of a desk: a public key, the number of its remaining one-time keys, and the number of all its
+/// one-time keys.
 pub fn line_of_desk(
     alloc: Global,
     public: &[u8; 56],

@@ -7,7 +7,7 @@ ghost use Rattle.road_line.specs.EvidenceLine.{right_line, collision_line, forge
 use octet_text::{NoMemory, hex_of, print, text_of};
 use std::alloc::Global;
 
-/// The line of a reply that is right.
+/// Returns the line of a right reply.
 pub fn line_of_right(alloc: Global) -> Result<Vec<u8>, NoMemory>
     ensures { IfOk result (λ line. line.items ≡ right_line) }
 {
@@ -15,7 +15,7 @@ pub fn line_of_right(alloc: Global) -> Result<Vec<u8>, NoMemory>
     Ok(text.into_bytes())
 }
 
-/// The line of two different texts with one digest.
+/// Returns the line of two different texts with the same digest.
 pub fn line_of_collision(alloc: Global, left: &[u8], right: &[u8]) -> Result<Vec<u8>, NoMemory>
     ensures { IfOk result (λ line. line.items ≡ collision_line left.now right.now) }
 {
@@ -23,7 +23,7 @@ pub fn line_of_collision(alloc: Global, left: &[u8], right: &[u8]) -> Result<Vec
     Ok(text.into_bytes())
 }
 
-/// The line of a header that was not signed by its owner, and of its signature.
+/// Returns the line of a header that its owner did not sign, with the header's signature.
 pub fn line_of_forged(alloc: Global, header: &[u8], signature: &[u8]) -> Result<Vec<u8>, NoMemory>
     ensures { IfOk result (λ line. line.items ≡ forged_line header.now signature.now) }
 {
@@ -31,7 +31,7 @@ pub fn line_of_forged(alloc: Global, header: &[u8], signature: &[u8]) -> Result<
     Ok(text.into_bytes())
 }
 
-/// A name and two texts in hex, as a line.
+/// Returns a line with a name and two texts in hex.
 fn in_hex(alloc: Global, name: &str, first: &[u8], second: &[u8]) -> Result<String, NoMemory>
     ensures { IfOk result (λ text.
         string_bytes text ≡ name.now ++ codes " " ++ encode_lower first.now ++ codes " " ++

@@ -1,4 +1,4 @@
-//! The lines that the program writes of routes, of nodes within a radius, verdicts, findings and desks.
+//! The program's output lines: routes, nodes within a radius, verdicts, findings and desks.
 #![tactic(auto)]
 
 pub use desk_line::line_of_desk;

@@ -1,22 +1,23 @@
-//! Why a reply was refused, by the line that was written of it.
+//! Reading the reason of a refusal back from the line that was written.
 
 use lms_tree::SealError;
 use proof_judge::Refusal;
 use road_reader::{natural, split_word, wide_natural};
 use route_client::{CheckError, CoverFault, NearError};
 
-/// Why a reply on a route was refused, by its line, as `line_of_refused` writes it. `None` for another line.
+/// Returns why a reply for a route was refused, from the line that `line_of_refused` wrote. Returns `None` for any
+/// other line.
 pub fn read_refused(line: &[u8]) -> Option<CheckError> {
     Said::of(line)?.check_error()
 }
 
-/// Why a reply to a range query was refused, by its line, as `line_of_refused_near` writes it. `None` for another
-/// line.
+/// Returns why a reply to a range query was refused, from the line that `line_of_refused_near` wrote. Returns
+/// `None` for any other line.
 pub fn read_refused_near(line: &[u8]) -> Option<NearError> {
     Said::of(line)?.near_error()
 }
 
-/// The words after `refused`: the name of a test and its fields, empty where there are fewer.
+/// The words after `refused`: the name of a test, and its fields. Missing words are empty.
 #[derive(Clone, Copy)]
 struct Said<'a> {
     name: &'a str,
@@ -25,7 +26,7 @@ struct Said<'a> {
 }
 
 impl Said<'_> {
-    /// The words of a line, if it is of a refused reply.
+    /// Parses a line, if it is the line of a refused reply.
     fn of(line: &[u8]) -> Option<Said<'_>> {
         let line = match line {
             [line @ .., b'\n'] => line,
@@ -48,12 +49,12 @@ impl Said<'_> {
         })
     }
 
-    /// The first field as a number of 32 bits.
+    /// Returns the first field as a 32-bit number.
     fn number(&self) -> Option<u32> {
         natural(self.first)
     }
 
-    /// The first field as a number of 8 bits.
+    /// Returns the first field as an 8-bit number.
     fn small(&self) -> Option<u8> {
         let number = natural(self.first)?;
         u8::try_from(number).ok()
@@ -100,7 +101,7 @@ impl Said<'_> {
     }
 }
 
-/// Why a signature is not verified, by its name.
+/// Returns the reason why a signature does not verify, given the reason's name.
 fn seal_of(name: &[u8]) -> Option<SealError> {
     match str::from_utf8(name).unwrap_or("") {
         "BadKey" => Some(SealError::BadKey),
@@ -110,7 +111,7 @@ fn seal_of(name: &[u8]) -> Option<SealError> {
     }
 }
 
-/// Why items and a cover give no root, by its name.
+/// Returns the reason why items and a cover give no root, given the reason's name.
 fn cover_of(name: &[u8]) -> Option<CoverFault> {
     match str::from_utf8(name).unwrap_or("") {
         "Place" => Some(CoverFault::Place),

@@ -8,7 +8,8 @@ use octet_text::{NoMemory, print, push_str, text_of};
 use route_client::NearError;
 use std::alloc::Global;
 
-/// The line of a refused reply to a range query: the name of the test that it did not pass, with its fields.
+/// Returns the line of a refused reply to a range query: the name of the test that it failed, and the test's
+/// fields.
 pub fn line_of_refused_near(alloc: Global, why: NearError) -> Result<Vec<u8>, NoMemory>
     ensures { IfOk result (λ text. text.items ≡ refused_near_line why) }
 {

@@ -7,7 +7,7 @@ ghost use Rattle.road_line.specs.RouteLine.{route_line, spaced};
 use octet_text::{NoMemory, print, push_str};
 use std::alloc::Global;
 
-/// The line of a route: its length, a colon, and each id after a space.
+/// Returns the line of a route: its length, a colon, and a space and an id for each node.
 pub fn line_of_route(alloc: Global, length: u64, route: &[u32]) -> Result<Vec<u8>, NoMemory>
     ensures { IfOk result (λ text. text.items ≡ route_line length route.now) }
 {
@@ -16,7 +16,7 @@ pub fn line_of_route(alloc: Global, length: u64, route: &[u32]) -> Result<Vec<u8
     Ok(text.into_bytes())
 }
 
-/// Prints the line of a route.
+/// Appends the line of a route.
 pub fn print_route(text: &mut String, length: u64, route: &[u32]) -> Result<(), NoMemory>
     ensures { OnOk result (string_bytes text.new ≡ string_bytes text.old ++ route_line length
         route.now) }

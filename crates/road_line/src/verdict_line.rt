@@ -11,7 +11,7 @@ use proof_judge::Refusal;
 use route_client::{CheckError, Checked, CoverFault};
 use std::alloc::Global;
 
-/// The line of what is accepted: a route and its length, or that there is none.
+/// Returns the line of an accepted result: a route and its length, or that no route exists.
 pub fn line_of_accepted(alloc: Global, checked: &Checked) -> Result<Vec<u8>, NoMemory>
     ensures { IfOk result (λ text. text.items ≡ accepted_line checked.now) }
 {
@@ -37,7 +37,7 @@ fn print_accepted(text: &mut String, checked: &Checked) -> Result<(), NoMemory>
     }
 }
 
-/// The line of a refused reply: the name of the test that it did not pass, with its fields.
+/// Returns the line of a refused reply: the name of the test that it failed, and the test's fields.
 pub fn line_of_refused(alloc: Global, why: CheckError) -> Result<Vec<u8>, NoMemory>
     ensures { IfOk result (λ text. text.items ≡ refused_line why) }
 {
@@ -106,7 +106,7 @@ fn print_bad_signature(text: &mut String, name: &str) -> Result<(), NoMemory>
     print(text, format_args!("BadSignature {name}"))
 }
 
-/// The name of why a signature is not verified.
+/// Returns the name of the reason why a signature does not verify.
 pub fn name_of_seal(why: SealError) -> &'static str
     ensures { result.now ≡ seal_name why }
 {
@@ -117,7 +117,7 @@ pub fn name_of_seal(why: SealError) -> &'static str
     }
 }
 
-/// The name of why items and a cover don't give a root.
+/// Returns the name of the reason why items and a cover do not give a root.
 pub fn name_of_cover(why: CoverFault) -> &'static str
     ensures { result.now ≡ cover_name why }
 {

@@ -8,7 +8,7 @@ use octet_text::{NoMemory, print, push_str, text_of};
 use proof_octets::Mark;
 use std::alloc::Global;
 
-/// The line of the nodes within a radius: how many there are, a colon, and each id after a space.
+/// Returns the line of the nodes within a radius: their number, a colon, and a space and an id for each node.
 pub fn line_of_within(alloc: Global, nodes: &[Mark]) -> Result<Vec<u8>, NoMemory>
     ensures { IfOk result (λ text. text.items ≡ within_line nodes.now) }
 {

@@ -1,4 +1,4 @@
--- Chains of roads, and the arcs that a walk along one gathers.
+-- Chains of roads, and the arcs that are gathered along a chain.
 use Rattle.std.proofs.Common.{◌≡◌, ℕ, zero, suc, ◌+◌, ◌≤◌, ◌<◌, ◌==◌, length, set, get_or, Bool, true, false, cond, Some, List, [], ◌∷◌, ◌++◌, ◌⊎◌, inl, inr, refl, arith, ap, sym, ◌∙◌, subst, slice_get, take, take_all}
 use Rattle.std.specs.List.{fold}
 use Rattle.std.proofs.lemmas.List.{take_more}
@@ -12,11 +12,11 @@ use Rattle.road_map.specs.Rows.{capped_put, capped_road, row_at}
 use Rattle.road_map.proofs.Among.{slice_get-set}
 use Rattle.road_map.proofs.Capping.{rise_capped}
 
--- one item stands at an index
+-- a list has one item at an index
 one_item : {X : Type 0} (xs : List X) (p : ℕ) (x y : X) → slice_get xs p ≡ Some x → slice_get xs p ≡ Some y → x ≡ y
 one_item xs p x y a b = let same : Some x ≡ Some y = sym a ∙ b in cc
 
--- behind all roads there is none
+-- no road follows the last one
 none_left : (roads : List Road) (u : ℕ) → LeadsOn roads u (length roads) (length roads)
 none_left roads u = record {
   order = omega arith;
@@ -41,7 +41,7 @@ here roads u i r is at = record {
   ends = λ q h. subst (λ (t : Road). EndsAt t u) (one_item roads i r q is h) at;
 }
 
--- a road that ends elsewhere is passed
+-- a road that ends elsewhere is skipped
 past : (roads : List Road) (u i next : ℕ) (r : Road) → slice_get roads i ≡ Some r → (EndsAt r u → ⊥) → LeadsOn roads u (i + 1) next → LeadsOn roads u i next
 past roads u i next r is not h = record {
   order = omega (arith, h.order);
@@ -63,7 +63,7 @@ is_same x y h = grind (arith, h)
 is_other : (x y : ℕ) → (x == y) ≡ false → x ≡ y → ⊥
 is_other x y h e = grind (arith, h, e)
 
--- one road more at the front of the chains
+-- one more road at the front of the chains
 module _ (roads : List Road) (i : ℕ) (r : Road) (first : List ℕ) (next : List Next) (a b : ℕ) (is : slice_get roads i ≡ Some r) (at_a : slice_get first r.a ≡ Some a) (at_b : slice_get first r.b ≡ Some b) (c : AreChained roads (i + 1) first next) where
   abbrev link : Next
   link = record { a = a; b = b }
@@ -102,7 +102,7 @@ module _ (roads : List Road) (i : ℕ) (r : Road) (first : List ℕ) (next : Lis
   pub chain_step : length (set next i link) ≡ length next → i < length next → (firsts : List ℕ) → ((u : ℕ) → slice_get firsts u ≡ cond (r.b == u) (Some i) (cond (r.a == u) (Some i) (slice_get first u))) → AreChained roads i firsts (set next i link)
   chain_step long lt firsts now = record { long = long ∙ c.long; heads = heads firsts now; links = links lt }
 
--- two items that were replaced
+-- two items were replaced
 pub both_set : (first : List ℕ) (a b i u : ℕ) → a < length first → b < length (set first a i) → slice_get (set (set first a i) b i) u ≡ cond (b == u) (Some i) (cond (a == u) (Some i) (slice_get first u))
 both_set first a b i u lt_a lt_b = slice_get-set (set first a i) b i u lt_b ∙ ap (λ o. cond (b == u) (Some i) o) (slice_get-set first a i u lt_a)
 
@@ -123,7 +123,7 @@ adds_none u arcs r not = by_tests (r.a == u) (r.b == u) refl refl
 abbrev none : Road
 none = record { a = 0; b = 0; length = 0 }
 
--- the arcs of one road more
+-- the arcs with those of one more road
 one_more : (roads : List Road) (u i : ℕ) → i < length roads → row_at (take (i + 1) roads) u ≡ capped_road u (row_at (take i roads) u) (get_or roads i none)
 one_more roads u i lt = ap (λ rs. row_at rs u) (take_more roads i none lt) ∙ fold-snoc u (get_or roads i none) [] (take i roads)
 
@@ -164,7 +164,7 @@ walk_end roads u i row le is = is ∙ ap (λ rs. row_at rs u) (take_all i roads 
 pub walk_rises : (roads : List Road) (u i : ℕ) (row : List Arc) → row ≡ row_at (take i roads) u → Rise row
 walk_rises roads u i row is = subst Rise (sym is) (rise_capped u [] (take i roads) tt)
 
--- where the chain of a position goes on
+-- the chain of a position continues at this road
 pub goes_on : (roads : List Road) (first : List ℕ) (next : List Next) (u i after : ℕ) (r : Road) (n : Next) → AreChained roads 0 first next → slice_get roads i ≡ Some r → slice_get next i ≡ Some n → EndsAt r u → after ≡ cond (r.a == u) n.a n.b → LeadsOn roads u (i + 1) after
 goes_on roads first next u i after r n c is at ends then = subst (LeadsOn roads u (i + 1)) (sym then) (by_a (r.a == u) refl)
   where

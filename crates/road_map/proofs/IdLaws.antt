@@ -1,4 +1,4 @@
--- The ids of a map's nodes, ascending, and the indices of ids.
+-- The ids of a map's nodes in ascending order, and the indices of ids.
 use Rattle.std.proofs.Common.{◌≡◌, ◌≢◌, ℕ, ◌+◌, ◌<◌, ◌≤◌, Option, None, Some, IfSome, IfNone, IsSome, List, [], ◌∷◌, ◌++◌, refl, arith, ap, sym, ◌∙◌, subst, length, take, take_all, slice_get, get_or}
 use Rattle.std.specs.List.{Contains}
 use Rattle.std.proofs.lemmas.List.{length-map}
@@ -10,7 +10,7 @@ use Rattle.road_map.specs.Maps.{IsById}
 use Rattle.road_map.specs.Nets.{IsPlace}
 use Rattle.road_map.proofs.Among.{place_at, place_map, Contains-from_map}
 
--- one id more
+-- the ids with one more
 pub one_more : (order : List Node) (i : ℕ) (n : Node) (before after : List ℕ) → slice_get order i ≡ Some n → before ≡ take i (ids order) → after ≡ before ++ n.id ∷ [] → after ≡ take (i + 1) (ids order)
 one_more order i n before after is so_far pushed =
     let at : slice_get (ids order) i ≡ Some n.id = place_map (λ (m : Node). m.id) order i n is in
@@ -27,17 +27,17 @@ known_at nodes order id by c =
     let p : (p : ℕ) × (slice_get order p ≡ Some n.0) = place_at order n.0 ((by.same n.0).0 n.1) in
     (p.0, (n.0, p.1, n.2))
 
--- so a look-up of it finds one
+-- so a look-up of a known id finds an index
 pub place_there : (nodes order : List Node) → IsById nodes order → (id : ℕ) → Contains (ids nodes) id → (o : Option ℕ) → IfNone o ((k : ℕ) (n : Node) → slice_get order k ≡ Some n → n.id ≢ id) → IsSome o
 place_there nodes order by id known (Some p) none = refl
 place_there nodes order by id known None none = absurd (let h : (p : ℕ) × IsPlace order id p = known_at nodes order id by known in none h.0 h.1.0 h.1.1 h.1.2)
 
--- what holds of what was found
+-- a fact holds of the item that was found
 pub at_some : {X : Type 0} (P : X → Type 0) (o : Option X) (x : X) → o ≡ Some x → IfSome o P → P x
 at_some P None x e h = cc
 at_some P (Some y) x e h = subst P (let same : y ≡ x = cc in same) h
 
--- an index is one of the order
+-- an index of an id is an index of the order
 pub place_within : (order : List Node) (id p : ℕ) → IsPlace order id p → p < length order
 place_within order id p h = slice_get_within order p h.0 h.1
 

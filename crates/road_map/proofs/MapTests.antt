@@ -1,4 +1,4 @@
--- The test of parts is true exactly where they make a map.
+-- The test of parts is true exactly if they are a map.
 use Rattle.std.proofs.Common.{◌≡◌, ◌≢◌, ◌⊎◌, ℕ, ◌^◌, ◌≤◌, ◌<◌, ◌==◌, nat_eq, nat_lt, nat_le, not, ◌&&◌, Bool, true, Some, List, [], ◌∷◌, inl, inr, refl, arith, ap, sym, ◌∙◌, subst, length, slice_get, count_by}
 use Rattle.std.specs.List.{Contains, list_all, list_any}
 use Rattle.std.specs.Cmp.{nat_eq_equiv}
@@ -20,7 +20,7 @@ use Rattle.road_map.specs.MapTests.{is_sized, stands_once, joins_two, is_uncrowd
 same_number : (x y : ℕ) → nat_eq x y ≡ true → x ≡ y
 same_number x y h = grind (arith, nat_tests, h)
 
--- a test of all items is that of each
+-- a test of all items holds exactly if it holds for each item
 all_true : {X : Type 0} (p : X → Bool) (xs : List X) → ((x : X) → Contains xs x → p x ≡ true) → list_all p xs ≡ true
 all_true p [] each = refl
 all_true p (x ∷ xs) each = and_from (p x) (list_all p xs) (each x (Contains-here x xs)) (all_true p xs (λ y h. each y (Contains-there x y xs h)))
@@ -46,7 +46,7 @@ sized_from parts h =
     within : {m n : ℕ} → nat_le m n ≡ true → m ≤ n
     within e = grind (arith, nat_tests, e)
 
--- no second node
+-- no second node has the same id
 not_two : (k : ℕ) → (2 ≤ k → ⊥) → not (nat_le 2 k) ≡ true
 not_two k h = elim (cases k) [ inl two ↦ absurd (h two) | inr one ↦ grind (arith, nat_tests, one) ]
   where

@@ -15,7 +15,7 @@ use Rattle.road_map.proofs.ArcLaws.{arcs_out-sound, HopOf}
 use Rattle.road_map.proofs.ChartLaws.{roads_known}
 use Rattle.road_map.proofs.WalkLaws.{hop_end-known}
 
--- one item stands at an index
+-- a list has one item at an index
 pub one_item : {X : Type 0} (xs : List X) (p : ℕ) (x y : X) → slice_get xs p ≡ Some x → slice_get xs p ≡ Some y → x ≡ y
 one_item xs p x y a b = let same : Some x ≡ Some y = sym a ∙ b in cc
 
@@ -25,7 +25,7 @@ arc_known parts m u a c =
     let o : HopOf parts.roads u a = arcs_out-sound parts.roads u a c in
     subst (Knows parts) o.leads (hop_end-known parts (roads_known parts m.joined) o.hop.road o.hop.back o.among)
 
--- there are as many, and the one at an index leads where the other does
+-- both lists of arcs have the same length, and the arcs at an index lead to the same node
 pub Placed-length : (order : List Node) (arcs bs : List Arc) → Placed order arcs bs → length bs ≡ length arcs
 Placed-length order [] [] h = refl
 Placed-length order [] (y ∷ ys) h = absurd h
@@ -38,18 +38,18 @@ Placed-at order (x ∷ xs) [] i c d h lt = absurd h
 Placed-at order (x ∷ xs) (y ∷ ys) zero c d h lt = h.1
 Placed-at order (x ∷ xs) (y ∷ ys) (suc i) c d h lt = Placed-at order xs ys i c d h.2 (omega (arith, lt))
 
--- an element of a list with one more at its end
+-- an element of a list that has one more item at its end
 pub last_or_before : {X : Type 0} (xs : List X) (x : X) (p : ℕ) (r : X) → slice_get (xs ++ x ∷ []) p ≡ Some r → (slice_get xs p ≡ Some r) ⊎ ((p ≡ length xs) × (x ≡ r))
 last_or_before [] x zero r h = inr (refl, (let same : Some x ≡ Some r = h in cc))
 last_or_before [] x (suc p) r h = cc
 last_or_before (y ∷ xs) x zero r h = inl h
 last_or_before (y ∷ xs) x (suc p) r h = elim (last_or_before xs x p r h) [ inl e ↦ inl e | inr e ↦ inr (ap suc e.0, e.1) ]
 
--- the arcs of one row more
+-- the arcs with one more row
 pub long_more : (net new : List (List Arc)) (i : ℕ) (out : List Arc) → new ≡ net ++ out ∷ [] → length net ≡ i → length new ≡ i + 1
 long_more net new i out is long = let l : length new ≡ length net + 1 = ap length is ∙ length-append net (out ∷ []) in omega (arith, l, long)
 
--- the rows of one position more
+-- the rows with one more position
 pub rows_more : (roads : List Road) (p : ℕ) (rows new : List (List Arc)) (row : List Arc) → new ≡ rows ++ row ∷ [] → row ≡ row_at roads p → AreRows roads p rows → AreRows roads (p + 1) new
 rows_more roads p rows new row is at before = record {
   long = long_more rows new p row is before.long;

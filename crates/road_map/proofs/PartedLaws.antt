@@ -1,4 +1,4 @@
--- Lists that lie one behind the other.
+-- Lists that follow one another in one list.
 use Rattle.std.proofs.Common.{◌≡◌, ℕ, zero, suc, ◌+◌, ◌-◌, ◌≤◌, None, Some, List, [], ◌∷◌, ◌++◌, length, map, slice_get, take, drop, refl, arith, ap, ◌∙◌, length-drop}
 use Rattle.std.proofs.lemmas.List.{take-append-le, drop-append-le}
 use Rattle.std.proofs.Math.Seq.{drop-append_seam, take-length}
@@ -8,7 +8,7 @@ pub start_within : (start : ℕ) (ends : List ℕ) (long : ℕ) → AreEnds star
 start_within start [] long h = omega (arith, h)
 start_within start (e ∷ es) long h = let more : e ≤ long = start_within e es long h.1 in omega (arith, h.0, more)
 
--- an end comes behind its start, and within
+-- a part ends at or after its start, and within the list
 pub end_within : (start : ℕ) (ends : List ℕ) (long index end : ℕ) → AreEnds start ends long → slice_get ends index ≡ Some end → (start_at start ends index ≤ end) × (end ≤ long)
 end_within start [] long index end h at = cc
 end_within start (e ∷ es) long zero end h at =
@@ -30,7 +30,7 @@ parted_none start [] xs index h = refl
 parted_none start (e ∷ es) xs zero h = absurd (omega (arith, h))
 parted_none start (e ∷ es) xs (suc i) h = parted_none e es xs i (omega (arith, h))
 
--- one part more
+-- the parts with one more
 pub ends_more : (start : ℕ) (ends : List ℕ) (long end : ℕ) → AreEnds start ends long → long ≤ end → AreEnds start (ends ++ end ∷ []) end
 ends_more start [] long end h le = (omega (arith, h, le), refl)
 ends_more start (e ∷ es) long end h le = (h.0, ends_more e es long end h.1 le)

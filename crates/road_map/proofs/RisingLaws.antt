@@ -1,4 +1,4 @@
--- Ids that rise, and their indices.
+-- Ascending ids and their indices.
 use Rattle.std.proofs.Common.{◌≡◌, ℕ, ◌<◌, nat_eq, nat_lt, cond, true, false, None, Some, List, [], Result, Ok, Err, length, map, get_or, arith, ap, sym, ◌∙◌, subst}
 use Rattle.std.specs.Result.{result_ok}
 use Rattle.std.specs.List.{position_or_len, IsDistinct}
@@ -27,7 +27,7 @@ yes x y h = grind (arith, h)
 no : (x : ℕ) → nat_lt x x ≡ false
 no x = grind arith
 
--- ids in order rise
+-- sorted ids ascend
 pub rise_from_sorted : (ids : List ℕ) → IsStrictlySortedBy nat_cmp ids → AreRising ids
 rise_from_sorted ids sorted i j x y lt a b =
     let less : get_or ids i 0 < get_or ids j 0 = below_from_sorted ids i j 0 sorted lt (slice_get_within ids j y b) in
@@ -43,7 +43,7 @@ rise_apart ids rise = IsDistinct-from_apart nat_eq ids (λ i j d lt within.
 pub none_rise : (ids : List ℕ) → ids ≡ [] → AreRising ids
 none_rise ids none = subst AreRising (sym none) (λ i j x y lt a b. cc)
 
--- ---- where an id stands
+-- ---- the index of an id
 
 pub stands : (ids : List ℕ) (id k : ℕ) → place_in ids id ≡ Some k → StandsAt (λ i. i) ids id k
 stands ids id k h =
@@ -76,7 +76,7 @@ missing ids id none = placed (position_or_len (nat_eq id) ids) last
     placed : (p : ℕ) → p ≡ length ids → cond (nat_lt p (length ids)) (Some p) None ≡ None
     placed p e = ap (λ n. cond (nat_lt n (length ids)) (Some n) None) e ∙ ap (λ b. cond b (Some (length ids)) None) (no (length ids))
 
--- what a search by halves answers
+-- the result of a search by halves
 pub by_halves : (ids : List ℕ) (id : ℕ) (r : Result ℕ ℕ) → AreRising ids → IsSearchInRange r (length ids) → IsBinarySearchResult (λ y. nat_cmp y id) ids r → result_ok r ≡ place_in ids id
 by_halves ids id (Ok k) rise bound is = sym (found ids id k rise (some_clause (λ i. i) ids id (Ok k) bound is 0))
 by_halves ids id (Err k) rise bound is = sym (missing ids id (none_clause (λ i. i) ids id (Err k) rise bound is))
@@ -84,7 +84,7 @@ by_halves ids id (Err k) rise bound is = sym (missing ids id (none_clause (λ i.
 pub placed_within : (ids : List ℕ) (id k : ℕ) → place_in ids id ≡ Some k → k < length ids
 placed_within ids id k h = let at = stands ids id k h in slice_get_within ids k at.0 at.1
 
--- an index has one id
+-- at an index there is only one id
 pub one_id : (ids : List ℕ) (a b k : ℕ) → place_in ids a ≡ Some k → place_in ids b ≡ Some k → a ≡ b
 one_id ids a b k x y =
     let p = stands ids a k x in
@@ -93,7 +93,7 @@ one_id ids a b k x y =
     let id : p.0 ≡ q.0 = cc in
     sym p.2 ∙ (id ∙ q.2)
 
--- the keys of items that rise by them
+-- the keys of items that ascend by them
 pub keys_rise : {X : Type 0} (key : X → ℕ) (xs : List X) → RiseBy key xs → AreRising (map key xs)
 keys_rise key xs rise i j x y lt a b =
     let p = map_place key xs i x a in

@@ -1,4 +1,4 @@
--- The arcs that roads make between positions are those of the map, each to the position of a node.
+-- The arcs that roads make between positions are those of the map, with positions in place of ids.
 use Rattle.std.proofs.Common.{◌≡◌, ℕ, ◌≤◌, ◌<◌, ◌==◌, nat_lt, min, Bool, true, false, cond, Some, List, [], ◌∷◌, inl, inr, refl, arith, ap, sym, ◌∙◌, subst, map, length, slice_get, Result, Ok, Err, IfOk, OnOk}
 use Rattle.std.specs.List.{fold}
 use Rattle.std.specs.List.Sorted.{IsPermutation}
@@ -31,7 +31,7 @@ use Rattle.road_map.proofs.RowLaws.{node_placed, joined_parts, road_fault}
 abbrev id_of : Node → ℕ
 id_of n = n.id
 
--- two tests agree where each says what the other says
+-- two tests agree if each implies the other
 same_test : (a b u v : ℕ) → (a ≡ b → u ≡ v) → (u ≡ v → a ≡ b) → (a == b) ≡ (u == v)
 same_test a b u v to back = by_tests (a == b) (u == v) refl refl
   where
@@ -42,7 +42,7 @@ same_test a b u v to back = by_tests (a == b) (u == v) refl refl
     by_tests false true e f = absurd (let same : a ≡ b = back (grind (arith, f)) in grind (arith, e, same))
 
 module _ (order : List Node) (rise : RiseBy id_of order) where
-  -- places are in the order of their ids
+  -- positions are in the order of their ids
   place_below : (x y i j : ℕ) → IsPlace order x i → IsPlace order y j → x < y → i < j
   place_below x y i j a b lt = elim (compared i j) [
     | inl less ↦ less
@@ -53,7 +53,7 @@ module _ (order : List Node) (rise : RiseBy id_of order) where
   place_same : (x y i j : ℕ) → IsPlace order x i → IsPlace order y j → x ≡ y → i ≡ j
   place_same x y i j a b e = one_place id_of order rise y i j (subst (λ k. IsPlace order k i) e a) b
 
-  -- an arc put among arcs by id and by position
+  -- an arc is put among arcs by id, and among the same arcs by position
   put_placed : (to l p : ℕ) (xs ys : List Arc) → IsPlace order to p → Placed order xs ys → Placed order (put_arc to l xs) (put_arc p l ys)
   put_placed to l p [] [] at h = (refl, at, tt)
   put_placed to l p [] (y ∷ ys) at h = absurd h
@@ -71,7 +71,7 @@ module _ (order : List Node) (rise : RiseBy id_of order) where
       by_size true = h
       by_size false = put_placed to l p xs ys at h
 
-  -- a road added by id and by position
+  -- a road is added by id and by position
   module _ (p : ℕ) (n : Node) (here : slice_get order p ≡ Some n) where
     same_end : (id q : ℕ) → IsPlace order id q → (id == n.id) ≡ (q == p)
     same_end id q at = same_test id n.id q p (λ e. place_same id n.id q p at (n, here, refl) e) (λ e. sym (node_id order id q n at (subst (λ k. slice_get order k ≡ Some n) (sym e) here)))
@@ -104,7 +104,7 @@ module _ (order : List Node) (rise : RiseBy id_of order) where
   pub row_placed : (rs qs : List Road) → ArePlaced (ids order) rs qs → (p : ℕ) (n : Node) → slice_get order p ≡ Some n → Placed order (row_at rs n.id) (row_at qs p)
   row_placed rs qs is p n here = roads_placed p n here rs qs [] [] is tt
 
--- arcs by position, named by the ids of their nodes
+-- arcs by position, with the ids of their nodes put in
 pub placed_named : (order : List Node) (xs ys : List Arc) → Placed order xs ys → map (named_arc order) ys ≡ xs
 placed_named order [] [] h = refl
 placed_named order [] (y ∷ ys) h = absurd h
@@ -117,7 +117,7 @@ placed_named order (x ∷ xs) (y ∷ ys) h = rw (same, placed_named order xs ys 
     same : named_arc order y ≡ x
     same = rw (to, h.0) refl
 
--- what the nodes by id of parts are
+-- the nodes by id of the parts
 pub record Ordered (parts : Parts) (order : List Node) : Type 0 where
   pub sized : IsSized parts
   pub distinct : IsDistinct parts
@@ -135,7 +135,7 @@ module _ (parts : Parts) (order : List Node) (o : Ordered parts order) where
     joined : JoinTwoBelow parts (length parts.roads)
     joined = joined_parts parts order o.by_id (length parts.roads) joins
 
-    -- a row has as many arcs as the node, or both have too many
+    -- a row has as many arcs as the node, or both exceed the limit
     as_many : (p : ℕ) (n : Node) → slice_get order p ≡ Some n → length (row_at between p) ≡ length (row_at parts.roads n.id)
     as_many p n at = Placed-length order (row_at parts.roads n.id) (row_at between p) (row_placed order rise parts.roads between is p n at)
 
@@ -153,7 +153,7 @@ module _ (parts : Parts) (order : List Node) (o : Ordered parts order) where
         by_cap (inl e) = let long : length (row_at parts.roads n.id) ≡ length (arcs_out parts.roads n.id) = ap length e in omega (arith, many, as_many p n at)
         by_cap (inr both) = omega (arith, both.0, as_many p n at)
 
-    -- a crowded id is that of a crowded position
+    -- the id of a crowded node is the id at a crowded position
     crowded_place : (id : ℕ) → IsCrowded parts id → (p : ℕ) × IsPlace order id p × (255 < length (row_at between p))
     crowded_place id crowd =
         let p : (p : ℕ) × IsPlace order id p = known_at parts.nodes order id o.by_id (crowded_known parts joined id crowd) in
@@ -184,7 +184,7 @@ module _ (parts : Parts) (order : List Node) (o : Ordered parts order) where
   step_fault e (inl first) = road_fault parts order o.by_id e o.sized o.distinct first
   step_fault e (inr h) = crowded_fault h.0 h.1 h.2 e h.3
 
-  -- what was made is what a map is made of
+  -- the constructed contents are those of a map
   pub built : (found : List ℕ) (arcs net : List (List Arc)) → found ≡ ids order → arcs ≡ map (map (named_arc order)) net → AreSteps order parts.roads net → IsBuilt parts order found arcs net
   built found arcs net named arcs_are s = record {
     is_map = record {
@@ -223,7 +223,7 @@ ordered parts lent order is sized distinct same by_id = record {
   by_id = subst (λ (xs : List Node). IsById xs order) is by_id;
 }
 
--- what a result is, where two facts of it say so
+-- the result, if two facts about it determine it
 pub both_ok : {T E : Type 0} (r : Result T E) (P Q : T → Type 0) (Thin : Type 0) → ((x : T) → P x → Thin → Q x) → IfOk r P → OnOk r Thin → IfOk r Q
 both_ok (Ok x) P Q Thin f p t = f x p t
 both_ok (Err e) P Q Thin f p t = tt

@@ -1,4 +1,4 @@
--- Chains of roads that end at one position.
+-- Chains of roads that end at the same position.
 use Rattle.std.specs.Prelude.{◌≡◌, ℕ, ◌+◌, ◌<◌, ◌≤◌, ◌⊎◌, Some, List, slice_get, length}
 use Rattle.road_map.specs.declared.parts.Road.{Road}
 use Rattle.road_map.specs.declared.chains.Next.{Next}
@@ -7,7 +7,7 @@ use Rattle.road_map.specs.declared.chains.Next.{Next}
 abbrev pub EndsAt : Road → ℕ → Type 0
 EndsAt r u = (r.a ≡ u) ⊎ (r.b ≡ u)
 
--- from an index on, the next road that ends at u stands at this index, or none does
+-- the next road that ends at u, at or after an index, is at this index; or no such road exists
 pub record LeadsOn (roads : List Road) (u from next : ℕ) : Type 0 where
   pub order : from ≤ next
   pub within : next ≤ length roads
@@ -19,7 +19,7 @@ abbrev pub EndBelow : ℕ → List Road → Type 0
 EndBelow count roads = (k : ℕ) (r : Road) → slice_get roads k ≡ Some r → (r.a < count) ×
     (r.b < count)
 
--- from an index on, each position has its first road, and each road the next ones at its ends
+-- from an index on: the first road of each position, and the next ones at the ends of each road
 pub record AreChained (roads : List Road) (from : ℕ) (first : List ℕ) (next : List Next) : Type 0 where
   pub long : length next ≡ length roads
   pub heads : (u h : ℕ) → slice_get first u ≡ Some h → LeadsOn roads u from h

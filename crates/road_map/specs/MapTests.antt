@@ -1,4 +1,4 @@
--- Whether parts make a map, as a function.
+-- A function that tests whether parts make a map.
 use Rattle.std.specs.Prelude.{ℕ, ◌^◌, ◌==◌, Bool, not, ◌&&◌, nat_lt, nat_le, nat_eq, List, length, count_by}
 use Rattle.std.specs.List.{list_all, list_any}
 use Rattle.road_map.specs.declared.parts.Node.{Node}
@@ -12,11 +12,11 @@ abbrev pub is_sized : Parts → Bool
 is_sized parts = nat_lt 0 (length parts.nodes) && nat_le (length parts.nodes) 65536 && nat_le
     (length parts.roads) 262144
 
--- the node's id stands at no other
+-- no other node has the node's id
 abbrev pub stands_once : List Node → Node → Bool
 stands_once nodes n = not (nat_le 2 (count_by (λ m. m.id == n.id) nodes))
 
--- the road joins two different nodes, and its length is a number of 32 bits
+-- the road joins two different nodes, and its length is a 32-bit number
 abbrev pub joins_two : List ℕ → Road → Bool
 joins_two ids r = list_any (nat_eq r.a) ids && list_any (nat_eq r.b) ids && not
     (r.a == r.b) && nat_lt r.length (2 ^ 32)
@@ -25,7 +25,7 @@ joins_two ids r = list_any (nat_eq r.a) ids && list_any (nat_eq r.b) ids && not
 abbrev pub is_uncrowded : List Road → Node → Bool
 is_uncrowded roads n = not (nat_lt 255 (length (arcs_out roads n.id)))
 
--- the parts keep each rule of a map
+-- the parts satisfy every rule of maps
 unfoldable pub is_map : Parts → Bool
 is_map parts =
     is_sized parts && list_all (stands_once parts.nodes) parts.nodes && list_all

@@ -5,11 +5,11 @@ use Rattle.road_map.specs.declared.parts.Node.{Node}
 use Rattle.road_map.specs.declared.parts.Parts.{Parts}
 use Rattle.road_map.specs.ArcsOut.{arcs_out}
 
--- the node of an id stands at a position
+-- the node with this id is at this position
 abbrev pub IsPlace : List Node → ℕ → ℕ → Type 0
 IsPlace order id p = (n : Node) × (slice_get order p ≡ Some n) × (n.id ≡ id)
 
--- the same arcs, each to the position of the node where it leads
+-- the same arcs, with the position of each end's node in place of its id
 abbrev pub Placed : List Node → List Arc → List Arc → Type 0
 Placed order [] [] = Unit {0}
 Placed order (a ∷ arcs) (b ∷ bs) = (b.length ≡ a.length) × IsPlace order a.to b.to ×

@@ -1,4 +1,4 @@
--- The arcs that roads make between the nodes of an order, and why they make none.
+-- The arcs that roads make between the nodes of an order, or the reason why they make none.
 use Rattle.std.specs.Prelude.{◌⊎◌, List, length}
 use Rattle.road_map.specs.declared.arc.Arc.{Arc}
 use Rattle.road_map.specs.declared.parts.Node.{Node}
@@ -7,7 +7,7 @@ use Rattle.road_map.specs.declared.error.MapError.{MapError}
 use Rattle.road_map.specs.Rows.{ArePlaced, JoinIdsBelow, FirstFaulty, ThinBelow, FirstCrowded, AreRows}
 use Rattle.road_map.specs.Walks.{ids}
 
--- all roads join two nodes, and none of these has too many arcs
+-- all roads join two of the nodes, and none of the nodes has too many arcs
 pub record AreSteps (order : List Node) (roads : List Road) (net : List (List Arc)) : Type 0 where
   pub between : List Road
   pub placed : ArePlaced (ids order) roads between

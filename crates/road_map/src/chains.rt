@@ -1,4 +1,4 @@
-//! Chains: the roads that end at one position, each with the index of the next.
+//! Chains: all roads that end at the same position, each with the index of the next one.
 
 ghost use Rattle.std.specs.Prelude.{◌≡◌, ◌+◌, ◌<◌, ◌≤◌, IfOk, OnOk, length, if◌then◌else◌, ◌==◌};
 ghost use Rattle.road_map.specs.ArcsOut.{Rise};
@@ -10,26 +10,26 @@ use crate::parts::Road;
 use octet_text::{NoMemory, filled};
 use std::alloc::Global;
 
-/// The most neighbours that a node may have.
+/// The greatest number of neighbours of a node.
 pub const MOST: usize = 255;
 
-/// The indices of the next roads that end where a road does, at each of its ends; the number of all
-/// roads where none follows.
+/// For each end of a road, the index of the next road that ends at the same position, or the number of all roads if
+/// none follows.
 #[derive(Clone, Copy, Debug)]
 pub struct Next {
     pub a: u32,
     pub b: u32,
 }
 
-/// For each position the index of the first road that ends there, the number of all roads where
-/// none does, and for each road the next ones.
+/// For each position, the index of the first road that ends there, or the number of all roads if no road does. For
+/// each road, the next ones.
 #[derive(Drop)]
 pub struct Chains {
     pub first: Vec<u32>,
     pub next: Vec<Next>,
 }
 
-/// The chains of roads whose ends are positions below a count.
+/// Builds the chains of roads whose ends are positions below `count`.
 pub fn chains_of(alloc: Global, roads: &[Road], count: usize) -> Result<Chains, NoMemory>
     requires few { length roads.now ≤ 262144 }
     requires ends { EndBelow count roads.now }
@@ -46,7 +46,7 @@ pub fn chains_of(alloc: Global, roads: &[Road], count: usize) -> Result<Chains, 
     Ok(Chains { first, next })
 }
 
-/// Puts the road at an index before all that end where it does.
+/// Puts the road at an index at the front of both chains to which it belongs.
 fn chain(first: &mut Vec<u32>, next: &mut Vec<Next>, roads: &[Road], index: usize)
     requires few { length roads.now ≤ 262144 }
     requires within { index < length roads.now }
@@ -63,7 +63,7 @@ fn chain(first: &mut Vec<u32>, next: &mut Vec<Next>, roads: &[Road], index: usiz
     first[road.b as usize] = index as u32;
 }
 
-/// Puts the arcs out of a position in place of what a row holds, up to the first that are too many.
+/// Replaces a row by the arcs out of a position. Stops at the first arc that exceeds the limit.
 pub fn gather(
     row: &mut Vec<Arc>,
     roads: &[Road],
@@ -83,8 +83,8 @@ pub fn gather(
     Ok(())
 }
 
-/// Adds the arc of a road that ends at a position, unless the row is crowded already, and answers
-/// the index of the next one.
+/// Adds the arc of a road that ends at a position, unless the row already exceeds the limit. Returns the index of
+/// the next road.
 fn add_arc(row: &mut Vec<Arc>, road: Road, next: Next, position: u32) -> Result<u32, NoMemory>
     requires rise { Rise row.old.items }
     requires ends { EndsAt road position }
@@ -100,7 +100,7 @@ fn add_arc(row: &mut Vec<Arc>, road: Road, next: Next, position: u32) -> Result<
     Ok(next.b)
 }
 
-/// Puts an arc among arcs of ascending id, unless they are too many already.
+/// Inserts an arc into arcs in ascending order of id, unless these already exceed the limit.
 fn put_below(row: &mut Vec<Arc>, to: u32, length: u32) -> Result<(), NoMemory>
     requires { Rise row.old.items }
     ensures { OnOk result (row.new.items ≡ capped_put to length row.old.items) }

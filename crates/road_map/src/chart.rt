@@ -20,7 +20,7 @@ use octet_text::{NoMemory, collected, shared};
 use std::alloc::Global;
 use std::rc::Rc;
 
-/// What a map is made of beside its parts.
+/// The parts of a map besides its nodes and roads.
 #[derive(Drop)]
 pub struct Chart {
     pub order: Vec<Node>,
@@ -29,14 +29,14 @@ pub struct Chart {
     pub net: Net,
 }
 
-/// The ids of nodes, in their order.
+/// Returns the ids of the nodes, in the same order.
 fn ids_of(alloc: Global, order: &[Node]) -> Result<Vec<u32>, NoMemory>
     ensures { IfOk result (λ found. found.items ≡ ids order.now) }
 {
     collected(alloc, order.iter().map(|node| node.id))
 }
 
-/// The ids of nodes by ascending id, in which they are found quickly.
+/// Returns the ids of nodes in ascending order, as a list with fast look-up.
 fn rising_ids_of(alloc: Global, order: &[Node]) -> Result<RisingIds, NoMemory>
     requires { AreRising (ids order.now) }
     ensures { IfOk result (λ found. found ≡ ids order.now) }
@@ -45,7 +45,7 @@ fn rising_ids_of(alloc: Global, order: &[Node]) -> Result<RisingIds, NoMemory>
     RisingIds::new(alloc, found)
 }
 
-/// The arcs that roads make, by position, unless a road is faulty or a node has too many of them.
+/// Returns the arcs that roads make, by position. Fails if a road is faulty or a node has too many arcs.
 fn steps_of(
     alloc: Global,
     order: &[Node],
@@ -63,7 +63,7 @@ fn steps_of(
     net_of(alloc, placed.as_slice(), &chains, order)
 }
 
-/// The chart of a map.
+/// Returns the chart of a map.
 pub fn chart_of(alloc: Global, parts: &Parts) -> Result<Chart, MapError>
     requires { IsSized parts.now }
     ensures chart { IfOk result (λ made.

@@ -15,12 +15,12 @@ use octet_text::{NoMemory, copied, extend, push, room_for, with_room};
 use std::alloc::Global;
 use std::marker::Model;
 
-/// The arcs out of each node of a map, at its position, each to the position of a node. They lie one
-/// behind the other in one list.
+/// The arcs out of each node of a map. Both the node and the end of an arc are given by position. The arcs of all
+/// nodes follow one another in one list.
 #[derive(Drop)]
 pub struct Net {
     arcs: Vec<Arc>,
-    // Where the arcs of each node end.
+    // The index in the list at which the arcs of each node end.
     ends: Vec<u32>,
 }
 
@@ -37,14 +37,14 @@ impl Model for Net {
 }
 
 impl Net {
-    /// The arcs at a position, where there is one.
+    /// Returns the arcs at a position, if it exists.
     pub fn get(&self, position: u32) -> Option<&[Arc]>
         ensures { option_copied result ≡ slice_get self.now position }
     {
         part_at(&self.arcs, &self.ends, position as usize)
     }
 
-    /// The same arcs, each to the id of the node at its position.
+    /// Returns the same arcs with the id of each end in place of its position.
     pub(crate) fn named(&self, alloc: Global, order: &[Node]) -> Result<Net, NoMemory>
         ensures { IfOk result (λ named. named ≡ map (map (named_arc order.now)) self.now) }
     {
@@ -54,7 +54,7 @@ impl Net {
     }
 }
 
-/// Arcs to positions, each to the id of the node there.
+/// Converts arcs to positions into arcs to the ids of the nodes there.
 fn all_named(alloc: Global, order: &[Node], arcs: &[Arc]) -> Result<Vec<Arc>, NoMemory>
     ensures { IfOk result (λ named. named.items ≡ map (named_arc order.now) arcs.now) }
 {
@@ -71,7 +71,7 @@ fn all_named(alloc: Global, order: &[Node], arcs: &[Arc]) -> Result<Vec<Arc>, No
     Ok(named)
 }
 
-/// The id of the node at a position, where there is one.
+/// Returns the id of the node at a position, or the position itself if no node is there.
 fn id_at(order: &[Node], position: u32) -> u32
     ensures { result ≡ id_at order.now position }
 {
@@ -81,7 +81,7 @@ fn id_at(order: &[Node], position: u32) -> u32
     }
 }
 
-/// What lies between the end at an index and the one before, where there is one.
+/// Returns the part that ends at the end with an index and begins at the previous end, if it exists.
 fn part_at<'a>(arcs: &'a [Arc], ends: &[u32], index: usize) -> Option<&'a [Arc]>
     requires { AreEnds 0 ends.now (length arcs.now) }
     ensures { option_copied result ≡ slice_get (parted 0 ends.now arcs.now) index }
@@ -93,7 +93,7 @@ fn part_at<'a>(arcs: &'a [Arc], ends: &[u32], index: usize) -> Option<&'a [Arc]>
     Some(between(arcs, start, ends[index] as usize))
 }
 
-/// What stands at indices from START on and before END.
+/// Returns the arcs from index `start` up to but not including index `end`.
 fn between(arcs: &[Arc], start: usize, end: usize) -> &[Arc]
     requires order { start ≤ end }
     requires within { end ≤ length arcs.now }
@@ -102,7 +102,7 @@ fn between(arcs: &[Arc], start: usize, end: usize) -> &[Arc]
     &arcs[start..end]
 }
 
-/// Where the part begins that ends at an index of these ends.
+/// Returns the index at which the part with an index begins, given the ends of all parts.
 fn start_at(ends: &[u32], index: usize) -> usize
     requires { index < length ends.now }
     ensures { result ≡ start_at 0 ends.now index }
@@ -113,7 +113,7 @@ fn start_at(ends: &[u32], index: usize) -> usize
     ends[index - 1] as usize
 }
 
-/// The arcs that roads make between the nodes of an order, up to the first node with too many.
+/// Returns the arcs that roads make between ordered nodes, up to the first node with too many arcs.
 pub(crate) fn net_of(
     alloc: Global,
     roads: &[Road],

@@ -9,7 +9,7 @@ use crate::rising_ids::RisingIds;
 use octet_text::{push, room_for};
 use std::alloc::Global;
 
-/// A road between the positions of its ends, unless it is faulty.
+/// Returns a road with the positions of its ends in place of their ids. Fails if the road is faulty.
 fn placed_road(ids: &RisingIds, road: Road, index: u32) -> Result<Road, MapError>
     requires { length ids.now ≤ 65536 }
     ensures placed { IfOk result (IsPlaced ids.now road) }
@@ -32,7 +32,7 @@ fn placed_road(ids: &RisingIds, road: Road, index: u32) -> Result<Road, MapError
     })
 }
 
-/// The roads between the positions of their ends, up to the first that is faulty.
+/// Returns the roads with the positions of their ends in place of their ids. Fails at the first faulty road.
 pub fn placed_roads(alloc: Global, ids: &RisingIds, roads: &[Road]) -> Result<Vec<Road>, MapError>
     requires ids { length ids.now ≤ 65536 }
     requires few { length roads.now ≤ 262144 }

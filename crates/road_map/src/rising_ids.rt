@@ -1,4 +1,4 @@
-//! Where an id stands in a list of ids that ascend.
+//! Look-up of an id in an ascending list of ids.
 
 ghost use Rattle.std.specs.Prelude.{◌≡◌, [], IfOk, IfSome};
 ghost use Rattle.road_map.specs.Places.{StandsAt, AreRising, place_in};
@@ -8,8 +8,7 @@ use octet_text::NoMemory;
 use std::alloc::Global;
 use std::marker::Model;
 
-/// Ids that rise, parted by spans, so that a look-up goes through few of them, however they are
-/// picked.
+/// Ascending ids in buckets. A look-up compares only a few ids, however the ids are chosen.
 #[derive(Drop)]
 pub struct RisingIds {
     ids: Vec<u32>,
@@ -28,7 +27,7 @@ impl Model for RisingIds {
 }
 
 impl RisingIds {
-    /// No id.
+    /// Makes an empty list.
     pub fn none(alloc: Global) -> RisingIds
         ensures { result ≡ [] }
     {
@@ -38,7 +37,7 @@ impl RisingIds {
         }
     }
 
-    /// These ids.
+    /// Makes the look-up of these ascending ids.
     pub fn new(alloc: Global, ids: Vec<u32>) -> Result<RisingIds, NoMemory>
         requires { AreRising ids.items }
         ensures { IfOk result (λ rising. rising ≡ ids.items) }
@@ -47,14 +46,14 @@ impl RisingIds {
         Ok(RisingIds { ids, spans })
     }
 
-    /// The ids.
+    /// Returns the ids.
     pub fn as_slice(&self) -> &[u32]
         ensures { result.now ≡ self.now }
     {
         self.ids.as_slice()
     }
 
-    /// Where an id stands.
+    /// Returns the index of an id, if the list has the id.
     pub fn place(&self, id: u32) -> Option<usize>
         ensures { result ≡ place_in self.now id }
     {
@@ -64,7 +63,7 @@ impl RisingIds {
         }
     }
 
-    /// Where an id stands, by its span, or else by halves among all.
+    /// Returns the index of an id: by its bucket, or else by binary search over all ids.
     fn place_by_span(&self, id: u32) -> Option<usize>
         ensures { result ≡ place_in self.now id }
     {
@@ -75,7 +74,7 @@ impl RisingIds {
     }
 }
 
-/// Where an id stands among ids that ascend, by halves.
+/// Finds the index of an id among ascending ids by binary search.
 fn place_in(ids: &[u32], id: u32) -> Option<usize>
     requires { AreRising ids.now }
     ensures { result ≡ place_in ids.now id }
@@ -86,7 +85,7 @@ fn place_in(ids: &[u32], id: u32) -> Option<usize>
     }
 }
 
-/// The index that an id has if the ids up to it have no gaps, where it stands there.
+/// Returns the index that an id would have if no id were missing below it, if the id is at that index.
 fn place_without_gaps(ids: &[u32], id: u32) -> Option<usize>
     ensures { IfSome result (StandsAt (λ id. id) ids.now id) }
 {

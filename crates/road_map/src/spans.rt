@@ -1,4 +1,4 @@
-//! Hints of where an id stands in a list of ids.
+//! Hints about the index of an id in a list.
 
 ghost use Rattle.std.specs.Prelude.{◌≡◌, ◌<◌, ◌≤◌, IfSome, IsTrue, length};
 ghost use Rattle.road_map.specs.Places.{StandsAt};
@@ -6,24 +6,25 @@ ghost use Rattle.road_map.specs.Places.{StandsAt};
 use octet_text::{NoMemory, fill_up, push};
 use std::alloc::Global;
 
-/// How many ids of a span are searched by halves; where there are more, they are parted again.
+/// The greatest number of ids for which a bucket is searched by halves. A bucket with more ids is split again.
 const FEW: usize = 4;
 
-/// Spans of one width in which the ids of a list lie, and narrower spans within each span with many.
-/// They are only hints: what they find is compared with the list.
+/// Buckets of equal width over the ids of a list, and narrower buckets within each bucket that holds many ids. They
+/// are only hints: every result is compared with the list.
 #[derive(Drop)]
 pub struct Spans {
-    // How wide a span is, 2 to this power, and where the ids of each begin.
+    // The exponent of the width of a bucket, which is a power of 2, and the index at which the ids of each bucket
+    // begin.
     shift: u32,
     starts: Vec<u32>,
-    // How each span with many ids is parted, by ascending span, and where the ids of each narrower
-    // span begin.
+    // How each bucket with many ids is split, by ascending bucket, and the index at which the ids of each narrower
+    // bucket begin.
     parts: Vec<Part>,
     inner: Vec<u32>,
 }
 
-/// How a span is parted: where its own spans stand among all narrower ones, and their width, 2 to
-/// this power.
+/// How a bucket is split: the index of its first narrower bucket in the list of all narrower buckets, and their
+/// width, as a power of 2.
 #[derive(Clone, Copy, Debug)]
 pub struct Part {
     span: u32,
@@ -32,7 +33,7 @@ pub struct Part {
 }
 
 impl Spans {
-    /// No span.
+    /// Makes an empty list of buckets.
     pub fn none(alloc: Global) -> Spans {
         Spans {
             shift: 0,
@@ -42,7 +43,7 @@ impl Spans {
         }
     }
 
-    /// The spans of ids, which should rise; ids without gaps need none.
+    /// Makes buckets of ids, which should ascend. Ids without gaps need no buckets.
     pub fn of(alloc: Global, ids: &[u32]) -> Result<Spans, NoMemory> {
         if !have_gaps(ids) {
             return Ok(Spans::none(alloc));
@@ -60,7 +61,7 @@ impl Spans {
         })
     }
 
-    /// Where an id stands among ids that have these spans, unless it is missed.
+    /// Returns the index of an id among the ids that these buckets hold, or `None` if the hints miss it.
     pub fn place(&self, ids: &[u32], id: u32) -> Option<usize>
         ensures { IfSome result (StandsAt (λ id. id) ids.now id) }
     {
@@ -79,7 +80,7 @@ impl Spans {
     }
 }
 
-/// Whether ids that ascend lack one between the first and the last.
+/// Tests whether any number between the first and the last of ascending ids is missing.
 fn have_gaps(ids: &[u32]) -> bool {
     if ids.is_empty() {
         return false;
@@ -87,8 +88,8 @@ fn have_gaps(ids: &[u32]) -> bool {
     ids[ids.len() - 1].wrapping_sub(ids[0]) as usize >= ids.len()
 }
 
-/// The least width, as a power of 2, at which the spans from the first id to the last are at most
-/// about twice as many as the ids. Ids with few gaps have a span each.
+/// Returns the least width, as a power of 2, for which the number of buckets from the first id to the last is at
+/// most about twice the number of ids. Ids with few gaps get a bucket each.
 fn width_of(ids: &[u32]) -> u32
     ensures { result < 32 }
 {
@@ -104,8 +105,8 @@ fn width_of(ids: &[u32]) -> u32
     31
 }
 
-/// Adds where the ids of each span begin, and where those of the last end, for ids of which the
-/// first stands at an index.
+/// Appends the index at which the ids of each bucket begin, and the index at which the ids of the last bucket end.
+/// The first of the ids is at index `first`.
 fn add_starts(starts: &mut Vec<u32>, ids: &[u32], first: usize, shift: u32) -> Result<(), NoMemory>
     requires { shift < 32 }
 {
@@ -125,18 +126,18 @@ fn add_starts(starts: &mut Vec<u32>, ids: &[u32], first: usize, shift: u32) -> R
     Ok(())
 }
 
-/// An index as four octets.
+/// Returns the low 32 bits of an index.
 fn low_half(place: usize) -> u32 {
     (place & 0xFFFF_FFFF) as u32
 }
 
-/// How a span is parted, if it is.
+/// Returns how a bucket is split, if it is split.
 fn part_of(parts: &[Part], span: usize) -> Option<Part> {
     let place = parts.partition_point(|part| (part.span as usize) < span);
     parts.get(place).copied()
 }
 
-/// Whether ids stand at indices from START on and before END, and more than a few.
+/// Tests whether the ids from index `start` up to `end` are too many for one bucket.
 fn are_many(ids: &[u32], start: usize, end: usize) -> bool
     ensures order { IsTrue result → start ≤ end }
     ensures within { IsTrue result → end ≤ length ids.now }
@@ -144,8 +145,8 @@ fn are_many(ids: &[u32], start: usize, end: usize) -> bool
     start <= end && end <= ids.len() && end - start > FEW
 }
 
-/// How the spans of a width that have many ids are parted; their narrower spans are added. A span of
-/// width 1 has one id.
+/// Splits the buckets of this width that hold many ids, and adds their narrower buckets to `inner`. A bucket of
+/// width 1 holds one id.
 fn parts_of(
     alloc: Global,
     ids: &[u32],
@@ -166,7 +167,7 @@ fn parts_of(
     Ok(parts)
 }
 
-/// How the span of the ids at indices from START on and before END is parted.
+/// Splits the bucket that holds the ids from index `start` up to `end`.
 fn parted(
     ids: &[u32],
     span: usize,
@@ -188,8 +189,8 @@ fn parted(
     })
 }
 
-/// The span of an id among the parts of a span, and the indices from which on and before which its
-/// ids stand, if there are any.
+/// Returns the narrower bucket of an id within a split bucket: the index at which its ids begin and the index at
+/// which they end. Returns `None` if that bucket does not exist.
 fn narrowed(
     ids: &[u32],
     starts: &[u32],
@@ -217,7 +218,7 @@ fn narrowed(
     Some((span, start, end))
 }
 
-/// Where an id stands among those at indices from START on and before END, if it does.
+/// Returns the index of an id among the ids from index `start` up to `end`, if the id is among them.
 fn place_between(ids: &[u32], start: usize, end: usize, id: u32) -> Option<usize>
     requires order { start ≤ end }
     requires within { end ≤ length ids.now }

@@ -1,11 +1,11 @@
--- What holds while labels spread from a root, layer by layer.
+-- Invariants while labels spread from a root, layer by layer.
 use Rattle.std.specs.Prelude.{ℕ, ◌+◌, ◌≤◌, Option, List, Contains, length}
 use Rattle.road_map.specs.Maps.{Charted}
 use Rattle.road_order.specs.Spreads.{HasLabel, AllAtMost, IsSpread, ClosedBut, Keeps, unlabelled}
 use Rattle.road_order.specs.declared.label.Label.{Label}
 
--- Labels that have spread so many hops from a root: the last layer is what was met last, and all
--- before it is closed.
+-- Labels that have spread this many hops from a root: the last layer was met last, and everything before it is
+-- closed.
 pub record Layered (map : Charted) (labels labels' : List (Option Label)) (root hops : ℕ)
     (layer : List ℕ) : Type 0 where
   pub spread : IsSpread map labels'

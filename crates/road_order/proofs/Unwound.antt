@@ -1,4 +1,4 @@
--- Where a depth-first tour leads that stands at some branches.
+-- Where a depth-first tour leads from some branches.
 use Rattle.std.specs.Prelude.{ℕ, ◌-◌, List, [], ◌∷◌}
 use Rattle.std.specs.List.{fold}
 use Rattle.road_map.specs.Maps.{Charted}
@@ -6,8 +6,8 @@ use Rattle.book_model.specs.Orders.{dive, neighbours}
 use Rattle.road_order.specs.Tours.{left_of}
 use Rattle.road_order.specs.declared.depth.Branch.{Branch}
 
--- what was visited once all is that these branches have left, the latest first, where the first of
--- them may go so deep
+-- the ids visited after all of these branches are finished, the latest branch first; the first of them may go this
+-- deep
 abbrev pub unwound : Charted → ℕ → List Branch → List ℕ → List ℕ
 unwound map deep [] found = found
 unwound map deep (branch ∷ branches) found = fold (dive (neighbours map.parts.roads) deep)

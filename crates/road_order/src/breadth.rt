@@ -1,4 +1,4 @@
-//! Ids breadth first.
+//! Breadth-first order.
 ghost use Rattle.std.specs.Prelude.{◌≡◌, ◌<◌, ◌≤◌, ◌+◌, ℕ, [], ◌∷◌, None, Some, List, IfOk, OnOk, length, replicate, slice_get};
 ghost use Rattle.road_map.specs.Walks.{ids};
 ghost use Rattle.book_model.specs.Orders.{breadth};
@@ -12,7 +12,8 @@ use octet_text::{NoMemory, filled, push, room_for};
 use road_map::{Ids, Map};
 use std::alloc::Global;
 
-/// The ids by the least id of their component, then by the hops from there, then by id.
+/// Returns the ids by the least id of their component, then by the number of hops from the node with that id, then
+/// by id.
 pub fn breadth_ids(alloc: Global, map: &Map) -> Result<Ids, NoMemory>
     ensures { IfOk result (λ ids. ids ≡ breadth map.now.parts) }
 {
@@ -23,7 +24,7 @@ pub fn breadth_ids(alloc: Global, map: &Map) -> Result<Ids, NoMemory>
     Ok(ids)
 }
 
-/// Each id with the least id of its component and the hops from there.
+/// Returns each id with the least id of its component and the number of hops from the node with that id.
 fn with_labels(
     alloc: Global,
     map: &Map,
@@ -46,7 +47,7 @@ fn with_labels(
     Ok(keyed)
 }
 
-/// The labels of all nodes, by position.
+/// Returns the labels of all nodes, by position.
 fn label_all(alloc: Global, map: &Map) -> Result<Vec<Option<Label>>, NoMemory>
     ensures { IfOk result (λ labels. IsLabelled map.now labels.items) }
 {
@@ -55,14 +56,14 @@ fn label_all(alloc: Global, map: &Map) -> Result<Vec<Option<Label>>, NoMemory>
     Ok(labels)
 }
 
-/// No label for so many nodes.
+/// Makes `count` empty labels.
 fn no_labels(alloc: Global, count: u32) -> Result<Vec<Option<Label>>, NoMemory>
     ensures { IfOk result (λ labels. labels.items ≡ replicate count None) }
 {
     filled(alloc, None, count as usize)
 }
 
-/// Gives a label to each node, where none has one.
+/// Labels every node. At the start no node has a label.
 fn spread_all(alloc: Global, map: &Map, labels: &mut [Option<Label>]) -> Result<(), NoMemory>
     requires { labels.old ≡ replicate (length map.now.order) None }
     ensures { OnOk result (IsLabelled map.now labels.new) }
@@ -73,8 +74,8 @@ fn spread_all(alloc: Global, map: &Map, labels: &mut [Option<Label>]) -> Result<
     Ok(())
 }
 
-/// Labels a node as the first of its component, and all that is reached from it layer by layer,
-/// unless it has a label.
+/// Does nothing if the node has a label. Otherwise labels it as the first of its component, and then, layer by
+/// layer, all nodes that it reaches.
 fn spread(alloc: Global, map: &Map, labels: &mut [Option<Label>], root: u32) -> Result<(), NoMemory>
     requires root { root < length map.now.order }
     requires spread { IsSpread map.now labels.old }
@@ -103,7 +104,7 @@ fn spread(alloc: Global, map: &Map, labels: &mut [Option<Label>], root: u32) -> 
     Ok(())
 }
 
-/// Gives a label to the neighbours without one of a layer, and answers these.
+/// Labels the unlabelled neighbours of a layer, and returns them.
 fn next_layer(
     alloc: Global,
     map: &Map,
@@ -127,7 +128,7 @@ fn next_layer(
     Ok(next)
 }
 
-/// Gives a label to the neighbours without one of a node, and lists these.
+/// Labels the unlabelled neighbours of a node, and lists them.
 fn label_neighbours(
     map: &Map,
     labels: &mut [Option<Label>],
@@ -152,7 +153,7 @@ fn label_neighbours(
     Ok(())
 }
 
-/// Gives a label to a position without one, and lists it.
+/// Labels a position that has no label, and lists it.
 fn give(
     labels: &mut [Option<Label>],
     next: &mut Vec<u32>,

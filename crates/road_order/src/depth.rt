@@ -1,4 +1,4 @@
-//! Ids depth first.
+//! Depth-first order.
 ghost use Rattle.std.specs.Prelude.{◌≡◌, ◌<◌, ◌≤◌, ◌+◌, ℕ, [], ◌∷◌, ◌++◌, true, false, Some, IfOk, OnOk, IfSome, IfNone, length, drop, slice_get, slice_index};
 ghost use Rattle.std.specs.List.{fold};
 ghost use Rattle.book_model.specs.Orders.{depth, dive, neighbours};
@@ -10,22 +10,22 @@ use octet_text::{NoMemory, filled, push, room_for};
 use road_map::{Ids, Map};
 use std::alloc::Global;
 
-/// Which nodes were visited, by position, and their ids in the order of the visits.
+/// The visited nodes, by position, and their ids in the order of the visits.
 #[derive(Drop)]
 struct Tour {
     seen: Vec<bool>,
     found: Vec<u32>,
 }
 
-/// A visited node, and the index of the neighbour that is looked at next.
+/// A visited node, and the index of the neighbour to look at next.
 #[derive(Clone, Copy)]
 struct Branch {
     position: u32,
     next: usize,
 }
 
-/// The ids in the order of a depth-first walk from each that was not visited, the least first,
-/// which goes to neighbours by ascending id.
+/// Returns the ids in depth-first order. A walk starts from each unvisited node, the least id first, and goes to
+/// neighbours by ascending id.
 pub fn depth_ids(alloc: Global, map: &Map) -> Result<Ids, NoMemory>
     ensures { IfOk result (λ ids. ids ≡ depth map.now.parts) }
 {
@@ -38,7 +38,7 @@ pub fn depth_ids(alloc: Global, map: &Map) -> Result<Ids, NoMemory>
     Ok(Ids::from_vec(found))
 }
 
-/// No node was visited.
+/// Starts a tour without visits.
 fn new_tour(alloc: Global, map: &Map) -> Result<Tour, NoMemory>
     ensures found { IfOk result (λ tour. tour.found.items ≡ []) }
     ensures tour { IfOk result (λ tour. IsTour map.now tour.seen.items tour.found.items) }
@@ -49,8 +49,7 @@ fn new_tour(alloc: Global, map: &Map) -> Result<Tour, NoMemory>
     Ok(Tour { seen, found })
 }
 
-/// Visits a node and all that is reached from it by nodes that were not visited, unless it was
-/// visited already.
+/// Visits a node and all nodes that it reaches through unvisited nodes, unless the node was visited before.
 fn visit_all(alloc: Global, map: &Map, tour: &mut Tour, start: u32) -> Result<(), NoMemory>
     requires start { start < length map.now.order }
     requires tour { IsTour map.now tour.old.seen.items tour.old.found.items }
@@ -108,8 +107,7 @@ fn enter(map: &Map, tour: &mut Tour, position: u32) -> Result<(), NoMemory>
     Ok(())
 }
 
-/// The index and the position of the first neighbour that a branch has left and that was not
-/// visited.
+/// Returns the index and the position of a branch's next unvisited neighbour, if it has one.
 fn next_unseen(map: &Map, tour: &Tour, branch: Branch) -> Option<(usize, u32)>
     requires position { branch.position < length map.now.order }
     requires tour { IsTour map.now tour.now.seen.items tour.now.found.items }

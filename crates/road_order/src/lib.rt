@@ -1,4 +1,4 @@
-//! The six orders of a map's ids in which the leaves of its nodes may stand.
+//! The six orders of a map's ids. The leaves follow one of them.
 #![tactic(auto)]
 
 pub use by_kind::order;

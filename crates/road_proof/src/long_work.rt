@@ -1,9 +1,9 @@
-//! What is said before a run begins, at a terminal.
+//! Messages before a run begins, at a terminal.
 
 use road_command::{Command, KeyKind, Words, command_of};
 use std::io::IsTerminal;
 
-/// Says, where standard error is a terminal, what long work begins and about how long it takes.
+/// Reports what long work begins and about how long it takes, if standard error is a terminal.
 pub fn tell_long_work(rt: HostRuntime, words: &Words) {
     if !rt.stderr().is_terminal() {
         return;
@@ -26,26 +26,4 @@ pub fn tell_long_work(rt: HostRuntime, words: &Words) {
         _ => return,
     };
     let _ = eprintln!(rt; "road_proof: {work}");
-}
-
-/// Whether a command that writes octets would write them to a terminal, which is said. It does not begin then.
-pub fn is_for_eyes(rt: HostRuntime, words: &Words) -> bool {
-    let writes_octets = matches!(
-        command_of(words),
-        Some(
-            Command::Publish { .. }
-                | Command::Prove { .. }
-                | Command::Reach { .. }
-                | Command::Serve { .. }
-                | Command::ServeSigned { .. }
-                | Command::Links
-        )
-    );
-    if !writes_octets || !rt.stdout().is_terminal() {
-        return false;
-    }
-    let _ = eprintln!(rt;
-        "road_proof: standard output: It is a terminal, and what this command writes is octets. Send them to a file. Nothing was done."
-    );
-    true
 }

@@ -1,67 +1,106 @@
-//! What an owner is told of the files that a command of hers uses, before it begins and after it.
+//! Messages to an owner about the files that her command uses, before the command begins and after it.
 
 use command_files::{Ended, Fault};
-use desk_guard::{
-    Signing, Unsafe, folder_fault, has_few_octets, is_open_to_others, unsafe_desk, unsafe_folder,
-};
-use desk_sight::Seen;
+use desk_disk::{DeskDisk, desk_fault};
+use desk_guard::{Signing, folder_fault, has_few_octets, is_open_to_others, unsafe_folder};
+use desk_sight::{Sight, Spending};
+use guarded_run::{DeskUse, KeyFile, desk_use, sight_on};
 use road_command::{Command, Words, command_of};
 use road_tell::zero_roads;
+use std::alloc::Global;
 
-/// How a command uses the desk.
-#[derive(Clone, Copy, PartialEq, Eq)]
-enum Use {
-    Writes,
-    Reads,
-    Not,
-}
-
-fn use_of(words: &Words) -> Use {
-    match command_of(words) {
-        Some(Command::Key { .. } | Command::Succeed { .. } | Command::Publish { .. }) =>
-            Use::Writes,
-        Some(
-            Command::Desk
-            | Command::Links
-            | Command::Audit { .. }
-            | Command::AuditReach { .. }
-            | Command::Reduce { .. },
-        ) => Use::Reads,
-        _ => Use::Not,
+/// Reports why the desk's folder is not safe and, if a command only reads the desk, why its file is not safe.
+pub fn tell_places(rt: HostRuntime, words: &Words) {
+    let how = desk_use(words);
+    if how != DeskUse::Not {
+        if unsafe_folder(&rt) {
+            let _ = eprintln!(rt;
+                "road_proof: owner.desk: Others may write to its folder, and put another desk into it. `chmod go-w .` ends that."
+            );
+        }
     }
-}
-
-/// Says what is not safe about the desk's file and its folder, and answers whether the command may begin: one that
-/// writes to the desk may not where the file is unsafe.
-pub fn is_safe(rt: HostRuntime, words: &Words) -> bool {
-    let how = use_of(words);
-    if how == Use::Not {
-        return true;
-    }
-    if unsafe_folder(&rt) {
-        let _ = eprintln!(rt;
-            "road_proof: owner.desk: Others may write to its folder, and put another desk into it. `chmod go-w .` ends that."
-        );
-    }
-    let found: Option<Unsafe> = unsafe_desk(&rt, "owner.desk");
-    match found {
-        None => true,
-        Some(why) => {
+    if how == DeskUse::Reads {
+        if let Some(why) = desk_fault(&rt) {
             let _ = eprintln!(rt; "road_proof: owner.desk: {why}");
-            how == Use::Reads
         }
     }
 }
 
-/// The name that is opened as the file itself or not at all: the desk's, where a command writes to it.
-pub fn unfollowed(words: &Words) -> Option<&'static str> {
-    match use_of(words) {
-        Use::Writes => Some("owner.desk"),
-        Use::Reads | Use::Not => None,
+/// Reports after a run why the desk's file was not opened, or that others could read it until it was opened.
+pub fn tell_opening(rt: HostRuntime, disk: &DeskDisk<HostRuntime>) {
+    if let Some(why) = disk.why_unsafe() {
+        let _ = eprintln!(rt; "road_proof: owner.desk: {why}");
+    }
+    if disk.was_readable() {
+        let _ = eprintln!(rt;
+            "road_proof: owner.desk: Others could read it until now, and it is closed to them from now on. Whoever has read it can sign in your name."
+        );
     }
 }
 
-/// Says after a fault of the desk that its folder can't be listed or synced, where that is so.
+/// Reports that the file `owner.key` exists and holds no key.
+pub fn tell_key_file(rt: HostRuntime, known: KeyFile) {
+    if known == KeyFile::Broken {
+        let _ = eprintln!(rt;
+            "road_proof: owner.key: It is there and is no key, so that the desk is compared with nothing. Put a copy of your public key there, or take it away."
+        );
+    }
+}
+
+/// Reports what the look spent.
+pub fn tell_spending(rt: HostRuntime, spending: Spending) {
+    let _ = match spending {
+        Spending::Nothing => return,
+        Spending::Header { slot, version } => eprintln!(rt;
+            "road_proof: owner.desk: One-time key {slot} counted as free and has the header of version {version}. A crash has left it so, or something else has changed the file. It counts as used from now on. If that map was ever given out, stop: something changes the file."
+        ),
+        Spending::Link { key } => eprintln!(rt;
+            "road_proof: owner.desk: The link from key {key} to the key behind it counted as unsigned and stands whole. A crash has left it so, or something else has changed the file. It counts as signed from now on."
+        ),
+    };
+}
+
+/// Reports the facts about her desk that an owner needs after `key` or `desk`, from the desk's contents.
+pub fn tell_desk(
+    rt: HostRuntime,
+    alloc: Global,
+    words: &Words,
+    ended: Ended,
+    disk: &mut DeskDisk<HostRuntime>,
+) {
+    match (command_of(words), ended.fault) {
+        (Some(Command::Key { .. }), Some(Fault::Held)) => tell_key_again(rt, sight_on(alloc, disk)),
+        (Some(Command::Desk), None) => tell_versions(rt, sight_on(alloc, disk)),
+        _ => {}
+    }
+}
+
+/// Reports how to restore the public key of an existing key, if the file `owner.key` was lost.
+fn tell_key_again(rt: HostRuntime, sight: Option<Sight>) {
+    let _ = match sight {
+        Some(sight) if sight.key == 1 => eprintln!(rt;
+            "road_proof: owner.key: Where this has emptied it, `road_proof desk | cut -d' ' -f1 > owner.key` writes it again."
+        ),
+        _ => eprintln!(rt;
+            "road_proof: owner.key: Where this has emptied it, only a copy of it helps, since the desk tells its current key alone."
+        ),
+    };
+}
+
+/// Reports which versions the desk has signed.
+fn tell_versions(rt: HostRuntime, sight: Option<Sight>) {
+    let Some(sight) = sight else {
+        return;
+    };
+    if let (Some(last), Some(greatest)) = (sight.last, sight.greatest) {
+        let last = last.version;
+        let _ = eprintln!(rt;
+            "road_proof: owner.desk: The last version that it has signed is {last}, and the greatest is {greatest}."
+        );
+    }
+}
+
+/// Reports after a disk error of the desk that its folder cannot be listed or synced, if this is so.
 pub fn tell_folder(rt: HostRuntime, ended: Ended) {
     if !matches!(ended.fault, Some(Fault::Disk)) {
         return;
@@ -71,7 +110,8 @@ pub fn tell_folder(rt: HostRuntime, ended: Ended) {
     }
 }
 
-/// Says of a secret's file that a key was made from, whose text begins so, what makes the secret none.
+/// Reports why the text of a secret's file is not secret. A key was made from this file, and `text` has its first
+/// octets.
 pub fn tell_secret(rt: HostRuntime, secret: &str, status: u8, text: &[u8]) {
     if status == 0 && has_few_octets(text) {
         let _ = eprintln!(rt;
@@ -85,23 +125,24 @@ pub fn tell_secret(rt: HostRuntime, secret: &str, status: u8, text: &[u8]) {
     }
 }
 
-/// Says of a `publish` that was done which one-time key signed what, by the desk before it and the publication, and
-/// how many roads of the road file have length 0.
+/// Reports which one-time key a completed `publish` used and what this key signed, from the desk as it was before
+/// and from the publication. Also reports how many roads of the road file have length 0.
 pub fn tell_signing(
     rt: HostRuntime,
     words: &Words,
     status: u8,
-    seen: Option<Seen>,
+    sight: Option<Sight>,
     publication: &[u8],
     roads: &[u8],
 ) {
-    let (Some(Command::Publish { roads: name, .. }), Some(seen)) = (command_of(words), seen) else {
+    let (Some(Command::Publish { roads: name, .. }), Some(sight)) = (command_of(words), sight)
+    else {
         return;
     };
     if status != 0 && status != 6 && status != 15 {
         return;
     }
-    if let Some(signing) = Signing::of(seen.sight, publication) {
+    if let Some(signing) = Signing::of(sight, publication) {
         let _ = eprintln!(rt; "road_proof: owner.desk: {signing}");
     }
     match zero_roads(roads) {

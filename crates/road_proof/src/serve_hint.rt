@@ -4,7 +4,7 @@ use road_command::{Command, Words, command_of};
 use std::io::IsTerminal;
 use std::time::{Duration, Instant};
 
-/// Whether more than a second is over since then; not, where the clock can't be read.
+/// Tests whether more than a second has passed since then. Returns false if the clock cannot be read.
 fn is_slow(rt: HostRuntime, begun: Option<Instant>) -> bool {
     let Some(begun) = begun else {
         return false;
@@ -15,7 +15,7 @@ fn is_slow(rt: HostRuntime, begun: Option<Instant>) -> bool {
     }
 }
 
-/// Says after a slow `prove` that was done, where standard error is a terminal, that `serve` keeps its book.
+/// After a slow but successful `prove`, reports that `serve` keeps its book, if standard error is a terminal.
 pub fn tell_of_serve(rt: HostRuntime, words: &Words, status: u8, begun: Option<Instant>) {
     let Some(Command::Prove { publication, .. }) = command_of(words) else {
         return;

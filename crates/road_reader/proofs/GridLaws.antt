@@ -1,4 +1,4 @@
--- Grids, an index at a time.
+-- Grids, one index at a time.
 use Rattle.std.proofs.Common.{◌≡◌, ℕ, zero, suc, ◌+◌, ◌*◌, ◌/◌, ◌%◌, ◌<◌, ◌≤◌, pos, w32, to_z, List, [], ◌∷◌, ◌++◌, refl, arith, ap, sym, ◌∙◌, map, length, append_assoc, length-append}
 use Rattle.std.specs.List.{flat_map, range_with_len}
 use Rattle.std.proofs.lemmas.Grind.{flat_map-append}
@@ -30,7 +30,7 @@ lengths-append : (s : ℕ) (xs ys : List (ℕ × ℕ)) → with_lengths s (xs ++
 lengths-append s [] ys = refl
 lengths-append s (x ∷ xs) ys = ap (λ (t : List Road). record { a = x.0; b = x.1; length = 1 + drawn (next_state s) % 1000 } ∷ t) (lengths-append (next_state s) xs ys)
 
--- what an index adds to the ends so far
+-- the ends that an index adds
 module _ (s width index : ℕ) where
   so_far : List (ℕ × ℕ)
   so_far = flat_map (ends_of width) (range_with_len 0 index)
@@ -58,7 +58,7 @@ module _ (s width index : ℕ) where
       ∙ (ap (λ t. with_lengths s so_far ++ with_lengths t (ends_of width index)) start_is
       ∙ (sym (lengths-append s so_far (ends_of width index)) ∙ ap (with_lengths s) (sym (one_more (ends_of width) index)))))))))
 
--- a node more
+-- one more node
 pub nodes_more : (width index : ℕ) (before after : List Node) → 0 < width → width ≤ 256 → index < 65536 → before ≡ map (grid_node width) (range_with_len 0 index) → after ≡ before ++ record { id = index + 1; x = to_z w32 (index % width); y = to_z w32 (index / width) } ∷ [] → after ≡ map (grid_node width) (range_with_len 0 (index + 1))
 nodes_more width index before after some narrow few is pushed =
     let column : index % width < 2147483648 = omega arith in

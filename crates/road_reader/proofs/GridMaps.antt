@@ -32,7 +32,7 @@ range_of n i h =
 in_range : (n i : ℕ) → i < n → Contains (range_with_len 0 n) i
 in_range n i lt = (i, omega (arith, length-range_with_len 0 n), get_or-range_with_len 0 n i i lt ∙ omega arith)
 
--- what a flat_map gives
+-- the result of flat_map
 flat_of : {X A : Type 0} (f : X → List A) (xs : List X) (y : A) → Contains (flat_map f xs) y → (x : X) × Contains xs x × Contains (f x) y
 flat_of f [] y h = absurd (Contains-none y h)
 flat_of f (x ∷ xs) y h = elim (Contains-append_cases (f x) (flat_map f xs) y h) [
@@ -47,7 +47,7 @@ in_flat f (z ∷ xs) x y h c = elim (Contains-cases z x xs h) [
   | inr d ↦ Contains-append_right (f z) (flat_map f xs) y (in_flat f xs x y d c)
 ]
 
--- the roads of these ends
+-- the roads between these ends
 pub record RoadBetween (ends : List (ℕ × ℕ)) (r : Road) : Type 0 where
   pub pair : ℕ × ℕ
   pub among : Contains ends pair
@@ -76,7 +76,7 @@ road_at s (q ∷ ends) p h = elim (Contains-cases q p ends h) [
   | inr c ↦ (let rest : HasRoadBetween (with_lengths (next_state s) ends) p.0 p.1 = road_at (next_state s) ends p c in record { road = rest.road; among = Contains-there _ rest.road (with_lengths (next_state s) ends) rest.among; from = rest.from; to = rest.to })
 ]
 
--- a pair that a test lets through
+-- a pair that a test accepts
 one_of : (b : Bool) (x y : ℕ × ℕ) → Contains (cond b (x ∷ []) []) y → (b ≡ true) × (x ≡ y)
 one_of true x y h = elim (Contains-cases x y [] h) [ inl e ↦ (refl, e) | inr c ↦ absurd (Contains-none y c) ]
 one_of false x y h = absurd (Contains-none y h)
@@ -91,7 +91,7 @@ below_test m n e = grind (arith, e)
 test_below : (m n : ℕ) → m < n → nat_lt m n ≡ true
 test_below m n lt = grind (arith, lt)
 
--- the two ways in which a pair of ends is a grid's
+-- the two ways in which a pair of ends belongs to a grid
 abbrev IsRight : ℕ → ℕ → ℕ × ℕ → Type 0
 IsRight width i p = (p.0 ≡ i + 1) × (p.1 ≡ i + 2) × (i % width + 1 < width)
 
@@ -127,7 +127,7 @@ right_fits width i some lt more = omega (arith, rows_fit width (i / width) (row_
 below_fits : (width i : ℕ) → 0 < width → i < width * width → i / width + 1 < width → i + 1 + width ≤ width * width
 below_fits width i some lt more = omega (arith, two_rows_fit width (i / width) more)
 
--- as many roads as pairs of ends, and at most two a node
+-- there are as many roads as pairs of ends, and at most two for each node
 length-lengths : (s : ℕ) (ends : List (ℕ × ℕ)) → length (with_lengths s ends) ≡ length ends
 length-lengths s [] = refl
 length-lengths s (p ∷ ends) = ap suc (length-lengths (next_state s) ends)
@@ -140,7 +140,7 @@ few_ends : (width : ℕ) (xs : List ℕ) → length (flat_map (ends_of width) xs
 few_ends width [] = omega arith
 few_ends width (i ∷ xs) = omega (arith, length-append (ends_of width i) (flat_map (ends_of width) xs), length-append (right_of width i) (below_of width i), at_most_one (nat_lt (i % width + 1) width) (i + 1, i + 2), at_most_one (nat_lt (i / width + 1) width) (i + 1, i + 1 + width), few_ends width xs)
 
--- arcs by ascending id lead to different ids
+-- arcs by ascending id lead to distinct ids
 same_number : (x y : ℕ) → nat_eq x y ≡ true → x ≡ y
 same_number x y h = grind (arith, h)
 
@@ -163,7 +163,7 @@ rises_distinct : (arcs : List Arc) → Rise arcs → IsDistinct nat_eq (map (λ 
 rises_distinct [] h = distinct_none
 rises_distinct (a ∷ arcs) h = IsDistinct-cons nat_eq a.to (map (λ (b : Arc). b.to) arcs) (apart_all a.to a.to arcs (omega arith) h) (above_distinct a.to arcs h)
 
--- no id stands twice among nodes of ascending places
+-- no id occurs twice among nodes at ascending indices
 pub record AtMostOnce (width a n id : ℕ) : Type 0 where
   pub most : count_by (is_at id) (map (grid_node width) (range_with_len a n)) ≤ 1
   pub none : id ≤ a → count_by (is_at id) (map (grid_node width) (range_with_len a n)) ≡ 0
@@ -192,7 +192,7 @@ at_most_once width a (suc n) id = by_head (grid_node width a).id refl ((grid_nod
         let most : count_by (is_at id) (map (grid_node width) (range_with_len (a + 1) n)) ≤ 1 = rest.most in
         record { most = omega arith; none = λ le. (let none : count_by (is_at id) (map (grid_node width) (range_with_len (a + 1) n)) ≡ 0 = rest.none (omega (arith, le)) in omega arith) }
 
--- the items of four
+-- the items of a list of four
 first_of_four : (a b c d : ℕ) → Contains (a ∷ b ∷ c ∷ d ∷ []) a
 first_of_four a b c d = Contains-here a (b ∷ c ∷ d ∷ [])
 
@@ -251,7 +251,7 @@ module _ (width seed : ℕ) (wide : 2 ≤ width) (narrow : width ≤ 256) where
       let i : (i : ℕ) × Contains (range_with_len 0 (width * width)) i × (grid_node width i ≡ n.0) = Contains-from_map (grid_node width) (range_with_len 0 (width * width)) n.0 n.1 in
       (i.0, range_of (width * width) i.0 i.1, sym n.2 ∙ ap (λ (m : Node). m.id) (sym i.2))
 
-  -- where a road of the grid leads
+  -- the node to which a road of the grid leads
   pub record GridRoad (r : Road) : Type 0 where
     pub place : ℕ
     pub within : place < width * width
@@ -278,7 +278,7 @@ module _ (width seed : ℕ) (wide : 2 ≤ width) (narrow : width ≤ 256) where
         | inr c ↦ (from, subst (Knows (grid_of width seed)) (let e : g.place + width + 1 ≡ r.b = omega (arith, c.0) in e) (knows (g.place + width) (omega (arith, below_fits width g.place (omega arith) g.within c.1))), (λ e. omega (arith, e, g.from, c.0)), g.short)
       ]
 
-  -- the ids beside a node
+  -- the ids of a node's neighbours
   beside : ℕ → List ℕ
   beside id = (id - 1) ∷ (id + 1) ∷ (id - width) ∷ (id + width) ∷ []
 

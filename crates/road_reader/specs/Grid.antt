@@ -1,6 +1,5 @@
--- The generator of grids.
--- Source: this program's profile; the numbers are those of the generator that the C standard shows
--- for `rand`.
+-- The generator of grids. Source: this program's profile. The numbers are those of the C standard's example
+-- implementation of `rand`.
 use Rattle.std.specs.Prelude.{ℕ, zero, suc, ◌+◌, ◌*◌, ◌/◌, ◌%◌, pos, nat_lt, List, [], ◌∷◌, ◌++◌, map, if◌then◌else◌}
 use Rattle.std.specs.List.{flat_map, range_with_len}
 use Rattle.road_map.specs.declared.parts.Node.{Node}
@@ -8,31 +7,31 @@ use Rattle.road_map.specs.declared.parts.Road.{Road}
 use Rattle.road_map.specs.declared.parts.Parts.{Parts}
 use Rattle.road_map.specs.Walks.{Knows, Joins}
 
--- what a seed begins with
+-- the first state of a seed
 abbrev pub first_state : ℕ → ℕ
 first_state seed = seed % 2147483648
 
 abbrev pub next_state : ℕ → ℕ
 next_state state = (state * 1103515245 + 12345) % 2147483648
 
--- the number that is drawn on the way to a state
+-- the random number at a state
 abbrev pub drawn : ℕ → ℕ
 drawn state = state / 65536
 
--- so many draws later
+-- the state after this many draws
 abbrev pub after_draws : ℕ → ℕ → ℕ
 after_draws state zero = state
 after_draws state (suc n) = after_draws (next_state state) n
 
--- the node of an index, row by row
+-- the node at an index, row by row
 abbrev pub grid_node : ℕ → ℕ → Node
 grid_node width index = record { id = index + 1; x = pos (index % width); y = pos (index / width) }
 
--- the ends of the road to the right, where there is a node
+-- the ends of the road to the right neighbour, if that node exists
 abbrev pub right_of : ℕ → ℕ → List (ℕ × ℕ)
 right_of width index = if nat_lt (index % width + 1) width then (index + 1, index + 2) ∷ [] else []
 
--- and to the node below
+-- the ends of the road to the node below, if that node exists
 abbrev pub below_of : ℕ → ℕ → List (ℕ × ℕ)
 below_of width index = if nat_lt (index / width + 1) width then
     (index + 1, index + 1 + width) ∷ [] else []
@@ -40,7 +39,7 @@ below_of width index = if nat_lt (index / width + 1) width then
 abbrev pub ends_of : ℕ → ℕ → List (ℕ × ℕ)
 ends_of width index = right_of width index ++ below_of width index
 
--- roads with lengths from 1 to 1000, drawn one after another
+-- roads with random lengths from 1 to 1000, drawn one after another
 abbrev pub with_lengths : ℕ → List (ℕ × ℕ) → List Road
 with_lengths state [] = []
 with_lengths state (ends ∷ rest) =

@@ -1,11 +1,11 @@
-//! What holds of all grids.
+//! Laws of all grids.
 ghost use Rattle.std.specs.Prelude.{ℕ, ◌≤◌, ◌*◌};
 ghost use Rattle.road_map.specs.Maps.{IsMap};
 ghost use Rattle.road_map.specs.Walks.{Knows};
 ghost use Rattle.road_reader.specs.Grid.{grid_of, IsConnected};
 
-/// Each grid of a width from 2 to 256 is a map, whose ids go from 1 to the square of the width, and
-/// a walk joins any two of its nodes.
+/// Each grid with a width from 2 to 256 is a map, its ids are the numbers from 1 to the square of the width, and a
+/// walk joins any two of its nodes.
 pub fn grid_laws()
     ensures map { (width seed : ℕ) → 2 ≤ width → width ≤ 256 → IsMap (grid_of width seed) }
     ensures knows { (width seed : ℕ) → 2 ≤ width → width ≤ 256 → (id : ℕ) → 1 ≤ id →

@@ -1,6 +1,6 @@
-//! Road files: the text that lists a map's nodes and roads, read and printed.
+//! Road files: reading and printing the text that lists a map's nodes and roads.
 //!
-//! A file is a list of lines, and a line is a list of words, parted by spaces and tabs. Lines without words and
+//! A file is a list of lines, and a line is a list of words separated by spaces and tabs. Lines without words and
 //! lines whose first word begins with `#` are skipped. The first other line is `roads 1`, and each later one is
 //! `node ID X Y` or `road A B LENGTH`.
 #![tactic(auto)]

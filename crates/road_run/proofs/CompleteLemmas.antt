@@ -1,4 +1,4 @@
--- Where nothing hinders it, a run does its work.
+-- If nothing prevents it, a run does its work.
 use Rattle.std.proofs.Common.{◌≡◌, ◌≢◌, inl, inr, ℕ, suc, ◌<◌, List, [], ◌∷◌, length, refl, sym, ap, subst, ◌∙◌, IfSome, arith}
 use Rattle.std.specs.declared.option.Option.{Option}
 use Rattle.std.specs.declared.option.Option.TheVariants.{None, Some}
@@ -35,7 +35,7 @@ use Rattle.owner_commands.specs.Signing.{SealsWhatItMirrors}
 use Rattle.server_commands.specs.Proving.{EndsReply, EndsProve, ends_prove}
 use Rattle.road_run.specs.Accepting.{IsTaken, WritesAccepted}
 use Rattle.road_run.specs.Commands.{Ends, files_for, IsTold, TellsClient, OnMirrors, RunPromises, but_for_mirrors}
-use Rattle.road_run.specs.Complete.{CallsFor, AreTold, Hinders, IsUnhindered, Answers, PromisedEnough, IsComplete, ProvesKnown}
+use Rattle.road_run.specs.Complete.{CallsFor, AreTold, Hinders, IsUnhindered, Answers, NoneElseFailed, PromisedEnough, IsComplete, ProvesKnown}
 use Rattle.road_run.specs.Sources.{IfServe, RunTakes, IsExactServing}
 use Rattle.road_run.proofs.HonestLemmas.{AcceptedLaws, writes_accepted}
 use Rattle.road_run.proofs.RunLemmas.{files_served, serve_then}
@@ -44,7 +44,7 @@ use Rattle.octet_text.specs.Want.{no_memory}
 
 -- ---- an outcome by its status
 
--- an outcome that is called for, and that no object outside made, is an answer where nothing hinders
+-- an outcome that the files require, and that no outside object caused, is the result if nothing prevents the work
 answers : (E : Ending) → IsUnhindered E → (o : Result Conclusion Fault) → (o ≢ Err (Memory no_memory) → (text : List ℕ) × E o text)
     → o ≢ Err Words → o ≢ Err Library → o ≢ Err Source → o ≢ Err Sink → o ≢ Err Disk → o ≢ Err MirrorLost → Answers (status_of o)
 answers E free o called words library source sink disk mirror = by o called words library source sink disk mirror
@@ -88,7 +88,7 @@ answers E free o called words library source sink disk mirror = by o called word
     by (Err OtherPublication) c w l s k d m = inr (inr (inr (inr (inl refl))))
     by (Err MirrorLost) c w l s k d m = absurd (m refl)
 
--- without a mirror that was lost, the outcome is the same but for the mirrors
+-- if no mirror was lost, the outcome is the same apart from the mirrors
 same_but : (o : Result Conclusion Fault) → o ≢ Err MirrorLost → but_for_mirrors o ≡ o
 same_but (Err MirrorLost) n = absurd (n refl)
 same_but o n = refl
@@ -96,7 +96,7 @@ same_but o n = refl
 -- ---- no mirror is lost
 
 module _ {M : Type 0} (octets : M → Option (List ℕ)) (label handed puts room : M → ℕ) where
-  -- mirrors that promised enough all stay
+  -- mirrors that promised enough all remain
   all_stay : (count : ℕ) (text : List ℕ) (old kept : List M) → ((m : M) → Contains old m → ¬ PromisedLess count text (puts m) (room m)) → Mirrors octets label handed puts room count text old kept → length kept ≡ length old
   all_stay count text [] kept enough h = ap length h
   all_stay count text (m ∷ old) kept enough (inl h) =
@@ -161,6 +161,57 @@ module _ {D M : Type 0} (g : Ghosts D) (octets : M → Option (List ℕ)) (label
       by (Some (ServeSigned file key chain)) (Some folder) None p source m exact serving = λ told. absurd (told refl)
       by (Some (ServeSigned file key chain)) (Some folder) (Some text) p source m exact serving = λ told free enough.
           answers _ free o serving.called_for p.words (λ e. n.library_stays (p.library e)) (λ e. still (source e)) (λ e. n.sink_stays (p.sink e)) (λ e. n.disk_stays (p.disk e)) (λ e. p.mirror e)
+      by (Some (Publish roads settings)) (Some folder) left p source m exact serving = λ told.
+          plain (Publish roads settings) folder p source
+          (λ enough e. none_lost octets label handed puts room g old new roads settings taken_before taken_now mirrors kept (subst (SealsWhatItMirrors octets label handed puts room g old new taken_before taken_now mirrors kept) e m) enough) (exact told)
+      by (Some request) (Some folder) left p source m exact serving = λ told. plain request folder p source (λ enough e. p.mirror e) (exact told)
+
+  -- the same if the library may have counted a file that is missing or too long
+  pub complete_files : (asked : Option Request) → RunPromises g old new asked files l l' taken_before taken_now k k' o → RunTakes asked files left rest s s' taken_before taken_now o
+      → OnMirrors octets label handed puts room g old new asked taken_before taken_now mirrors kept o
+      → (NoneElseFailed o k k' (g.faults old) (g.faults new) → IfSome asked (λ request. IfSome (files_for request files) (λ folder. IsTold request (still_told g old new) → IsExact (Ends (still_told g old new) request folder) (but_for_mirrors o))))
+      → (¬ Rose s s' → NoneElseFailed o k k' (g.faults old) (g.faults new) → IfServe asked (λ named. IsExactServing named files left o))
+      → ¬ Rose s s' → NoneElseFailed o k k' (g.faults old) (g.faults new)
+      → IfSome asked (λ request. IfSome (files_for request files) (λ folder. AreTold (still_told g old new) left request → IsComplete (CallsFor (still_told g old new) left request folder) (PromisedEnough puts room g old new request taken_before taken_now mirrors) o))
+  complete_files None r t m exact serving still n = tt
+  complete_files (Some request) r t m exact serving still n =
+      by (Some request) (files_for request files) left r.command t.source m (exact n)
+      (serve_then (Some request) (λ named. IsExactServing named files left o) (λ named. IsExactServing named (files_for request files) left o)
+      (λ named is h.
+      subst (λ (a : Option Request). IsExactServing named (files_over a) left o) (sym is)
+      (subst (λ (f : Option Folder). IsExactServing named f left o) (sym (files_served named files)) h))
+      (serving still n))
+    where
+      files_over : Option Request → Option Folder
+      files_over None = files
+      files_over (Some r) = files_for r files
+
+      Command : Option Folder → Request → Type 0
+      Command files request = Promises (Ends (still_told g old new) request) (TellsClient request) (Rose (g.faults old) (g.faults new)) files l l' taken_before taken_now k k' o
+
+      Complete : Option (List ℕ) → Request → Folder → Type 0
+      Complete left request folder = IsComplete (CallsFor (still_told g old new) left request folder) (PromisedEnough puts room g old new request taken_before taken_now mirrors) o
+
+      -- without a mirror
+      plain : (request : Request) (folder : Folder) → Promises (Ends (still_told g old new) request) (TellsClient request) (Rose (g.faults old) (g.faults new)) (Some folder) l l' taken_before taken_now k k' o
+          → (o ≡ Err Source → Rose s s') → (PromisedEnough puts room g old new request taken_before taken_now mirrors → o ≢ Err MirrorLost)
+          → IsExact (Ends (still_told g old new) request folder) (but_for_mirrors o) → IsComplete (Ends (still_told g old new) request folder) (PromisedEnough puts room g old new request taken_before taken_now mirrors) o
+      plain request folder p source mirror exact = λ free enough.
+          let E : Ending = Ends (still_told g old new) request folder in
+          answers E free o (subst (IsExact E) (same_but o (mirror enough)) exact).called_for p.words (λ e. n.library_gave e) (λ e. still (source e)) (λ e. n.sink_stays (p.sink e)) (λ e. n.disk_stays (p.disk e)) (mirror enough)
+
+      by : (asked : Option Request) (files : Option Folder) (left : Option (List ℕ)) → IfSome asked (Command files) → (o ≡ Err Source → Rose s s') → OnMirrors octets label handed puts room g old new asked taken_before taken_now mirrors kept o
+          → IfSome asked (λ request. IfSome files (λ folder. IsTold request (still_told g old new) → IsExact (Ends (still_told g old new) request folder) (but_for_mirrors o)))
+          → IfServe asked (λ named. IsExactServing named files left o)
+          → IfSome asked (λ request. IfSome files (λ folder. AreTold (still_told g old new) left request → Complete left request folder))
+      by None files left p source m exact serving = tt
+      by (Some request) None left p source m exact serving = tt
+      by (Some (Serve file)) (Some folder) None p source m exact serving = λ told. absurd (told refl)
+      by (Some (Serve file)) (Some folder) (Some text) p source m exact serving = λ told free enough.
+          answers _ free o serving.called_for p.words (λ e. n.library_gave e) (λ e. still (source e)) (λ e. n.sink_stays (p.sink e)) (λ e. n.disk_stays (p.disk e)) (λ e. p.mirror e)
+      by (Some (ServeSigned file key chain)) (Some folder) None p source m exact serving = λ told. absurd (told refl)
+      by (Some (ServeSigned file key chain)) (Some folder) (Some text) p source m exact serving = λ told free enough.
+          answers _ free o serving.called_for p.words (λ e. n.library_gave e) (λ e. still (source e)) (λ e. n.sink_stays (p.sink e)) (λ e. n.disk_stays (p.disk e)) (λ e. p.mirror e)
       by (Some (Publish roads settings)) (Some folder) left p source m exact serving = λ told.
           plain (Publish roads settings) folder p source
           (λ enough e. none_lost octets label handed puts room g old new roads settings taken_before taken_now mirrors kept (subst (SealsWhatItMirrors octets label handed puts room g old new taken_before taken_now mirrors kept) e m) enough) (exact told)

@@ -36,7 +36,7 @@ use Rattle.client_commands.specs.NearChecking.{EndsCheckReach, ends_check_reach}
 use Rattle.client_commands.proofs.OneNearCheck.{OneNearVerdict}
 use Rattle.route_audit.proofs.RadiusLemmas.{AcceptsVerdict as NearAcceptsVerdict}
 
--- octets have one verdict at most, and what is accepted has it, for routes and for range queries
+-- octets have at most one verdict, and accepted octets have it, for routes and for range queries
 pub record Verdicts : Type 0 where
   pub one : OneVerdict
   pub accepted : AcceptsVerdict
@@ -48,7 +48,8 @@ pub record AcceptedLaws : Type 0 where
   pub answers : AnswersAreAccepted
   pub near_replies : NearRepliesAreAccepted
 
--- an answer writes such a line where the work was done, if no verdict but that, and no fault, may be told
+-- if the work was done, such a line was written, provided that this verdict is the only one and no fault is
+-- reported
 pub writes_accepted : (E : Ending) (IsLine : List ℕ → Type 0) → ((text : List ℕ) → E (Ok Done) text → IsLine text) → ((text : List ℕ) → E (Ok Refused) text → ⊥) → ((text : List ℕ) → E (Ok Evidence) text → ⊥)
     → ((f : Fault) (text : List ℕ) → E (Err f) text → ⊥) → (old new : Option (List ℕ)) (o : Result Conclusion Fault) → Answered E old new o → (o ≡ Err MirrorLost → ⊥) → WritesAccepted IsLine old new o
 writes_accepted E IsLine done refused evidence fault old new (Ok Done) a lost = (a.0, done a.0 a.1, a.2)
@@ -74,7 +75,7 @@ module _ (one : OneVerdict) (verdict : AcceptsVerdict) (laws : AnswersAreAccepte
   says : IsVerdict sha256 file.key file.links file.octets q least (Ok accepted.accepted)
   says = verdict sha256 file.key file.links file.octets q least accepted.accepted accepted.accepts
 
-  -- the end over what the files encode
+  -- the end over the contents that the files encode
   ends : (o : Result Conclusion Fault) (text : List ℕ) → ends_check key reply q least chain folder o text → EndsCheck file.key file.links file.octets q least o text
   ends o text h = of_files (λ k links octets. EndsCheck k links octets q least) folder key reply chain file.key file.links file.octets file.key_read file.reply_read file.chain_read o text h
 
@@ -103,7 +104,7 @@ module _ (one : OneNearVerdict) (verdict : NearAcceptsVerdict) (laws : NearRepli
   near_says : IsNearVerdict sha256 file.key file.links file.octets q least (Ok near_accepted.accepted)
   near_says = verdict sha256 file.key file.links file.octets q least near_accepted.accepted near_accepted.accepts
 
-  -- the end over what the files encode
+  -- the end over the contents that the files encode
   near_ends : (o : Result Conclusion Fault) (text : List ℕ) → ends_check_reach key reply q least chain folder o text → EndsCheckReach file.key file.links file.octets q least o text
   near_ends o text h = of_files (λ k links octets. EndsCheckReach k links octets q least) folder key reply chain file.key file.links file.octets file.key_read file.reply_read file.chain_read o text h
 

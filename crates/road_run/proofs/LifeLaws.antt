@@ -27,19 +27,19 @@ use Rattle.owner_commands.proofs.ReleaseLaws.{Adds, adds_none, adds_header, adds
 use Rattle.road_run.specs.Commands.{OnDisk, OnMirrors, LeavesAll}
 use Rattle.road_run.specs.Lives.{where_written, Run, given_by, given, Step, Ran, Cut, Broke, Spent, SpentCut, EachTells, IsLife, StandWithin, NoneSignsTwice}
 
--- what holds of nothing, and of what went out where something was written
+-- a fact about no release, and about the releases if something was written
 written : (P : Type 0) (o : Result Conclusion Fault) (it : OnWriting o P) (f : P → List Release) (Q : List Release → Type 0) → Q [] → ((p : P) → Q (f p)) → Q (where_written P o it f)
 written P (Ok v) it f Q none each = each it
 written P (Err Sink) it f Q none each = each it
 written P (Err MirrorLost) it f Q none each = each it
 written P (Err fault) it f Q none each = none
 
--- what is told, where something is
+-- the stated content, if there is any
 some_told : (told : Option (List ℕ)) → told ≢ None → (c : List ℕ) × (told ≡ Some c)
 some_told None some = absurd (some refl)
 some_told (Some c) some = (c, refl)
 
--- the first disk of a life whose disks tell tells
+-- if the disks of a life state their contents, so does its first disk
 first_tells : {D : Type 0} (g : Ghosts D) (disk : D) (states : List (D × List Release)) → EachTells g disk states → g.content disk ≢ None
 first_tells g disk [] told = told
 first_tells g disk (state ∷ states) told = told.0
@@ -58,7 +58,7 @@ module _ {D : Type 0} (g : Ghosts D) (old new : D) (files : Option Folder) (take
   keys_of (Some request) nothing on_disk = keys_stay g old new on_disk
 
 module _ {M : Type 0} (octets : M → Option (List ℕ)) (label handed puts room : M → ℕ) {D : Type 0} (g : Ghosts D) (reads : (d : D) (c : List ℕ) → g.content d ≡ Some c → Image g d c) where
-  -- at each moment of a run what was given out stays given
+  -- at each moment of a run, the earlier releases remain
   kept : (old new : D) → Run octets label handed puts room g old new → (before : List Release) → EachImage g old (AllStand before) → (k : ℕ) (i : List ℕ) → g.clock old ≤ k → k ≤ g.clock new → g.image_at new k i → AllStand before i
   kept old new run [] here k i from to h = All-nil (IsReleasedFrom i)
   kept old new run (r ∷ rest) here k i from to h =
@@ -73,7 +73,7 @@ module _ {M : Type 0} (octets : M → Option (List ℕ)) (label handed puts room
       let d = spends.keys.each k i from to h in
       given_after d.0 i before d.2 (here d.0 d.1) (spends.stands.each (map pair_of before) (stand_as_pairs g old before here) k i from to h)
 
-  -- what a run gives out
+  -- what a run releases
   adds_by : (old new : D) (before : List Release) (c n : List ℕ) → still_told g old new ≡ Some c → AllStand before c → Image g new n → AllStand before n
       → (asked : Option Request) (files : Option Folder) (taken_before taken_now : Option (List ℕ)) (mirrors_before mirrors_now : List M) (o : Result Conclusion Fault)
       → (on_disk : IfSome asked (λ request. OnDisk g old new request files taken_before taken_now o)) (mirrored : OnMirrors octets label handed puts room g old new asked taken_before taken_now mirrors_before mirrors_now o)

@@ -1,4 +1,4 @@
--- `audit` and `audit-reach` find that honest replies are right.
+-- `audit` and `audit-reach` find honest replies right.
 use Rattle.std.proofs.Common.{◌≡◌, inl, inr, ℕ, List, refl, sym, subst, IfSome}
 use Rattle.std.specs.declared.option.Option.{Option}
 use Rattle.std.specs.declared.option.Option.TheVariants.{None, Some}
@@ -46,7 +46,7 @@ use Rattle.road_run.specs.Commands.{Ends, files_for, TellsClient, RunPromises}
 use Rattle.road_run.proofs.HonestLemmas.{Verdicts, writes_accepted}
 use Rattle.road_run.proofs.TakenLemmas.{behind}
 
--- what holds of what is there holds where it is there
+-- a fact about a value that exists
 for_some : (x : List ℕ) (P : List ℕ → Type 0) → P x → ForSome (Some x) P
 for_some x P h = λ c e. let same : x ≡ c = cc in subst P same h
 
@@ -60,7 +60,7 @@ no_evidence : ◌≡◌ {A = Result Conclusion Fault} (Ok Done) (Ok Evidence) �
 no_evidence e = cc
 
 module _ {Q A X E : Type 0} (kind : ReplyKind Q A X E) (line : E → List ℕ) (key : List ℕ) (links : List Link) (p : Publication) (octets : List ℕ) (q : Q) where
-  -- the work is done where all is right
+  -- the work is done if everything is right
   right_ends : (image : List ℕ) → IsUsable image → IsOwnersKey image key → AreSigned (look_in image) links (header_text p.header) → HasHeader sha256 sha256 p.parts p.settings p.header
       → AreRight kind sha256 sha256 key links octets q p → EndsAudit kind line (Some image) key links p octets q (Ok Done) right_line
   right_ends image usable owners signed has r =
@@ -82,7 +82,7 @@ module _ {Q A X E : Type 0} (kind : ReplyKind Q A X E) (line : E → List ℕ) (
         ),
       ))
 
-  -- and then the line says so
+  -- and then the line states this
   module _ (content : Option (List ℕ)) (t : List ℕ) where
     compared : (x : X) (a : A) → EndsComparing kind p q x a (Ok Done) t → t ≡ right_line
     compared x a (inl h) = h.2
@@ -123,7 +123,7 @@ module _ {Q A X E : Type 0} (kind : ReplyKind Q A X E) (line : E → List ℕ) (
   abbrev Whole : Ending
   Whole = ends_audit kind line content key_name publication_name reply_name q chain_name folder
 
-  -- over the files, and what they encode
+  -- over the files, and over the contents that they encode
   over_files : (o : Result Conclusion Fault) (t : List ℕ) → EndsAudit kind line content key links p octets q o t → Whole o t
   over_files o t h =
       reads (public_key_at folder key_name) key OverPublication o t key_read
@@ -138,7 +138,7 @@ module _ {Q A X E : Type 0} (kind : ReplyKind Q A X E) (line : E → List ℕ) (
       (read_as (publication_at folder publication_name) p (OverReply key) o t publication_read
       (read_as (public_key_at folder key_name) key OverPublication o t key_read h)))
 
-  -- an audit of what is right writes so
+  -- an audit of a right reply writes that it is right
   pub writes_right : (image : List ℕ) → content ≡ Some image → IsUsable image → IsOwnersKey image key → AreSigned (look_in image) links (header_text p.header) → HasHeader sha256 sha256 p.parts p.settings p.header
       → AreRight kind sha256 sha256 key links octets q p → (old new : Option (List ℕ)) (o : Result Conclusion Fault) → Answered Whole old new o → (o ≡ Err MirrorLost → ⊥) → WritesAccepted (λ text. text ≡ right_line) old new o
   writes_right image told usable owners signed has r old new o a lost =

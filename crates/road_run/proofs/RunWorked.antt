@@ -1,4 +1,4 @@
--- What the arguments of a run's promises say of small cases.
+-- The arguments of a run's guarantees, in small cases.
 use Rattle.std.proofs.Common.{◌≡◌, ℕ, Bool, true, false, List, [], ◌∷◌, ◌++◌, if◌then◌else◌, refl, sym, subst}
 use Rattle.std.specs.declared.option.Option.{Option}
 use Rattle.std.specs.declared.option.Option.TheVariants.{None, Some}
@@ -29,7 +29,7 @@ use Rattle.road_run.specs.Complete.{PromisedEnough}
 use Rattle.road_run.specs.Sources.{RunTakes, HasEnded}
 use Rattle.server_commands.specs.Guarding.{ServeFiles, guarded, unguarded}
 
--- ---- arguments that ask for nothing
+-- ---- arguments that fit no command
 
 module _ {D : Type 0} (g : Ghosts D) (old new : D) where
   -- the sink takes nothing
@@ -47,18 +47,18 @@ module _ (files : Option Folder) (s s' : ℕ) (before now : Option (List ℕ)) w
   nothing_is_taken : (roads : List ℕ) (from to : ℕ) (left rest : List ℕ) (o : Result Conclusion Fault) → RunTakes (Some (Route roads from to)) files (Some left) (Some rest) s s' before now o → Some rest ≡ Some left
   nothing_is_taken roads from to left rest o h = h.kept
 
-  -- a source that is blamed has failed
+  -- a source that is reported to have failed has failed
   blame_has_a_cause : (roads : List ℕ) (from to : ℕ) (left rest : Option (List ℕ)) → RunTakes (Some (Route roads from to)) files left rest s s' before now (Err Source) → Rose s s'
   blame_has_a_cause roads from to left rest h = h.source refl
 
 -- ---- a reply
 
 module _ (p : Publication) (q : Query) (octets : List ℕ) where
-  -- what was written with status 0 is what clients take
+  -- the octets written with status 0 are those that clients accept
   reply_is_taken : WritesReply p q (Some []) (Some octets) (Ok Done) → IsTaken p q octets
   reply_is_taken h = subst (IsTaken p q) (sym h.2) h.1
 
-  -- with an unknown node it is the reply that says so
+  -- for an unknown node, they are the reply that states this
   unknown_is_told : (id : ℕ) → WritesReply p q (Some []) (Some octets) (Err (UnknownNode id)) → IsNoAnswer q octets
   unknown_is_told id h = subst (IsNoAnswer q) (sym h.2) h.1
 
@@ -74,7 +74,7 @@ module _ (hash sha : List ℕ → List ℕ) (first : State) (i : ℕ) (mine told
   behind_another other strange h =
       subst (λ (b : Bool). MayReply hash sha (after hash sha first (if b then other ∷ [] else [])) mine reply) strange (h i (other ∷ []) [] mine (told ∷ []) reply [] refl refl refl own)
 
--- ---- what a command has no use for
+-- ---- the objects that a command does not use
 
 module _ (library source sink disk : Type 0) where
   nothing_leaves : LeavesUnused None library source sink disk → library × source × sink × disk
@@ -97,7 +97,7 @@ module _ (library source sink disk : Type 0) where
 
 -- ---- a command that loads no file
 
--- it ends as the disk lets it end, or as its arguments do, also over a library that tells nothing
+-- it ends as the disk allows, or as its arguments do, also over a library that states nothing
 module _ {D : Type 0} (g : Ghosts D) (old new : D) (l l' k k' : ℕ) (before now : Option (List ℕ)) where
   links_without_a_library : RunPromises g old new (Some Links) None l l' before now k k' (Ok Done) → (text : List ℕ) × EndsLinks (still_told g old new) (Ok Done) text × Appends before now text
   links_without_a_library r = r.command.answered
@@ -108,11 +108,11 @@ module _ {D : Type 0} (g : Ghosts D) (old new : D) (l l' k k' : ℕ) (before now
   survey_without_a_library : (width seed method queries : ℕ) → RunPromises g old new (Some (Survey width seed method queries)) None l l' before now k k' (Ok Done) → (text : List ℕ) × EndsSurvey width seed method queries (Ok Done) text × Appends before now text
   survey_without_a_library width seed method queries r = r.command.answered
 
--- nothing is asked of a mirror but under `publish`
+-- mirrors matter only under `publish`
 nothing_is_promised_for_a_route : {D M : Type 0} (puts room : M → ℕ) (g : Ghosts D) (old new : D) (roads : List ℕ) (from to : ℕ) (before now : Option (List ℕ)) (mirrors : List M) → PromisedEnough puts room g old new (Route roads from to) before now mirrors
 nothing_is_promised_for_a_route puts room g old new roads from to before now mirrors = tt
 
--- ---- what must be told of the disk
+-- ---- what must be known about the disk
 
 -- nothing, for a command without a disk
 route_asks_for_nothing : (roads : List ℕ) (from to : ℕ) (content : Option (List ℕ)) → IsTold (Route roads from to) content
@@ -124,9 +124,9 @@ links_ask_for_the_disk told = told refl
 key_asks_for_the_disk : (secret : List ℕ) (kind : ℕ) → IsTold (Key secret kind) None → ⊥
 key_asks_for_the_disk secret kind told = told refl
 
--- ---- what is accepted
+-- ---- accepted replies
 
--- an honest reply of which another end is told was not accepted, nor one that was refused
+-- an honest reply with another end was not accepted, nor one that was refused
 refused_is_not_accepted : (IsLine : List ℕ → Type 0) (old new : Option (List ℕ)) → WritesAccepted IsLine old new (Ok Refused) → ⊥
 refused_is_not_accepted IsLine old new h = h
 
@@ -136,31 +136,31 @@ evidence_is_not_accepted IsLine old new h = h
 unknown_is_not_accepted : (IsLine : List ℕ → Type 0) (old new : Option (List ℕ)) (id : ℕ) → WritesAccepted IsLine old new (Err (UnknownNode id)) → ⊥
 unknown_is_not_accepted IsLine old new id h = h
 
--- the line stands behind what was written before
+-- the line follows the octets that were written before
 line_is_written : (IsLine : List ℕ → Type 0) (before now : List ℕ) → WritesAccepted IsLine (Some before) (Some now) (Ok Done) → (text : List ℕ) × IsLine text × (now ≡ before ++ text)
 line_is_written IsLine before now h = h
 
--- a reply to a range query that was written with status 0 is what clients take
+-- the octets of a reply to a range query, written with status 0, are those that clients accept
 reach_is_taken : (p : Publication) (q : NearQuery) (octets : List ℕ) → WritesNearReply p q (Some []) (Some octets) (Ok Done) → IsNearTaken p q octets
 reach_is_taken p q octets h = subst (IsNearTaken p q) (sym h.2) h.1
 
 -- ---- the end of the source
 
--- `serve` with status 0 found its end, guarded or not
+-- `serve` with status 0 found the end of its source, guarded or not
 done_at_the_end : (named : ServeFiles) (Ended : Type 0) → HasEnded named (Ok Done) Ended → Ended
 done_at_the_end named Ended h = h
 
--- so did one that found a frame cut short
+-- so did a run that found a frame cut short
 cut_at_the_end : (named : ServeFiles) (Ended : Type 0) → HasEnded named (Err TruncatedFrame) Ended → Ended
 cut_at_the_end named Ended h = h
 
--- a refusal of what is not signed needs none, and without a guard there is none
+-- a refusal of an unsigned publication needs no end of the source; without a guard there is no such refusal
 refused_by_the_guard : (publication key : List ℕ) (Ended : Type 0) → HasEnded (guarded publication key None) (Ok Refused) Ended
 refused_by_the_guard publication key Ended = tt
 
 refused_without_a_guard : (publication : List ℕ) (Ended : Type 0) → HasEnded (unguarded publication) (Ok Refused) Ended → Ended
 refused_without_a_guard publication Ended h = h
 
--- one whose sink failed says nothing of its end
+-- a run whose sink failed states nothing about the end of its source
 sink_says_nothing : (named : ServeFiles) (Ended : Type 0) → HasEnded named (Err Sink) Ended
 sink_says_nothing named Ended = tt

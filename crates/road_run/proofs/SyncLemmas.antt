@@ -25,7 +25,7 @@ module _ {M : Type 0} (octets : M → Option (List ℕ)) (label handed puts room
   behind_sync (Err MirrorLost) silent m = inr m.sealed
   behind_sync (Err f) silent m = inl (silent f refl (λ e. absurd (cc)) (λ t. t), m.still)
 
-  -- by what the arguments ask for
+  -- by the command that the arguments request
   pub synced_run : (asked : Option Request) (files : Option Folder) (l l' k k' : ℕ) (o : Result Conclusion Fault) → RunPromises g old new asked files l l' taken_before taken_now k k' o
       → OnMirrors octets label handed puts room g old new asked taken_before taken_now before now o → WritesBehindSync octets label handed puts room g old new asked taken_before taken_now before now o
   synced_run (Some (Publish roads settings)) files l l' k k' o promised m = behind_sync o promised.command.silent m

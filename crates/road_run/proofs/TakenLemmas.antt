@@ -1,4 +1,4 @@
--- What `prove` and `reach` write is accepted, or is the reply that is no answer.
+-- The output of `prove` and `reach` is accepted, or is the reply that is not an answer.
 use Rattle.std.proofs.Common.{◌≡◌, ◌⊎◌, inl, inr, ℕ, List, sym, subst, IfSome}
 use Rattle.std.proofs.lemmas.Bool.{cases_eq}
 use Rattle.std.specs.declared.option.Option.{Option}
@@ -31,9 +31,9 @@ use Rattle.road_run.specs.Commands.{Ends, files_for}
 use Rattle.road_run.specs.Accepting.{IsTaken, WritesReply, WritesNearReply, RepliesAreTaken}
 use Rattle.road_run.proofs.HonestLemmas.{AcceptedLaws}
 
--- ---- an end that comes only after the installing
+-- ---- an end that comes only after the install
 
--- an end that no fault of installing is
+-- an end that is not a fault of the install
 abbrev pub IsBehind : Result Conclusion Fault → Type 0
 IsBehind (Ok verdict) = Unit {0}
 IsBehind (Err (UnknownNode id)) = Unit {0}
@@ -62,7 +62,7 @@ module _ (laws : AcceptedLaws) (told : UnknownNodesAreTold) (folder : Folder) (f
     | inr n ↦ inr (λ k. is.unknown (subst (λ n. Knows p.parts n) (sym (is.first n).0) k))
   ]
 
-  -- what is written where the work was done
+  -- the octets written if the work was done
   pub taken : (t : List ℕ) → ends_prove file q folder (Ok Done) t → IsTaken p q t
   taken t h =
       let e = ends (Ok Done) t tt h in

@@ -1,4 +1,4 @@
--- The work of each command, joined to what work does that arguments ask for.
+-- The work of each command, combined with the work that arguments request.
 use Rattle.std.proofs.Common.{◌≡◌, ◌≢◌, ℕ, List, [], refl, subst}
 use Rattle.std.specs.declared.option.Option.{Option}
 use Rattle.std.specs.declared.option.Option.TheVariants.{None, Some}
@@ -24,13 +24,23 @@ use Rattle.command_files.specs.declared.fault.Fault.TheVariants.{Words, Source, 
 use Rattle.command_files.specs.declared.ended.Conclusion.{Conclusion}
 use Rattle.server_commands.specs.Guarding.{ServeFiles}
 use Rattle.road_run.specs.Commands.{Ends, files_for, TellsClient, OnDisk, OnMirrors, LeavesUnused}
+use Rattle.road_run.specs.Gone.{OnGone}
 use Rattle.road_run.specs.Names.{files_named}
 use Rattle.road_run.specs.Sources.{IfServe, UnlessServe}
 use Rattle.road_run.specs.Runs.{WorksOver}
 use Rattle.road_run.proofs.RunLemmas.{run_promises, run_without_disk, run_nothing, run_takes_nothing, run_gave_nothing, asks_none}
 
+-- the list of the mirrors that are gone, for the arguments that make a request
+module _ {M D : Type 0} (octets : M → Option (List ℕ)) (label handed puts room faults : M → ℕ) (g : DiskView D) (before now : D) (taken_before taken_now : Option (List ℕ)) (old kept gone_before gone_now : List M) (o : Result Conclusion Fault) (asked : Option Request) where
+  pub gone_for : (request : Request) → Some request ≡ asked → OnGone octets label handed puts room faults g before now (Some request) taken_before taken_now old kept gone_before gone_now o
+      → OnGone octets label handed puts room faults g before now asked taken_before taken_now old kept gone_before gone_now o
+  gone_for request is h = subst (λ (a : Option Request). OnGone octets label handed puts room faults g before now a taken_before taken_now old kept gone_before gone_now o) is h
+
+  pub gone_for_none : None ≡ asked → gone_now ≡ gone_before → OnGone octets label handed puts room faults g before now asked taken_before taken_now old kept gone_before gone_now o
+  gone_for_none is h = subst (λ (a : Option Request). OnGone octets label handed puts room faults g before now a taken_before taken_now old kept gone_before gone_now o) is h
+
 module _ {L S K D M : Type 0} (library : LibraryView L) (source : SourceView S) (sink : SinkView K) (disk : DiskView D) (mirror : MirrorView M) (asked : Option Request) where
-  -- arguments that ask for nothing
+  -- arguments that fit no command
   pub works_nothing : (l : L) (s : S) (k : K) (d : D) (ms : List M) → None ≡ asked → WorksOver library source sink disk mirror asked l l s s k k d d ms ms (Err Words)
   works_nothing l s k d ms is = subst (λ (a : Option Request). WorksOver library source sink disk mirror a l l s s k k d d ms ms (Err Words)) is (record {
     promised = run_nothing disk d None (library.files l) (library.faults l) (sink.taken k) (sink.faults k) refl;
@@ -46,7 +56,7 @@ module _ {L S K D M : Type 0} (library : LibraryView L) (source : SourceView S) 
   })
 
   module _ (l l' : L) (s s' : S) (k k' : K) (d d' : D) (ms ms' : List M) (o : Result Conclusion Fault) (request : Request) (is : Some request ≡ asked) where
-    -- what work does for a request it does for the arguments that ask for it
+    -- the work for a request is the work for the arguments that make it
     pub works : WorksOver library source sink disk mirror (Some request) l l' s s' k k' d d' ms ms' o → WorksOver library source sink disk mirror asked l l' s s' k k' d d' ms ms' o
     works h = subst (λ (a : Option Request). WorksOver library source sink disk mirror a l l' s s' k k' d d' ms ms' o) is h
 

@@ -1,4 +1,5 @@
--- What a run asks of each command. A command is one clause of `form_of`, and each question one field.
+-- The requirements of a run for each command. A command is one clause of `form_of`, and each requirement is one
+-- field.
 use Rattle.std.specs.Prelude.{ℕ, List, [], ◌∷◌, IfErr}
 use Rattle.std.specs.declared.option.Option.{Option}
 use Rattle.std.specs.declared.result.Result.{Result}
@@ -41,8 +42,8 @@ use Rattle.route_survey.specs.Surveying.{EndsSurvey}
 use Rattle.road_line.specs.WithinLine.{refused_near_line}
 use Rattle.road_line.specs.VerdictLine.{refused_line}
 
--- what a command uses beside its arguments and the sink: `serve` alone uses the source, for a service
--- over these files
+-- the objects that a command uses besides its arguments and the sink; only `serve` uses the source, for a
+-- service over these files
 pub data Uses : Type 0 where
   ArgumentsAlone : Uses
   FilesAlone : Uses
@@ -50,55 +51,55 @@ pub data Uses : Type 0 where
   FilesAndDisk : Uses
   FilesAndSource : ServeFiles → Uses
 
--- whether a command hands the mirrors anything, and what
+-- whether a command hands anything to the mirrors, and what it hands
 pub data ToMirrors : Type 0 where
   LeavesMirrors : ToMirrors
   HandsPublication : ToMirrors
 
--- What a command does to the owner's disk, and what it then says of it: by the disk before and after,
--- the files, what the sink had taken before and after, and the outcome.
+-- The effect of a command on the owner's disk, and what the command then reports about it. Both are given by the
+-- disk before and after, the files, the octets that the sink had taken before and after, and the outcome.
 abbrev pub DiskPromise : Type 1
 DiskPromise = (D : Type 0) → Ghosts D → D → D → Option Folder → Option (List ℕ) → Option (List ℕ) →
     Result Conclusion Fault → Type 0
 
--- A command, by what a run asks of it. Its end rests on what the disk holds, where that is told, and
--- on the files; under `serve` also on the source's input, of which `ServesFrames` speaks.
+-- A command, by a run's requirements for it. Its result depends on the files and, if known, on the disk's contents;
+-- under `serve` also on the source's input, which `ServesFrames` covers.
 pub record Form : Type 1 where
-  -- what it uses beside its arguments and the sink
+  -- the objects that it uses besides its arguments and the sink
   pub uses : Uses
-  -- the names of files that its arguments hold, in their order, the owner's disk not among them
+  -- the names of files in its arguments, in their order, without the owner's disk
   pub names : List (List ℕ)
-  -- with which outcome the disk's content and the files let it end, and which text it then writes
+  -- the outcomes that the disk's contents and the files allow, and the text of each
   pub ends : Option (List ℕ) → Folder → Ending
-  -- of which faults it tells its client by a text
+  -- the faults that it reports to its client by a text
   pub tells : Fault → Type 0
-  -- what it does to the owner's disk
+  -- its effect on the owner's disk
   pub on_disk : DiskPromise
-  -- what it hands the mirrors
+  -- what it hands to the mirrors
   pub to_mirrors : ToMirrors
 
--- ---- what commands do to the owner's disk
+-- ---- the effects of commands on the owner's disk
 
 -- no image changes
 abbrev pub disk_stays : DiskPromise
 disk_stays D g old new files taken_before taken_now outcome = AtEachMoment g old new Stays
 
--- `key` makes a key where there is none
+-- `key` makes a key if there is none
 abbrev pub makes_key : List ℕ → ℕ → DiskPromise
 makes_key secret kind D g old new files taken_before taken_now outcome = KeepsKey g old new files
     secret kind outcome
 
--- `succeed` adds the key that follows
+-- `succeed` adds the next key
 abbrev pub adds_key : List ℕ → ℕ → DiskPromise
 adds_key secret kind D g old new files taken_before taken_now outcome = AddsKey g old new files
     secret kind outcome
 
--- `links` writes what stands on it
+-- `links` writes the chain that is on the disk
 abbrev pub chains_keys : DiskPromise
 chains_keys D g old new files taken_before taken_now outcome = AtEachMoment g old new Stays ×
     ChainsWhatItWrites g new taken_before taken_now outcome
 
--- `publish` signs at most one header, and writes what it sealed
+-- `publish` signs at most one header, and writes the publication that it sealed
 abbrev pub seals_header : List ℕ → Settings → DiskPromise
 seals_header roads settings D g old new files taken_before taken_now outcome =
     SealsWhatItWrites g old new taken_before taken_now outcome ×
@@ -111,7 +112,7 @@ reduces_text text signature D g old new files taken_before taken_now outcome =
     AtEachMoment g old new Stays ×
     WritesReduced g new files text signature taken_before taken_now outcome
 
--- an audit of a reply of this kind finds what its line rests on, and the headline: what is accepted is
+-- an audit of a reply of this kind finds the support of its line, and the headline holds: the accepted result is
 -- true, or there is evidence
 abbrev pub audits_reply : {Q A X E : Type 0} → ReplyKind Q A X E → List ℕ → List ℕ → List ℕ → Q →
     Option (List ℕ) → DiskPromise
@@ -124,7 +125,7 @@ audits_reply kind key publication reply q chain D g old new files taken_before t
 
 -- ---- the common kinds
 
--- a command over its arguments alone, which writes to the sink
+-- a command that uses only its arguments and writes to the sink
 abbrev pub over_arguments : Ending → Form
 over_arguments ends = record {
   uses = ArgumentsAlone;
@@ -135,7 +136,7 @@ over_arguments ends = record {
   to_mirrors = LeavesMirrors;
 }
 
--- a command over files of these names
+-- a command over files with these names
 abbrev pub over_files : List (List ℕ) → (Folder → Ending) → Form
 over_files names ends = record {
   uses = FilesAlone;
@@ -157,7 +158,7 @@ over_disk ends on_disk = record {
   to_mirrors = LeavesMirrors;
 }
 
--- a command over files of these names and the owner's disk
+-- a command over files with these names and the owner's disk
 abbrev pub over_files_and_disk : List (List ℕ) → (Option (List ℕ) → Folder → Ending) →
     DiskPromise → Form
 over_files_and_disk names ends on_disk = record {
@@ -169,7 +170,7 @@ over_files_and_disk names ends on_disk = record {
   to_mirrors = LeavesMirrors;
 }
 
--- a service over files of these names, which answers the frames of the source
+-- a service over files with these names, which answers the frames of the source
 abbrev pub over_source : ServeFiles → List (List ℕ) → Form
 over_source named names = record {
   uses = FilesAndSource named;

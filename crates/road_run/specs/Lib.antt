@@ -3,6 +3,9 @@ pub mod Commands
 pub mod Sources
 pub mod Accepting
 pub mod Lives
+pub mod LivesInOrder
+pub mod BehindLooks
 pub mod Complete
 pub mod Runs
 pub mod Names
+pub mod Gone

@@ -1,5 +1,5 @@
--- Whole lives of an owner's disk: runs of the program with any arguments, one after another, looks before
--- them that spend a one-time key over a text which stands on the disk, and crashes inside or between them.
+-- Whole lives of an owner's disk: runs of the program with any arguments, one after the other; looks before them
+-- that spend a one-time key on a text on the disk; and crashes within or between them.
 use Rattle.std.specs.Prelude.{◌≡◌, ◌≢◌, ℕ, ◌≤◌, List, [], ◌∷◌, ◌++◌, map, IfSome}
 use Rattle.std.specs.List.{range_with_len}
 use Rattle.std.specs.declared.option.Option.{Option}
@@ -21,7 +21,7 @@ use Rattle.owner_commands.specs.StandingKeys.{FollowsByFile, WroteChain}
 use Rattle.owner_commands.specs.Releases.{Release, header_release, link_release, AllStand, AllApart}
 use Rattle.road_run.specs.Commands.{OnDisk, OnMirrors, RunPromises}
 
--- what went out where something may have been written
+-- the signatures released if something may have been written
 abbrev pub where_written : (P : Type 0) (outcome : Result Conclusion Fault) → OnWriting outcome P →
     (P → List Release) → List Release
 where_written P (Ok verdict) it given = given it
@@ -29,17 +29,17 @@ where_written P (Err Sink) it given = given it
 where_written P (Err MirrorLost) it given = given it
 where_written P (Err fault) it given = []
 
--- each disk of a life tells what it reads
+-- each disk of a life tells its contents
 abbrev pub EachTells : {D : Type 0} → Ghosts D → D → List (D × List Release) → Type 0
 EachTells g disk [] = g.content disk ≢ None
 EachTells g disk (state ∷ states) = (g.content disk ≢ None) × EachTells g state.0 states
 
--- M is a mirror, of which octets, label, handed, puts and room tell what it holds, its label, how
--- many pieces it was handed, and what it promises
+-- M is a mirror; octets, label, handed, puts and room give its contents, its label, the number of pieces it
+-- was handed, and its promises
 module _ {M : Type 0} (octets : M → Option (List ℕ)) (label handed puts room : M → ℕ) {D : Type 0}
     (g : Ghosts D) where
-  -- A run of the program from one disk to another: what its arguments ask for, its files, sink and
-  -- mirrors, how it ended, and what `run` promises of that.
+  -- A run of the program from one disk to another: the command that its arguments request, its files, sink and
+  -- mirrors, how it ended, and the guarantees of `run` for these.
   pub record Run (old new : D) : Type 0 where
     pub asked : Option Request
     pub files : Option Folder
@@ -57,12 +57,12 @@ module _ {M : Type 0} (octets : M → Option (List ℕ)) (label handed puts room
     pub mirrored : OnMirrors octets label handed puts room g old new asked taken_before taken_now
         mirrors_before mirrors_now outcome
 
-  -- The signatures that went out by what a run promises: of `publish`, that of the publication of
-  -- which octets went to the sink or to a mirror; of `succeed`, that on the link text of the new
-  -- key; of `links`, those of the chain of which octets went to the sink. No other command gives
-  -- any. Where a sink and the mirrors tell nothing of what they took, or took none of it, the
-  -- publication or the chain that the promise names counts as given out: it stands on the disk, and
-  -- nothing says that its octets are those that were taken.
+  -- The signatures that a run released, by its guarantees. `publish` releases the signature of the publication of
+  -- which octets went to the sink or to a mirror. `succeed` releases the signature of the link text of the new key.
+  -- `links` releases the signatures of the chain of which octets went to the sink. No other command releases any.
+  -- If a sink and the mirrors do not state what they took, or took nothing, the publication or the chain in the
+  -- guarantee counts as released: it is on the disk, but no clause states that its octets are those that were
+  -- taken.
   abbrev pub given_by : (old new : D) (asked : Option Request) (files : Option Folder)
       (taken_before taken_now : Option (List ℕ)) (before now : List M)
       (outcome : Result Conclusion Fault) →
@@ -88,11 +88,10 @@ module _ {M : Type 0} (octets : M → Option (List ℕ)) (label handed puts room
   given old new run = given_by old new run.asked run.files run.taken_before run.taken_now
       run.mirrors_before run.mirrors_now run.outcome run.promised.on_disk run.mirrored
 
-  -- One step of a life, from what was given out before to what was given out after. A run comes to
-  -- its end; or a crash cuts a run at one of its moments, before it gives anything out; or a crash
-  -- comes between two runs. A run that is cut off while it writes is one whose sink fails there,
-  -- and then a crash. Between two runs a look may spend a slot over the text that stands in it, to
-  -- the end or until a crash, and nothing goes out.
+  -- One step of a life, from the signatures released before to those released after. A run ends; or a crash
+  -- interrupts a run at one of its moments, before it releases anything; or a crash comes between two runs. A run
+  -- that is interrupted while it writes is one whose sink fails there, followed by a crash. Between two runs, a
+  -- look may spend a slot on the text in it, up to its end or until a crash, and releases nothing.
   pub data Step (old new : D) (before after : List Release) : Type 0 where
     Ran : (run : Run old new) → after ≡ before ++ given old new run → Step old new before after
     Cut : (called : D) (run : Run old called) (k : ℕ) → g.clock old ≤ k → k ≤ g.clock called →
@@ -102,18 +101,18 @@ module _ {M : Type 0} (octets : M → Option (List ℕ)) (label handed puts room
     SpentCut : (what : Use) (called : D) → Spends g what old called → (k : ℕ) → g.clock old ≤ k →
         k ≤ g.clock called → Crashed g k called new → after ≡ before → Step old new before after
 
-  -- these disks, each with what was given out so far, follow one another by steps
+  -- these disks, each with the signatures released so far, follow each other by steps
   abbrev pub IsLife : D → List Release → List (D × List Release) → Type 0
   IsLife disk before [] = Unit {0}
   IsLife disk before (state ∷ states) = Step disk state.0 before state.1 ×
       IsLife state.0 state.1 states
 
-  -- at each moment of a call these texts stand in their slots in every image
+  -- at each moment of a call these texts are in their slots in every image
   abbrev pub StandAlong : D → D → List Release → Type 0
   StandAlong old new before = (k : ℕ) (i : List ℕ) → g.clock old ≤ k → k ≤ g.clock new →
       g.image_at new k i → AllStand before i
 
-  -- and so at each moment of a step
+  -- the same at each moment of a step
   abbrev pub StandWithin : (old new : D) (before after : List Release) →
       Step old new before after → Type 0
   StandWithin old new before after (Ran run more) = StandAlong old new before
@@ -124,9 +123,10 @@ module _ {M : Type 0} (octets : M → Option (List ℕ)) (label handed puts room
   StandWithin old new before after (SpentCut what called spends k from to crashed same) =
       StandAlong old called before
 
-  -- At each moment of a life what was given out before stands in its slots in every image, in areas
-  -- of the keys that made it. Of all that was given out no two signatures are by keys of one
-  -- identifier and by one-time keys of one number, unless they are equal octets on one link text.
+  -- At each moment of a life, the texts of the signatures released before are in their slots in every image, in
+  -- areas of the keys that made the signatures. No two of all released signatures were made by keys with the same
+  -- identifier and by one-time keys with the same number, unless they consist of equal octets, of the same link
+  -- text.
   abbrev pub NoneSignsTwice : (disk : D) (before : List Release) (states : List (D × List Release)) →
       IsLife disk before states → Type 0
   NoneSignsTwice disk before [] life = Unit {0}

@@ -1,5 +1,5 @@
--- What `run` promises, as one fact about the objects that it is given: a library, a source, a sink, a disk
--- and mirrors, each by what its trait tells of it.
+-- The guarantees of `run`, as one fact about its objects: a library, a source, a sink, a disk and mirrors. Each
+-- object is given by what its trait states about it.
 use Rattle.std.specs.Prelude.{◌≡◌, ◌≢◌, ℕ, List, IfSome}
 use Rattle.std.specs.declared.option.Option.{Option}
 use Rattle.std.specs.declared.option.Option.TheVariants.{Some}
@@ -22,16 +22,16 @@ use Rattle.command_files.specs.declared.fault.Fault.{Fault}
 use Rattle.command_files.specs.declared.fault.Fault.TheVariants.{Source, Sink, Disk}
 use Rattle.command_files.specs.declared.ended.Conclusion.{Conclusion}
 use Rattle.road_run.specs.Commands.{Ends, files_for, IsTold, LeavesUnused, OnMirrors, WritesBehindSync, RunPromises, but_for_mirrors}
-use Rattle.road_run.specs.Complete.{CallsFor, AreTold, IsComplete, PromisedEnough, ProvesKnown}
+use Rattle.road_run.specs.Complete.{CallsFor, AreTold, IsComplete, NoneElseFailed, PromisedEnough, ProvesKnown}
 use Rattle.road_run.specs.Names.{files_named}
 use Rattle.road_run.specs.Sources.{IfServe, IsExactServing, RunGave, RunTakes}
 use Rattle.road_run.specs.Accepting.{AcceptsHonest, FindsHonest, RepliesAreTaken}
 
 module _ {L S K D M : Type 0} (library : LibraryView L) (source : SourceView S) (sink : SinkView K)
     (disk : DiskView D) (mirror : MirrorView M) where
-  -- What work does that was asked for, from these objects to those, however it ended: what it promises,
-  -- what it takes from the source, which gave that, what it hands the mirrors, that each failure of an
-  -- object is its end, which names it asks for, and that what it has no use for is as before.
+  -- The effect of requested work on its objects, however it ended: its guarantees, what it takes from the source,
+  -- what the source gave, what it hands to the mirrors, that each failure of an object is its result, which names
+  -- it loads, and that objects which it does not use are unchanged.
   pub record WorksOver (asked : Option Request) (l l' : L) (s s' : S) (k k' : K) (d d' : D)
       (ms ms' : List M) (o : Result Conclusion Fault) : Type 0 where
     pub promised : RunPromises disk d d' asked (library.files l') (library.faults l)
@@ -49,8 +49,8 @@ module _ {L S K D M : Type 0} (library : LibraryView L) (source : SourceView S) 
     pub asks : AsksFront (files_named asked) (library.asked l) (library.asked l')
     pub unused : LeavesUnused asked (l' ≡ l) (s' ≡ s) (k' ≡ k) (d' ≡ d)
 
-  -- a run that was asked for this, from these objects to those, with this status and outcome: its
-  -- work, and what follows of it
+  -- a run of this request, with these objects before and after, and with this status and outcome: its work, and the
+  -- consequences of its work
   pub record RunsOver (asked : Option Request) (l l' : L) (s s' : S) (k k' : K) (d d' : D)
       (ms ms' : List M) (exit : ℕ) (o : Result Conclusion Fault) : Type 0 where
     pub status : exit ≡ status_of o
@@ -79,6 +79,22 @@ module _ {L S K D M : Type 0} (library : LibraryView L) (source : SourceView S) 
         (sink.taken k') o)
     pub complete : ¬ Rose (source.faults s) (source.faults s') → NoneFailed (library.faults l)
         (library.faults l') (sink.faults k) (sink.faults k') (disk.faults d) (disk.faults d') →
+        IfSome asked (λ request. IfSome (files_for request (library.files l')) (λ folder.
+        AreTold (still_told disk d d') (source.left s) request →
+        IsComplete (CallsFor (still_told disk d d') (source.left s) request folder)
+        (PromisedEnough mirror.puts mirror.room disk d d' request (sink.taken k) (sink.taken k') ms)
+        o))
+    -- the same where a library counts a file that is missing or too long as a failure
+    pub file_exact : NoneElseFailed o (sink.faults k) (sink.faults k') (disk.faults d)
+        (disk.faults d') →
+        IfSome asked (λ request. IfSome (files_for request (library.files l')) (λ folder.
+        IsTold request (still_told disk d d') →
+        IsExact (Ends (still_told disk d d') request folder) (but_for_mirrors o)))
+    pub file_serve_exact : ¬ Rose (source.faults s) (source.faults s') → NoneElseFailed o
+        (sink.faults k) (sink.faults k') (disk.faults d) (disk.faults d') →
+        IfServe asked (λ named. IsExactServing named (library.files l') (source.left s) o)
+    pub file_complete : ¬ Rose (source.faults s) (source.faults s') → NoneElseFailed o
+        (sink.faults k) (sink.faults k') (disk.faults d) (disk.faults d') →
         IfSome asked (λ request. IfSome (files_for request (library.files l')) (λ folder.
         AreTold (still_told disk d d') (source.left s) request →
         IsComplete (CallsFor (still_told disk d d') (source.left s) request folder)

@@ -1,4 +1,4 @@
--- What a run does with its source.
+-- The effect of a run on its source.
 use Rattle.std.specs.Prelude.{IfNone, ◌≡◌, ℕ, List, [], IfSome}
 use Rattle.std.specs.declared.option.Option.{Option}
 use Rattle.std.specs.declared.option.Option.TheVariants.{None, Some}
@@ -18,27 +18,27 @@ use Rattle.server_commands.specs.Guarding.{ServeFiles}
 use Rattle.server_commands.specs.Serving.{ServesFrames, ends_serving, most_octets, most_frames}
 use Rattle.road_run.specs.Forms.{Uses, FilesAndSource, form_of}
 
--- this holds of a service's files, if the source is among what is used
+-- P holds for the files of a service, if the source is among the objects used
 abbrev pub IfSource : Uses → (ServeFiles → Type 0) → Type 0
 IfSource (FilesAndSource named) P = P named
 IfSource uses P = Unit {0}
 
--- this holds, unless the source is among what is used
+-- P holds, unless the source is among the objects used
 abbrev pub UnlessSource : Uses → Type 0 → Type 0
 UnlessSource (FilesAndSource named) P = Unit {0}
 UnlessSource uses P = P
 
--- this holds of a service's files, if arguments ask for serving
+-- P holds for the files of a service, if the arguments request serving
 abbrev pub IfServe : Option Request → (ServeFiles → Type 0) → Type 0
 IfServe None P = Unit {0}
 IfServe (Some request) P = IfSource (form_of request).uses P
 
--- this holds, unless arguments ask for serving
+-- P holds, unless the arguments request serving
 abbrev pub UnlessServe : Option Request → Type 0 → Type 0
 UnlessServe None P = P
 UnlessServe (Some request) P = UnlessSource (form_of request).uses P
 
--- what a run takes from its source, by what its arguments ask for: `serve` alone takes anything
+-- what a run takes from its source, by the command that its arguments request; only `serve` takes anything
 pub record RunTakes (asked : Option Request) (files : Option Folder)
     (left_before left_now : Option (List ℕ)) (source_before source_now : ℕ)
     (taken_before taken_now : Option (List ℕ)) (outcome : Result Conclusion Fault) : Type 0 where
@@ -48,16 +48,16 @@ pub record RunTakes (asked : Option Request) (files : Option Folder)
   pub kept : UnlessServe asked (left_now ≡ left_before)
   pub source : outcome ≡ Err Source → Rose source_before source_now
 
--- A run that went through all of its source, or found a frame cut short, found the source at its
--- end. Where a guard refuses the first publication nothing is taken.
+-- A run that read the whole source, or found a frame cut short, found the source at its end. If a guard refuses the
+-- first publication, nothing is taken.
 abbrev pub HasEnded : ServeFiles → Result Conclusion Fault → Type 0 → Type 0
 HasEnded named (Ok Done) Ended = Ended
 HasEnded named (Ok conclusion) Ended = IfNone named.guard Ended
 HasEnded named (Err TruncatedFrame) Ended = Ended
 HasEnded named outcome Ended = Unit {0}
 
--- What the source of a run gave, by what its arguments ask for: `serve` alone took anything, and answered the
--- frames of exactly these octets.
+-- The octets that the source of a run gave, by the command that its arguments request. Only `serve` took any, and
+-- it answered the frames of exactly these octets.
 pub record RunGave (asked : Option Request) (files : Option Folder) (given_before given_now : List ℕ)
     (Ended : Type 0) (source_before source_now : ℕ) (taken_before taken_now : Option (List ℕ))
     (outcome : Result Conclusion Fault) : Type 0 where
@@ -67,8 +67,7 @@ pub record RunGave (asked : Option Request) (files : Option Folder) (given_befor
   pub ended : IfServe asked (λ named. HasEnded named outcome Ended)
   pub nothing : UnlessServe asked (given_now ≡ given_before)
 
--- the end of `serve` is the one that its file and what is left in its source call for, where both
--- are told
+-- the result of `serve` is the one that its files and the rest of its source require, if both are known
 abbrev pub IsExactServing : ServeFiles → Option Folder → Option (List ℕ) → Result Conclusion Fault →
     Type 0
 IsExactServing named files left outcome =

@@ -1,15 +1,14 @@
-//! The whole program as a function: `run` does what arguments ask for, over any library, source, sink,
-//! disk and mirrors.
+//! The whole program as a function: `run` does what its arguments ask for, over any library, source, sink, disk and
+//! mirrors.
 //!
-//! Its contract joins what the commands of all parties promise. The law `no_key_signs_twice` says
-//! what follows from it over whole lives of an owner's disk, and `run_on_files` says both of the
-//! files and streams that ship.
+//! Its contract joins the guarantees of the commands of all parties. The laws draw their consequences for whole lives
+//! of an owner's disk.
 #![tactic(auto)]
 
-pub use laws::no_key_signs_twice;
-pub use on_files::run_on_files;
-pub use program::run;
+pub use laws::{
+    no_key_signs_twice, runs_find_nearest, runs_leave_desks_in_order, runs_sign_over_none,
+};
+pub use program::{run, run_keeping};
 
 mod laws;
-mod on_files;
 mod program;

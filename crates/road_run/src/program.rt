@@ -1,7 +1,9 @@
 //! The whole program.
 
+ghost use Rattle.mirror_out.specs.Gone.{HasRoom};
 ghost use Rattle.road_command.specs.Requests.{request_of};
 ghost use Rattle.command_files.specs.Outcomes.{outcome_of};
+ghost use Rattle.road_run.specs.Gone.{OnGone};
 ghost use Rattle.road_run.specs.Runs.{RunsOver, WorksOver};
 
 use crate::laws::no_key_signs_twice;
@@ -21,7 +23,7 @@ use route_survey::survey;
 use server_commands::{prove, reach, serve, serve_signed};
 use std::alloc::Global;
 
-/// Does all that the program does, and answers how it ended.
+/// Runs the program, and returns how it ended.
 pub fn run<L: Library, S: Source, K: Sink, D: Disk, M: Mirror>(
     alloc: Global,
     words: &Words,
@@ -35,6 +37,31 @@ pub fn run<L: Library, S: Source, K: Sink, D: Disk, M: Mirror>(
         library.old library.new source.old source.new sink.old sink.new disk.old disk.new
         mirrors.old.items mirrors.new.items result.status (outcome_of result) }
 {
+    let mut gone = Vec::new(alloc);
+    run_keeping(
+        alloc, words, library, source, sink, disk, mirrors, &mut gone,
+    )
+}
+
+/// Runs the program as `run` does, and appends the mirrors that fail to `gone`, if it has room for all of them.
+pub fn run_keeping<L: Library, S: Source, K: Sink, D: Disk, M: Mirror>(
+    alloc: Global,
+    words: &Words,
+    library: &mut L,
+    source: &mut S,
+    sink: &mut K,
+    disk: &mut D,
+    mirrors: &mut Vec<M>,
+    gone: &mut Vec<M>,
+) -> Ended
+    ensures runs { RunsOver L.Library S.Source K.Sink D.Disk M.Mirror (request_of words.now)
+        library.old library.new source.old source.new sink.old sink.new disk.old disk.new
+        mirrors.old.items mirrors.new.items result.status (outcome_of result) }
+    ensures gone { HasRoom gone.old mirrors.old → OnGone M.octets M.named M.handed M.puts M.room
+        M.faults D.Disk disk.old disk.new (request_of words.now) (K.taken sink.old)
+        (K.taken sink.new) mirrors.old.items mirrors.new.items gone.old.items gone.new.items
+        (outcome_of result) }
+{
     no_key_signs_twice::<D, M>();
     map_laws();
     server_laws();
@@ -43,7 +70,7 @@ pub fn run<L: Library, S: Source, K: Sink, D: Disk, M: Mirror>(
     near_verdict_laws();
     near_laws();
     right_laws();
-    Ended::of(work(alloc, words, library, source, sink, disk, mirrors))
+    Ended::of(work(alloc, words, library, source, sink, disk, mirrors, gone))
 }
 
 /// Does what the arguments ask for.
@@ -55,10 +82,14 @@ fn work<L: Library, S: Source, K: Sink, D: Disk, M: Mirror>(
     sink: &mut K,
     disk: &mut D,
     mirrors: &mut Vec<M>,
+    gone: &mut Vec<M>,
 ) -> Result<Conclusion, Fault>
     ensures works { WorksOver L.Library S.Source K.Sink D.Disk M.Mirror (request_of words.now)
         library.old library.new source.old source.new sink.old sink.new disk.old disk.new
         mirrors.old.items mirrors.new.items result }
+    ensures gone { HasRoom gone.old mirrors.old → OnGone M.octets M.named M.handed M.puts M.room
+        M.faults D.Disk disk.old disk.new (request_of words.now) (K.taken sink.old)
+        (K.taken sink.new) mirrors.old.items mirrors.new.items gone.old.items gone.new.items result }
 {
     match command_of(words) {
         None => Err(Fault::Words),
@@ -72,7 +103,7 @@ fn work<L: Library, S: Source, K: Sink, D: Disk, M: Mirror>(
         Some(Command::Links) => links(alloc, sink, disk),
         Some(Command::Desk) => desk(alloc, sink, disk),
         Some(Command::Publish { roads, settings }) => {
-            publish(alloc, library, sink, disk, mirrors, roads, &settings)
+            publish(alloc, library, sink, disk, mirrors, gone, roads, &settings)
         }
         Some(Command::Prove { publication, query }) => {
             prove(alloc, library, sink, publication, query)

@@ -1,4 +1,4 @@
--- The nodes no farther than an end, by what a search over the net has found.
+-- The nodes at most as far as an end, from the result of a search over the net.
 use Rattle.std.proofs.Common.{◌≡◌, ℕ, ◌<◌, ◌≤◌, lit≤, nat_le, true, Option, None, Some, inl, inr, List, refl, arith, ap, sym, ◌∙◌, subst}
 use Rattle.std.specs.List.{Contains, filter}
 use Rattle.std.specs.Option.{option_map}
@@ -24,7 +24,7 @@ use Rattle.road_search.proofs.NearIds.{among, passes, keeps}
 use Rattle.road_search.proofs.NetLaws.{least_map}
 use Rattle.road_search.proofs.WholeMapLaws.{near_same}
 
--- a length that is within another
+-- a length that is at most another
 within_some : (most : ℕ) (o : Option ℕ) → is_within most o ≡ true → (d : ℕ) × (o ≡ Some d) × (d ≤ most)
 within_some most None h = cc
 within_some most (Some d) h = (d, refl, grind (arith, h))
@@ -36,14 +36,14 @@ module _ (parts : Parts) (order : List Node) (rows : List (List Arc)) (m : IsMap
   rise : AreRising (ids order)
   rise = rise_from_sorted (ids order) by.rising
 
-  -- a length of a position, and the distance of its node
+  -- a length of a position is the distance of its node
   one_near : (id k d : ℕ) → IsPlace order id k → d ≤ most → (length_in f k ≡ Some d → distance parts s id ≡ Some d) × (distance parts s id ≡ Some d → length_in f k ≡ Some d)
   one_near id k d at le = near_same parts m laws s bound 18446744073709551615 id d (length_in f k) known (lit≤ tt) low (omega (arith, le, short)) (least_map parts order rows m by net s id start k bound (below bound (length_in f k)) from at (lengths k))
 
   near_at : (id k : ℕ) → IsPlace order id k → is_near_at (ids order) f most id ≡ is_within most (length_in f k)
   near_at id k at = ap (λ o. is_within most (option_map (λ (l : Label). l.length) (option_map (λ (n : Mark). n.label) (mark_by f None o)))) (found (ids order) id k rise (at.0.id, place_map (λ (n : Node). n.id) order k at.0 at.1, at.2))
 
-  -- the nodes that are near by their labels are those that are near
+  -- the nodes that are near by their labels are exactly the near nodes
   pub near_nodes : (near : List ℕ) → near ≡ filter (is_near_at (ids order) f most) (ids order) → (id : ℕ) → (Contains near id → is_within most (distance parts s id) ≡ true) × (is_within most (distance parts s id) ≡ true → Contains near id)
   near_nodes near is id = (λ c. forth (subst (λ xs. Contains xs id) is c), λ t. subst (λ xs. Contains xs id) (sym is) (back t))
     where

@@ -12,7 +12,7 @@ use Rattle.road_search.proofs.Searching.{Within, Grown, Searched}
 use Rattle.road_search.proofs.Turns.{InTurn, Turned, count, Grown-below}
 use Rattle.road_search.proofs.Found.{found, way}
 
--- a label that is there, if it is below the bound
+-- a label that exists, if it is below the bound
 abbrev pub cut : ℕ → Option Label → Option Label
 cut bound None = None
 cut bound (Some l) = cond (nat_lt l.length bound) (Some l) None
@@ -122,7 +122,7 @@ module _ {w : Ways} {from limit : ℕ} (bound : ℕ) (old new : ℕ → Option M
   unfolding near
   near_lengths shorter v = subst (IsLeastPassing w from bound v) (cut_length bound (label_in new v)) (found shorter searched_near (λ v. refl) v)
 
-  -- the way by the labels
+  -- the route by the labels
   near_label : (v : ℕ) (l : Label) → near v ≡ Some l → label_in new v ≡ Some l
   unfolding near
   near_label v l is = (cut_is bound (label_in new v) l is).0
@@ -149,11 +149,11 @@ module _ {w : Ways} {from limit : ℕ} (bound : ℕ) (old new : ℕ → Option M
   unfolding near
   near_way shorter v kept = near_way_at shorter v (label_in new v) refl kept
 
--- how far a search has to go: up to the limit, or as far as the end, once it is settled
+-- how far a search must go: up to the limit, or as far as the end once the end is settled
 abbrev pub Bounded : ℕ → ℕ → ℕ → (ℕ → Option Mark) → Type 0
 Bounded limit bound to mark = (bound ≡ limit) ⊎ ((l : Label) × (settled_in mark to ≡ Some l) × (bound ≡ l.length + 1))
 
--- the end has no label beyond the bound
+-- the end has no label above the bound
 pub end_kept : {w : Ways} {from limit : ℕ} (bound to : ℕ) (old new : ℕ → Option Mark) → InTurn w from limit old → AtEnd bound old new → Bounded limit bound to old → cut bound (label_in new to) ≡ label_in new to
 end_kept {w} {from} {limit} bound to old new h e b = by_label (label_in new to) refl
   where
@@ -181,7 +181,7 @@ end_found limit bound to old new e b = elim b [
   | inr end ↦ inr (ap (λ o. is_some (option_map (λ (l : Label). l.length) o)) (e.labels to ∙ settled_label (old to) end.0 end.1))
 ]
 
--- one turn lowers the bound where it settles the end
+-- one turn lowers the bound if it settles the end
 pub bounded_turn : {w : Ways} {from limit : ℕ} {old mid new : ℕ → Option Mark} (bound to u : ℕ) (k : Label) → Turned w from limit u old new → Settles u k old mid → ((v : ℕ) → settled_in new v ≡ settled_in mid v) → Bounded limit bound to old → Bounded limit (cond (nat_eq u to) (k.length + 1) bound) to new
 bounded_turn {w} {from} {limit} {old} {mid} {new} bound to u k t s same b = elim (cases_eq u to) [
   | inl e ↦ (
@@ -196,15 +196,15 @@ bounded_turn {w} {from} {limit} {old} {mid} {new} bound to u k t s same b = elim
       ])
 ]
 
--- the bound stays at most the limit
+-- the bound is at most the limit
 pub still_low : (c : Bool) (bound length limit : ℕ) → length < bound → bound ≤ limit → cond c (length + 1) bound ≤ limit
 still_low true bound length limit lt low = omega arith
 still_low false bound length limit lt low = low
 
--- the same marks have the same labels
+-- equal marks have equal labels
 pub same_labels : (old new : ℕ → Option Mark) → ((v : ℕ) → new v ≡ old v) → (v : ℕ) → label_in new v ≡ label_in old v
 same_labels old new same v = ap (λ (o : Option Mark). option_map (λ m. m.label) o) (same v)
 
--- where nothing is open, nothing open is near
+-- if no label is open, no open label is near
 pub not_open : (bound : ℕ) (old new : ℕ → Option Mark) (v : ℕ) (l : Label) → new v ≡ old v → open_in new v ≡ None → open_in old v ≡ Some l → bound ≤ l.length
 not_open bound old new v l same none o = let e : open_in old v ≡ None = sym (ap open_of same) ∙ none in cc

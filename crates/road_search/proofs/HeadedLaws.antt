@@ -1,4 +1,4 @@
--- Walks that head for an end are walks, and every walk to the end below the limit heads for it.
+-- Goal-directed walks are walks, and every walk to the end below the limit is goal-directed.
 use Rattle.std.proofs.Common.{◌≡◌, ℕ, suc, ◌+◌, ◌<◌, ◌≤◌, nat_lt, false, true, Option, None, Some, IsSome, IfSome, ◌⊎◌, inl, inr, List, [], ◌∷◌, refl, arith, subst}
 use Rattle.road_map.specs.declared.arc.Arc.{Arc}
 use Rattle.road_map.specs.declared.parts.Node.{Node}
@@ -19,17 +19,17 @@ use Rattle.road_search.proofs.NetLaws.{known, reach_map, reach_net, next_place}
 use Rattle.road_search.proofs.OverMapLaws.{reaches_joins, joins_reaches}
 
 module _ (parts : Parts) (order : List Node) (rows : List (List Arc)) (m : IsMap parts) (by : IsById parts.nodes order) (net : IsNet parts order rows) (laws : DistanceLaws parts) (bound_of : ℕ → ℕ) (t end limit : ℕ) (to : IsPlace order t end) (lower : IsLowerBound parts order t bound_of) where
-  -- a headed walk is one over the net
+  -- a goal-directed walk is a walk over the net
   relaxed : (u p : ℕ) (walk : List Arc) → Passes (headed_ways rows bound_of limit) u p walk → Passes (net_ways rows) u p walk
   relaxed u p [] h = tt
   relaxed u p (a ∷ walk) h = (record { out = h.0.out; entry = h.0.entry; among = h.0.among }, refl, relaxed a.to (p + a.length) walk h.2)
 
-  -- over the net a walk passes after any length
+  -- over the net a walk passes whatever its length
   rebased : (u p q : ℕ) (walk : List Arc) → Passes (net_ways rows) u p walk → Passes (net_ways rows) u q walk
   rebased u p q [] h = tt
   rebased u p q (a ∷ walk) h = (h.0, refl, rebased a.to (p + a.length) (q + a.length) walk h.2)
 
-  -- what is left of a walk to the end is at least the bound
+  -- the rest of a walk to the end is at least as long as the bound
   bounded : (v u : ℕ) (walk : List Arc) → IsPlace order v u → Passes (net_ways rows) u 0 walk → last_stop u walk ≡ end → bound_of u ≤ walk_length walk
   bounded v u walk at h ends =
       let r : Reaches (net_ways rows) u (suc (walk_length walk)) end (walk_length walk) = (stops u walk, record { walk = walk; passes = h; visits = refl; ends = ends; sums = refl; below = omega arith }) in
@@ -40,7 +40,7 @@ module _ (parts : Parts) (order : List Node) (rows : List (List Arc)) (m : IsMap
       by_distance None e least joins = absurd (least (walk_length walk) joins)
       by_distance (Some d) e least joins = let low : bound_of u ≤ d = lower v u d at e in let le : d ≤ walk_length walk = least.1 (walk_length walk) joins in omega (arith, low, le)
 
-  -- so a walk to the end below the limit heads for it
+  -- so a walk to the end below the limit is goal-directed
   lifted : (v u p : ℕ) (walk : List Arc) → IsPlace order v u → Passes (net_ways rows) u p walk → last_stop u walk ≡ end → p + walk_length walk < limit → Passes (headed_ways rows bound_of limit) u p walk
   lifted v u p [] at h ends lt = tt
   lifted v u p (a ∷ walk) at h ends lt =
@@ -59,7 +59,7 @@ module _ (parts : Parts) (order : List Node) (rows : List (List Arc)) (m : IsMap
   net_reach : (start b d : ℕ) → Reaches (headed_ways rows bound_of limit) start b end d → Reaches (net_ways rows) start b end d
   net_reach start b d r = (r.0, record { walk = r.1.walk; passes = relaxed start 0 r.1.walk r.1.passes; visits = r.1.visits; ends = r.1.ends; sums = r.1.sums; below = r.1.below })
 
-  -- the least length of headed walks to the end is that of all walks
+  -- the least length of goal-directed walks to the end is that of all walks
   pub least_net : (s start b : ℕ) (o : Option ℕ) → IsPlace order s start → b ≤ limit → IsLeastPassing (headed_ways rows bound_of limit) start b end o → IsLeastPassing (net_ways rows) start b end o
   least_net s start b None from low h = λ d r. h d (headed_reach s start b d from low r)
   least_net s start b (Some d) from low h = (net_reach start b d h.0, λ e r. h.1 e (headed_reach s start b e from low r))
@@ -72,7 +72,7 @@ module _ (parts : Parts) (order : List Node) (rows : List (List Arc)) (m : IsMap
     passes = record { walk = w.passes.walk; passes = relaxed start 0 w.passes.walk w.passes.passes; visits = w.passes.visits; ends = w.passes.ends; sums = w.passes.sums; below = w.passes.below };
   }
 
-  -- where no headed walk leads to the end, it is as far as the limit
+  -- if no goal-directed walk leads to the end, its distance is at least the limit
   pub far_end : (s start b d : ℕ) (o : Option ℕ) → IsPlace order s start → Knows parts s → b ≤ limit → (b ≡ limit) ⊎ IsSome o → o ≡ None → IsLeastPassing (headed_ways rows bound_of limit) start b end (below b o) → distance parts s t ≡ Some d → limit ≤ d
   far_end s start b d o from there low whole none h is = elim whole [
     | inl e ↦ not_below (λ lt.

@@ -1,4 +1,4 @@
--- Marks by place, and of others by id.
+-- Marks by index, and marks of other ids by id.
 use Rattle.std.proofs.Common.{◌≡◌, ℕ, nat_eq, cond, Bool, true, false, Option, None, Some, IsSome, List, [], refl, ap, sym, ◌∙◌, subst}
 use Rattle.road_map.specs.Places.{AreRising, place_in}
 use Rattle.road_map.proofs.RisingLaws.{differ, same, is_same, one_id}
@@ -8,7 +8,7 @@ use Rattle.road_search.specs.MarkLists.{MarkList}
 use Rattle.road_search.specs.Pages.{paged}
 use Rattle.road_search.specs.Listing.{mark_by, Listing, listed_by, listed, IsListing}
 
--- the mark of an id with a place changes
+-- the mark of an id in the list changes
 pub placed_turn : (ids : List ℕ) (id k : ℕ) (new : Mark) (old after : ℕ → Option Mark) (others : List (ℕ × Mark)) → place_in ids id ≡ Some k → ((p : ℕ) → after p ≡ cond (nat_eq k p) (Some new) (old p)) → (v : ℕ) → listed_by ids after others v ≡ cond (nat_eq id v) (Some new) (listed_by ids old others v)
 placed_turn ids id k new old after others at h v = by_place (place_in ids v) refl
   where
@@ -24,7 +24,7 @@ placed_turn ids id k new old after others at h v = by_place (place_in ids v) ref
             let bad : true ≡ false = sym (same k p number) ∙ t in
             cc))
 
--- the mark of an id without a place changes
+-- the mark of an id outside the list changes
 pub other_turn : (ids : List ℕ) (id : ℕ) (new : Mark) (by_place : ℕ → Option Mark) (old after : List (ℕ × Mark)) → place_in ids id ≡ None → ((v : ℕ) → mark_at after v ≡ cond (nat_eq id v) (Some new) (mark_at old v)) → (v : ℕ) → listed_by ids by_place after v ≡ cond (nat_eq id v) (Some new) (listed_by ids by_place old v)
 other_turn ids id new by_place old after at h v = by_kind (place_in ids v) refl
   where
@@ -60,7 +60,7 @@ none_marked l marks alone there none id = by_kind (place_in l.ids id)
     by_kind None = ap (λ es. mark_at es id) alone
     by_kind (Some p) = ap (λ ms. paged ms p) there ∙ none p
 
--- which mark that is
+-- the mark of this id
 pub with_place : (ids : List ℕ) (by_place : ℕ → Option Mark) (others : List (ℕ × Mark)) (id k : ℕ) → place_in ids id ≡ Some k → by_place k ≡ listed_by ids by_place others id
 with_place ids by_place others id k at = sym (ap (mark_by by_place (mark_at others id)) at)
 

@@ -1,4 +1,4 @@
--- A search over the net of a map, named by ids.
+-- A search over the net of a map, with its results converted to ids.
 use Rattle.std.proofs.Common.{◌≡◌, ℕ, nat_eq, Bool, true, false, Option, None, Some, IfSome, IsSome, List, ◌⊎◌, inl, inr, map, slice_get, refl, arith, ap, sym, subst}
 use Rattle.std.specs.List.{Contains, list_any}
 use Rattle.std.specs.Option.{option_map}
@@ -29,7 +29,7 @@ use Rattle.road_search.proofs.NamingLaws.{length_named, length_other, route_name
 same_number : (x y : ℕ) → nat_eq x y ≡ true → x ≡ y
 same_number x y h = grind (arith, h)
 
--- an id has a position, or none
+-- an id has a position, or has none
 pub place_or_not : (parts : Parts) (order : List Node) → IsById parts.nodes order → (id : ℕ) → ((p : ℕ) × IsPlace order id p) ⊎ ((Knows parts id → ⊥) × ((p : ℕ) → IsPlace order id p → ⊥))
 place_or_not parts order by id = by_any (list_any (nat_eq id) (ids parts.nodes)) refl
   where
@@ -56,7 +56,7 @@ module _ (parts : Parts) (order : List Node) (rows : List (List Arc)) (m : IsMap
     | inr none ↦ subst (λ o. IsLeastPassing (map_ways parts) s bound v (below bound o)) (sym (length_other order f g h v none.1)) (λ d r. none.0 (joined_known parts (roads_known parts m.joined) s v d (reaches_joins parts s bound v d (known parts order rows m by net s start from) r)))
   ]
 
-  -- and so is the way to the end
+  -- and so is the route to the end
   pub named_route : IfSome (route_in f end) (IsWay (net_ways rows) start bound end (length_in f end)) → IfSome (route_in g t) (IsWay (map_ways parts) s bound t (length_in g t))
   named_route way = subst (λ r. IfSome r (IsWay (map_ways parts) s bound t (length_in g t))) (sym same) (by_route (route_in f end) way)
     where
@@ -73,10 +73,10 @@ module _ (parts : Parts) (order : List Node) (rows : List (List Arc)) (m : IsMap
   pub named_whole : (limit : ℕ) → (bound ≡ limit) ⊎ IsSome (length_in f end) → (bound ≡ limit) ⊎ IsSome (length_in g t)
   named_whole limit e = subst (λ o. (bound ≡ limit) ⊎ IsSome o) (sym (length_named order f g h t end to)) e
 
--- an id with no mark has no length
+-- an id without a mark has no length
 pub no_length : (found : Found) (id : ℕ) → listed found.labels id ≡ None → length_at found id ≡ None
 no_length found id none = ap (λ o. option_map (λ (l : Label). l.length) (option_map (λ (m : Mark). m.label) o)) none
 
--- an id with no position is unknown
+-- an id without a position is unknown
 pub place_known : (parts : Parts) (order : List Node) → IsById parts.nodes order → (id : ℕ) → ((p : ℕ) → IsPlace order id p → ⊥) → Knows parts id → ⊥
 place_known parts order by id none here = elim (place_or_not parts order by id) [ inl at ↦ none at.0 at.1 | inr h ↦ h.0 here ]

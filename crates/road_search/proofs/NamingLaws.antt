@@ -41,7 +41,7 @@ module _ (order : List Node) (f g : ℕ → Option Mark) (h : AreNamed order f g
       let rest : way_to (label_in g) hops (id_at order b) ≡ map (id_at order) start = way_named hops b (λ x c. all x (Contains-append_left start (q ∷ []) x c)) in
       ap (λ xs. xs ++ id_at order q ∷ []) (ap (way_to (label_in g) hops) step ∙ rest) ∙ sym (map-append (id_at order) start (q ∷ []))
 
-  -- the way of an id is that of its position, by ids
+  -- the route to an id is the route to its position, by ids
   pub route_named : (id p : ℕ) → IsPlace order id p → ((route : List ℕ) → route_in f p ≡ Some route → (x : ℕ) → Contains route x → x < length order) → route_in g id ≡ option_map (map (id_at order)) (route_in f p)
   route_named id p at all = by_mark_of (f p) refl
     where

@@ -1,4 +1,4 @@
--- Marks of positions, named one by one and put by the ids of their nodes.
+-- Marks of positions, converted one by one into marks of the ids of their nodes.
 use Rattle.std.proofs.Common.{◌≡◌, ℕ, Option, None, List, [], ap, ◌∙◌}
 use Rattle.std.specs.Option.{option_map}
 use Rattle.road_map.specs.declared.parts.Node.{Node}

@@ -1,4 +1,4 @@
--- Near ids with a place, and near ids without one.
+-- Near ids in the list, and near ids outside it.
 use Rattle.std.proofs.Common.{◌≡◌, ℕ, ◌++◌, nat_eq, true, Option, None, Some, List, inl, inr, refl, ap, sym, ◌∙◌, subst}
 use Rattle.std.specs.List.{IsDistinct, Contains, filter}
 use Rattle.std.specs.Option.{option_map}
@@ -14,7 +14,7 @@ use Rattle.road_search.specs.Nearness.{is_within}
 use Rattle.road_search.proofs.NearIds.{distinct_both, among, passes, keeps, filter_distinct, near_some}
 
 module _ (ids : List ℕ) (by_place : ℕ → Option Mark) (others : List (ℕ × Mark)) (most : ℕ) (far : List ℕ) (l : IsListing ids others) (same : (id : ℕ) → (Contains far id → is_within most (option_map (λ (m : Label). m.length) (option_map (λ (m : Mark). m.label) (mark_at others id))) ≡ true) × (is_within most (option_map (λ (m : Label). m.length) (option_map (λ (m : Mark). m.label) (mark_at others id))) ≡ true → Contains far id)) where
-  -- an id in the list has a place
+  -- an id in the list has an index
   placed : (id : ℕ) → Contains ids id → (k : ℕ) × (place_in ids id ≡ Some k)
   placed id c = let p = place_at ids id c in (p.0, found ids id p.0 l.rise (id, p.1, refl))
 

@@ -20,7 +20,7 @@ same_number x y h = grind (arith, h)
 
 -- ---- all ids that may have a mark
 
--- one key more
+-- one more key
 pub keys_more : {A : Type 0} (shows : A → ℕ × Mark) (start : List ℕ) (ys : List A) (x : A) → start ++ keys_of (map shows (ys ++ x ∷ [])) ≡ (start ++ keys_of (map shows ys)) ++ (shows x).0 ∷ []
 keys_more shows start ys x =
     ap (λ t. start ++ t) (ap keys_of (map-append shows ys (x ∷ [])) ∙ map-append (λ (e : ℕ × Mark). e.0) (map shows ys) (shows x ∷ []))
@@ -49,7 +49,7 @@ distinct_both (x ∷ xs) ys dx dy none =
 pub keys_marked : (others : List (ℕ × Mark)) (id : ℕ) → IsSome (mark_at others id) → Contains (keys_of others) id
 keys_marked others id there = Contains-keys_from_lookup same_number id others there
 
--- ---- those that pass a test
+-- ---- the ids that pass a test
 
 pub among : (p : ℕ → Bool) (xs : List ℕ) (x : ℕ) → Contains (filter p xs) x → Contains xs x
 among p [] x c = c
@@ -90,19 +90,19 @@ keeps p (y ∷ ys) x c t = elim (Contains-cases y x ys c) [
     there true d = Contains-there y x (filter p ys) d
     there false d = d
 
--- one id more, which passes or doesn't
+-- one more id, which passes or does not
 pub passing_more : (p : ℕ → Bool) (xs before after : List ℕ) (i : ℕ) → i < length xs → before ≡ filter p (take i xs) → p (get_or xs i 0) ≡ true → after ≡ before ++ get_or xs i 0 ∷ [] → after ≡ filter p (take (i + 1) xs)
 passing_more p xs before after i lt so_far t pushed = pushed ∙ (ap (λ ys. ys ++ get_or xs i 0 ∷ []) so_far ∙ (ap (λ b. filter p (take i xs) ++ cond b (get_or xs i 0 ∷ []) []) (sym t) ∙ sym (filter_more p xs i 0 lt)))
 
 pub failing_more : (p : ℕ → Bool) (xs before : List ℕ) (i : ℕ) → i < length xs → before ≡ filter p (take i xs) → p (get_or xs i 0) ≡ false → before ≡ filter p (take (i + 1) xs)
 failing_more p xs before i lt so_far t = so_far ∙ (sym (append-nil (filter p (take i xs))) ∙ (ap (λ b. filter p (take i xs) ++ cond b (get_or xs i 0 ∷ []) []) (sym t) ∙ sym (filter_more p xs i 0 lt)))
 
--- what is near has a mark
+-- a near id has a mark
 pub near_some : (most : ℕ) (o : Option Mark) → is_within most (option_map (λ (l : Label). l.length) (option_map (λ (m : Mark). m.label) o)) ≡ true → is_some o ≡ true
 near_some most None h = h
 near_some most (Some m) h = refl
 
--- ids that don't pass
+-- ids that do not pass
 pub skipped : (p : ℕ → Bool) (xs : List ℕ) (i n : ℕ) → ((k : ℕ) → i ≤ k → k < i + n → k < length xs → p (get_or xs k 0) ≡ false) → filter p (take i xs) ≡ filter p (take (i + n) xs)
 skipped p xs i zero none = ap (λ k. filter p (take k xs)) (omega arith)
 skipped p xs i (suc n) none =

@@ -26,16 +26,16 @@ use Rattle.road_search.proofs.WholeMapLaws.{known_at, whole_same}
 -- ---- walks
 
 -- an arc of a row, and the arc of the map that it stands for
-record Pair (order : List Node) (arcs row : List Arc) (a b : Arc) : Type 0 where
-  among : Contains arcs a
-  stands : Contains row b
-  long : b.length ≡ a.length
-  leads : IsPlace order a.to b.to
+pub record Pair (order : List Node) (arcs row : List Arc) (a b : Arc) : Type 0 where
+  pub among : Contains arcs a
+  pub stands : Contains row b
+  pub long : b.length ≡ a.length
+  pub leads : IsPlace order a.to b.to
 
 further : (order : List Node) (x y a b : Arc) (arcs row : List Arc) → Pair order arcs row a b → Pair order (x ∷ arcs) (y ∷ row) a b
 further order x y a b arcs row p = record { among = Contains-there x a arcs p.among; stands = Contains-there y b row p.stands; long = p.long; leads = p.leads }
 
-in_row : (order : List Node) (arcs row : List Arc) → Placed order arcs row → (b : Arc) → Contains row b → (a : Arc) × Pair order arcs row a b
+pub in_row : (order : List Node) (arcs row : List Arc) → Placed order arcs row → (b : Arc) → Contains row b → (a : Arc) × Pair order arcs row a b
 in_row order [] [] h b c = absurd (Contains-none b c)
 in_row order [] (y ∷ ys) h b c = absurd h
 in_row order (x ∷ xs) [] h b c = absurd h
@@ -44,7 +44,7 @@ in_row order (x ∷ xs) (y ∷ ys) h b c = elim (Contains-cases y b ys c) [
   | inr d ↦ let p = in_row order xs ys h.2 b d in (p.0, further order x y p.0 b xs ys p.1)
 ]
 
-in_arcs : (order : List Node) (arcs row : List Arc) → Placed order arcs row → (a : Arc) → Contains arcs a → (b : Arc) × Pair order arcs row a b
+pub in_arcs : (order : List Node) (arcs row : List Arc) → Placed order arcs row → (a : Arc) → Contains arcs a → (b : Arc) × Pair order arcs row a b
 in_arcs order [] row h a c = absurd (Contains-none a c)
 in_arcs order (x ∷ xs) [] h a c = absurd h
 in_arcs order (x ∷ xs) (y ∷ ys) h a c = elim (Contains-cases x a xs c) [
@@ -69,7 +69,7 @@ module _ (parts : Parts) (order : List Node) (rows : List (List Arc)) (m : IsMap
   pub known : (u p : ℕ) → IsPlace order u p → Knows parts u
   known u p at = known_at parts.nodes order u p at.0 by at.1 at.2
 
-  -- a walk over the net, and the one over the map
+  -- a walk over the net, and the same walk over the map
   record Same (u p len : ℕ) (over_map over_net : List Arc) : Type 0 where
     in_map : Passes (map_ways parts) u len over_map
     in_net : Passes (net_ways rows) p len over_net
@@ -86,7 +86,7 @@ module _ (parts : Parts) (order : List Node) (rows : List (List Arc)) (m : IsMap
     visits = ap (λ i. i ∷ map (λ (a : Arc). a.to) walk) (sym (id_there order a.to b.to pair.leads)) ∙ ap (λ is. id_at order b.to ∷ is) rest.visits;
   }
 
-  placed_row : (u p : ℕ) (row : List Arc) → IsPlace order u p → slice_get rows p ≡ Some row → Placed order (arcs_out parts.roads u) row
+  pub placed_row : (u p : ℕ) (row : List Arc) → IsPlace order u p → slice_get rows p ≡ Some row → Placed order (arcs_out parts.roads u) row
   placed_row u p row at entry = subst (λ i. Placed order (arcs_out parts.roads i) row) at.2 (net.each p at.0 row at.1 entry)
 
   to_map : (u p len : ℕ) (net_walk : List Arc) → IsPlace order u p → Passes (net_ways rows) p len net_walk → (walk : List Arc) × Same u p len walk net_walk
@@ -96,7 +96,7 @@ module _ (parts : Parts) (order : List Node) (rows : List (List Arc)) (m : IsMap
       let rest = to_map pair.0.to b.to (len + b.length) net_walk pair.1.leads h.2 in
       (pair.0 ∷ rest.0, longer u p len h.0.out pair.0 b rest.0 net_walk (known u p at) h.0.entry pair.1 rest.1)
 
-  row_at : (u p : ℕ) → IsPlace order u p → (row : List Arc) × (slice_get rows p ≡ Some row)
+  pub row_at : (u p : ℕ) → IsPlace order u p → (row : List Arc) × (slice_get rows p ≡ Some row)
   row_at u p at = (get_or rows p [], slice_get-get_or rows p [] (let lt : p < length order = slice_get_within order p at.0 at.1 in omega (arith, lt, net.long)))
 
   to_net : (u p len : ℕ) (walk : List Arc) → IsPlace order u p → Passes (map_ways parts) u len walk → (net_walk : List Arc) × Same u p len walk net_walk
@@ -112,7 +112,7 @@ module _ (parts : Parts) (order : List Node) (rows : List (List Arc)) (m : IsMap
   next_place u p b at h = let pair = in_row order (arcs_out parts.roads u) h.out (placed_row u p h.out at h.entry) b h.among in (pair.0.to, pair.1.leads)
 
   -- a position has one id, and an id one position
-  one_id : (s t q : ℕ) → IsPlace order s q → IsPlace order t q → s ≡ t
+  pub one_id : (s t q : ℕ) → IsPlace order s q → IsPlace order t q → s ≡ t
   one_id s t q x y = let same : Some x.0 ≡ Some y.0 = sym x.1 ∙ y.1 in let node : x.0 ≡ y.0 = cc in sym x.2 ∙ (ap (λ (n : Node). n.id) node ∙ y.2)
 
   apart : (t p q : ℕ) → IsPlace order t p → IsPlace order t q → p < q → ⊥
@@ -147,7 +147,7 @@ module _ (parts : Parts) (order : List Node) (rows : List (List Arc)) (m : IsMap
   least_map s t p q limit None from to h = λ d r. h d (reach_net s t p q limit d from to r)
   least_map s t p q limit (Some d) from to h = (reach_map s t p q limit d from to h.0, λ e r. h.1 e (reach_net s t p q limit e from to r))
 
-  -- what a search over the net finds is the distance
+  -- the length that a search over the net finds is the distance
   pub net_distance : DistanceLaws parts → (s t p q : ℕ) (o : Option ℕ) → IsPlace order s p → IsPlace order t q → IsLeastPassing (net_ways rows) p 18446744073709551615 q o → o ≡ distance parts s t
   net_distance laws s t p q o from to h = whole_same parts m laws s 18446744073709551615 t o (known s p from) (lit≤ tt) (least_map s t p q 18446744073709551615 o from to h)
 
@@ -165,7 +165,7 @@ module _ (parts : Parts) (order : List Node) (rows : List (List Arc)) (m : IsMap
   pub way_placed : (s p q bound : ℕ) (o : Option ℕ) (route : List ℕ) → IsPlace order s p → IsWay (net_ways rows) p bound q o route → (x : ℕ) → Contains route x → x < length order
   way_placed s p q bound o route from w x c = stops_placed s p 0 w.passes.walk from w.passes.passes x (subst (λ r. Contains r x) (sym w.passes.visits) c)
 
-  -- positions that differ have ids that differ
+  -- distinct positions have distinct ids
   ids_apart : (route : List ℕ) → IsDistinct nat_eq route → ((x : ℕ) → Contains route x → x < length order) → IsDistinct nat_eq (map (id_at order) route)
   ids_apart route distinct placed = IsDistinct-from_apart nat_eq (map (id_at order) route) (λ i j d lt within.
       let long : length (map (id_at order) route) ≡ length route = length-map route (id_at order) in
@@ -185,7 +185,7 @@ module _ (parts : Parts) (order : List Node) (rows : List (List Arc)) (m : IsMap
       equal : (x y : ℕ) → nat_eq x y ≡ false → x ≡ y → ⊥
       equal x y h e = grind (arith, h, e)
 
-  -- a way over the net is one over the map, by the ids of its positions
+  -- a route over the net is a route over the map, by the ids of its positions
   pub way_map : (s t p q bound : ℕ) (o : Option ℕ) (route : List ℕ) → IsPlace order s p → IsPlace order t q → IsWay (net_ways rows) p bound q o route → IsWay (map_ways parts) s bound t o (map (id_at order) route)
   way_map s t p q bound o route from to w =
       let r = to_map s p 0 w.passes.walk from w.passes.passes in

@@ -33,7 +33,7 @@ module _ (parts : Parts) (order : List Node) (rows : List (List Arc)) (m : IsMap
   by_route None w = tt
   by_route (Some route) w = way_map parts order rows m by net s t start end bound (length_in f end) route from to w
 
-  -- and the way to it, by ids, is a shortest route
+  -- and the route to it, by ids, is a shortest route
   pub way_placed_is_shortest : (mark : Mark) → Some mark ≡ f end → IfSome (route_in f end) (IsWay (net_ways rows) start bound end (length_in f end)) → IsShortest parts s t (map (id_at order) (way_to (label_in f) mark.label.hops end)) mark.label.length
   way_placed_is_shortest mark is way =
       let way_is : route_in f end ≡ Some (way_to (label_in f) mark.label.hops end) = ap (λ o. option_map (λ (l : Label). way_to (label_in f) l.hops end) (option_map (λ (m : Mark). m.label) o)) (sym is) in
@@ -44,7 +44,7 @@ module _ (parts : Parts) (order : List Node) (rows : List (List Arc)) (m : IsMap
       let equal : shortest.d ≡ mark.label.length = cc in
       subst (IsShortest parts s t (map (id_at order) (way_to (label_in f) mark.label.hops end))) equal shortest.shortest
 
-  -- no id stands twice on it
+  -- no id occurs twice on it
   pub way_placed_is_distinct : (mark : Mark) → Some mark ≡ f end → IfSome (route_in f end) (IsWay (net_ways rows) start bound end (length_in f end)) → IsDistinct nat_eq (map (id_at order) (way_to (label_in f) mark.label.hops end))
   way_placed_is_distinct mark is way =
       let way_is : route_in f end ≡ Some (way_to (label_in f) mark.label.hops end) = ap (λ o. option_map (λ (l : Label). way_to (label_in f) l.hops end) (option_map (λ (m : Mark). m.label) o)) (sym is) in

@@ -2,6 +2,6 @@
 use Rattle.std.specs.Prelude.{List, Option}
 use Rattle.road_search.specs.declared.marks.Mark.{Mark}
 
--- the mark of each number, where it has one
+-- the mark of each number, if there is one
 pub record MarkList : Type 0 where
   pub items : List (Option Mark)

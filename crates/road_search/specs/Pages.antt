@@ -4,11 +4,11 @@ use Rattle.road_search.specs.declared.marks.Mark.{Mark}
 use Rattle.road_search.specs.Marking.{marked}
 use Rattle.road_search.specs.MarkLists.{MarkList}
 
--- what contracts see of pages of marks
+-- pages of marks as contracts see them
 pub record PageList : Type 0 where
   pub pages : List MarkList
 
--- the mark at a place of a page, if there is such a page
+-- the mark at an index of a page, if the page exists
 abbrev pub on_page : Option MarkList → ℕ → Option Mark
 on_page None place = None
 on_page (Some page) place = marked page.items place

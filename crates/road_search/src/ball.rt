@@ -1,4 +1,4 @@
-//! A shortest route and all that is as near as its end, found from position to position.
+//! Finding a shortest route and all nodes as near as its end, by position.
 
 ghost use Rattle.std.specs.Prelude.{◌≡◌, ◌↔◌, ℕ, IsTrue, Contains, IfOk, IfSome, nat_eq};
 ghost use Rattle.std.specs.List.{IsDistinct};
@@ -18,22 +18,22 @@ use octet_text::NoMemory;
 use road_map::{Ids, Map, map_laws};
 use std::alloc::Global;
 
-/// A shortest route between two nodes, and the nodes that are no farther from its start than its end.
+/// A shortest route between two nodes, and the nodes that are at most as far from its start as its end is.
 #[derive(Debug, Drop)]
 pub struct Ball {
-    /// The ids that the route visits, in order, both ends among them, and none twice.
+    /// The ids of the nodes that the route visits, in order, including both ends. No id occurs twice.
     pub route: Ids,
-    /// The sum of the lengths of its roads.
+    /// The sum of the lengths of the route's roads.
     pub length: u64,
-    /// The ids of the nodes no farther than that, ascending.
+    /// The ids of the nodes at most this far from the start, in ascending order.
     pub nodes: Ids,
 }
 
-/// A shortest route between two nodes and the nodes no farther than its end, if a walk joins the two;
-/// an id of no node has none.
+/// Returns a shortest route between two nodes, and the nodes that are at most as far as its end. Returns `None` if
+/// no walk joins the two or an id does not belong to a node.
 ///
-/// It costs what it brings, or all that a walk leads to where none leads to the end. Which of several
-/// equally short routes it is, is free.
+/// The cost depends on the nodes that it returns or, if no walk leads to the end, on all nodes that walks reach. If
+/// several routes are equally short, it returns any one of them.
 pub fn ball_to(alloc: Global, map: &Map, from: u32, to: u32) -> Result<Option<Ball>, NoMemory>
     requires { Knows map.now.parts from }
     ensures route { IfOk result (λ answer.

@@ -1,4 +1,4 @@
-//! A shortest route, by lower bounds of what is left to its end.
+//! Finding a shortest route with lower bounds of the remaining distance.
 
 ghost use Rattle.std.specs.Prelude.{◌≡◌, ◌≤◌, ℕ, Some, IfOk, IfSome, IfNone, nat_eq};
 ghost use Rattle.std.specs.List.{IsDistinct};
@@ -18,16 +18,16 @@ use std::alloc::Global;
 
 /// Lower bounds of the distances from positions of a map to an end.
 pub trait Bound {
-    // What contracts see of them.
+    // The bounds as contracts see them.
     ghost bound: { Self → ℕ → ℕ };
 
-    /// The bound of the node at a position.
+    /// Returns the bound of the node at a position.
     fn bound(&self, position: u32) -> u64
         ensures { result ≡ bound self.now position };
 }
 
-/// A map's arcs by position, as a ground of walks that head for an end: a position lets a length pass
-/// while the length and the position's bound stay below a limit.
+/// A map's arcs by position, as the ground of goal-directed walks. A length passes if its sum with the position's
+/// bound is below a limit.
 #[derive(Clone, Copy)]
 struct HeadingFor<'a, B: Bound> {
     net: &'a Net,
@@ -54,10 +54,11 @@ impl<B: Bound> Ground for HeadingFor<'_, B> {
         headed_shorter (B.bound w.bounds.now id) w.limit short long le h };
 }
 
-/// A shortest route between two nodes, if it is shorter than a limit; an id of no node has none.
+/// Returns a shortest route between two nodes if it is shorter than a limit. Returns `None` otherwise, also if an
+/// id does not belong to a node.
 ///
-/// It costs the nodes whose least length by walks that head for the end, together with their bound,
-/// stays below the limit, and their neighbours. Which of several equally short routes it is, is free.
+/// The cost depends on the nodes for which the sum of the least length by goal-directed walks and the bound is
+/// below the limit, and on their neighbours. If several routes are equally short, it returns any one of them.
 pub fn headed<B: Bound>(
     alloc: Global,
     map: &Map,

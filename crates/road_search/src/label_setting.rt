@@ -77,7 +77,7 @@ fn offer_arcs<T: Marks>(
     Ok(())
 }
 
-/// Offers what may follow a labelled id, and answers whether the id has an entry.
+/// Offers all arcs out of a labelled id, and returns whether the id has an entry.
 fn leave<G: Ground, T: Marks>(
     ground: &G,
     marks: &mut T,
@@ -107,7 +107,7 @@ fn leave<G: Ground, T: Marks>(
     }
 }
 
-/// The least of the ids without an entry so far.
+/// Returns the lesser of the least id without an entry so far and this id, if this id has no entry.
 fn least_lacking(lacking: Option<u32>, id: u32, has: bool) -> Option<u32>
     ensures { result ≡ (if has then lacking else lesser lacking (Some id)) }
 {
@@ -120,7 +120,7 @@ fn least_lacking(lacking: Option<u32>, id: u32, has: bool) -> Option<u32>
     }
 }
 
-/// Labels the start, unless nothing is below the limit.
+/// Labels the start, unless the limit is 0.
 fn begin<T: Marks>(
     marks: &mut T,
     queue: &mut Queue,
@@ -147,11 +147,11 @@ fn begin<T: Marks>(
     Ok(())
 }
 
-/// A search that keeps its labels where it is told: the least length below the limit of a passing
-/// walk from an id to each id, and such a walk. Answers the least id that has a length and no entry.
+/// Searches and keeps the labels in `marks`: for each id, the least length below the limit of a passing walk to it,
+/// and such a walk. Returns the least id that has a length but no entry.
 ///
-/// A passing walk takes each hop from the arcs of an id that has an entry and that lets the
-/// walk's length so far pass. Its last id needs neither.
+/// A passing walk takes each hop along an arc of an id that has an entry and lets the length so far pass. Its last
+/// id needs neither an entry nor to let the length pass.
 pub fn search_in<G: Ground, T: Marks>(
     alloc: Global,
     ground: &G,
@@ -179,7 +179,7 @@ pub fn search_in<G: Ground, T: Marks>(
     Ok(lacking)
 }
 
-/// The bound of a search after an id was settled: just above its length, if it is the end.
+/// Returns the bound of a search after an id was settled. If the id is the end, the bound is just above its length.
 fn lowered(bound: u64, id: u32, to: u32, length: u64) -> u64
     requires { length < bound }
     ensures { result ≡ (if nat_eq id to then length + 1 else bound) }
@@ -187,9 +187,9 @@ fn lowered(bound: u64, id: u32, to: u32, length: u64) -> u64
     if id == to { length + 1 } else { bound }
 }
 
-/// A search that goes no further than it must for one end: it settles that end and each id that is
-/// as near, and answers a bound. The labels below the bound are those of a search with that bound as
-/// its limit, and a label that isn't below it says nothing.
+/// Searches only as far as one end requires: settles that end and each id that is as near, and returns a bound. The
+/// labels below the bound are those of a search with that bound as its limit. A label that is not below it has no
+/// meaning.
 pub(crate) fn search_to<G: Ground, T: Marks>(
     alloc: Global,
     ground: &G,
@@ -224,7 +224,7 @@ pub(crate) fn search_to<G: Ground, T: Marks>(
     Ok(bound)
 }
 
-/// A search that keeps its labels in this store, which has none.
+/// Searches and keeps the labels in this store, which must be empty.
 fn search_listed<G: Ground>(
     alloc: Global,
     ground: &G,
@@ -245,9 +245,9 @@ fn search_listed<G: Ground>(
     Ok(Labels::new(marks, lacking))
 }
 
-/// The least length below the limit of a passing walk from an id to each id, and such a walk.
+/// Returns, for each id, the least length below the limit of a passing walk to it, and such a walk.
 ///
-/// It costs what it labels, and takes memory as it does.
+/// The cost and the memory depend on the ids that it labels.
 pub fn search<G: Ground>(
     alloc: Global,
     ground: &G,

@@ -1,11 +1,11 @@
-//! Least lengths by a label-setting search: over any ground, and over a whole road map.
+//! Shortest paths by a label-setting search (Dijkstra's algorithm), over any ground and over a whole road map.
 //!
 //! ```rust
 //! let map = Map::build(alloc, parts)?;
-//! // No path comes exactly where no walk joins the two ends.
+//! // `None` exactly if no walk joins the two ends.
 //! let path = shortest(alloc, &map, 1, 3)?;
 //! assert!(rt; knows(&map, 1));
-//! // The distances from 1 of all nodes that are no farther than 3.
+//! // The distances from 1 to all nodes that are at most as far as node 3.
 //! let distances = distances_to(alloc, &map, 1, 3)?;
 //! let to_4 = distances.get(4);
 //! ```
@@ -13,6 +13,7 @@
 
 pub use ball::{Ball, ball_to};
 pub use bounded::{Bound, headed};
+pub use gated::{Gate, NoGate, lengths_through};
 pub use ground::Ground;
 pub use label_setting::{search, search_in};
 pub use labels::Labels;
@@ -27,6 +28,7 @@ pub use survey::Survey;
 mod ball;
 mod bounded;
 mod front;
+mod gated;
 mod ground;
 mod label;
 mod label_setting;

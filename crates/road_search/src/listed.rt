@@ -1,4 +1,4 @@
-//! Marks of ids that stand in a list, by their places.
+//! Marks of ids from a list, by their indices.
 
 ghost use Rattle.std.specs.Prelude.{◌≡◌, ◌↔◌, ℕ, [], None, Some, IfOk, OnOk, OnErr, IsSome, IsTrue, Contains, nat_eq, if◌then◌else◌};
 ghost use Rattle.std.specs.Option.{option_map};
@@ -19,8 +19,8 @@ use std::collections::BTreeMap;
 use std::marker::Model;
 use std::rc::Rc;
 
-/// Marks of any ids: those that stand in a list of ascending ids, which others hold too, by their
-/// places, all others by id.
+/// Marks of any ids. The marks of ids from an ascending list, which may be shared, are stored by index. All other
+/// marks are stored by id.
 #[derive(Drop)]
 pub struct Listed {
     ids: Rc<RisingIds>,
@@ -43,7 +43,7 @@ impl Model for Listed {
 }
 
 impl Listed {
-    /// No mark, and no room by place.
+    /// Makes an empty store, with no room by index.
     pub fn none(alloc: Global) -> Result<Listed, NoMemory>
         ensures { IfOk result (λ found. (id : ℕ) → listed found id ≡ None) }
     {
@@ -51,7 +51,7 @@ impl Listed {
         Ok(Listed::of(alloc, ids, Paged::new(alloc)))
     }
 
-    /// No mark, and places for these ids.
+    /// Makes an empty store with an index for each of these ids.
     pub fn new(alloc: Global, ids: Rc<RisingIds>) -> Listed
         requires { AreRising ids.value }
         ensures { (id : ℕ) → listed result id ≡ None }
@@ -59,7 +59,7 @@ impl Listed {
         Listed::of(alloc, ids, Paged::new(alloc))
     }
 
-    /// The marks of these ids, by place.
+    /// Makes a store from the marks of these ids, by index.
     pub fn of(alloc: Global, ids: Rc<RisingIds>, marks: Paged) -> Listed
         requires { AreRising ids.value }
         ensures ids { result.ids ≡ ids.value }
@@ -73,7 +73,7 @@ impl Listed {
         }
     }
 
-    /// The ids that stand in no list and have a mark, each once.
+    /// Returns the ids outside the list that have a mark, each once.
     fn others(&self, alloc: Global) -> Result<Vec<u32>, NoMemory>
         ensures distinct { IfOk result (λ ids. IsDistinct nat_eq ids.items) }
         ensures all { IfOk result (λ ids. (id : ℕ) → IsSome (mark_at self.now.others id) →
@@ -86,7 +86,7 @@ impl Listed {
         Ok(all)
     }
 
-    /// Those of them whose labels are at most this long, each once.
+    /// Returns those of the ids outside the list whose labels are at most this long, each once.
     fn others_near(&self, alloc: Global, most: u64) -> Result<Vec<u32>, NoMemory>
         ensures distinct { IfOk result (λ ids. IsDistinct nat_eq ids.items) }
         ensures same { IfOk result
@@ -103,7 +103,7 @@ impl Listed {
         Ok(near)
     }
 
-    /// The ids whose labels are at most this long, each once, in no order.
+    /// Returns the ids whose labels are at most this long, each once, in no particular order.
     pub(crate) fn near(&self, alloc: Global, most: u64) -> Result<Vec<u32>, NoMemory>
         ensures distinct { IfOk result (λ ids. IsDistinct nat_eq ids.items) }
         ensures same { IfOk result
@@ -117,14 +117,14 @@ impl Listed {
     }
 }
 
-/// The mark of an id among marks by id.
+/// Returns the mark of an id among marks by id.
 fn other_mark(others: &BTreeMap<u32, Mark>, id: u32) -> Option<Mark>
     ensures { result ≡ mark_at others.now.entries id }
 {
     others.get(&id).copied()
 }
 
-/// Gives an id this mark among marks by id.
+/// Sets the mark of an id among marks by id.
 fn set_other(others: &mut BTreeMap<u32, Mark>, id: u32, new: Mark) -> Result<(), NoMemory>
     ensures marks { OnOk result ((v : ℕ) →
         mark_at others.new.entries v ≡ (if nat_eq id v then Some new else

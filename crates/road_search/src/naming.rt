@@ -1,4 +1,4 @@
-//! Marks of positions, by the ids of their nodes.
+//! Converting marks of positions into marks of their nodes' ids.
 
 ghost use Rattle.std.specs.Prelude.{◌≡◌, ℕ, IfOk, map as every};
 ghost use Rattle.std.specs.Option.{option_map};
@@ -16,7 +16,7 @@ use octet_text::{NoMemory, push};
 use road_map::Map;
 use std::alloc::Global;
 
-/// The id of the node at a position, and the position itself where there is none.
+/// Returns the id of the node at a position, or the position itself if no node is there.
 pub fn id_at(map: &Map, position: u32) -> u32
     ensures { result ≡ id_at map.now.order position }
 {
@@ -27,7 +27,7 @@ pub fn id_at(map: &Map, position: u32) -> u32
     }
 }
 
-/// The mark of a position as that of an id.
+/// Converts the mark of a position into that of an id.
 fn named(map: &Map, mark: Mark) -> Mark
     ensures { result ≡ named map.now.order mark }
 {
@@ -42,7 +42,7 @@ fn named(map: &Map, mark: Mark) -> Mark
     }
 }
 
-/// The mark of a position, if it has one, as that of an id.
+/// Converts the mark of a position, if it exists, into that of an id.
 fn mark_named(map: &Map, mark: Option<Mark>) -> Option<Mark>
     ensures { result ≡ option_map (named map.now.order) mark }
 {
@@ -52,7 +52,7 @@ fn mark_named(map: &Map, mark: Option<Mark>) -> Option<Mark>
     }
 }
 
-/// The marks of a page, each as that of an id.
+/// Converts the marks of a page into marks of ids.
 fn page_named(alloc: Global, map: &Map, page: &Slots) -> Result<Slots, NoMemory>
     ensures { IfOk result (λ all. all.items ≡
         every (option_map (named map.now.order)) page.now.items) }
@@ -64,7 +64,7 @@ fn page_named(alloc: Global, map: &Map, page: &Slots) -> Result<Slots, NoMemory>
     Ok(all)
 }
 
-/// Marks of positions, each as that of an id.
+/// Converts marks of positions into marks of ids.
 fn all_named(alloc: Global, map: &Map, marks: &Paged) -> Result<Paged, NoMemory>
     ensures { IfOk result (λ all. (place : ℕ) → paged all.pages place ≡
         option_map (named map.now.order) (paged marks.now.pages place)) }
@@ -76,7 +76,7 @@ fn all_named(alloc: Global, map: &Map, marks: &Paged) -> Result<Paged, NoMemory>
     Ok(Paged::of(all))
 }
 
-/// Marks of positions, by the ids of their nodes.
+/// Returns the marks of positions by the ids of their nodes.
 pub fn by_ids(alloc: Global, map: &Map, marks: &Paged) -> Result<Listed, NoMemory>
     ensures { IfOk result (λ found.
         AreNamed map.now.order (paged marks.now.pages) (listed found)) }

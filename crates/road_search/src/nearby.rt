@@ -1,4 +1,4 @@
-//! Ids by the labels at their places.
+//! Ids whose labels are short enough.
 
 ghost use Rattle.std.specs.Prelude.{◌≡◌, ◌≤◌, ◌+◌, ◌*◌, min, IfOk, OnOk, length, take};
 ghost use Rattle.std.specs.List.{filter};
@@ -13,7 +13,7 @@ use crate::paged::{PAGE, Paged};
 use octet_text::{NoMemory, push};
 use std::alloc::Global;
 
-/// Whether a mark is there and its label at most this long.
+/// Tests whether a mark exists and its label is at most this long.
 pub(crate) fn is_near(mark: Option<Mark>, most: u64) -> bool
     ensures { result ≡ is_within most (option_map (λ l. l.length) (option_map (λ m. m.label) mark)) }
 {
@@ -23,7 +23,7 @@ pub(crate) fn is_near(mark: Option<Mark>, most: u64) -> bool
     }
 }
 
-/// Adds the ids at places from START on and before END whose labels are at most this long.
+/// Appends the ids at indices from `start` up to `end` whose labels are at most this long.
 fn add_near(
     near: &mut Vec<u32>,
     ids: &[u32],
@@ -48,7 +48,7 @@ fn add_near(
     Ok(())
 }
 
-/// Where a page of a list ends: at its own end, or that of the list.
+/// Returns the index at which a page of a list ends: at the end of the page or of the list.
 fn page_end(index: usize, count: usize) -> usize
     requires { index * 64 ≤ count }
     ensures order { index * 64 ≤ result }
@@ -63,8 +63,7 @@ fn page_end(index: usize, count: usize) -> usize
     }
 }
 
-/// The ids at places whose labels are at most this long, in their order. Only pages with room are
-/// looked at.
+/// Returns the ids whose labels are at most this long, in the same order. Reads only pages that have memory.
 pub(crate) fn near_ids(
     alloc: Global,
     ids: &[u32],

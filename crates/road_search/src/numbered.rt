@@ -8,14 +8,14 @@ use crate::slots::Slots;
 use octet_text::NoMemory;
 use std::alloc::Global;
 
-/// Marks of ids that are small numbers: a mark for each number up to the greatest that was marked.
+/// Marks of ids that are small numbers. There is a slot for each number up to the greatest one marked.
 #[derive(Drop)]
 pub struct Numbered {
     pub(crate) marks: Slots,
 }
 
 impl Numbered {
-    /// No mark.
+    /// Makes an empty store.
     pub fn new(alloc: Global) -> Numbered
         ensures { (id : ℕ) → ⟦<Numbered as Marks>⟧.mark result id ≡ None }
     {
@@ -24,21 +24,21 @@ impl Numbered {
         }
     }
 
-    /// Takes all marks away, and keeps the room.
+    /// Removes all marks and keeps the memory.
     pub fn clear(&mut self)
         ensures { (id : ℕ) → ⟦<Numbered as Marks>⟧.mark self.new id ≡ None }
     {
         self.marks.clear();
     }
 
-    /// The mark of a number.
+    /// Returns the mark of a number.
     pub(crate) fn at(&self, number: usize) -> Option<Mark>
         ensures { result ≡ marked self.now.marks.items number }
     {
         self.marks.get(number)
     }
 
-    /// Gives a number this mark.
+    /// Sets the mark of a number.
     pub(crate) fn put(&mut self, number: usize, new: Mark) -> Result<(), NoMemory>
         requires { number + 1 < 2 ^ 64 }
         ensures { OnOk result ((v : ℕ) →

@@ -1,4 +1,4 @@
-//! A whole road map as a ground.
+//! A whole road map as the ground of a search.
 
 ghost use Rattle.std.specs.Prelude.{◌≡◌, ◌≤◌, ◌↔◌, ℕ, None, Some, IfOk, IfSome};
 ghost use Rattle.std.specs.Option.{option_copied};
@@ -19,7 +19,7 @@ use road_map::{Arc, Map, RisingIds, map_laws};
 use std::alloc::Global;
 use std::rc::Rc;
 
-/// A map in which every length passes.
+/// A map on which every length passes.
 #[derive(Clone, Copy)]
 pub struct WholeMap<'a> {
     pub map: &'a Map,
@@ -44,7 +44,7 @@ impl Ground for WholeMap<'_> {
     ghost lets_shorter = { λ w id short long le h. h };
 }
 
-/// The arcs out of an id, if it is known.
+/// Returns the arcs out of an id, if it is known.
 fn arcs_at(map: &Map, id: u32) -> Option<&[Arc]>
     ensures { option_copied result ≡ (map_ways map.now.parts).arcs id }
 {
@@ -55,7 +55,7 @@ fn arcs_at(map: &Map, id: u32) -> Option<&[Arc]>
     }
 }
 
-/// No label.
+/// Returns empty labels.
 fn no_labels(alloc: Global) -> Result<Labels, NoMemory>
     ensures labels { IfOk result (λ found. (id : ℕ) → listed found.labels id ≡ None) }
     ensures missing { IfOk result (λ found. found.missing ≡ None) }
@@ -64,7 +64,8 @@ fn no_labels(alloc: Global) -> Result<Labels, NoMemory>
     Ok(Labels::new(marks, None))
 }
 
-/// The distances from a node to one end and to all that is as near, by position, and then named by ids.
+/// Returns the distances from a node to one end and to all nodes as near. Searches by position and converts the
+/// result to ids.
 fn distances_by_position(alloc: Global, map: &Map, from: u32, to: u32) -> Result<Labels, NoMemory>
     requires { Knows map.now.parts from }
     ensures { IfOk result (MeasuresTo map.now.parts from to) }
@@ -83,9 +84,10 @@ fn distances_by_position(alloc: Global, map: &Map, from: u32, to: u32) -> Result
     Ok(Labels::new(found, None))
 }
 
-/// The distances from a node to one end and to all that is as near, and a shortest route to that end.
+/// Returns the distances from a node to one end and to all nodes as near, and a shortest route to that end.
 ///
-/// It costs what is as near as the end, or all that a walk leads to where none leads to the end. A length beyond that of the end says nothing.
+/// The cost depends on the nodes as near as the end or, if no walk leads to the end, on all nodes that walks reach.
+/// A length that exceeds that of the end has no meaning.
 pub fn distances_to(alloc: Global, map: &Map, from: u32, to: u32) -> Result<Labels, NoMemory>
     requires { Knows map.now.parts from }
     ensures end { IfOk result (λ found. length_at found to ≡ distance map.now.parts from to) }

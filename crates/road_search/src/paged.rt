@@ -1,4 +1,4 @@
-//! Marks in pages, by number.
+//! Marks by number, in pages.
 
 ghost use Rattle.std.specs.Prelude.{◌≡◌, ◌<◌, ◌/◌, ℕ, [], None, Some, OnOk, false, nat_eq, length, slice_get, if◌then◌else◌};
 ghost use Rattle.road_search.specs.Pages.{paged, on_page};
@@ -9,10 +9,10 @@ use octet_text::{NoMemory, push};
 use std::alloc::Global;
 use std::marker::Model;
 
-/// How many numbers share a page.
+/// The number of marks on a page.
 pub(crate) const PAGE: usize = 64;
 
-/// Marks of numbers. A page of them takes memory once one of its numbers is marked.
+/// Marks of numbers. A page takes memory once one of its numbers is marked.
 #[derive(Drop)]
 pub struct Paged {
     pages: Vec<Slots>,
@@ -26,7 +26,7 @@ impl Model for Paged {
     ghost view = { λ p. record { pages = p.pages.items } };
 }
 
-/// Pages up to this one, where there were fewer, without a mark.
+/// Adds empty pages up to this one.
 fn make_pages(pages: &mut Vec<Slots>, index: usize) -> Result<(), NoMemory>
     ensures there { OnOk result (index < length pages.new.items) }
     ensures same { OnOk result ((v : ℕ) → paged pages.new.items v ≡ paged pages.old.items v) }
@@ -38,7 +38,7 @@ fn make_pages(pages: &mut Vec<Slots>, index: usize) -> Result<(), NoMemory>
     Ok(())
 }
 
-/// Gives a place of a page this mark.
+/// Sets the mark at an index of a page.
 fn put_on(pages: &mut Vec<Slots>, index: usize, place: usize, new: Mark) -> Result<(), NoMemory>
     requires there { index < length pages.old.items }
     requires place { place < 64 }
@@ -53,7 +53,7 @@ fn put_on(pages: &mut Vec<Slots>, index: usize, place: usize, new: Mark) -> Resu
 }
 
 impl Paged {
-    /// No mark.
+    /// Makes an empty store.
     pub(crate) fn new(alloc: Global) -> Paged
         ensures { result.pages ≡ [] }
     {
@@ -62,21 +62,21 @@ impl Paged {
         }
     }
 
-    /// Marks in these pages.
+    /// Makes marks from these pages.
     pub(crate) fn of(pages: Vec<Slots>) -> Paged
         ensures { result.pages ≡ pages.items }
     {
         Paged { pages }
     }
 
-    /// The pages, with room or without.
+    /// Returns the pages, with memory or without.
     pub(crate) fn pages(&self) -> &[Slots]
         ensures { result.now ≡ self.now.pages }
     {
         self.pages.as_slice()
     }
 
-    /// Whether there is room on a page. Where there is none, its numbers have no mark.
+    /// Tests whether a page has memory. If not, its numbers have no mark.
     pub(crate) fn has_room(&self, index: usize) -> bool
         ensures { result ≡ false → (v : ℕ) → v / 64 ≡ index → paged self.now.pages v ≡ None }
     {
@@ -86,7 +86,7 @@ impl Paged {
         }
     }
 
-    /// The mark of a number.
+    /// Returns the mark of a number.
     pub(crate) fn at(&self, number: usize) -> Option<Mark>
         ensures { result ≡ paged self.now.pages number }
     {
@@ -96,7 +96,7 @@ impl Paged {
         }
     }
 
-    /// Gives a number this mark.
+    /// Sets the mark of a number.
     pub(crate) fn put(&mut self, number: usize, new: Mark) -> Result<(), NoMemory>
         ensures { OnOk result ((v : ℕ) → paged self.new.pages v ≡
             (if nat_eq number v then Some new else paged self.old.pages v)) }

@@ -9,7 +9,7 @@ use road_map::{Map, RisingIds};
 use std::alloc::Global;
 use std::rc::Rc;
 
-/// The ids of a map's nodes, ascending.
+/// Returns the ids of a map's nodes in ascending order.
 pub fn rising_ids(alloc: Global, map: &Map) -> Result<Vec<u32>, NoMemory>
     ensures ids { IfOk result (λ found. found.items ≡ ids map.now.order) }
     ensures rise { IfOk result (λ found. AreRising found.items) }
@@ -19,7 +19,7 @@ pub fn rising_ids(alloc: Global, map: &Map) -> Result<Vec<u32>, NoMemory>
     Ok(found.into_vec())
 }
 
-/// The same, in which an id is found quickly, as the map keeps them.
+/// Returns the same ids with fast look-up, as the map keeps them.
 pub fn placed_ids(_alloc: Global, map: &Map) -> Result<Rc<RisingIds>, NoMemory>
     ensures ids { IfOk result (λ found. found.value ≡ ids map.now.order) }
     ensures rise { IfOk result (λ found. AreRising found.value) }

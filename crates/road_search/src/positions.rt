@@ -1,4 +1,4 @@
-//! A shortest route, found from position to position.
+//! Finding a shortest route by position.
 
 ghost use Rattle.std.specs.Prelude.{◌≡◌, IfOk, IfSome, map as every};
 ghost use Rattle.std.specs.Option.{option_map};
@@ -15,7 +15,7 @@ use octet_text::{NoMemory, push, room_for};
 use road_map::{Ids, Map, map_laws};
 use std::alloc::Global;
 
-/// The ids of the nodes at positions.
+/// Returns the ids of the nodes at positions.
 pub(crate) fn ids_at(alloc: Global, map: &Map, positions: &[u32]) -> Result<Vec<u32>, NoMemory>
     ensures { IfOk result (λ ids. ids.items ≡ every (id_at map.now.order) positions.now) }
 {
@@ -26,7 +26,8 @@ pub(crate) fn ids_at(alloc: Global, map: &Map, positions: &[u32]) -> Result<Vec<
     Ok(ids)
 }
 
-/// A shortest route between two nodes, if a walk joins them. Only the nodes of the route are named by their ids.
+/// Returns a shortest route between two nodes, if a walk joins them. Looks up the ids of the route's nodes only, by
+/// position.
 pub fn shortest_by_position(
     alloc: Global,
     map: &Map,

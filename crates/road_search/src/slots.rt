@@ -1,4 +1,4 @@
-//! Marks in a list, each in as little room as its parts take.
+//! Marks in a list. They take only as much memory as their parts.
 
 ghost use Rattle.std.specs.Prelude.{◌≡◌, ◌+◌, ◌<◌, ◌^◌, ◌++◌, ◌∷◌, [], ℕ, None, Some, IfOk, OnOk, nat_eq, length, map, if◌then◌else◌};
 ghost use Rattle.road_search.specs.Marking.{marked};
@@ -10,7 +10,7 @@ use octet_text::{NoMemory, fill_up, push, room_for};
 use std::alloc::Global;
 use std::marker::Model;
 
-/// Whether there is a mark, and whether it can't fall any more.
+/// Whether a mark exists, and whether it is final.
 #[derive(Clone, Copy, Debug)]
 pub enum State {
     Free,
@@ -18,7 +18,7 @@ pub enum State {
     Settled,
 }
 
-/// Room for a mark: the parts of its label, and whether there is one.
+/// The memory of a mark: the parts of its label, and whether it exists.
 #[derive(Clone, Copy, Debug)]
 pub struct Slot {
     pub length: u64,
@@ -27,7 +27,7 @@ pub struct Slot {
     pub state: State,
 }
 
-/// No mark.
+/// A slot without a mark.
 const FREE: Slot = Slot {
     length: 0,
     hops: 0,
@@ -35,7 +35,7 @@ const FREE: Slot = Slot {
     state: State::Free,
 };
 
-/// Marks by number, where there is one. Contracts see the list of them.
+/// Marks by number. Contracts treat them as a list.
 #[derive(Drop)]
 pub struct Slots {
     slots: Vec<Slot>,
@@ -52,7 +52,7 @@ impl Model for Slots {
     ghost view = { λ s. record { items = map mark_in s.slots.items } };
 }
 
-/// The room of a mark.
+/// Returns the slot for a mark, or for no mark.
 fn slot_of(mark: Option<Mark>) -> Slot
     ensures { mark_in result ≡ mark }
 {
@@ -71,7 +71,7 @@ fn slot_of(mark: Option<Mark>) -> Slot
     }
 }
 
-/// The mark in a room.
+/// Returns the mark in a slot.
 fn mark_in(slot: &Slot) -> Option<Mark>
     ensures { result ≡ mark_in slot.now }
 {
@@ -93,7 +93,7 @@ fn mark_in(slot: &Slot) -> Option<Mark>
     }
 }
 
-/// Makes room for a number, and gives it no mark.
+/// Adds slots up to a number, without marks.
 fn make_room(slots: &mut Vec<Slot>, number: usize) -> Result<(), NoMemory>
     requires { number + 1 < 2 ^ 64 }
     ensures room { OnOk result (number < length slots.new.items) }
@@ -107,7 +107,7 @@ fn make_room(slots: &mut Vec<Slot>, number: usize) -> Result<(), NoMemory>
     Ok(())
 }
 
-/// Puts a mark into the room of a number.
+/// Stores a slot at a number.
 fn put_slot(slots: &mut Vec<Slot>, number: usize, new: Slot) -> Result<(), NoMemory>
     requires { number + 1 < 2 ^ 64 }
     ensures { OnOk result ((v : ℕ) →
@@ -120,7 +120,7 @@ fn put_slot(slots: &mut Vec<Slot>, number: usize, new: Slot) -> Result<(), NoMem
 }
 
 impl Slots {
-    /// No mark.
+    /// Makes an empty list.
     pub fn new(alloc: Global) -> Slots
         ensures { result.items ≡ [] }
     {
@@ -129,7 +129,7 @@ impl Slots {
         }
     }
 
-    /// No mark, and room for as many as others have.
+    /// Makes a list without marks, with as many slots as another list.
     pub fn as_many_as(alloc: Global, others: &Slots) -> Result<Slots, NoMemory>
         ensures { IfOk result (λ slots. slots.items ≡ []) }
     {
@@ -137,14 +137,14 @@ impl Slots {
         Ok(Slots { slots })
     }
 
-    /// How many numbers have room.
+    /// Returns the number of slots.
     pub fn len(&self) -> usize
         ensures { result ≡ length self.now.items }
     {
         self.slots.len()
     }
 
-    /// The mark of a number.
+    /// Returns the mark of a number.
     pub fn get(&self, number: usize) -> Option<Mark>
         ensures { result ≡ marked self.now.items number }
     {
@@ -154,7 +154,7 @@ impl Slots {
         }
     }
 
-    /// Room for this many numbers, where there was less.
+    /// Appends free slots up to `count` slots.
     pub fn widen(&mut self, count: usize) -> Result<(), NoMemory>
         ensures { OnOk result ((v : ℕ) → marked self.new.items v ≡ marked self.old.items v) }
     {
@@ -162,7 +162,7 @@ impl Slots {
         Ok(())
     }
 
-    /// Gives a number this mark.
+    /// Sets the mark of a number.
     pub fn put(&mut self, number: usize, new: Mark) -> Result<(), NoMemory>
         requires { number + 1 < 2 ^ 64 }
         ensures { OnOk result ((v : ℕ) →
@@ -172,7 +172,7 @@ impl Slots {
         put_slot(&mut self.slots, number, slot_of(Some(new)))
     }
 
-    /// Gives the next number this mark, or none.
+    /// Sets the mark of the next number, or leaves the number without a mark.
     pub fn push(&mut self, mark: Option<Mark>) -> Result<(), NoMemory>
         ensures { OnOk result (self.new.items ≡ self.old.items ++ mark ∷ []) }
     {
@@ -180,7 +180,7 @@ impl Slots {
         Ok(())
     }
 
-    /// Takes all marks away, and keeps the room.
+    /// Removes all marks and keeps the memory.
     pub fn clear(&mut self)
         ensures { (v : ℕ) → marked self.new.items v ≡ None }
     {

@@ -1,26 +1,26 @@
-//! What is asked of the program itself, in place of a run.
+//! Questions about the program itself. Such a question replaces a run.
 
 use crate::usage::{Commands, KIT, Usage, VERSION, usage_of};
 use road_command::Words;
 use std::fmt::{self, Display, Formatter};
 
-/// What arguments ask to be told of the program. It is the answer too.
+/// A question about the program. Its `Display` gives the answer.
 #[derive(Clone, Copy)]
 pub enum Asked {
-    /// What the program is, and each command with what it does.
+    /// What is the program, and what does each command do?
     Help,
-    /// What one command does.
+    /// What does this command do?
     Command(&'static Usage),
-    /// Which version the program is.
+    /// Which version of the program is this?
     Version,
 }
 
-/// What arguments ask to be told of the program, if they do.
+/// Returns the question about the program that the arguments ask, if they ask one.
 pub fn asked_of(words: &Words) -> Option<Asked> {
     match words.count() {
         1 => match words.word(0) {
             "help" | "--help" | "-h" => Some(Asked::Help),
-            "--version" => Some(Asked::Version),
+            "--version" | "-V" => Some(Asked::Version),
             _ => None,
         },
         2 => command_asked(words.word(0), words.word(1)),
@@ -28,7 +28,7 @@ pub fn asked_of(words: &Words) -> Option<Asked> {
     }
 }
 
-/// The command that two arguments ask to be told of, if they do.
+/// Returns the command that two arguments ask about, if they do.
 fn command_asked(first: &str, second: &str) -> Option<Asked> {
     let name = match (first, second) {
         ("help", name) => name,
@@ -46,7 +46,7 @@ impl Display for Asked {
                 f,
                 "road_proof {VERSION}, for {KIT}\nShortest routes that prove themselves. Its documents are README.md and the folder docs.\n{Commands}"
             ),
-            Asked::Command(usage) => write!(f, "{usage}"),
+            Asked::Command(usage) => write!(f, "{usage}{}", usage.more),
             Asked::Version => write!(f, "road_proof {VERSION}, for {KIT}"),
         }
     }

@@ -1,8 +1,8 @@
-//! Faults of the files of the DIMACS shortest path challenge.
+//! Errors in files of the DIMACS shortest path challenge.
 
 use dimacs_reader::DimacsError;
 
-/// The file that a fault is said of, of a graph and its coordinates.
+/// Returns the name of the file that has the fault: the graph or its coordinates.
 pub fn faulty_file<'a>(graph: &'a str, places: &'a str, fault: DimacsError) -> &'a str {
     match fault {
         DimacsError::NoProblem(2)

@@ -1,23 +1,26 @@
-//! What is known of a file that the end of a run is said of.
+//! The known contents of the file that the message about a run names.
 
 use crate::hex_text::{WrongHex, digits_of};
 use crate::looks::{Look, look_of};
 use command_files::{Ended, Fault};
 use road_command::{Command, Words, command_of};
 
-/// What is known of a file.
+/// The known contents of a file.
 #[derive(Clone, Copy)]
 pub enum Content<'a> {
-    /// Nothing: it was not loaded, or a key was to be made from it.
+    /// Nothing is known: the file was not loaded, or a key was to be made from it.
     Unknown,
-    /// The front of what a road file, a graph, its coordinates, a publication, a chain file or a reply holds.
-    Octets(&'a [u8]),
-    /// How a file is not its hex digits, and what it looks like. It may be a secret's, and no octet of it is kept.
+    /// The first octets of a road file, a graph, its coordinates, a publication, a chain file or a reply, and the
+    /// length of the file in octets.
+    Octets { front: &'a [u8], length: usize },
+    /// How a file differs from the required hex digits, and what kind of file it looks like. The file may hold a
+    /// secret, so none of its octets is kept.
     Hex { wrong: WrongHex, look: Option<Look> },
 }
 
 impl<'a> Content<'a> {
-    /// What is known of a file of a run that ended so, which has so many octets and begins with these.
+    /// Returns the known contents of a file after a run that ended in this way. The file has `length` octets and
+    /// begins with `front`.
     pub fn of(
         words: &Words,
         ended: Ended,
@@ -30,11 +33,14 @@ impl<'a> Content<'a> {
                 Content::of_hex(text, length, digits_of(command, name))
             }
             (_, Some(Command::Key { .. } | Command::Succeed { .. })) => Content::Unknown,
-            _ => Content::Octets(text),
+            _ => Content::Octets {
+                front: text,
+                length,
+            },
         }
     }
 
-    /// What is known of a file that does not encode so many hex digits.
+    /// Returns the known contents of a file that does not hold the required hex digits.
     pub fn of_hex(text: &[u8], length: usize, wanted: Option<usize>) -> Content<'a> {
         Content::Hex {
             wrong: WrongHex::of(text, length, wanted),
@@ -42,19 +48,30 @@ impl<'a> Content<'a> {
         }
     }
 
-    /// The octets, none where they are not kept.
+    /// Returns the octets that are kept. The slice is empty if none are.
     pub fn octets(&self) -> &'a [u8] {
         match self {
-            Content::Octets(octets) => *octets,
+            Content::Octets { front, length: _ } => *front,
             _ => &[],
         }
     }
 
-    /// What the file looks like, if it looks like anything known here.
+    /// Tests whether only a line end follows from this offset on.
+    pub fn ends_a_line_at(&self, offset: u32) -> bool {
+        match self {
+            Content::Octets { front, length } => {
+                let at = offset as usize;
+                *length == at.saturating_add(1) && front.get(at) == Some(&b'\n')
+            }
+            _ => false,
+        }
+    }
+
+    /// Returns what kind of file it looks like, if this is a known kind.
     pub fn look(&self) -> Option<Look> {
         match self {
             Content::Unknown => None,
-            Content::Octets(octets) => look_of(*octets),
+            Content::Octets { front, length: _ } => look_of(*front),
             Content::Hex { wrong: _, look } => *look,
         }
     }

@@ -1,24 +1,25 @@
-//! Files that are not exactly their hex digits.
+//! Files that do not consist of the required hex digits.
 
 use road_command::Command;
 use std::fmt::{self, Display, Formatter};
 
-/// How a text does not encode as many hex digits as are wanted, or, where no number is, an even number of them. It has
-/// counts and an offset alone, and no octet of the text, which may be a secret.
+/// How a text differs from the required number of hex digits or, if no number is required, from an even number of
+/// them. It holds only counts and an offset. It holds no octet of the text, which may be a secret.
 #[derive(Clone, Copy, Debug, PartialEq, Eq)]
 pub struct WrongHex {
-    /// How many octets stand before the line end.
+    /// The number of octets before the line end.
     found: usize,
-    /// The offset of the first of them that is no hex digit.
+    /// The offset of the first octet that is not a hex digit.
     place: Option<usize>,
-    /// How many digits are wanted.
+    /// The required number of digits.
     wanted: Option<usize>,
-    /// How many octets there are in all, where more than were looked at.
+    /// The number of all octets, if only some of them were examined.
     all: Option<usize>,
 }
 
 impl WrongHex {
-    /// How a text of so many octets, which begins with these, does not encode so many hex digits.
+    /// Returns how a text differs from the required hex digits. `text` has its first octets, and `length` is the
+    /// number of all its octets.
     pub fn of(text: &[u8], length: usize, wanted: Option<usize>) -> WrongHex {
         let line = without_line_end(text);
         WrongHex {
@@ -62,7 +63,7 @@ impl Display for WrongHex {
     }
 }
 
-/// A text without the line end that may close it.
+/// Returns a text without its final line end, if it has one.
 fn without_line_end(text: &[u8]) -> &[u8] {
     match text {
         [line @ .., b'\r', b'\n'] => line,
@@ -71,7 +72,8 @@ fn without_line_end(text: &[u8]) -> &[u8] {
     }
 }
 
-/// How many hex digits a command's file of this name must have, unless any even number will do.
+/// Returns the number of hex digits that a command requires of its file with this name. Returns `None` if any even
+/// number is allowed.
 pub fn digits_of(command: Option<Command<'_>>, name: &str) -> Option<usize> {
     match command {
         Some(Command::Key { .. } | Command::Succeed { .. }) => Some(96),

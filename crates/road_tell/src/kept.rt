@@ -1,13 +1,14 @@
-//! What of a run's files is kept for what is said of it.
+//! The parts of a run's files that are kept for its message.
 
 use crate::challenge::faulty_file;
 use command_files::{Ended, Fault};
 use road_command::{Command, Words, command_of};
 
-/// The most octets of a file that are kept where only its front is told of.
+/// The greatest number of octets that are kept of a file if its first octets suffice.
 const FRONT: usize = 65_536;
 
-/// How many octets of each file are kept: all of those whose lines are told of, which list roads.
+/// Returns the number of octets to keep of each file. Files that list roads are kept as a whole, since messages
+/// name their lines.
 pub fn most_kept(words: &Words) -> usize {
     match command_of(words) {
         Some(
@@ -20,7 +21,7 @@ pub fn most_kept(words: &Words) -> usize {
     }
 }
 
-/// The file that a run's end is said of, where this one was asked for last.
+/// Returns the file that the message about a run names, if `last` is the last file loaded.
 pub fn subject_of<'a>(words: &'a Words, ended: Ended, last: &'a str) -> &'a str {
     match (ended.fault, command_of(words)) {
         (Some(Fault::Dimacs(fault)), Some(Command::Dimacs { graph, places })) => {

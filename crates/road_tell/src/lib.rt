@@ -1,8 +1,8 @@
-//! What standard error says: sentences over values, each for somebody who has not read the code.
+//! The messages on standard error. They are written for readers who have not read the code.
 //!
-//! Each message is a value with a `Display`, and takes no memory. A sentence says no more than its
-//! value does. `message_on` is what is said of a whole run, by what was kept of its files and of its
-//! output. Nothing is read again for it.
+//! Each message is a value with a `Display` implementation, and takes no memory. It states no more than the value
+//! does. `message_on` gives the message about a whole run, from the parts of its files and of its output that were
+//! kept. It reads nothing again.
 #![tactic(auto)]
 
 pub use asked::{Asked, asked_of};

@@ -1,8 +1,8 @@
-//! What octets look like by their first few.
+//! Recognising files by their first octets.
 
 use std::fmt::{self, Display, Formatter};
 
-/// What a file looks like.
+/// A kind of file that can be recognised.
 #[derive(Clone, Copy, Debug, PartialEq, Eq)]
 pub enum Look {
     Empty,
@@ -15,7 +15,7 @@ pub enum Look {
     Chain,
 }
 
-/// What octets look like, if they look like anything known here.
+/// Returns the kind of file that octets look like, if this is a known kind.
 pub fn look_of(text: &[u8]) -> Option<Look> {
     match text {
         [] => Some(Look::Empty),

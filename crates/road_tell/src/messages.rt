@@ -1,4 +1,4 @@
-//! What standard error says of a run.
+//! The message about a run.
 
 use crate::challenge::faulty_file;
 use crate::content::Content;
@@ -20,34 +20,34 @@ use road_reader::{RoadError, natural, split_word};
 use std::fmt::{self, Display, Formatter};
 use std::io::{self, ErrorKind};
 
-/// What is known of a run besides its arguments and its end.
+/// The known facts about a run besides its arguments and its end.
 #[derive(Clone, Copy)]
 pub struct Facts<'a> {
-    /// The name of the file that was asked for last.
+    /// The name of the last file loaded.
     pub name: &'a str,
-    /// What is known of the file that the run's end is said of, as `subject_of` names it.
+    /// The known contents of the file that the message names (see `subject_of`).
     pub file: Content<'a>,
-    /// The system's reason why that file was not read.
+    /// The system's reason why that file could not be read.
     pub file_error: Option<io::Error>,
-    /// The system's reason why the input was not read.
+    /// The system's reason why the input could not be read.
     pub source_error: Option<io::Error>,
-    /// The system's reason why the output was not written.
+    /// The system's reason why the output could not be written.
     pub sink_error: Option<io::Error>,
     /// The system's reason why the owner's file failed.
     pub desk_error: Option<io::Error>,
-    /// The front of what the run wrote to standard output.
+    /// The first octets of the run's standard output.
     pub line: &'a [u8],
-    /// The short name of the public key that was loaded, where one was.
+    /// The short name of the public key that was loaded, if any.
     pub key: Option<ShortName>,
-    /// How many maps the owner's key can still sign, where one was signed.
+    /// The number of maps that the owner's key can still sign, if a map was signed.
     pub left: Option<u32>,
 }
 
-/// How many one-time keys left are few.
+/// The greatest number of remaining one-time keys for which the message warns that few are left.
 const FEW: u32 = 3;
 
-/// What is said of a run: lines of the form `road_proof: WHAT: SENTENCE`, and the command's line where an
-/// argument is wrong.
+/// The message about a run: lines of the form `road_proof: WHAT: SENTENCE`, and the command's usage if an argument
+/// is wrong.
 #[derive(Clone, Copy)]
 pub struct Message<'a> {
     words: &'a Words,
@@ -56,7 +56,7 @@ pub struct Message<'a> {
     facts: Facts<'a>,
 }
 
-/// What is said of a run, if anything is.
+/// Returns the message about a run, if there is one.
 pub fn message_on<'a>(words: &'a Words, ended: Ended, facts: Facts<'a>) -> Option<Message<'a>> {
     let message = Message {
         words,
@@ -87,8 +87,8 @@ impl Display for Message<'_> {
 }
 
 impl<'a> Message<'a> {
-    /// Whether there is nothing to say: all was done, few one-time keys are not left, and no reply without a route
-    /// was accepted.
+    /// Tests whether there is nothing to report: the work was done, more than a few one-time keys are left, and no
+    /// reply without a route was accepted.
     fn is_silent(&self) -> bool {
         if self.ended.status != 0 || self.ended.fault.is_some() {
             return false;
@@ -103,7 +103,8 @@ impl<'a> Message<'a> {
         }
     }
 
-    /// The ends between which no walk leads, and the version of the map that shows it, by a reply that was accepted.
+    /// Returns the ends that no walk joins, and the version of the map that shows this, if such a reply was
+    /// accepted.
     fn apart(&self) -> Option<(Query, u64)> {
         let query = match self.command {
             Some(Command::Check { query, .. } | Command::Audit { query, .. }) => query,
@@ -115,7 +116,7 @@ impl<'a> Message<'a> {
         }
     }
 
-    /// Why the reply was refused, by the line that was written.
+    /// Returns why the reply was refused, from the line that was written.
     fn refusal(&self) -> Option<Unusable> {
         let line = self.facts.line;
         match self.command {
@@ -129,7 +130,7 @@ impl<'a> Message<'a> {
         }
     }
 
-    /// What is said where no fault was met.
+    /// Writes the sentence about a run without a fault.
     fn verdict<W: fmt::Write>(&self, f: &mut Formatter<W>) -> fmt::Result {
         if let Some(Command::Reduce { signature, .. }) = self.command {
             return self.reduced(f, signature);
@@ -154,6 +155,12 @@ impl<'a> Message<'a> {
                 if why.is_unsigned() {
                     self.key_name(f)?;
                 }
+                if why
+                    .malformed_at()
+                    .is_some_and(|at| self.facts.file.ends_a_line_at(at))
+                {
+                    f.write_str(" It is longer than what can be read by one octet, a line end.")?;
+                }
                 self.look(f, reply_look(self.command))
             }
             (1, None) => write!(
@@ -169,7 +176,7 @@ impl<'a> Message<'a> {
         }
     }
 
-    /// What is said of a signature on a text that the desk did not sign.
+    /// Writes the sentence about a signature of a text that the desk did not sign.
     fn reduced<W: fmt::Write>(&self, f: &mut Formatter<W>, signature: &str) -> fmt::Result {
         if self.ended.status == 1 {
             write!(
@@ -184,7 +191,7 @@ impl<'a> Message<'a> {
         }
     }
 
-    /// The short name of the public key under which a reply is not signed.
+    /// Writes the short name of the public key under which a reply is not signed.
     fn key_name<W: fmt::Write>(&self, f: &mut Formatter<W>) -> fmt::Result {
         match self.facts.key {
             Some(name) => write!(f, " The short name of this public key is {name}."),
@@ -192,7 +199,7 @@ impl<'a> Message<'a> {
         }
     }
 
-    /// The key's short name, after `desk`, and the warning that few one-time keys are left.
+    /// Writes the short name of the key after `desk`, and the warning that few one-time keys are left.
     fn keys<W: fmt::Write>(&self, f: &mut Formatter<W>) -> fmt::Result {
         let (name, left) = match self.command {
             Some(Command::Desk) => (
@@ -217,7 +224,7 @@ impl<'a> Message<'a> {
         }
     }
 
-    /// Which argument is wrong, and why.
+    /// Writes which argument is wrong, and why.
     fn wrong_words<W: fmt::Write>(&self, f: &mut Formatter<W>) -> fmt::Result {
         match wrong_words(self.words) {
             Some(wrong) => write!(f, "{wrong}"),
@@ -225,7 +232,7 @@ impl<'a> Message<'a> {
         }
     }
 
-    /// Why the output was not written, and what was done before.
+    /// Writes why the output could not be written, and what was done before.
     fn output<W: fmt::Write>(&self, f: &mut Formatter<W>) -> fmt::Result {
         f.write_str("road_proof: standard output: It was not written whole")?;
         reason(f, self.facts.sink_error)?;
@@ -238,7 +245,7 @@ impl<'a> Message<'a> {
         }
     }
 
-    /// What a fault is said of.
+    /// Returns the name that begins the message about a fault.
     fn what(&self, fault: Fault) -> &'a str {
         match fault {
             Fault::Disk
@@ -267,7 +274,7 @@ impl<'a> Message<'a> {
         }
     }
 
-    /// What is said of it.
+    /// Writes the sentence about a fault.
     fn sentence<W: fmt::Write>(&self, f: &mut Formatter<W>, fault: Fault) -> fmt::Result {
         match fault {
             Fault::Map(fault) => self.map(f, fault),
@@ -298,7 +305,7 @@ impl<'a> Message<'a> {
         }
     }
 
-    /// What is said of a file that was not read, or not as what it should be.
+    /// Writes the sentence about a file that could not be read, or is not of the right kind.
     fn file<W: fmt::Write>(&self, f: &mut Formatter<W>, fault: Fault) -> fmt::Result {
         match fault {
             Fault::TooLong => f.write_str(
@@ -346,7 +353,7 @@ impl<'a> Message<'a> {
         }
     }
 
-    /// Which word of a line is no number of its range, and what it must be.
+    /// Writes which word of a line is not a number in the allowed range, and what it must be.
     fn number<W: fmt::Write>(&self, f: &mut Formatter<W>, line: u32) -> fmt::Result {
         match bad_number(self.facts.file.octets(), line) {
             Some(bad) => write!(f, "{bad}"),
@@ -354,7 +361,7 @@ impl<'a> Message<'a> {
         }
     }
 
-    /// What the file that was asked for last should be, where it could not be read.
+    /// Returns the required kind of the last file loaded, if the file could not be read as that kind.
     fn malformed(&self) -> (&'static str, Look) {
         match chain_of(self.command) {
             Some(chain) if chain == self.facts.name => ("chain file", Look::Chain),
@@ -362,7 +369,7 @@ impl<'a> Message<'a> {
         }
     }
 
-    /// What the file looks like, where it looks like anything but this.
+    /// Writes what kind of file it looks like, if it looks like another kind.
     fn look<W: fmt::Write>(&self, f: &mut Formatter<W>, wanted: Look) -> fmt::Result {
         match self.facts.file.look() {
             Some(look) if look != wanted => write!(f, " {look}"),
@@ -370,7 +377,7 @@ impl<'a> Message<'a> {
         }
     }
 
-    /// The rule of maps that is broken, with the line of a road file.
+    /// Writes which rule of maps is broken, and in which line of a road file.
     fn map<W: fmt::Write>(&self, f: &mut Formatter<W>, fault: MapError) -> fmt::Result {
         let place = match self.command {
             Some(
@@ -389,7 +396,7 @@ impl<'a> Message<'a> {
         }
     }
 
-    /// Why settings and a map have no book.
+    /// Writes why settings and a map have no book.
     fn plan<W: fmt::Write>(&self, f: &mut Formatter<W>, fault: PlanError) -> fmt::Result {
         match (fault, settings_of(self.command)) {
             (PlanError::Settings(number), Some(method)) => {
@@ -404,7 +411,7 @@ impl<'a> Message<'a> {
         }
     }
 
-    /// Why no more frames were taken.
+    /// Writes why no more frames were taken.
     fn input<W: fmt::Write>(&self, f: &mut Formatter<W>, fault: Fault) -> fmt::Result {
         match fault {
             Fault::TruncatedFrame => f.write_str("It ends within a frame."),
@@ -421,7 +428,7 @@ impl<'a> Message<'a> {
         }
     }
 
-    /// What is said of the owner's file.
+    /// Writes the sentence about the owner's file.
     fn desk<W: fmt::Write>(&self, f: &mut Formatter<W>, fault: Fault) -> fmt::Result {
         match fault {
             Fault::KeysUsedUp => f.write_str(
@@ -459,7 +466,7 @@ impl<'a> Message<'a> {
     }
 }
 
-/// The warning that few one-time keys are left.
+/// Writes the warning that few one-time keys are left.
 fn few_left<W: fmt::Write>(f: &mut Formatter<W>, left: u32) -> fmt::Result {
     let keys = if left == 1 { "key is" } else { "keys are" };
     write!(
@@ -468,14 +475,14 @@ fn few_left<W: fmt::Write>(f: &mut Formatter<W>, left: u32) -> fmt::Result {
     )
 }
 
-/// How many maps the owner's key can still sign, by the line of `desk`.
+/// Returns the number of maps that the owner's key can still sign, from the line of `desk`.
 fn left_in(line: &[u8]) -> Option<u32> {
     let (_, rest) = split_word(line);
     let (left, _) = split_word(rest);
     natural(left)
 }
 
-/// The version that a header says.
+/// Returns the version in a header.
 fn version_of(header: &[u8]) -> Option<u64> {
     match header {
         [
@@ -501,7 +508,7 @@ fn version_of(header: &[u8]) -> Option<u64> {
     }
 }
 
-/// What an accepted reply without a route says.
+/// Writes the content of an accepted reply without a route.
 fn apart<W: fmt::Write>(
     f: &mut Formatter<W>,
     reply: &str,
@@ -515,7 +522,7 @@ fn apart<W: fmt::Write>(
     )
 }
 
-/// The name that is printed of a file: one of 64 hex digits or more looks like a secret, and is not printed.
+/// Returns the name to print for a file. A name with 64 or more hex digits looks like a secret and is not printed.
 fn without_secret(name: &str) -> &str {
     if name.len() >= 64
         && name
@@ -528,7 +535,7 @@ fn without_secret(name: &str) -> &str {
     name
 }
 
-/// The system's reason, and the sentence's end.
+/// Writes the system's reason, and ends the sentence.
 fn reason<W: fmt::Write>(f: &mut Formatter<W>, error: Option<io::Error>) -> fmt::Result {
     match error {
         Some(e) => write!(f, ": {e}."),
@@ -536,7 +543,7 @@ fn reason<W: fmt::Write>(f: &mut Formatter<W>, error: Option<io::Error>) -> fmt:
     }
 }
 
-/// The name of a command's reply.
+/// Returns the file name of a command's reply.
 fn reply_of(command: Option<Command<'_>>) -> &str {
     match command {
         Some(
@@ -549,7 +556,7 @@ fn reply_of(command: Option<Command<'_>>) -> &str {
     }
 }
 
-/// What a command's reply brings, with its verb.
+/// Returns what a command's reply holds, with a verb.
 fn brought(command: Option<Command<'_>>) -> &'static str {
     match command {
         Some(Command::CheckReach { .. } | Command::AuditReach { .. }) => "The nodes are",
@@ -557,7 +564,7 @@ fn brought(command: Option<Command<'_>>) -> &'static str {
     }
 }
 
-/// What a command's reply should look like.
+/// Returns the kind of file that a command's reply should look like.
 fn reply_look(command: Option<Command<'_>>) -> Look {
     match command {
         Some(Command::CheckReach { .. } | Command::AuditReach { .. }) => Look::NearReply,
@@ -565,7 +572,7 @@ fn reply_look(command: Option<Command<'_>>) -> Look {
     }
 }
 
-/// The name of a command's public key.
+/// Returns the file name of a command's public key.
 pub fn key_of(command: Option<Command<'_>>) -> &str {
     match command {
         Some(
@@ -580,7 +587,7 @@ pub fn key_of(command: Option<Command<'_>>) -> &str {
     }
 }
 
-/// The name of a command's chain file, where one is named.
+/// Returns the file name of a command's chain, if one is given.
 fn chain_of(command: Option<Command<'_>>) -> Option<&str> {
     match command {
         Some(
@@ -594,7 +601,7 @@ fn chain_of(command: Option<Command<'_>>) -> Option<&str> {
     }
 }
 
-/// The name of the file that a command has its map from.
+/// Returns the file name of a command's map.
 fn map_of(command: Option<Command<'_>>) -> &str {
     match command {
         Some(
@@ -615,7 +622,7 @@ fn map_of(command: Option<Command<'_>>) -> &str {
     }
 }
 
-/// The name of the file of the challenge that a fault is said of.
+/// Returns the name of the challenge's file that has the fault.
 fn challenge_of(command: Option<Command<'_>>, fault: DimacsError) -> &str {
     match command {
         Some(Command::Dimacs { graph, places }) => faulty_file(graph, places, fault),
@@ -623,7 +630,7 @@ fn challenge_of(command: Option<Command<'_>>, fault: DimacsError) -> &str {
     }
 }
 
-/// The method that a command's settings ask for.
+/// Returns the method in the settings of a command, if it has settings.
 fn settings_of(command: Option<Command<'_>>) -> Option<u8> {
     match command {
         Some(Command::Publish { settings, .. }) => Some(settings.method),

@@ -3,13 +3,13 @@
 use octet_text::{Hasher, Sha};
 use std::fmt::{self, Display, Formatter};
 
-/// The short name of a public key: the first 8 hex digits of the SHA-256 of its 56 octets. It tells keys apart, and
-/// shows nothing: whoever tries makes another key of the same name.
+/// The short name of a public key: the first 8 hex digits of the SHA-256 of its 56 octets. It distinguishes keys
+/// but proves nothing: anyone can find another key with the same name by trying.
 #[derive(Clone, Copy, Debug, PartialEq, Eq)]
 pub struct ShortName(u32);
 
 impl ShortName {
-    /// The short name of a public key.
+    /// Returns the short name of a public key.
     pub fn of(public: &[u8; 56]) -> ShortName {
         let mut hasher = Sha::start();
         hasher.add(public);
@@ -17,7 +17,7 @@ impl ShortName {
         ShortName(u32::from_be_bytes([a, b, c, d]))
     }
 
-    /// The short name of the public key whose 112 hex digits a text begins with.
+    /// Returns the short name of a public key. The text must begin with the key's 112 hex digits.
     pub fn of_digits(text: &[u8]) -> Option<ShortName> {
         let digits = text.get(..112)?;
         let mut public = [0; 56];

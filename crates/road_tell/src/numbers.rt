@@ -1,20 +1,20 @@
-//! Words of a line that are no numbers of their ranges.
+//! Words that are not numbers in the allowed range.
 
 use crate::quoted::Quoted;
 use road_reader::{coordinate, natural, split_word, without_return};
 use std::fmt::{self, Display, Formatter};
 
-/// What a number must be.
+/// The allowed range of a number.
 #[derive(Clone, Copy, Debug, PartialEq, Eq)]
 pub enum Range {
-    /// 32 bits without a sign: an id, a length or a count.
+    /// A 32-bit number without a sign: an id, a length or a count.
     Natural,
-    /// 32 bits with a sign: a coordinate.
+    /// A 32-bit number with a sign: a coordinate.
     Coordinate,
 }
 
 impl Range {
-    /// Whether a word is a number of this range.
+    /// Tests whether a word is a number in this range.
     fn has(self, word: &[u8]) -> bool {
         match self {
             Range::Natural => natural(word).is_some(),
@@ -23,7 +23,7 @@ impl Range {
     }
 }
 
-/// A word that is no number of its range, in a line counted from 1.
+/// A word that is not a number in the allowed range, and its line, counted from 1.
 #[derive(Clone, Copy, Debug, PartialEq, Eq)]
 pub struct BadNumber<'a> {
     pub line: u32,
@@ -31,8 +31,8 @@ pub struct BadNumber<'a> {
     pub range: Range,
 }
 
-/// The first word of a line, counted from 1, that is no number of its range, in a road file, a graph or its
-/// coordinates.
+/// Returns the first word of a line that is not a number in the allowed range, in a road file, a graph or its
+/// coordinates. Lines are counted from 1.
 pub fn bad_number(text: &[u8], line: u32) -> Option<BadNumber<'_>> {
     let mut number = 0u32;
     for octets in text.split(|octet| *octet == b'\n') {
@@ -44,7 +44,7 @@ pub fn bad_number(text: &[u8], line: u32) -> Option<BadNumber<'_>> {
     None
 }
 
-/// The first word of a line's octets that is no number of its range.
+/// Returns the first word among a line's octets that is not a number in the allowed range.
 fn bad_number_in(line: u32, octets: &[u8]) -> Option<BadNumber<'_>> {
     let (kind, mut rest) = split_word(octets);
     for place in 0..6u32 {
@@ -62,7 +62,7 @@ fn bad_number_in(line: u32, octets: &[u8]) -> Option<BadNumber<'_>> {
     None
 }
 
-/// What the word at an index after a line's kind must be, where it must be a number.
+/// Returns the allowed range of the word at an index after a line's kind, if the word must be a number.
 fn range_of(kind: &[u8], place: u32, word: &[u8]) -> Option<Range> {
     let is_place = kind == b"node".as_slice() || kind == b"v".as_slice();
     if is_place && place > 0 {
@@ -74,7 +74,7 @@ fn range_of(kind: &[u8], place: u32, word: &[u8]) -> Option<Range> {
     Some(Range::Natural)
 }
 
-/// Whether a word belongs to the title of a problem line.
+/// Tests whether a word belongs to the fixed words of a problem line.
 fn is_title(word: &[u8]) -> bool {
     word == b"sp".as_slice() || word == b"aux".as_slice() || word == b"co".as_slice()
 }

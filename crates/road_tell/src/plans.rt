@@ -1,6 +1,6 @@
-//! Settings that are out of their ranges, by their names.
+//! Settings that are out of their ranges, by name.
 
-/// The name of a setting by its number in `PlanError::Settings`.
+/// Returns the name of a setting by its number in `PlanError::Settings`.
 pub fn setting_name(number: u8) -> &'static str {
     match number {
         0 => "METHOD",
@@ -12,7 +12,7 @@ pub fn setting_name(number: u8) -> &'static str {
     }
 }
 
-/// What a setting must be under a method, 1 DIJ, 2 FULL, 3 LDM, 4 HYP, where it is a setting of this number.
+/// Returns the rule for the setting with this number under a method (1 DIJ, 2 FULL, 3 LDM, 4 HYP).
 pub fn plan_rule(method: u8, number: u8) -> &'static str {
     match (number, method) {
         (0, _) => "It must be one of the four methods.",

@@ -1,12 +1,12 @@
-//! Words of a file, quoted.
+//! Quoting words from a file.
 
 use std::fmt::{self, Display, Formatter};
 
-/// The most octets of a word that are quoted.
+/// The greatest number of octets of a word that are quoted.
 const MOST: usize = 20;
 
-/// A word of a file, cut where it is long. A word that is not of visible ASCII characters is not shown, so that
-/// no file moves a terminal.
+/// A word from a file. A long word is cut. Only visible ASCII characters are shown, so no file can control a
+/// terminal.
 #[derive(Clone, Copy)]
 pub struct Quoted<'a>(pub &'a [u8]);
 

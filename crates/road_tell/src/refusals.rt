@@ -1,22 +1,22 @@
-//! Refused replies, for somebody who plans by them.
+//! Refusals of replies, for a reader who wants to rely on a reply.
 
 use lms_tree::SealError;
 use proof_judge::Refusal;
 use route_client::{CheckError, NearError};
 use std::fmt::{self, Display, Formatter};
 
-/// What is said of items that don't recompute a signed root.
+/// The sentence about items that do not recompute a signed root.
 const COVER: &str = "the roads in the reply are not shown to be those that were signed.";
 
-/// What is said where memory ran out.
+/// The sentence about memory that ran out.
 const MEMORY: &str = "the check ran out of memory.";
 
-/// The sentence on a reply that a client refused for this reason.
+/// Why a client refused a reply, displayed as a sentence.
 #[derive(Clone, Copy)]
 pub enum Unusable {
-    /// The reply is to bring a shortest route, or to show that there is none.
+    /// The reply should hold a shortest route, or show that no route exists.
     Route(CheckError),
-    /// The reply is to bring the nodes within a radius.
+    /// The reply should hold the nodes within a radius.
     Nodes(NearError),
 }
 
@@ -36,7 +36,7 @@ impl Display for Unusable {
 }
 
 impl Unusable {
-    /// Whether the header is not signed under the public key.
+    /// Tests whether the reason is that the header is not signed under the public key.
     pub fn is_unsigned(&self) -> bool {
         matches!(
             self,
@@ -45,7 +45,16 @@ impl Unusable {
         )
     }
 
-    /// Why a reply on a route is refused.
+    /// Returns the offset of the first field that cannot be read, if this is the reason.
+    pub fn malformed_at(&self) -> Option<u32> {
+        match self {
+            Unusable::Route(CheckError::Malformed(place))
+            | Unusable::Nodes(NearError::Malformed(place)) => Some(*place),
+            _ => None,
+        }
+    }
+
+    /// Writes why a reply for a route is refused.
     fn route<W: fmt::Write>(f: &mut Formatter<W>, why: CheckError) -> fmt::Result {
         match why {
             CheckError::NotAnswer(1) => f.write_str(
@@ -70,7 +79,7 @@ impl Unusable {
         }
     }
 
-    /// Why nodes are refused.
+    /// Writes why a reply for nodes is refused.
     fn nodes<W: fmt::Write>(f: &mut Formatter<W>, why: NearError) -> fmt::Result {
         match why {
             NearError::Malformed(place) => write!(
@@ -93,7 +102,7 @@ impl Unusable {
         }
     }
 
-    /// Which link of a chain is not signed.
+    /// Writes which link of a chain is not signed.
     fn chain<W: fmt::Write>(f: &mut Formatter<W>, link: u8) -> fmt::Result {
         write!(
             f,
@@ -101,7 +110,7 @@ impl Unusable {
         )
     }
 
-    /// Why a header is not signed.
+    /// Writes why a header is not signed.
     fn seal<W: fmt::Write>(f: &mut Formatter<W>, why: SealError) -> fmt::Result {
         f.write_str(match why {
             SealError::BadKey => {
@@ -113,8 +122,8 @@ impl Unusable {
         })
     }
 
-    /// What the signed roads say against the reply. It has a route or says that there is none, and each
-    /// sentence holds of both.
+    /// Writes how the signed roads contradict the reply. The reply has a route or claims that none exists; each
+    /// sentence fits both cases.
     fn judged<W: fmt::Write>(f: &mut Formatter<W>, why: Refusal) -> fmt::Result {
         match why {
             Refusal::RepeatedNode(id) => write!(f, "the reply has the node {id} twice."),

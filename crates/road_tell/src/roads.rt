@@ -1,4 +1,4 @@
-//! Where a road file breaks a rule of maps.
+//! The lines in which a road file breaks a rule of maps.
 
 use road_map::MapError;
 use road_reader::natural;
@@ -7,17 +7,17 @@ use std::fmt::{self, Display, Formatter};
 /// The line of a road file that breaks a rule of maps, counted from 1, and the id of the node.
 #[derive(Clone, Copy, Debug, PartialEq, Eq)]
 pub enum MapPlace {
-    /// Two lines list the node.
+    /// Two lines list the same node.
     RepeatedNode { line: u32, first: u32, id: u32 },
-    /// The line's road has an end that is no node.
+    /// The line's road has an end that is not a node.
     UnknownEnd { line: u32, id: u32 },
-    /// The line's road is from the node to itself.
+    /// The line's road joins a node to itself.
     SelfRoad { line: u32, id: u32 },
-    /// The line's node has more than 255 neighbours.
+    /// The node of the line has more than 255 neighbours.
     Crowded { line: u32, id: u32 },
 }
 
-/// Where a road file with this fault has it, if that can be told.
+/// Returns the place of a fault in a road file, if it can be found.
 pub fn place_of(text: &[u8], fault: MapError) -> Option<MapPlace> {
     match fault {
         MapError::RepeatedNode(id) => {
@@ -49,7 +49,7 @@ pub fn place_of(text: &[u8], fault: MapError) -> Option<MapPlace> {
     }
 }
 
-/// The ends of a line's road.
+/// The ends of the road in a line.
 #[derive(Clone, Copy)]
 struct RoadLine {
     line: u32,
@@ -57,7 +57,7 @@ struct RoadLine {
     b: u32,
 }
 
-/// The line of the road at this index, from 0.
+/// Returns the line of the road at this index, counted from 0.
 fn line_of_road(text: &[u8], index: u32) -> Option<RoadLine> {
     let mut line = 0u32;
     let mut passed = 0u32;
@@ -76,7 +76,7 @@ fn line_of_road(text: &[u8], index: u32) -> Option<RoadLine> {
     None
 }
 
-/// The line that lists a node, after so many that list it too.
+/// Returns the line that lists a node. Skips the first `after` lines that list it.
 fn line_of_node(text: &[u8], id: u32, after: u32) -> Option<u32> {
     let mut line = 0u32;
     let mut passed = 0u32;
@@ -93,7 +93,7 @@ fn line_of_node(text: &[u8], id: u32, after: u32) -> Option<u32> {
     None
 }
 
-/// The first three words of a line, empty where it has fewer.
+/// The first three words of a line. Missing words are empty.
 #[derive(Clone, Copy)]
 struct Front<'a> {
     kind: &'a [u8],
@@ -118,7 +118,7 @@ fn is_blank(octet: u8) -> bool {
     octet == b' ' || octet == b'\t'
 }
 
-/// The first word of a line, and what stands after it.
+/// Returns the first word of a line, and the text after it.
 fn split_word(line: &[u8]) -> (&[u8], &[u8]) {
     let start = line
         .iter()
@@ -156,7 +156,7 @@ impl Display for MapPlace {
     }
 }
 
-/// How many roads of length 0 a road file lists.
+/// Returns the number of roads with length 0 in a road file.
 pub fn zero_roads(text: &[u8]) -> u32 {
     let mut count = 0u32;
     for octets in text.split(|octet| *octet == b'\n') {

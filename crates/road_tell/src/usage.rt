@@ -1,91 +1,123 @@
-//! The commands, as they are typed.
+//! The usage of the commands.
 
 use std::fmt::{self, Display, Formatter};
 
 /// The program's version.
 pub const VERSION: &str = "0.1.0";
 
-/// The toolchain and the logic that the program is proved with.
+/// The toolchain and the logic with which the program is proved.
 pub const KIT: &str = "rattle-kit-13f logic dac8208d650f15bf";
 
-/// A command: its name and its arguments as they are typed, and what it does.
+/// A command: its name and arguments as they are typed, and what the command does.
 #[derive(Clone, Copy)]
 pub struct Usage {
-    /// The name, and a name for each argument after it; a last one in brackets may be left out.
+    /// The name of the command, and a name for each argument. The last arguments may be in brackets; these may be
+    /// left out.
     pub words: &'static str,
-    /// What it does.
+    /// What the command does.
     pub does: &'static str,
+    /// The text that `help` adds for this command: ranges, and recommendations.
+    pub more: &'static str,
 }
+
+/// The text of `help publish` about its nine arguments.
+const PUBLISHING: &str = "
+      VERSION  above that of the map before, as clients refuse older ones than they ask for
+      SEED     0, but for shuffled
+      FAN      2 to 32, how many children a tree's node has; 2 has the shortest replies
+      dij      0 0 0 for P1 P2 P3; nothing is prepared, and replies have all nodes nearer than T
+      full     0 0 0; at most 1024 nodes, whose distances are all signed
+      ldm      1 to 64 landmarks, 1 to 16 bits, a threshold to 65534
+      hyp      1 to 1024 columns, 1 to 1024 rows, 0; at most 2048 border nodes
+      Numbers are whole, VERSION and SEED to 18446744073709551615.
+      In doubt: publish ROADS ldm VERSION hilbert 0 2 16 12 0";
 
 /// The commands.
 pub const USAGES: [Usage; 17] = [
     Usage {
         words: "route ROADS S T",
         does: "writes the length and the nodes of a shortest route from S to T",
+        more: "",
     },
     Usage {
         words: "root ROADS FAN",
         does: "writes the count of nodes, and the root of the tree over their leaves",
+        more: "",
     },
     Usage {
         words: "dimacs GRAPH PLACES",
         does: "writes the road file of a graph and its coordinates, two files of the\n      DIMACS shortest path challenge",
+        more: "",
     },
     Usage {
         words: "key SECRET KIND",
         does: "makes the owner's key, h5 or h10, in owner.desk and writes its public key",
+        more: "",
     },
     Usage {
         words: "succeed SECRET KIND",
         does: "makes the key that follows the owner's key, which signs it with its last one-time\n      key, and writes its public key",
+        more: "",
     },
     Usage {
         words: "links",
         does: "writes the chain file that leads from the owner's first key to the current one",
+        more: "",
     },
     Usage {
         words: "desk",
         does: "writes the current public key of owner.desk, how many publications it can still\n      sign, and how many it can sign in all",
+        more: "",
     },
     Usage {
         words: "publish ROADS METHOD VERSION ORDER SEED FAN P1 P2 P3",
         does: "signs the map with its hints and writes the publication; METHOD is dij, full,\n      ldm (P1 landmarks, P2 bits, P3 the threshold) or hyp (P1 columns, P2 rows),\n      ORDER is id, breadth, depth, hilbert, kd or shuffled (by SEED)",
+        more: PUBLISHING,
     },
     Usage {
         words: "prove PUB S T",
         does: "writes a reply that shows a shortest route from S to T, or that there is none",
+        more: "",
     },
     Usage {
         words: "serve PUB [PUBKEY [CHAIN]]",
         does: "answers the frames of standard input over a publication, and over those that\n      are installed after it, for up to 16 sessions; with PUBKEY only over those that\n      are signed under it or along CHAIN, and range queries too",
+        more: "",
     },
     Usage {
         words: "check PUBKEY REPLY S T LEAST [CHAIN]",
         does: "writes what a client says of a reply: that it accepts a route, or that there\n      is none, of version LEAST or later, or why it does not; CHAIN is the chain file\n      of an owner with later keys",
+        more: "",
     },
     Usage {
         words: "audit PUBKEY PUB REPLY S T [CHAIN]",
         does: "writes what a reply is evidence of, by owner.desk and a publication",
+        more: "",
     },
     Usage {
         words: "reach PUB S RADIUS",
         does: "writes a reply that shows which nodes lie within RADIUS of S",
+        more: "",
     },
     Usage {
         words: "check-reach PUBKEY REPLY S RADIUS LEAST [CHAIN]",
         does: "writes what a client says of such a reply: how many nodes lie within RADIUS,\n      and which, by version LEAST or later, or why it does not accept it",
+        more: "",
     },
     Usage {
         words: "audit-reach PUBKEY PUB REPLY S RADIUS [CHAIN]",
         does: "writes what such a reply is evidence of, by owner.desk and a publication",
+        more: "",
     },
     Usage {
         words: "reduce PUBKEY TEXT SIGNATURE",
         does: "writes what a signature on a text that the desk never signed reduces to, by\n      owner.desk: a collision of SHA-256, or a value that the desk never released",
+        more: "",
     },
     Usage {
         words: "survey WIDTH SEED METHOD QUERIES",
         does: "publishes a grid by a key in memory, answers random queries over it, checks each\n      reply, and writes how many were accepted, their lengths' total, and a digest",
+        more: "",
     },
 ];
 
@@ -96,7 +128,7 @@ impl Display for Usage {
 }
 
 impl Usage {
-    /// How many of the last arguments may be left out.
+    /// Returns the number of arguments at the end that may be left out.
     pub fn optional(&self) -> usize {
         self.words
             .split(' ')
@@ -119,7 +151,7 @@ impl Display for Commands {
     }
 }
 
-/// The command of this name.
+/// Returns the command with this name.
 pub fn usage_of(name: &str) -> Option<&'static Usage> {
     for usage in &USAGES {
         if usage.words.split(' ').next() == Some(name) {

@@ -10,15 +10,15 @@ use std::fmt::{self, Display, Formatter};
 pub enum WrongWords<'a> {
     /// There are no arguments.
     None,
-    /// The first argument is no command.
+    /// The first argument is not the name of a command.
     NoCommand(&'a str),
-    /// There are more or fewer arguments after the command than it takes.
+    /// The command takes a different number of arguments.
     Count {
         usage: &'static Usage,
         wanted: usize,
         found: usize,
     },
-    /// This argument can't stand at this position of the command.
+    /// This argument is invalid at its position.
     Word {
         usage: &'static Usage,
         place: &'static str,
@@ -26,7 +26,7 @@ pub enum WrongWords<'a> {
     },
 }
 
-/// Why arguments fit no command, if that can be told.
+/// Returns why arguments fit no command, if the reason can be found.
 pub fn wrong_words(words: &Words) -> Option<WrongWords<'_>> {
     if words.count() == 0 {
         return Some(WrongWords::None);
@@ -41,7 +41,7 @@ pub fn wrong_words(words: &Words) -> Option<WrongWords<'_>> {
     }
 }
 
-/// The first argument that can't stand at its position, where their count is right.
+/// Returns the first argument that is invalid at its position, if the number of arguments is right.
 fn wrong_place<'a>(usage: &'static Usage, words: &'a Words) -> Option<WrongWords<'a>> {
     let most = usage.words.split(' ').count();
     let wanted = most.saturating_sub(usage.optional());
@@ -66,7 +66,7 @@ fn wrong_place<'a>(usage: &'static Usage, words: &'a Words) -> Option<WrongWords
     None
 }
 
-/// Whether an argument can stand at a position.
+/// Tests whether an argument is valid at a position.
 fn fits(place: &str, word: &str) -> bool {
     match place {
         "S" | "T" => natural(word.as_bytes()).is_some(),
@@ -83,7 +83,7 @@ fn fits(place: &str, word: &str) -> bool {
     }
 }
 
-/// What may stand at a position.
+/// Returns the rule for the arguments at a position.
 fn rule(place: &str) -> &'static str {
     match place {
         "S" | "T" => "a node's id, a whole number from 0 to 4294967295",
@@ -116,9 +116,10 @@ impl Display for WrongWords<'_> {
                     1 => ", or one more",
                     _ => ", or up to two more",
                 };
+                let are = if *found == 1 { "is" } else { "are" };
                 write!(
                     f,
-                    "road_proof: {name}: It takes {wanted} arguments{more}, and here are {found}.\n{usage}"
+                    "road_proof: {name}: It takes {wanted} arguments{more}, and here {are} {found}.\n{usage}"
                 )
             }
             WrongWords::Word { usage, place, word } => {

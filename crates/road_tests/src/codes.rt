@@ -1,4 +1,4 @@
-//! What no clause says: landmarks, codes and references worked out by hand, at a small map.
+//! Facts that no clause states: landmarks, codes and references worked out by hand, on a small map.
 
 use crate::same::{assert_row, assert_same};
 use landmarks::{CodeError, CodeTable, PickError, codes, compress, landmark_codes, pick};
@@ -41,10 +41,10 @@ fn landmarks_are_1_to_64_of_the_nodes(rt: HostRuntime) -> Result<(), Fail> {
     Ok(())
 }
 
-// Codes, or why there are none.
+// Codes, or the reason why there are none.
 type Coded = Result<CodeTable, CodeError>;
 
-// The codes for these landmarks, which are nodes of the map.
+// Returns the codes for these landmarks, which must be nodes of the map.
 fn codes_over(alloc: Global, map: &Map, chosen: &[u32], bits: u8) -> Result<Coded, Fail> {
     if !are_known(map, chosen) {
         return Err(Fail::from("a landmark that is no node"));
@@ -66,7 +66,7 @@ static OF_TWO: [(u32, Option<&[u16]>); 6] = [
     (6, None),
 ];
 
-// Asserts the step and the codes for the landmarks 1 and 5, of two bits.
+// Asserts the step and the two-bit codes for the landmarks 1 and 5.
 fn assert_codes(rt: &impl Abort, table: &CodeTable) {
     assert_same(rt, table.step(), 4);
     for (id, wanted) in &OF_TWO {
@@ -89,7 +89,7 @@ fn codes_are_those_for_the_picked_landmarks(rt: HostRuntime) -> Result<(), Fail>
     Ok(())
 }
 
-// The step of the codes of so many bits for the landmark 1.
+// Returns the step of the codes with this many bits for landmark 1.
 fn step_of(alloc: Global, bits: u8) -> Result<Result<u64, CodeError>, Fail> {
     match coded(alloc, &[1], bits)? {
         Ok(table) => Ok(Ok(table.step())),
@@ -106,7 +106,7 @@ fn codes_have_1_to_16_bits(rt: HostRuntime) -> Result<(), Fail> {
     Ok(())
 }
 
-// What a leaf says of codes: those of a node itself, or the node that it refers to and its error.
+// What a leaf states about codes: the node's own codes, or the node to which it refers and the error.
 type Saying<'a> = (&'a [u16], Option<(u32, u16)>);
 
 fn said(extra: &Extra) -> Saying<'_> {
@@ -133,7 +133,7 @@ static NEAR: [Saying<'static>; 5] = [
     (&[65535], None),
 ];
 
-// What the nodes 1 to 5 say at a threshold, by codes of two bits for the landmark 1.
+// Returns what the leaves of nodes 1 to 5 state at a threshold, with two-bit codes for landmark 1.
 fn extras_at(alloc: Global, threshold: u16) -> Result<Vec<Extra>, Fail> {
     let codes = coded(alloc, &[1], 2)??;
     Ok(compress(alloc, &codes, &[1, 2, 3, 4, 5], threshold)?)
@@ -159,8 +159,8 @@ fn nodes_refer_to_the_latest_that_is_near(rt: HostRuntime) -> Result<(), Fail> {
     assert_said(&rt, rt.alloc(), 1, &NEAR)
 }
 
-// The roads of so many nodes on a line, 1 apart, and one to the node 1000, which is where node 1
-// is.
+// Returns the roads of this many nodes on a line, 1 apart, and a road of length 0 to node 1000, which has the same
+// coordinates as node 1.
 fn roads_of(alloc: Global, count: u32) -> Result<Vec<(u32, u32, u32)>, NoMemory> {
     let mut roads = Vec::new(alloc);
     push(&mut roads, (1, 1000, 0))?;
@@ -186,21 +186,21 @@ fn order_of(alloc: Global, count: u32) -> Result<Vec<u32>, NoMemory> {
     Ok(order)
 }
 
-// The codes over that line for the landmark 1: all differ but that of the last node, which is node
-// 1's.
+// Returns the codes over that line for landmark 1. All codes differ, except that the last node has the same code as
+// node 1.
 fn line_codes(alloc: Global, count: u32) -> Result<CodeTable, Fail> {
     let map = line_of(alloc, count)?;
     Ok(codes_over(alloc, &map, &[1], 16)??)
 }
 
-// What the nodes say along that line.
+// Returns what the leaves along that line state.
 fn line_extras(alloc: Global, count: u32) -> Result<Vec<Extra>, Fail> {
     let order = order_of(alloc, count)?;
     let codes = line_codes(alloc, count)?;
     Ok(compress(alloc, &codes, &order, 0)?)
 }
 
-// What the last node refers to.
+// Returns the node to which the last node refers.
 fn last_reference(alloc: Global, count: u32) -> Result<Option<(u32, u16)>, Fail> {
     let extras = line_extras(alloc, count)?;
     match extras.last() {

@@ -10,7 +10,7 @@ use std::alloc::Global;
 use std::test::Fail;
 use test_maps::{NODES, ROADS, apart, are_known, map_of};
 
-/// The table of some ids, and none where one of them is no node's.
+/// Returns the table of some ids. Fails if one of them does not belong to a node.
 fn table_of(alloc: Global, map: &Map, ids: &[u32]) -> Result<PairLeaves, PairError> {
     if !are_known(map, ids) {
         return Ok(PairLeaves::from_vec(Vec::new(alloc)));
@@ -87,7 +87,7 @@ fn a_way_past_no_third_may_be_longer_than_any_arc(rt: HostRuntime) -> Result<(),
     Ok(())
 }
 
-/// A grid of three by three nodes, two nodes apart from it, and one alone.
+/// A grid of three by three nodes, two nodes outside it, and one node without roads.
 static TWELVE: [(u32, i32, i32); 12] = [
     (1, 0, 0),
     (2, 1, 0),
@@ -103,7 +103,7 @@ static TWELVE: [(u32, i32, i32); 12] = [
     (12, 9, 9),
 ];
 
-/// Roads of length 0 among them, and parallel ones, of which the last is not always the shortest.
+/// Roads, some of length 0, and some parallel. The shortest of parallel roads is not always the last one.
 static SEVENTEEN: [(u32, u32, u32); 17] = [
     (1, 2, 4),
     (2, 3, 9),
@@ -124,16 +124,16 @@ static SEVENTEEN: [(u32, u32, u32); 17] = [
     (10, 11, 5),
 ];
 
-/// No walk leads there.
+/// The distance if no walk leads to the node.
 const FAR: u64 = u64::MAX;
 
-/// Chosen nodes of that map, and the distances of their pairs, which the method of Floyd and Warshall, in ten
-/// lines of Python, has found.
+/// Chosen nodes of that map, and the distances of their pairs. A program of ten lines of Python computed them with
+/// the Floyd-Warshall algorithm.
 static CASES: [(&[u32], &[u64]); 7] = [
-    // None, as the borders of one cell, and one.
+    // No nodes, as for the border nodes of one cell; and one node.
     (&[], &[]),
     (&[5], &[]),
-    // Without these the grid still hangs together.
+    // Without these nodes the grid is still connected.
     (&[1, 9], &[7]),
     (&[2, 6, 11], &[3, FAR, FAR]),
     (
@@ -142,7 +142,7 @@ static CASES: [(&[u32], &[u64]); 7] = [
             6, 7, FAR, FAR, FAR, 1, FAR, FAR, FAR, FAR, FAR, FAR, 5, FAR, FAR,
         ],
     ),
-    // All but one, and all.
+    // All nodes but one; and all nodes.
     (
         &[1, 2, 3, 4, 5, 6, 7, 8, 10, 11, 12],
         &[
@@ -161,7 +161,7 @@ static CASES: [(&[u32], &[u64]); 7] = [
     ),
 ];
 
-/// The distances of a table, pair by pair.
+/// Returns the distances in a table, pair by pair.
 fn distances_of(alloc: Global, table: &PairLeaves) -> Result<Vec<u64>, NoMemory> {
     let mut distances = Vec::new(alloc);
     for leaf in table.as_slice() {

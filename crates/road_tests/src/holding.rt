@@ -1,4 +1,4 @@
-//! Books of rows of nodes and roads, held with signatures of zeros, and what they answer.
+//! Books of rows of nodes and roads, held with signatures of zeros, and their answers.
 
 use book_model::{Query, Settings};
 use octet_text::{Hasher, NoMemory, Octets, Sha, filled};
@@ -26,7 +26,7 @@ pub(crate) const CELLS: Settings = Settings {
     ..DIJ
 };
 
-/// The book over rows.
+/// Builds the book over rows.
 fn built<H: Hasher>(
     alloc: Global,
     nodes: &[(u32, i32, i32)],
@@ -37,7 +37,7 @@ fn built<H: Hasher>(
     Held::build(alloc, parts, settings)
 }
 
-/// The header of the book over rows.
+/// Returns the header of the book over rows.
 pub(crate) fn header_of<H: Hasher>(
     alloc: Global,
     nodes: &[(u32, i32, i32)],
@@ -48,7 +48,8 @@ pub(crate) fn header_of<H: Hasher>(
     Ok(held.header())
 }
 
-/// The publication of rows with a header and a signature of zeros as long as one of a key of height 5.
+/// Returns the publication of rows with a header and a signature of zeros, which is as long as a signature by a key
+/// of height 5.
 fn publication_with(
     alloc: Global,
     nodes: &[(u32, i32, i32)],
@@ -66,7 +67,7 @@ fn publication_with(
     })
 }
 
-/// The book over rows, installed with a header.
+/// Installs the book over rows with a header.
 fn installed_with(
     alloc: Global,
     nodes: &[(u32, i32, i32)],
@@ -80,7 +81,7 @@ fn installed_with(
     }
 }
 
-/// The book over rows, installed with its own header.
+/// Installs the book over rows with its own header.
 fn installed_over(
     alloc: Global,
     nodes: &[(u32, i32, i32)],
@@ -91,7 +92,7 @@ fn installed_over(
     installed_with(alloc, nodes, roads, settings, header)
 }
 
-/// The book of the five nodes, installed with its own header.
+/// Installs the book of the five nodes with its own header.
 pub(crate) fn installed(alloc: Global, settings: &Settings) -> Result<Held<Sha>, InstallError> {
     installed_over(alloc, &NODES, &ROADS, settings)
 }
@@ -103,7 +104,7 @@ fn reply(alloc: Global, held: &Held<Sha>, from: u32, to: u32) -> Result<Vec<u8>,
     Ok(held.answer(alloc, Query { from, to })?)
 }
 
-/// What the book over rows answers on a route.
+/// Returns the reply for a route from the book over rows.
 pub(crate) fn reply_over(
     alloc: Global,
     nodes: &[(u32, i32, i32)],
@@ -115,7 +116,7 @@ pub(crate) fn reply_over(
     reply(alloc, &held, ends.0, ends.1)
 }
 
-/// What the book of the five nodes answers on a route.
+/// Returns the reply for a route from the book of the five nodes.
 pub(crate) fn first_reply(
     alloc: Global,
     settings: &Settings,
@@ -125,7 +126,7 @@ pub(crate) fn first_reply(
     reply_over(alloc, &NODES, &ROADS, settings, (from, to))
 }
 
-/// Why rows and settings have no book.
+/// Returns why rows and settings have no book.
 pub(crate) fn refusal_of(
     alloc: Global,
     nodes: &[(u32, i32, i32)],
@@ -135,7 +136,7 @@ pub(crate) fn refusal_of(
     built::<Sha>(alloc, nodes, roads, settings).err()
 }
 
-/// Why the book of the five nodes is not installed with a header.
+/// Returns why the book of the five nodes is not installed with this header.
 pub(crate) fn refusal_with(
     alloc: Global,
     settings: &Settings,
@@ -144,7 +145,7 @@ pub(crate) fn refusal_with(
     installed_with(alloc, &NODES, &ROADS, settings, header).err()
 }
 
-/// The answer that octets of a test's size encode.
+/// Reads the answer that short octets encode.
 pub(crate) fn read_answer(alloc: Global, octets: &[u8]) -> Result<Answer, Fail> {
     if octets.len() > 10_000 {
         return Err(Fail::from("many octets"));
@@ -155,7 +156,7 @@ pub(crate) fn read_answer(alloc: Global, octets: &[u8]) -> Result<Answer, Fail> 
     }
 }
 
-/// The answer without a route that octets of a test's size encode.
+/// Reads the answer without a route that short octets encode.
 pub(crate) fn read_apart(alloc: Global, octets: &[u8]) -> Result<Answer, Fail> {
     if octets.len() > 10_000 {
         return Err(Fail::from("many octets"));

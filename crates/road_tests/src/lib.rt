@@ -1,5 +1,5 @@
-//! Tests of the server: tables of distances, landmarks and their codes, books, replies on routes and on
-//! radii over one map. Each shows what no clause says.
+//! Tests of the server: tables of distances, landmarks and their codes, books, and replies for routes and for radii
+//! over one map. Each test shows facts that no clause states.
 #![tactic(auto)]
 
 #[cfg(test)]

@@ -6,7 +6,7 @@ use std::alloc::Global;
 use std::process::Abort;
 use std::test::Fail;
 
-/// Asserts that octets are these in hex.
+/// Asserts that octets equal these hex digits.
 pub(crate) fn assert_hex(
     rt: &impl Abort,
     alloc: Global,

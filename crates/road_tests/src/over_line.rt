@@ -1,4 +1,4 @@
-//! A book of landmarks over the nodes 1 to 5 on a line, 10 apart.
+//! A book with landmarks over the nodes 1 to 5 on a line, which are 10 apart.
 
 use crate::holding::{header_of, read_answer, reply_over};
 use crate::octets::assert_hex;
@@ -20,7 +20,7 @@ const LANDMARKS: Settings = Settings {
     ..DIJ
 };
 
-// The root of the book, as another program computes it.
+// The root of the book, computed by another program.
 #[test]
 fn the_header_of_a_book_of_landmarks(rt: HostRuntime) -> Result<(), Fail> {
     let header = header_of::<Sha>(rt.alloc(), &NODES, &ROADS, &LANDMARKS)?;
@@ -33,7 +33,7 @@ fn the_header_of_a_book_of_landmarks(rt: HostRuntime) -> Result<(), Fail> {
     )
 }
 
-// Node 1 stands for node 2, and node 4 for node 5.
+// The codes of node 1 replace those of node 2, and the codes of node 4 those of node 5.
 #[test]
 fn the_answer_over_landmarks_brings_references(rt: HostRuntime) -> Result<(), Fail> {
     let octets = reply_over(rt.alloc(), &NODES, &ROADS, &LANDMARKS, (3, 5))?;

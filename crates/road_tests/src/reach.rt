@@ -1,5 +1,5 @@
-//! Replies to range queries: octets that an independent program computed, the reference
-//! (`checks/sources.py`).
+//! Replies to range queries. An independent program, the reference (`checks/sources.py`), computed the expected
+//! octets.
 
 use crate::holding::{CELLS, CODES, FULL, installed};
 use crate::octets::assert_digest;
@@ -13,7 +13,7 @@ use std::process::Abort;
 use std::test::Fail;
 use test_maps::DIJ;
 
-// What is answered to a range query.
+// The reply to a range query.
 type Replied = Result<Vec<u8>, NearRefusal>;
 
 fn reply(alloc: Global, held: &Held<Sha>, from: u32, radius: u64) -> Result<Replied, Fail> {
@@ -23,7 +23,7 @@ fn reply(alloc: Global, held: &Held<Sha>, from: u32, radius: u64) -> Result<Repl
     Ok(answer_near(alloc, held, NearQuery { from, radius }))
 }
 
-// What the book of the five nodes answers to a range query.
+// Returns the reply of the book of the five nodes to a range query.
 fn first_reply(
     alloc: Global,
     settings: &Settings,
@@ -34,11 +34,10 @@ fn first_reply(
     reply(alloc, &held, from, radius)
 }
 
-// The orders by id, breadth first, depth first, along Hilbert's curve, of a kd tree, and shuffled,
-// with their seeds.
+// The six orders with their seeds: by id, breadth first, depth first, along Hilbert's curve, kd, and shuffled.
 static ORDERS: [(u8, u64); 6] = [(0, 0), (1, 0), (2, 0), (3, 0), (4, 0), (5, 7)];
 
-// The digests of the replies of each method, whose signature is zeros, under each order.
+// The digests of the replies of each method under each order, with a signature of zeros.
 static DIGESTS: [(Settings, [&str; 6]); 4] = [
     (
         DIJ,
@@ -112,7 +111,7 @@ fn replies_under_each_method_and_order(rt: HostRuntime) -> Result<(), Fail> {
     Ok(())
 }
 
-// How many items the reply from 1 brings.
+// Returns the number of items in the reply for node 1.
 fn count(alloc: Global, radius: u64) -> Result<usize, Fail> {
     let octets = first_reply(alloc, &DIJ, 1, radius)??;
     if octets.len() > 10_000 {

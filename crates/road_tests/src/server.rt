@@ -1,5 +1,5 @@
-//! What no clause says: octets that an independent program computed with Python's hashlib, and
-//! calls that succeed with ample memory.
+//! Facts that no clause states: octets computed by an independent program with Python's hashlib, and calls that
+//! succeed with enough memory.
 
 use crate::holding::{
     CELLS, CODES, FULL, first_reply, header_of, installed, read_answer, read_apart, refusal_of,
@@ -17,7 +17,7 @@ use std::process::Abort;
 use std::test::Fail;
 use test_maps::{DIJ, NODES, ROADS, apart};
 
-// The header of the five nodes under DIJ, but for the root of its nodes.
+// The header of the five nodes under DIJ, without the node root.
 const ROOTLESS: Header = Header {
     method: 1,
     order: 0,
@@ -63,8 +63,8 @@ fn the_roots_of_five_nodes_by_other_trees(rt: HostRuntime) -> Result<(), Fail> {
     Ok(())
 }
 
-// Settings, and the reply from 1 to 3: the indices of its nodes and of its pairs, and the digest of
-// its octets, as another program encodes them.
+// Settings, and the reply for a route from 1 to 3: the indices of its nodes and of its pairs, and the digest of its
+// octets, as another program encodes them.
 type Replied = (Settings, &'static [u32], &'static [u32], &'static str);
 
 static REPLIES: [Replied; 5] = [
@@ -80,7 +80,7 @@ static REPLIES: [Replied; 5] = [
         &[1],
         "82f9ad7423954d0931fb10e527de80c7d9b27bd874bd2f2e969ba8d585215cf6",
     ),
-    // Along Hilbert's curve the nodes stand as 1 4 2 3 5.
+    // Along Hilbert's curve, the nodes are in the order 1 4 2 3 5.
     (
         Settings { order: 3, ..FULL },
         &[0, 2, 3],
@@ -101,7 +101,7 @@ static REPLIES: [Replied; 5] = [
     ),
 ];
 
-// Asserts the route from 1 to 3, and the indices of the nodes and pairs that the answer brings.
+// Asserts that the answer has the route from 1 to 3 and these indices of nodes and pairs.
 fn assert_items(rt: &impl Abort, answer: &Answer, nodes: &[u32], pairs: &[u32]) {
     assert_same(rt, answer.items.route.as_slice(), [1, 2, 3].as_slice());
     assert_same(rt, answer.node_places.as_slice(), nodes);
@@ -117,7 +117,7 @@ fn assert_reply(rt: &impl Abort, alloc: Global, row: &Replied) -> Result<(), Fai
     Ok(())
 }
 
-// The reply to a query for the nodes within 4 of node 1.
+// Returns the reply to a query for the nodes within 4 of node 1.
 fn near_reply(alloc: Global, held: &Held<Sha>) -> Result<Vec<u8>, Fail> {
     if held.signature().len() > 1452 {
         return Err(Fail::from("a long signature"));
@@ -125,10 +125,10 @@ fn near_reply(alloc: Global, held: &Held<Sha>) -> Result<Vec<u8>, Fail> {
     Ok(answer_near(alloc, held, NearQuery { from: 1, radius: 4 })?)
 }
 
-// The reply to a query for a route: the example of the crate `route_server`.
+// Returns the reply to a query for a route. This is the example of the crate `route_server`.
 fn route_reply(rt: &impl Abort, alloc: Global, held: &Held<Sha>) -> Result<Vec<u8>, Fail> {
-    // What `Held::<Sha>::install` makes of a publication answers queries for routes; `answer_near` answers
-    // those for the nodes within a radius.
+    // The value that `Held::<Sha>::install` makes from a publication answers queries for routes; `answer_near`
+    // answers queries for the nodes within a radius.
     assert!(rt; held.signature().len() <= 1452);
     let query = Query { from: 1, to: 3 };
     let route = held.answer(alloc, query)?;
@@ -165,8 +165,8 @@ fn an_octet_tells_that_an_end_is_unknown(rt: HostRuntime) -> Result<(), Fail> {
     Ok(())
 }
 
-// Settings, and two ends that no walk joins: the indices of the nodes and of the pairs that the reply
-// brings, and how many digests the cover of the nodes has.
+// Settings, and two ends that no walk joins: the indices of the nodes and of the pairs in the reply, and the number
+// of digests in the cover of the nodes.
 type Apart = (Settings, u32, u32, &'static [u32], &'static [u32], usize);
 
 static APARTS: [Apart; 5] = [
@@ -196,7 +196,7 @@ fn books_of_each_method_show_that_no_walk_joins_two_nodes(rt: HostRuntime) -> Re
     Ok(())
 }
 
-// The five nodes with a sixth beside the fifth, whose road makes both of its ends borders.
+// The five nodes, and a sixth beside the fifth. The road between these two makes both of them border nodes.
 const SIX: [(u32, i32, i32); 6] = [
     (1, 0, 0),
     (2, 10, 0),
@@ -212,13 +212,13 @@ const SIX_ROADS: [(u32, u32, u32); 5] = [(1, 2, 4), (2, 3, 5), (1, 4, 3), (4, 3,
 fn pairs_of_borders_of_two_sides_are_brought(rt: HostRuntime) -> Result<(), Fail> {
     let octets = reply_over(rt.alloc(), &SIX, &SIX_ROADS, &CELLS, (1, 5))?;
     let answer = read_apart(rt.alloc(), &octets)?;
-    // The borders are 2 to 6, so these are the pairs of 2 and 5 and of 4 and 5.
+    // The border nodes are 2 to 6, so these are the pair of 2 and 5 and the pair of 4 and 5.
     assert_same(&rt, answer.pair_places.as_slice(), [2, 7].as_slice());
     assert_same(&rt, answer.node_places.as_slice(), [0, 1, 3, 4].as_slice());
     Ok(())
 }
 
-// Settings of which so many are wrong, from the last.
+// Returns settings with this method, order and fan-out, and with a second parameter of 1.
 fn wrong_settings(method: u8, order: u8, fan: u8) -> Settings {
     Settings {
         method,
@@ -235,7 +235,7 @@ fn assert_refused(rt: &impl Abort, alloc: Global, settings: &Settings, index: u8
     assert_row(rt, *settings, error, Some(wanted));
 }
 
-// A method, an order, a fan-out, and the setting that is refused, where the second parameter is 1.
+// A method, an order, a fan-out, and the setting that is refused if the second parameter is 1.
 static WRONG: [(u8, u8, u8, u8); 6] = [
     (0, 6, 1, 0),
     (5, 6, 1, 0),
@@ -320,7 +320,7 @@ fn what_is_held_is_lent(rt: HostRuntime) -> Result<(), Fail> {
     assert_lent(&rt, &held)
 }
 
-// The text of the leaf at an index, of nodes (1) or of pairs (2), if there is one.
+// Returns the text of the leaf at an index, of nodes (1) or of pairs (2), if it exists.
 fn text_at(held: &Held<Sha>, which: u8, place: u32) -> Option<&[u8]> {
     match held.leaves(which) {
         Some(leaves) if place < leaves.count() => Some(leaves.text(place)),
@@ -352,7 +352,7 @@ fn the_leaf_of_the_first_node(rt: HostRuntime) -> Result<(), Fail> {
     Ok(())
 }
 
-// 3 is 9 away from 1, and no walk joins 1 and 5.
+// The distance between 1 and 3 is 9, and no walk joins 1 and 5.
 const NEAR: [u8; 17] = [0x50, 0, 0, 0, 1, 0, 0, 0, 3, 0, 0, 0, 0, 0, 0, 0, 9];
 
 const APART: [u8; 17] = [

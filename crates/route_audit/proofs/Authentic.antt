@@ -1,4 +1,4 @@
--- What has the texts of a tree's own leaves are these leaves.
+-- Texts of a tree's own leaves belong to no other leaves.
 use Rattle.std.proofs.Common.{◌≡◌, ℕ, suc, ◌<◌, List, [], ◌∷◌, length, get_or, map, Result, Ok, sym, ap, subst, arith, ◌∙◌, inl, inr}
 use Rattle.std.specs.Prelude.{All}
 use Rattle.std.specs.List.{Contains}
@@ -15,7 +15,7 @@ use Rattle.road_leaf.specs.Leaves.{node_leaf, node_leaf_text, pair_leaf}
 use Rattle.road_leaf.proofs.LeafLaws.{leaf_same, node_leaf_exact, pair_leaf_exact}
 use Rattle.merkle_cover.specs.Covers.{chosen_texts}
 
--- values that a format encodes alike are the same
+-- values with the same encoding are equal
 spells_one : {A : Type 0} (f : Format A) → IsExact f → (x y : A) → f.Fits x → f.Fits y → f.spell x ≡ f.spell y → x ≡ y
 spells_one {A} f exact x y fits other e = same (sym (whole_again f exact x fits) ∙ ap (whole f) e ∙ whole_again f exact y other)
   where
@@ -31,7 +31,7 @@ one_pair l m fits other e = spells_one pair_leaf pair_leaf_exact l m fits other 
 first_and_rest : {A : Type 0} (x y : A) (xs ys : List A) → x ∷ xs ≡ y ∷ ys → (x ≡ y) × (xs ≡ ys)
 first_and_rest x y xs ys e = (cc, cc)
 
--- what is brought stands among the leaves, where texts tell values apart
+-- the items carried are among the leaves, since texts determine values
 pub stands : {X : Type 0} (text : X → List ℕ) (Fits : X → Type 0) (leaves given : List X) (places : List ℕ) → ((x y : X) → Fits x → Fits y → text x ≡ text y → x ≡ y)
     → All Fits leaves → ((x : X) → Contains given x → Fits x) → ((q : ℕ) → q < length places → get_or places q 0 < length leaves) → map text given ≡ chosen_texts (map text leaves) places
     → (x : X) → Contains given x → Contains leaves x

@@ -1,4 +1,4 @@
--- What the steps of an audit come to.
+-- The results of the steps of an audit.
 use Rattle.std.proofs.Common.{◌≡◌, ◌≢◌, ℕ, List, Result, Ok, Err, false, refl, ap, subst, ◌∙◌}
 use Rattle.road_map.specs.declared.parts.Parts.{Parts}
 use Rattle.book_model.specs.declared.settings.Settings.{Settings}
@@ -36,7 +36,7 @@ abbrev pub at : {Q : Type 0} → List ℕ → List Link → List ℕ → Q → P
 at public chain reply q p = record { public = public; chain = chain; reply = reply; query = q; publication = p }
 
 module _ {Q A X E : Type 0} (kind : ReplyKind Q A X E) (hash : List ℕ → List ℕ) (look : Look) (public : List ℕ) (chain : List Link) (reply : List ℕ) (q : Q) (own : look.Owns public) where
-  -- ---- answers before the look
+  -- ---- results before the slots are examined
 
   pub refused_finds : (sha : List ℕ → List ℕ) (p : Publication) (e : AuditError E) → IsRefused kind hash public chain reply q e → Finds kind hash sha look (at public chain reply q p) (Err e)
   refused_finds sha p (Refused e) is = (own, is)
@@ -57,13 +57,13 @@ module _ {Q A X E : Type 0} (kind : ReplyKind Q A X E) (hash : List ℕ → List
   not_installed_finds sha p a (Desk e) answer is = absurd is
   not_installed_finds sha p a OtherPublication answer is = absurd is
 
-  -- ---- answers after the look
+  -- ---- results after the slots are examined
 
   module _ (a : A) (answer : IsAnswerTo kind hash public chain reply q a) (k : Kept) (kept : IsKept k) where
     abbrev installed_at : IsInstalled kind hash sha256 look (at public chain reply q (publication_in hash k))
     installed_at = record { reply = accepted_at (publication_in hash k) a answer; header = has_header hash k kept }
 
-    -- what is found of the accepted answer over the held book is found of the octets
+    -- a finding about the accepted answer over the held book is a finding about the octets
     found_at : (r : Result Finding (AuditError E)) → FindsIn kind hash sha256 look public chain k q a r → Finds kind hash sha256 look (at public chain reply q (publication_in hash k)) r
     found_at (Err (Desk e)) found = (installed_at, found)
     found_at (Err OtherPublication) found = record { installed = installed_at; signed = found.0; other = found.1 }
@@ -80,7 +80,7 @@ module _ {Q A X E : Type 0} (kind : ReplyKind Q A X E) (hash : List ℕ → List
   found_finds p a k r answer installs found =
       subst (λ (b : Publication). Finds kind hash sha256 look (at public chain reply q b) r) installs.1 (found_at a answer k installs.2 r found)
 
--- ---- one always comes
+-- ---- there is always a result
 
 abbrev pub OneMade : (List ℕ → List ℕ) → (List ℕ → List ℕ) → Type 0
 OneMade hash sha = (parts : Parts) (s : Settings) (one other : Result Header BuildError) → Makes hash sha parts s one → Makes hash sha parts s other → one ≢ Err (build.Memory no_memory) → other ≢ Err (build.Memory no_memory) → one ≡ other
@@ -108,7 +108,7 @@ module _ {Q A X E : Type 0} (kind : ReplyKind Q A X E) (laws : AreReplies kind) 
       (laws.spelled hash u.public u.chain u.reply u.query 0 it.taken it.answer it.accepts) (laws.spelled hash u.public u.chain u.reply u.query c.least c.taken c.answer c.accepts) in
       λ e. finds.other (ap (λ (a : A). kind.header a) same ∙ e)
 
--- no answer after the look is one before it
+-- a result after the slots are examined is not one before
 pub found_late : {Q A X E : Type 0} (kind : ReplyKind Q A X E) (hash sha : List ℕ → List ℕ) (look : Look) (key : List ℕ) (links : List Link) (k : Kept) (q : Q) (a : A) (r : Result Finding (AuditError E)) (P : Type 0)
     → FindsIn kind hash sha look key links k q a r → BeforeLook r P
 found_late kind hash sha look key links k q a (Ok Right) P found = tt
@@ -124,7 +124,7 @@ found_late kind hash sha look key links k q a (Err (Memory _)) P found = tt
 abbrev unfound : {E : Type 0} → AuditError E → Result Finding (AuditError E)
 unfound e = Err e
 
--- where a publication is not installed, no disk failed
+-- if a publication was not installed, no disk failed
 pub not_installed_desk : {E : Type 0} (hash sha : List ℕ → List ℕ) (p : Publication) (e : AuditError E) → IsNotInstalled hash sha p e → unfound e ≢ Err (Desk desk_errors.DiskFault)
 not_installed_desk hash sha p (Install e) is = λ same. cc
 not_installed_desk hash sha p (Memory _) is = λ same. cc
@@ -133,7 +133,7 @@ not_installed_desk hash sha p (Refused e) is = absurd is
 not_installed_desk hash sha p (Desk e) is = absurd is
 not_installed_desk hash sha p OtherPublication is = absurd is
 
--- what holds, holds before the look
+-- a fact that always holds also holds before the slots are examined
 before_any : {E : Type 0} (r : Result Finding (AuditError E)) (P : Type 0) → P → BeforeLook r P
 before_any (Ok finding) P h = tt
 before_any (Err OtherKey) P h = h
@@ -144,7 +144,7 @@ before_any (Err OtherPublication) P h = tt
 before_any (Err (Memory _)) P h = tt
 
 module _ {Q A X E : Type 0} (kind : ReplyKind Q A X E) (laws : AreReplies kind) (hash : List ℕ → List ℕ) (made : OneMade hash sha256) {D : Type 0} (g : Ghosts D) (desk : TheDesk) (disk : D) (fits : Fits g desk disk) (u : Audited Q) where
-  -- an audit that ends before the look
+  -- an audit that ends before the slots are examined
   pub audits_before : (r : Result Finding (AuditError E)) → r ≢ Err (Desk desk_errors.DiskFault) → Finds kind hash sha256 (look_at g desk disk disk) u r → Audits kind hash sha256 g desk disk desk disk u r
   audits_before r other found = record {
     finds = found;
@@ -155,7 +155,7 @@ module _ {Q A X E : Type 0} (kind : ReplyKind Q A X E) (laws : AreReplies kind) 
     kept = λ other. refl;
   }
 
-  -- an audit that looked
+  -- an audit that examined the slots
   pub audits_after : (new_desk : TheDesk) (new : D) (r : Result Finding (AuditError E)) → Finds kind hash sha256 (look_at g desk disk new) u r → BeforeLook r ((new_desk ≡ desk) × (new ≡ disk)) → IsLeft g desk disk new_desk new → (r ≡ Err (Desk desk_errors.DiskFault) → new_desk.is_open ≡ false)
       → (r ≢ Err (Desk desk_errors.DiskFault) → g.faults new ≡ g.faults disk)
       → Audits kind hash sha256 g desk disk new_desk new u r

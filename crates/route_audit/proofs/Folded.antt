@@ -1,4 +1,4 @@
--- What is brought of a tree and recomputes its root.
+-- A part of a tree that recomputes its root.
 use Rattle.std.proofs.Common.{◌≡◌, ℕ, ◌≤◌, Bool, true, false, cond, Option, None, Some, List, [], ◌∷◌, length, Result, Ok, Err, nat_eq, refl, sym, ap, subst, arith, ◌∙◌}
 use Rattle.std.specs.Prelude.{◌↔◌, IfOk, IfSome, IsNone}
 use Rattle.std.specs.Option.{option_map}
@@ -21,7 +21,7 @@ use Rattle.route_server.specs.Keeping.{some_texts}
 use Rattle.route_audit.specs.Comparing.{FoldsUnder, leaves_or_none}
 use Rattle.route_audit.specs.Evidence.{Part, IsTreesOwn, Clashes}
 
--- ---- tests that were passed
+-- ---- tests that passed
 
 matched_ok : (tree : ℕ) (top : List ℕ) (r : Result (List ℕ) FoldError) → matched tree top r ≡ Ok tt → r ≡ Ok top
 matched_ok tree top (Err e) is = absurd cc
@@ -31,7 +31,7 @@ matched_ok tree top (Ok d) is = by_test (bytes_eq d top) refl is
     by_test true e h = ap (λ (x : List ℕ). Ok x) ((bytes_eq-Decides d top).0 e)
     by_test false e h = absurd cc
 
--- where there is no index, there is no cover
+-- without any index, there is no cover
 pub no_cover : (hash : List ℕ → List ℕ) (which : ℕ) (part : Part) → FoldsUnder hash which part → part.places ≡ [] → part.cover ≡ []
 no_cover hash which part folds none =
     by_cover part.cover (subst (λ (places : List ℕ). covered hash which (length part.leaves) part.fan places part.texts part.cover (root_or_zeros hash part.fan part.leaves) ≡ Ok tt) none folds)
@@ -44,7 +44,7 @@ no_cover hash which part folds none =
         wrong true e h = cc
         wrong false e h = cc
 
--- so that what is brought is the tree's own
+-- so the part is the tree's own
 pub own_of_none : (hash : List ℕ → List ℕ) (which : ℕ) (part : Part) → FoldsUnder hash which part → length part.texts ≡ length part.places → part.places ≡ [] → IsTreesOwn hash part
 own_of_none hash which part folds one_each none = record {
   rising = subst (IsRising (length part.leaves)) (sym none) (record { rises = λ q r lt below. absurd (omega (arith, below)); below = λ q below. absurd (omega (arith, below)) });
@@ -56,7 +56,7 @@ own_of_none hash which part folds one_each none = record {
     no_text [] e = refl
     no_text (t ∷ texts) e = absurd (omega (arith, e))
 
--- where there is an index, there are leaves, and they recompute their root
+-- with at least one index, there are leaves, and they recompute their root
 pub record FoldsToRoot (hash : List ℕ → List ℕ) (part : Part) : Type 0 where
   pub some : 1 ≤ length part.leaves
   pub value : fold_of hash (length part.leaves) part.fan part.places part.texts part.cover ≡ Ok (root_or_zeros hash part.fan part.leaves)
@@ -80,7 +80,7 @@ rising_of hash part good =
     rising-first_fault (length part.leaves) part.places
     (GoodFold-ok hash (length part.leaves) part.fan part.places part.texts part.cover (root_or_zeros hash part.fan part.leaves) good.value).none
 
--- ---- trees that may be there
+-- ---- trees that may exist
 
 pub root_is : (hash : List ℕ → List ℕ) (fan : ℕ) (texts : List (List ℕ)) → 1 ≤ length texts → root_or_zeros hash fan texts ≡ (tree_of hash texts fan).root
 unfolding tree_of
@@ -98,13 +98,13 @@ leaves_are (t ∷ texts) = refl
 pub some_leaves : (o : Option (List (List ℕ))) (texts : List (List ℕ)) → o ≡ Some texts → leaves_or_none o ≡ texts
 some_leaves o texts e = ap leaves_or_none e
 
--- the tree that is there is that of the leaves
+-- the existing tree is the tree of the leaves
 pub tree_is : (hash : List ℕ → List ℕ) (fan : ℕ) (o : Option (List (List ℕ))) (t : Levels) (leaves : List (List ℕ)) → Some leaves ≡ o → Some t ≡ option_map (λ texts. tree_of hash texts fan) o → t ≡ tree_of hash leaves fan
 tree_is hash fan o t leaves is tree =
     let both : ◌≡◌ {A = Option Levels} (Some t) (Some (tree_of hash leaves fan)) = tree ∙ ap (option_map (λ texts. tree_of hash texts fan)) (sym is) in
     cc
 
--- a tree that is there, over its leaves
+-- an existing tree, over its leaves
 pub record IsThere (hash : List ℕ → List ℕ) (fan : ℕ) (o : Option (List (List ℕ))) (t : Levels) (leaves : List (List ℕ)) : Type 0 where
   pub built : t ≡ tree_of hash leaves t.fan
   pub fan_same : t.fan ≡ fan
@@ -133,7 +133,7 @@ folds_there hash part o t leaves own there good =
     ∙ good.value
     ∙ ap (λ (r : List ℕ). Ok r) top
 
--- what a clash says of the tree that is there
+-- what a clash implies for an existing tree
 pub own_there : (hash : List ℕ → List ℕ) (part : Part) (o : Option (List (List ℕ))) (t : Levels) (leaves : List (List ℕ)) → part.leaves ≡ leaves_or_none o → IsThere hash part.fan o t leaves → FoldsToRoot hash part
     → ((part.texts ≡ chosen_texts leaves part.places) × (part.cover ≡ cover_of hash leaves t.fan part.places)) ↔ IsTreesOwn hash part
 own_there hash part o t leaves own there good =

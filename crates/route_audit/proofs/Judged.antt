@@ -1,4 +1,4 @@
--- What a comparison with a held book finds of its publication.
+-- A comparison with a held book gives the same result as one with its publication.
 use Rattle.std.proofs.Common.{◌≡◌, ℕ, inl, inr, Some, List, length, Ok, sym, ap, subst, arith, ◌∙◌}
 use Rattle.std.specs.Prelude.{All}
 use Rattle.std.specs.List.{Contains}
@@ -39,7 +39,7 @@ use Rattle.route_audit.specs.Evidence.{Part, IsTreesOwn, IsOwn, IsRight, Clashes
 use Rattle.route_audit.proofs.Authentic.{one_leaf, one_pair, stands}
 use Rattle.route_audit.proofs.Folded.{leaves_are}
 
--- a book that is held, and an accepted answer with its header
+-- a held book, and an accepted answer with its header
 pub record Met (hash : List ℕ → List ℕ) (k : Kept) (q : Query) (x : Checked) (a : answers.Answer) : Type 0 where
   pub kept : IsKept k
   pub spelled : HasSpellings k
@@ -49,7 +49,7 @@ pub record Met (hash : List ℕ → List ℕ) (k : Kept) (q : Query) (x : Checke
   pub method : kind_of a.header.method ≡ Some kind
   pub says : Says kind a q x
 
--- ---- the parts are those of the publication
+-- ---- the parts belong to the publication
 
 pub part_with : Part → List (List ℕ) → Part
 part_with part leaves = record { leaves = leaves; fan = part.fan; places = part.places; texts = part.texts; cover = part.cover }
@@ -65,7 +65,7 @@ pub pairs_same : (hash : List ℕ → List ℕ) (k : Kept) (kept : IsKept k) (a 
 unfolding part_with
 pairs_same hash k kept a = ap (part_with (pair_part_of k a)) (leaves_are (pair_texts k.pairs) ∙ ap pair_texts kept.pairs)
 
--- what is the trees' own is so in each book of the publication
+-- a part that is the trees' own is so for each book of the publication
 pub own_by : (hash : List ℕ → List ℕ) (k : Kept) (kept : IsKept k) (a : answers.Answer) → IsOwn hash sha256 (publication_in hash k) a → IsTreesOwn hash (node_part_of k a) × IsTreesOwn hash (pair_part_of k a)
 unfolding part_with
 own_by hash k kept a own =
@@ -122,12 +122,12 @@ authentic_of hash k q x a met true_of nodes pairs =
     true_of met.kept.kind k.map.parts k.settings order met.kept.book a.items met.kept.is_map (subst (IsOrderOf k.map.parts) met.kept.order met.kept.lists) met.kept.is_book.book
     (stand_in hash k q x a met nodes pairs)
 
--- what a good judgement says of authentic items, whether they bring a route or none
+-- what a successful judgement of authentic items implies, with a route or without one
 pub record SoundLaws : Type 0 where
   pub sound : (kind : Kind) → IsSound kind
   pub sound_apart : (kind : Kind) → IsSoundApart kind
 
--- what an answer over the book's own items and numbers says holds in the map
+-- an answer over the book's own items and numbers is true of the map
 holds_by : (k : Kept) (kept : IsKept k) (q : Query) (x : Checked) (a : answers.Answer) → SoundLaws → IsAuthentic kept.book a.items → a.header.numbers ≡ kept.book.numbers → Says kept.kind a q x → HoldsIn k.map.parts q x
 holds_by k kept q (Route x) a laws authentic numbers says =
     let book = kept.book in

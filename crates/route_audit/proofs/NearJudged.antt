@@ -1,4 +1,4 @@
--- What a comparison with a held book finds of its publication.
+-- A comparison with a held book gives the same result as one with its publication, for replies for a radius.
 use Rattle.std.proofs.Common.{◌≡◌, ℕ, Some, List, [], length, Ok, sym, ap, subst, arith, ◌∙◌}
 use Rattle.std.specs.Prelude.{All}
 use Rattle.std.specs.List.{Contains}
@@ -38,7 +38,7 @@ use Rattle.route_audit.specs.NearComparing.{part_of}
 use Rattle.route_audit.specs.NearEvidence.{near_part, IsOwn, IsRight, Collides}
 use Rattle.route_audit.proofs.NearSound.{alone, within_map}
 
--- a book that is held, and an accepted reply with its header
+-- a held book, and an accepted reply with its header
 pub record Met (hash : List ℕ → List ℕ) (k : Kept) (q : NearQuery) (x : Within) (a : NearReply) : Type 0 where
   pub kept : IsKept k
   pub spelled : HasSpellings k
@@ -47,7 +47,7 @@ pub record Met (hash : List ℕ → List ℕ) (k : Kept) (q : NearQuery) (x : Wi
   pub complete : (id : ℕ) → ¬ LacksItem a.nodes q id
   pub nodes : ListsMarks (IsReached a.nodes q) x.nodes
 
--- ---- the part is that of the publication
+-- ---- the part belongs to the publication
 
 with_leaves : Part → List (List ℕ) → Part
 with_leaves part leaves = record { leaves = leaves; fan = part.fan; places = part.places; texts = part.texts; cover = part.cover }
@@ -56,7 +56,7 @@ pub part_same : (hash : List ℕ → List ℕ) (k : Kept) (kept : IsKept k) (a :
 unfolding with_leaves
 part_same hash k kept a = ap (with_leaves (part_of k a)) (leaves_are (node_texts k.nodes) ∙ ap node_texts (leaves_same k kept))
 
--- what is the tree's own is so in each book of the publication
+-- a part that is the tree's own is so for each book of the publication
 pub own_by : (hash : List ℕ → List ℕ) (k : Kept) (kept : IsKept k) (a : NearReply) → IsOwn hash sha256 (publication_in hash k) a → IsTreesOwn hash (part_of k a)
 unfolding with_leaves
 own_by hash k kept a own =

@@ -1,4 +1,4 @@
--- What recomputes a signed root recomputes that of the held book whose header is signed.
+-- A part that recomputes a signed root also recomputes the root of the held book with the signed header.
 use Rattle.std.proofs.Common.{◌≡◌, ℕ, List, length, Ok, sym, ap, ◌∙◌}
 use Rattle.std.proofs.lemmas.List.{length-map}
 use Rattle.road_leaf.specs.Leaves.{node_leaf_text}

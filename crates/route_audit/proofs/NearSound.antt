@@ -1,4 +1,5 @@
--- Over leaves of a map's book, walks that miss no item within the radius are the map's walks there.
+-- Over leaves of a map's book, walks that find every item they need within the radius are the map's walks within
+-- the radius.
 use Rattle.std.proofs.Common.{◌≡◌, ℕ, ◌+◌, ◌<◌, ◌≤◌, ◌⊎◌, inl, inr, Option, None, Some, List, [], true, refl, arith, sym, subst}
 use Rattle.std.specs.List.{Contains}
 use Rattle.road_map.specs.declared.arc.Arc.{Arc}
@@ -27,7 +28,7 @@ use Rattle.proof_octets.specs.Radius.{IsNear, ListsMarks, AreWithin}
 use Rattle.proof_octets.proofs.MarkLaws.{listed_same}
 use Rattle.route_client.specs.NearVerdicts.{IsReached, LacksItem, limit_of}
 
--- leaves as what an answer brings
+-- leaves, as the items of an answer
 abbrev pub alone : List NodeLeaf → Items
 alone nodes = record { route = []; nodes = nodes; pairs = [] }
 
@@ -51,7 +52,7 @@ module _ (b : Book) (nodes : List NodeLeaf) (q : NearQuery) (is_map : IsMap b.pa
       by_entry None e = absurd (closed q.from 0 (Reaches-start (any_ways (item_at nodes)) q.from (limit_of q) (omega arith)) e)
       by_entry (Some out) e = (of q.from out e).1
 
-  -- a walk of the map within the radius has one over the items that is no longer
+  -- for a walk of the map within the radius there is a walk over the items that is no longer
   over_items : (id e : ℕ) → Joins b.parts q.from id e → e < limit_of q → (m : ℕ) × Reaches (any_ways (item_at nodes)) q.from (limit_of q) id m × (m ≤ e)
   over_items id e j lt =
       let w : Ways = any_ways (item_at nodes) in
@@ -92,10 +93,10 @@ module _ (b : Book) (nodes : List NodeLeaf) (q : NearQuery) (is_map : IsMap b.pa
       let same : r.0 ≡ m.distance = omega (arith, r.2, least.1 r.0 (joined m.id r.0 r.1)) in
       (subst (Reaches (any_ways (item_at nodes)) q.from (limit_of q) m.id) same r.1, λ d k. least.1 d (joined m.id d k))
 
-  -- so what is listed of the items is what lies within the radius of the map
+  -- so the nodes that the items list are those within the radius in the map
   pub within_map : (marks : List Mark) → ListsMarks (IsReached nodes q) marks → AreWithin b.parts q marks
   within_map marks listed = listed_same marks (λ m. (to_map m, from_map m)) listed
 
-  -- and what lies within the radius of the map is what is listed of the items
+  -- and the nodes within the radius in the map are those that the items list
   pub items_listed : (marks : List Mark) → AreWithin b.parts q marks → ListsMarks (IsReached nodes q) marks
   items_listed marks within = listed_same marks (λ m. (from_map m, to_map m)) within

@@ -1,4 +1,4 @@
--- Replies on the nodes within a radius are a kind of replies.
+-- Replies for the nodes within a radius are a kind of replies.
 use Rattle.std.proofs.Common.{◌≡◌, ℕ, List, Result, Ok, Err, refl, sym, ap, subst, arith, ◌∙◌}
 use Rattle.sha2.specs.Sha256.{sha256}
 use Rattle.octet_text.specs.Format.{whole}
@@ -56,7 +56,7 @@ any_least hash key links octets q least x is = record {
   header = is.header;
 }
 
--- what encodes a reply and is accepted is accepted as that reply
+-- octets that encode a reply and are accepted are accepted as that reply
 pub accepts_as : (hash : List ℕ → List ℕ) (key : List ℕ) (links : List Link) (octets : List ℕ) (q : NearQuery) (x : Within) (a : NearReply) → NearAccepts hash key links octets q 0 x → whole near_reply octets ≡ Ok a → NearAcceptsAs hash key links octets q 0 x a
 accepts_as hash key links octets q x a accepts is = record { accepts = accepts; is = one_spelled accepts.reply a (whole near_reply octets) accepts.spelled is }
 
@@ -81,7 +81,7 @@ are_replies one accepts = record {
   not_both = λ hash sha p q x a two h k. k.not_own h.own;
 }
 
--- what a comparison finds in a held book's node tree it finds of its publication
+-- a finding of a comparison with a held book's node tree is also a finding for its publication
 pub compared : (hash : List ℕ → List ℕ) (k : Kept) (q : NearQuery) (a : NearReply) (finding : Finding) → IsKept k → HasSpellings k → IsGoodNear a → a.header ≡ header_in hash k → ((kind : Kind) → KeepsTrue kind) → HasDistances
     → Compares hash (part_of k a) finding → Compared radii hash sha256 (publication_in hash k) q a finding
 compared hash k q a Right kept spelled good header true_of distances compares = λ key links octets x h.

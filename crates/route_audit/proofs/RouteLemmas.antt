@@ -1,4 +1,4 @@
--- Replies on routes are a kind of replies.
+-- Replies for routes are a kind of replies.
 use Rattle.std.proofs.Common.{◌≡◌, ◌⊎◌, inl, inr, ℕ, Option, None, Some, List, [], ◌∷◌, Result, Ok, Err, IfOk, refl, sym, ap, subst, arith, ◌∙◌}
 use Rattle.sha2.specs.Sha256.{sha256}
 use Rattle.octet_text.specs.Exact.{IsBytes}
@@ -47,7 +47,7 @@ one_read a b r (inr is) (inr other) = cc
 one_spelled : (octets : List ℕ) (a b : answers.Answer) → SpellsAnswer octets a → SpellsAnswer octets b → a ≡ b
 one_spelled octets a b is other = one_read a b (whole formats.reply octets) is other
 
--- what is accepted is encoded
+-- accepted octets encode an answer
 spelled_by : (octets : List ℕ) (x : Checked) (a : answers.Answer) → whole formats.reply octets ≡ Ok (reply_by x a) → SpellsAnswer octets a
 spelled_by octets (Route x) a is = inl is
 spelled_by octets (Apart version header) a is = inr is
@@ -66,12 +66,12 @@ text_of octets a bytes (inr is) =
     let both = whole_found formats.reply reply_exact octets (replies.Apart a) bytes is in
     both.1 ∙ ap formats.reply_text (sym (is_apart a both.0))
 
--- what is taken of an answer with a length, or with none
+-- the result taken from an answer with a length, or without one
 pub taken_of : (a : answers.Answer) (length : Option ℕ) → (x : Checked) × (as_checked a (Ok length) ≡ Ok x)
 taken_of a (Some d) = (Route (record { length = d; route = a.items.route; version = a.header.version; header = a.header }), refl)
 taken_of a None = (Apart a.header.version a.header, refl)
 
--- the header of what is taken is that of the answer
+-- the header of the result is that of the answer
 same_header : (kind : Kind) (a : answers.Answer) (q : Query) (x : Checked) → Says kind a q x → header_of_taken x ≡ a.header
 same_header kind a q (Route x) says = says.header
 same_header kind a q (Apart version header) says = says.header_is
@@ -97,7 +97,7 @@ any_least hash key links octets q least x is = record {
   says = is.says;
 }
 
--- what encodes an answer and is accepted is accepted as that answer
+-- octets that encode an answer and are accepted are accepted as that answer
 pub accepts_as : (hash : List ℕ → List ℕ) (key : List ℕ) (links : List Link) (octets : List ℕ) (q : Query) (x : Checked) (a : answers.Answer) → Accepts hash key links octets q 0 x → SpellsAnswer octets a → AcceptsAs hash key links octets q 0 x a
 accepts_as hash key links octets q x a accepts is = record { accepts = accepts; is = one_spelled octets accepts.answer a (spelled_by octets x accepts.answer accepts.spelled) is }
 
@@ -119,7 +119,7 @@ are_replies one accepts = record {
   not_both = λ hash sha p q x a two h k. k.not_own h.own;
 }
 
--- what a comparison finds in a held book's trees it finds of its publication
+-- a finding of a comparison with a held book's trees is also a finding for its publication
 pub compared : (hash : List ℕ → List ℕ) (k : Kept) (q : Query) (a : answers.Answer) (finding : Finding) → IsKept k → HasSpellings k → IsGood a → a.header ≡ header_in hash k → ((kind : Kind) → KeepsTrue kind) → SoundLaws
     → Compares hash (node_part_of k a) (pair_part_of k a) finding → Compared routes hash sha256 (publication_in hash k) q a finding
 compared hash k q a Right kept spelled good header true_of sound compares = λ key links octets x h.
@@ -133,7 +133,7 @@ compared hash k q a Right kept spelled good header true_of sound compares = λ k
 compared hash k q a (Collision left right) kept spelled good header true_of sound compares = collides_of hash k kept a (two_texts left right) compares.0 compares.1
 compared hash k q a (Forged key text signature) kept spelled good header true_of sound compares = absurd compares
 
--- what follows of a value follows where there is one
+-- a consequence of a value holds if the value exists
 pub if_ok : {T E : Type 0} (r : Result T E) (P Q : T → Type 0) → ((x : T) → P x → Q x) → IfOk r P → IfOk r Q
 if_ok (Ok x) P Q f h = f x h
 if_ok (Err e) P Q f h = tt

@@ -1,4 +1,4 @@
--- What recomputes a signed root recomputes that of the held book whose header is signed.
+-- A part that recomputes a signed root also recomputes the root of the held book with the signed header.
 use Rattle.std.proofs.Common.{◌≡◌, ℕ, List, length, Ok, sym, ap, ◌∙◌}
 use Rattle.std.proofs.lemmas.List.{length-map}
 use Rattle.road_leaf.specs.Leaves.{node_leaf_text, pair_leaf}
@@ -11,7 +11,7 @@ use Rattle.route_audit.specs.Comparing.{FoldsUnder, leaves_or_none, node_part_of
 use Rattle.route_audit.specs.Evidence.{Part}
 use Rattle.route_audit.proofs.Folded.{leaves_are}
 
--- what is covered under these numbers is covered under those that are the same
+-- a part covered under these numbers is covered under equal numbers
 pub covered_same : (hash : List ℕ → List ℕ) (which : ℕ) (part : Part) (count fan : ℕ) (top : List ℕ) → count ≡ length part.leaves → fan ≡ part.fan → top ≡ root_or_zeros hash part.fan part.leaves
     → covered hash which count fan part.places part.texts part.cover top ≡ Ok tt → FoldsUnder hash which part
 covered_same hash which part count fan top counts fans tops is =

@@ -1,4 +1,4 @@
--- What the words of an audit say at some answers, so that a changed word is seen.
+-- The definitions of an audit, evaluated for some results. A changed definition fails here.
 use Rattle.std.proofs.Common.{◌≡◌, ◌≢◌, ℕ, List, Ok, Err, refl}
 use Rattle.road_io.specs.declared.disk.Disk.{Ghosts}
 use Rattle.key_desk.specs.declared.desk.Desk.{Desk as TheDesk}
@@ -17,7 +17,7 @@ use Rattle.route_audit.specs.declared.errors.AuditError.TheVariants.{OtherKey, R
 use Rattle.route_audit.specs.declared.finding.Finding.TheVariants.{Right, Collision, Forged}
 use Rattle.octet_text.specs.Want.{no_memory}
 
--- ---- what comes of what can be audited
+-- ---- the results for octets that can be audited
 
 module _ (E : Type 0) (accepted published : Header) where
   no_other_key : Comes {E = E} accepted published (Err OtherKey) → ⊥
@@ -32,7 +32,7 @@ module _ (E : Type 0) (accepted published : Header) where
   another_header : Comes {E = E} accepted published (Err OtherPublication) → accepted ≢ published
   another_header h = h
 
--- ---- before the look
+-- ---- before the slots are examined
 
 module _ (E : Type 0) (P : Type 0) where
   touched_by_no_other_key : BeforeLook {E = E} (Err OtherKey) P → P
@@ -92,7 +92,7 @@ module _ {Q A X E : Type 0} (kind : ReplyKind Q A X E) (hash sha : List ℕ → 
   collision_collides : (left right : List ℕ) → (h : Finds kind hash sha look u (Ok (Collision left right))) → kind.Collides hash sha u.publication h.0.installed.reply.answer (two_texts left right)
   collision_collides left right h = h.1
 
--- what a comparison finds is of its trees
+-- a finding of a comparison is about its trees
 module _ (hash : List ℕ → List ℕ) (nodes pairs : Part) where
   right_nodes : Compares hash nodes pairs Right → IsTreesOwn hash nodes
   right_nodes h = h.0
@@ -106,7 +106,7 @@ module _ (hash : List ℕ → List ℕ) (nodes pairs : Part) where
   texts_differ : (left right : List ℕ) → Compares hash nodes pairs (Collision left right) → left ≢ right
   texts_differ left right h = h.0.differ
 
--- a fault of the disk is always answered
+-- a disk fault is always returned
 fault_is_answered : {Q A X E : Type 0} (kind : ReplyKind Q A X E) (hash sha : List ℕ → List ℕ) {D : Type 0} (g : Ghosts D) (old_desk new_desk : TheDesk) (old new : D) (u : Audited Q)
     → Audits kind hash sha g old_desk old new_desk new u (Err (Memory no_memory)) → g.faults new ≡ g.faults old
 fault_is_answered kind hash sha g old_desk new_desk old new u h = h.kept (λ is. cc)

@@ -1,4 +1,4 @@
--- An answer against a book that is held.
+-- Comparing an answer with a held book.
 use Rattle.std.specs.Prelude.{◌≡◌, ℕ, Option, None, Some, List, [], length, Ok}
 use Rattle.proof_octets.specs.declared.reply.Answer as answers
 use Rattle.route_client.specs.Verdicts.{covered}
@@ -9,12 +9,12 @@ use Rattle.route_audit.specs.Evidence.{Part, IsTreesOwn, ClashesFirst, two_texts
 use Rattle.route_audit.specs.declared.finding.Finding.{Finding}
 use Rattle.route_audit.specs.declared.finding.Finding.TheVariants.{Right, Collision, Forged}
 
--- the leaves of a tree that may be there
+-- the leaves of a tree, if there is one
 abbrev pub leaves_or_none : Option (List (List ℕ)) → List (List ℕ)
 leaves_or_none None = []
 leaves_or_none (Some texts) = texts
 
--- what is brought of a tree of a held book: 1 that of nodes, 2 that of pairs
+-- the part of a tree of a held book that an answer carries: tree 1 for nodes, tree 2 for pairs
 abbrev pub part_under : Kept → ℕ → List ℕ → List (List ℕ) → List (List ℕ) → Part
 part_under k which places texts cover =
     record {
@@ -25,7 +25,7 @@ part_under k which places texts cover =
       cover = cover;
     }
 
--- it recomputes the tree's root
+-- the part recomputes the tree's root
 abbrev pub FoldsUnder : (List ℕ → List ℕ) → ℕ → Part → Type 0
 FoldsUnder hash which part =
     covered hash which (length part.leaves) part.fan part.places part.texts part.cover
@@ -37,7 +37,7 @@ node_part_of k a = part_under k 1 a.node_places (node_texts a.items.nodes) a.nod
 abbrev pub pair_part_of : Kept → answers.Answer → Part
 pair_part_of k a = part_under k 2 a.pair_places (pair_texts a.items.pairs) a.pair_cover
 
--- what a comparison finds in two trees
+-- the result of a comparison in two trees
 abbrev pub Compares : (List ℕ → List ℕ) → Part → Part → Finding → Type 0
 Compares hash nodes pairs Right = IsTreesOwn hash nodes × IsTreesOwn hash pairs
 Compares hash nodes pairs (Collision left right) = AreCollision hash left right ×

@@ -1,6 +1,6 @@
--- What an answer shows over a publication's own trees.
--- Source: Merkle, A Digital Signature Based on a Conventional Encryption Function, CRYPTO 1987:
--- what recomputes a tree's root and is not the tree's own shows two texts with one digest.
+-- What an answer implies for a publication's own trees. Source: Merkle, A Digital Signature Based on a Conventional
+-- Encryption Function, CRYPTO 1987: if a part recomputes a tree's root but is not the tree's own, it shows two
+-- texts with the same digest.
 use Rattle.std.specs.Prelude.{◌≡◌, ◌⊎◌, ℕ, List, length}
 use Rattle.octet_text.specs.Collisions.{AreCollision}
 use Rattle.book_model.specs.declared.items.Query.{Query}
@@ -17,8 +17,8 @@ use Rattle.route_server.specs.Headers.{node_texts, pair_texts, IsBook}
 
 -- ---- the parts of an answer
 
--- what is brought of a tree over these leaves: indices, the texts of the leaves there, and the cover
--- of the others
+-- a part of a tree over these leaves: indices, the texts of the leaves at these indices, and the cover of all other
+-- indices
 pub record Part : Type 0 where
   pub leaves : List (List ℕ)
   pub fan : ℕ
@@ -26,7 +26,7 @@ pub record Part : Type 0 where
   pub texts : List (List ℕ)
   pub cover : List (List ℕ)
 
--- what an answer brings of the tree over the node leaves of a publication's book
+-- the part that an answer carries of the tree over the node leaves of a publication's book
 abbrev pub node_part : (List ℕ → List ℕ) → Publication → Book → answers.Answer → Part
 node_part sha p book a = record {
   leaves = node_texts (leaves_of book (leaf_order sha p.parts p.settings));
@@ -36,7 +36,7 @@ node_part sha p book a = record {
   cover = a.node_cover;
 }
 
--- and of the tree over its pair leaves
+-- the part that it carries of the tree over the pair leaves
 abbrev pub pair_part : Publication → Book → answers.Answer → Part
 pair_part p book a = record {
   leaves = pair_texts book.pairs;
@@ -48,14 +48,14 @@ pair_part p book a = record {
 
 -- ---- right answers
 
--- each text is that of the leaf at its index, and the cover is the tree's; where there is no index,
--- it is empty
+-- each text is that of the leaf at its index, and the cover is the tree's own; without any index, the cover is
+-- empty
 pub record IsTreesOwn (hash : List ℕ → List ℕ) (part : Part) : Type 0 where
   pub rising : IsRising (length part.leaves) part.places
   pub texts : part.texts ≡ chosen_texts part.leaves part.places
   pub cover : part.cover ≡ cover_of hash part.leaves part.fan part.places
 
--- all that an answer brings is of the trees of the publication's book
+-- everything that an answer carries comes from the trees of the publication's book
 pub record IsOwn (hash sha : List ℕ → List ℕ) (p : Publication) (a : answers.Answer) : Type 0 where
   pub kind : Kind
   pub book : Book
@@ -63,8 +63,8 @@ pub record IsOwn (hash sha : List ℕ → List ℕ) (p : Publication) (a : answe
   pub nodes : IsTreesOwn hash (node_part sha p book a)
   pub pairs : IsTreesOwn hash (pair_part p book a)
 
--- so its items are leaves of the book, and what is accepted holds in the publication's map: the
--- route is a shortest one, or no walk joins the two ends
+-- the items are leaves of the book, and the accepted result is true of the publication's map: the route is a
+-- shortest one, or no walk joins the two ends
 pub record IsRight (hash sha : List ℕ → List ℕ) (p : Publication) (q : Query) (x : Checked)
     (a : answers.Answer) : Type 0 where
   pub own : IsOwn hash sha p a
@@ -78,20 +78,20 @@ two_texts left right = record { left = left; right = right }
 
 -- ---- collisions
 
--- what is brought is not the tree's own, and at one position the tree hashes the left text, and the
--- root recomputed of what is brought the right one
+-- the part is not the tree's own; at one position the tree hashes the left text, and the recomputed root hashes the
+-- right one
 pub record Clashes (hash : List ℕ → List ℕ) (part : Part) (two : TwoTexts) : Type 0 where
   pub not_own : ¬ IsTreesOwn hash part
   pub hashed : AreHashed hash part.leaves part.fan part.places part.texts part.cover two.left
       two.right
 
--- a clash in the first tree, or in the second where what is brought of the first is its own
+-- a clash in the first tree, or in the second tree if the part of the first is the tree's own
 abbrev pub ClashesFirst : (List ℕ → List ℕ) → Part → Part → TwoTexts → Type 0
 ClashesFirst hash one other two = Clashes hash one two ⊎
     (IsTreesOwn hash one × Clashes hash other two)
 
--- two different texts with one digest, where an answer brings what is not of the trees of the
--- publication's book, the node tree first
+-- two different texts with the same digest, if an answer carries anything that is not from the trees of the
+-- publication's book; the node tree is tested first
 pub record Collides (hash sha : List ℕ → List ℕ) (p : Publication) (a : answers.Answer)
     (two : TwoTexts) : Type 0 where
   pub collision : AreCollision hash two.left two.right

@@ -1,4 +1,4 @@
--- The order of findings, and what each of them means.
+-- The order of findings, and the meaning of each.
 use Rattle.std.specs.Prelude.{◌≡◌, ◌≢◌, ℕ, List, Result, Ok, Err, true, false}
 use Rattle.lms_tree.specs.declared.links.Link.{Link}
 use Rattle.road_io.specs.declared.disk.Disk.{Ghosts}
@@ -23,8 +23,8 @@ use Rattle.route_audit.specs.declared.finding.Finding.{Finding}
 use Rattle.route_audit.specs.declared.finding.Finding.TheVariants.{Right, Collision, Forged}
 use Rattle.octet_text.specs.Want.{no_memory}
 
--- what is audited: octets as a reply to a query, under a public key and a chain of links from it,
--- and against a publication
+-- the subject of an audit: octets as a reply to a query, under a public key and a chain of links from it, compared
+-- with a publication
 pub record Audited (Query : Type 0) : Type 0 where
   pub public : List ℕ
   pub chain : List Link
@@ -34,7 +34,7 @@ pub record Audited (Query : Type 0) : Type 0 where
 
 -- ---- the steps
 
--- the key is one of the owner's, and the client accepts the reply under it and the chain
+-- the key belongs to the owner, and the client accepts the reply under it and the chain
 pub record IsAccepted {Q A X E : Type 0} (kind : ReplyKind Q A X E) (hash : List ℕ → List ℕ)
     (look : Look) (u : Audited Q) : Type 0 where
   pub own : look.Owns u.public
@@ -42,13 +42,13 @@ pub record IsAccepted {Q A X E : Type 0} (kind : ReplyKind Q A X E) (hash : List
   pub answer : A
   pub accepts : kind.Accepts hash u.public u.chain u.reply u.query 0 taken answer
 
--- and the publication has the header of its parts and settings
+-- the reply is accepted, and the publication has the header of its parts and settings
 pub record IsInstalled {Q A X E : Type 0} (kind : ReplyKind Q A X E) (hash sha : List ℕ → List ℕ)
     (look : Look) (u : Audited Q) : Type 0 where
   pub reply : IsAccepted kind hash look u
   pub header : HasHeader hash sha u.publication.parts u.publication.settings u.publication.header
 
--- and the links and the header of the accepted answer were signed, and it is the publication's
+-- also, the links and the header of the accepted answer were signed, and the header is the publication's
 pub record IsPublished {Q A X E : Type 0} (kind : ReplyKind Q A X E) (hash sha : List ℕ → List ℕ)
     (look : Look) (u : Audited Q) : Type 0 where
   pub installed : IsInstalled kind hash sha look u
@@ -57,23 +57,22 @@ pub record IsPublished {Q A X E : Type 0} (kind : ReplyKind Q A X E) (hash sha :
 
 -- ---- the findings
 
--- a link text or a header that is not signed, with a signature that is verified on it
+-- a link text or a header is not signed, but has a signature that verifies
 pub record IsForged {Q A X E : Type 0} (kind : ReplyKind Q A X E) (hash sha : List ℕ → List ℕ)
     (look : Look) (u : Audited Q) (f : Forgery) : Type 0 where
   pub installed : IsInstalled kind hash sha look u
   pub forges : Forges look u.public u.chain (header_text (kind.header installed.reply.answer))
       (kind.signature installed.reply.answer) f
 
--- a header that is signed, as are the links, and not the publication's
+-- the header and the links are signed, but the header is not the publication's
 pub record IsOther {Q A X E : Type 0} (kind : ReplyKind Q A X E) (hash sha : List ℕ → List ℕ)
     (look : Look) (u : Audited Q) : Type 0 where
   pub installed : IsInstalled kind hash sha look u
   pub signed : AreSigned look u.chain (header_text (kind.header installed.reply.answer))
   pub other : kind.header installed.reply.answer ≢ u.publication.header
 
--- What an audit answers: the first of these that holds. Each asks that the earlier steps were
--- passed. Out of memory may come at any time after the first step, so that a key that is none of
--- the owner's has one answer.
+-- The result of an audit: the first case that holds. Each case requires that the earlier steps passed. Memory may
+-- run out at any time after the first step, so a key that does not belong to the owner has only one result.
 abbrev pub Finds : {Q A X E : Type 0} → ReplyKind Q A X E → (List ℕ → List ℕ) →
     (List ℕ → List ℕ) → Look → Audited Q → Result Finding (AuditError E) → Type 0
 Finds kind hash sha look u (Err OtherKey) = ¬ look.Owns u.public
@@ -91,10 +90,10 @@ Finds kind hash sha look u (Ok Right) = (p : IsPublished kind hash sha look u) �
     kind.IsRight hash sha u.publication u.query p.installed.reply.taken p.installed.reply.answer
 Finds kind hash sha look u (Err (Memory _)) = look.Owns u.public
 
--- ---- one always comes
+-- ---- there is always a finding
 
--- octets that the client accepts under one of the owner's keys and a chain, with any minimum version,
--- and a publication that can be installed, of whatever header
+-- the client accepts these octets under a key of the owner and a chain, with any minimum version, and the
+-- publication can be installed, whatever its header
 pub record IsAuditable {Q A X E : Type 0} (kind : ReplyKind Q A X E) (hash sha : List ℕ → List ℕ)
     (look : Look) (u : Audited Q) : Type 0 where
   pub own : look.Owns u.public
@@ -111,9 +110,9 @@ Comes accepted published (Err OtherPublication) = accepted ≢ published
 Comes accepted published (Err (Memory _)) = Unit {0}
 Comes accepted published (Err e) = ⊥
 
--- ---- before the look
+-- ---- before the slots are examined
 
--- this holds where the answer came before the look at the slots
+-- P holds if the result came before the slots were examined
 abbrev pub BeforeLook : {E : Type 0} → Result Finding (AuditError E) → Type 0 → Type 0
 BeforeLook (Err OtherKey) P = P
 BeforeLook (Err (Refused e)) P = P
@@ -122,11 +121,10 @@ BeforeLook r P = Unit {0}
 
 -- ---- an audit
 
--- What an audit of octets by a desk answers, and what it leaves: the first step that holds is
--- answered; what is auditable comes to a finding where the desk is open and its disk doesn't fail;
--- before the look at the slots nothing is touched, and afterwards the desk and the disk are left as
--- they were, but that a fault of the disk closes the desk; such a fault is always answered, also
--- where memory runs out.
+-- The result of auditing octets by a desk, and its effects. The result is the first case that holds. If the octets
+-- can be audited, the desk is open and its disk does not fail, there is a finding. Nothing is touched before the
+-- slots are examined. Afterwards the desk and the disk are unchanged, except that a disk error closes the desk. A
+-- disk error is always returned, even if memory runs out.
 pub record Audits {Q A X E : Type 0} (kind : ReplyKind Q A X E) (hash sha : List ℕ → List ℕ)
     {D : Type 0} (g : Ghosts D) (old_desk : TheDesk) (old : D) (new_desk : TheDesk) (new : D)
     (u : Audited Q) (answer : Result Finding (AuditError E)) : Type 0 where

@@ -1,6 +1,5 @@
--- Kinds of replies: what a client takes of them, and what they show of a publication. Replies on
--- routes are one kind, those on the nodes within a radius another, and all of them are audited
--- alike.
+-- Kinds of replies: what a client takes from them, and what they imply for a publication. Replies for routes are
+-- one kind, and replies for the nodes within a radius are another. All kinds are audited in the same way.
 use Rattle.std.specs.Prelude.{◌≡◌, ℕ, List, Ok}
 use Rattle.octet_text.specs.Collisions.{AreCollision}
 use Rattle.lms_tree.specs.Chains.{chained, verified_along}
@@ -12,33 +11,33 @@ use Rattle.proof_octets.specs.Headers.{header_text}
 
 -- a kind of replies
 pub record ReplyKind (Query Answer Taken Refusal : Type 0) : Type 1 where
-  -- the octets encode the answer, which has a header and the signature of its octets
+  -- the octets encode the answer, which has a header and the signature of the header's octets
   pub Spells : List ℕ → Answer → Type 0
   pub header : Answer → Header
   pub signature : Answer → List ℕ
-  -- over a hash, a client with a key, links from it and a minimum version accepts octets as a reply
-  -- to a query, and takes this of the answer that they encode
+  -- over a hash, a client with a key, links from it and a minimum version accepts octets as a reply to a query, and
+  -- takes this result from the answer that they encode
   pub Accepts : (List ℕ → List ℕ) → List ℕ → List Link → List ℕ → Query → ℕ → Taken → Answer →
       Type 0
-  -- or it refuses them, whatever their version
+  -- the client refuses the octets, whatever their version
   pub Refuses : (List ℕ → List ℕ) → List ℕ → List Link → List ℕ → Query → Refusal → Type 0
   -- the answer is within its format's limits
   pub IsGood : Answer → Type 0
-  -- all that the answer brings is of the trees of the publication's book, and what is taken holds
-  -- in its map; the hashes are that of trees and that of orders
+  -- everything that the answer carries comes from the trees of the publication's book, and the result is true of
+  -- its map; one hash makes the trees, and the other the orders
   pub IsRight : (List ℕ → List ℕ) → (List ℕ → List ℕ) → Publication → Query → Taken → Answer →
       Type 0
-  -- or two texts have one digest
+  -- two texts have the same digest
   pub Collides : (List ℕ → List ℕ) → (List ℕ → List ℕ) → Publication → Answer → TwoTexts → Type 0
-  -- the header of what is taken, and that it holds in the publication's map
+  -- the header of the result that the client takes; the result is true of the publication's map
   pub taken_header : Taken → Header
   pub IsTrue : Publication → Query → Taken → Type 0
 
--- what holds of a kind of replies, over every hash
+-- the laws of a kind of replies, over every hash
 pub record AreReplies {Query Answer Taken Refusal : Type 0}
     (kind : ReplyKind Query Answer Taken Refusal) : Type 0 where
-  -- what is accepted stands on links, each signed under the key before it, and on a header that is
-  -- signed along them
+  -- an accepted reply rests on links, each signed under the previous key, and on a header signed under a key along
+  -- them
   pub chain : (hash : List ℕ → List ℕ) (key : List ℕ) (links : List Link) (octets : List ℕ)
       (q : Query) (least : ℕ) (x : Taken) (a : Answer)
       → kind.Accepts hash key links octets q least x a → chained key links ≡ Ok tt
@@ -46,14 +45,14 @@ pub record AreReplies {Query Answer Taken Refusal : Type 0}
       (q : Query) (least : ℕ) (x : Taken) (a : Answer)
       → kind.Accepts hash key links octets q least x a
       → verified_along key links (header_text (kind.header a)) (kind.signature a) ≡ Ok tt
-  -- it is encoded by its octets, and what is taken has its header
+  -- the octets encode the answer, and the result has its header
   pub spelled : (hash : List ℕ → List ℕ) (key : List ℕ) (links : List Link) (octets : List ℕ)
       (q : Query) (least : ℕ) (x : Taken) (a : Answer)
       → kind.Accepts hash key links octets q least x a → kind.Spells octets a
   pub same_header : (hash : List ℕ → List ℕ) (key : List ℕ) (links : List Link) (octets : List ℕ)
       (q : Query) (least : ℕ) (x : Taken) (a : Answer)
       → kind.Accepts hash key links octets q least x a → kind.taken_header x ≡ kind.header a
-  -- it is accepted with a lower minimum version too, it is one, and it is not refused
+  -- an accepted reply is also accepted with minimum version 0, has one result and one answer, and is not refused
   pub any_least : (hash : List ℕ → List ℕ) (key : List ℕ) (links : List Link) (octets : List ℕ)
       (q : Query) (least : ℕ) (x : Taken) (a : Answer)
       → kind.Accepts hash key links octets q least x a → kind.Accepts hash key links octets q 0 x a
@@ -66,8 +65,8 @@ pub record AreReplies {Query Answer Taken Refusal : Type 0}
   pub not_refused : (hash : List ℕ → List ℕ) (key : List ℕ) (links : List Link) (octets : List ℕ)
       (q : Query) (x : Taken) (a : Answer) (e : Refusal)
       → kind.Accepts hash key links octets q 0 x a → kind.Refuses hash key links octets q e → ⊥
-  -- a collision is two different texts of octets with one digest; what is right is true, and
-  -- doesn't collide
+  -- a collision consists of two different texts of octets with the same digest; a right answer is true and has no
+  -- collision
   pub collision : (hash sha : List ℕ → List ℕ) (p : Publication) (a : Answer) (two : TwoTexts)
       → kind.Collides hash sha p a two → AreCollision hash two.left two.right
   pub truth : (hash sha : List ℕ → List ℕ) (p : Publication) (q : Query) (x : Taken) (a : Answer)

@@ -1,7 +1,6 @@
--- What a reply shows over a publication's own node tree.
--- Source: Merkle, CRYPTO 1987 (what recomputes a tree's root and is not the tree's own shows two
--- texts with one digest), and Papadias, Zhang, Mamoulis and Tao, VLDB 2003 (range search in a road
--- network).
+-- What a reply implies for a publication's own node tree. Source: Merkle, CRYPTO 1987 (a part that recomputes a
+-- tree's root but is not the tree's own shows two texts with the same digest), and Papadias, Zhang, Mamoulis and
+-- Tao, VLDB 2003 (range search in a road network).
 use Rattle.std.specs.Prelude.{◌≡◌, ◌≢◌, ℕ, Some, List, Contains}
 use Rattle.book_model.specs.Books.{Kind, Book, leaf, leaves_of, leaf_order}
 use Rattle.merkle_cover.specs.declared.clashes.TwoTexts.{TwoTexts}
@@ -15,7 +14,7 @@ use Rattle.proof_octets.specs.declared.near_reply.NearReply.{NearReply}
 use Rattle.proof_octets.specs.Radius.{AreWithin}
 use Rattle.route_client.specs.declared.within.Within.{Within}
 
--- what a reply brings of the tree over the node leaves of a publication's book
+-- the part that a reply carries of the tree over the node leaves of a publication's book
 abbrev pub near_part : (List ℕ → List ℕ) → Publication → Book → NearReply → Part
 near_part sha p book a = record {
   leaves = node_texts (leaves_of book (leaf_order sha p.parts p.settings));
@@ -25,22 +24,22 @@ near_part sha p book a = record {
   cover = a.cover;
 }
 
--- all that a reply brings is of the node tree of the publication's book
+-- everything that a reply carries comes from the node tree of the publication's book
 pub record IsOwn (hash sha : List ℕ → List ℕ) (p : Publication) (a : NearReply) : Type 0 where
   pub kind : Kind
   pub book : Book
   pub is_book : IsBook sha p.parts p.settings kind book
   pub nodes : IsTreesOwn hash (near_part sha p book a)
 
--- so its items are leaves of the book, and the accepted nodes are exactly those within the radius
--- of the publication's map, each with its distance
+-- the items are leaves of the book, and the accepted nodes are exactly those within the radius in the publication's
+-- map, each with its distance
 pub record IsRight (hash sha : List ℕ → List ℕ) (p : Publication) (q : NearQuery) (x : Within)
     (a : NearReply) : Type 0 where
   pub own : IsOwn hash sha p a
   pub authentic : (n : NodeLeaf) → Contains a.nodes n → leaf own.book n.id ≡ Some n
   pub within : AreWithin p.parts q x.nodes
 
--- two different texts with one digest, where a reply brings what is not of the node tree of the
+-- two different texts with the same digest, if a reply carries anything that is not from the node tree of the
 -- publication's book
 pub record Collides (hash sha : List ℕ → List ℕ) (p : Publication) (a : NearReply)
     (two : TwoTexts) : Type 0 where

@@ -1,4 +1,4 @@
--- Replies on the nodes within a radius, as a kind of replies.
+-- Replies for the nodes within a radius, as a kind of replies.
 use Rattle.std.specs.Prelude.{◌≡◌, ◌≢◌, ℕ, List, Ok, Err}
 use Rattle.octet_text.specs.Format.{whole}
 use Rattle.lms_tree.specs.declared.links.Link.{Link}
@@ -14,14 +14,14 @@ use Rattle.route_client.specs.NearVerdicts.{NearAccepts, IsNearVerdict}
 use Rattle.route_audit.specs.NearEvidence.{Collides, IsRight}
 use Rattle.octet_text.specs.Want.{no_memory}
 
--- the octets are accepted as this reply, and this is taken of it
+-- the octets are accepted as this reply with this result
 pub record NearAcceptsAs (hash : List ℕ → List ℕ) (key : List ℕ) (links : List Link)
     (octets : List ℕ) (q : NearQuery) (least : ℕ) (x : Within) (a : NearReply) : Type 0 where
   pub accepts : NearAccepts hash key links octets q least x
   pub is : accepts.reply ≡ a
 
--- the nodes within a radius: what is accepted are nodes with their distances, which is true where
--- they are exactly those within the radius of the publication's map
+-- the nodes within a radius: the result consists of nodes with their distances; it is true if they are exactly
+-- those within the radius in the publication's map
 abbrev pub radii : ReplyKind NearQuery NearReply Within NearError
 radii = record {
   Spells = λ octets a. whole near_reply octets ≡ Ok a;

@@ -1,4 +1,4 @@
--- Replies on routes, as a kind of replies.
+-- Replies for routes, as a kind of replies.
 use Rattle.std.specs.Prelude.{◌≡◌, ◌≢◌, ◌⊎◌, ℕ, List, Ok, Err}
 use Rattle.octet_text.specs.Format.{whole}
 use Rattle.book_model.specs.declared.items.Query.{Query}
@@ -21,15 +21,14 @@ abbrev pub SpellsAnswer : List ℕ → answers.Answer → Type 0
 SpellsAnswer octets a = (whole formats.reply octets ≡ Ok (replies.Answer a)) ⊎
     (whole formats.reply octets ≡ Ok (replies.Apart a))
 
--- the octets are accepted as this answer, and this is taken of it
+-- the octets are accepted as this answer with this result
 pub record AcceptsAs (hash : List ℕ → List ℕ) (key : List ℕ) (links : List Link) (octets : List ℕ)
     (q : Query) (least : ℕ) (x : Checked) (a : answers.Answer) : Type 0 where
   pub accepts : Accepts hash key links octets q least x
   pub is : accepts.answer ≡ a
 
--- routes between two nodes: what is accepted is a route and its length, which is true where it is a
--- shortest one in the publication's map, or that there is none, which is true where no walk of the
--- map joins the two
+-- Routes between two nodes. One result is a route and its length; it is true if the route is a shortest one in the
+-- publication's map. The other is that no route exists; it is true if no walk of the map joins the two ends.
 abbrev pub routes : ReplyKind Query answers.Answer Checked CheckError
 routes = record {
   Spells = SpellsAnswer;

@@ -1,4 +1,4 @@
--- The steps of an audit, each as a function gives it.
+-- The steps of an audit, each as one function.
 use Rattle.std.specs.Prelude.{◌≡◌, ◌≢◌, ℕ, List, Result, Ok, Err}
 use Rattle.lms_tree.specs.declared.links.Link.{Link}
 use Rattle.desk_look.specs.Forgeries.{AreSigned, Forges, forgery}
@@ -22,21 +22,21 @@ abbrev pub IsAnswerTo : {Q A X E : Type 0} → ReplyKind Q A X E → (List ℕ �
 IsAnswerTo {Q} {A} {X} {E} kind hash key links octets q a =
     (x : X) × kind.Accepts hash key links octets q 0 x a
 
--- why there is none
+-- why no answer is accepted
 abbrev pub IsRefused : {Q A X E : Type 0} → ReplyKind Q A X E → (List ℕ → List ℕ) → List ℕ →
     List Link → List ℕ → Q → AuditError E → Type 0
 IsRefused kind hash key links octets q (Refused e) = kind.Refuses hash key links octets q e
 IsRefused kind hash key links octets q (Memory _) = Unit {0}
 IsRefused kind hash key links octets q _ = ⊥
 
--- why a publication is not installed
+-- why a publication was not installed
 abbrev pub IsNotInstalled : {E : Type 0} → (List ℕ → List ℕ) → (List ℕ → List ℕ) → Publication →
     AuditError E → Type 0
 IsNotInstalled hash sha p (Install e) = Installs hash sha p (Err e) × (e ≢ installs.Memory no_memory)
 IsNotInstalled hash sha p (Memory _) = Unit {0}
 IsNotInstalled hash sha p _ = ⊥
 
--- what a comparison of an answer with its publication finds
+-- the result of comparing an answer with its publication
 abbrev pub Compared : {Q A X E : Type 0} → ReplyKind Q A X E → (List ℕ → List ℕ) →
     (List ℕ → List ℕ) → Publication → Q → A → Finding → Type 0
 Compared {Q} {A} {X} {E} kind hash sha p q a Right = (key : List ℕ) (links : List Link)
@@ -46,8 +46,7 @@ Compared kind hash sha p q a (Collision left right) =
     kind.Collides hash sha p a (two_texts left right)
 Compared kind hash sha p q a (Forged key text signature) = ⊥
 
--- what is found of an answer over a held book, under a key and links from it: the first of these
--- that holds
+-- the result for an answer over a held book, under a key and links from it: the first case that holds
 abbrev pub FindsIn : {Q A X E : Type 0} → ReplyKind Q A X E → (List ℕ → List ℕ) →
     (List ℕ → List ℕ) → Look → List ℕ → List Link → Kept → Q → A → Result Finding (AuditError E) →
     Type 0

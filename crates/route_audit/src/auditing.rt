@@ -1,4 +1,4 @@
-//! The audit of a reply.
+//! Auditing a reply.
 ghost use Rattle.std.specs.Prelude.{◌≡◌, ◌≢◌, ◌<◌, ◌≤◌, ◌^◌, false, length, Err};
 ghost use Rattle.sha2.specs.Sha256.{sha256};
 ghost use Rattle.key_desk.specs.Desk.{Fits};
@@ -24,7 +24,7 @@ use route_client::CheckError;
 use route_server::{Held, is_same_header, server_laws};
 use std::alloc::Global;
 
-// What an accepted answer is evidence of, by the desk and the book of a publication.
+// Returns what an accepted answer is evidence of, given the desk and the book of a publication.
 fn find_in<R: Replies, H: Hasher, D: Disk>(
     alloc: Global,
     held: &Held<H>,
@@ -78,14 +78,15 @@ fn find_in<R: Replies, H: Hasher, D: Disk>(
     }
 }
 
-/// What a reply that a client accepted under a public key and a chain of links is evidence of, by the owner's
-/// desk and a publication. The first of these is answered:
+/// Returns what a reply is evidence of, given the owner's desk and a publication. A client accepted the reply under
+/// a public key and a chain of links.
 ///
-/// `OtherKey` where the public key is none of the desk's, whatever memory there is; `Refused` where the client does
-/// not accept the reply, whatever its version; `Install` where the publication's header is not that of its parts and
-/// settings; `Desk` where the desk is closed, or its disk fails; `Forged` of the first link whose text stands in no
-/// spent slot; `Forged` of the accepted header where it stands in none; `OtherPublication` where it is not the
-/// publication's; `Collision` where what the reply brings is not of the publication's trees; and else `Right`.
+/// The result is the first of these that applies: `OtherKey` if the public key does not belong to the desk (this
+/// does not depend on the available memory); `Refused` if the client does not accept the reply, whatever its
+/// version; `Install` if the publication's header is not that of its parts and settings; `Desk` if the desk is
+/// closed or its disk fails; `Forged` for the first link whose text is in no spent slot; `Forged` for the accepted
+/// header if it is in no spent slot; `OtherPublication` if that header is not the publication's; `Collision` if the
+/// reply carries anything that is not from the publication's trees; else `Right`.
 pub fn audit_reply<R: Replies, H: Hasher, D: Disk>(
     alloc: Global,
     public: &[u8],
@@ -118,8 +119,8 @@ pub fn audit_reply<R: Replies, H: Hasher, D: Disk>(
     find_in::<R, H, D>(alloc, &held, &key, chain, reply, query, &answer, desk, disk)
 }
 
-/// The audit of a reply on a route, as `audit_reply` says: what is right is a shortest route in the publication's
-/// map, or that none of its walks joins the two ends, and what collides does so in the node tree first.
+/// Audits a reply for a route, as `audit_reply` does. `Right` then means a shortest route in the publication's map,
+/// or that no walk of this map joins the two ends. Collisions are searched in the node tree first.
 pub fn audit<H: Hasher, D: Disk>(
     alloc: Global,
     public: &[u8],

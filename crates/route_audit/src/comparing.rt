@@ -1,4 +1,4 @@
-//! A reply against a publication's book.
+//! Comparing a reply with a publication's book.
 ghost use Rattle.std.specs.Prelude.{◌≡◌, ◌≢◌, ◌↔◌, ◌<◌, ◌^◌, length, IfOk, IfSome, IsNone, Ok};
 ghost use Rattle.route_client.specs.Verdicts.{nodes_covered, pairs_covered};
 ghost use Rattle.proof_octets.specs.Good.{IsGood};
@@ -17,7 +17,7 @@ use route_client::leaf_cuts;
 use route_server::Held;
 use std::alloc::Global;
 
-// What the tree and the recomputed root hash, where they clash.
+// Returns the two texts that the tree and the recomputed root hash where they clash.
 fn clash_in<H: Hasher>(
     alloc: Global,
     held: &Held<H>,
@@ -48,8 +48,8 @@ fn clash_in<H: Hasher>(
     clash(alloc, tree, leaves, places, texts, cover)
 }
 
-/// Two texts with one digest, where what is brought of a tree of a book, 1 that of nodes or 2 that of pairs,
-/// recomputes the tree's root and is not the tree's own.
+/// Returns two texts with the same digest if these items and this cover recompute the root of a tree of a book (1
+/// for nodes, 2 for pairs) but are not the tree's own.
 pub fn clash_under<H: Hasher>(
     alloc: Global,
     held: &Held<H>,
@@ -77,7 +77,7 @@ pub fn clash_under<H: Hasher>(
     Ok(Some(two))
 }
 
-// Where the node items and the node cover are not those of the node tree.
+// Finds where the node items and the node cover differ from the node tree.
 fn clash_of_nodes<H: Hasher>(
     alloc: Global,
     held: &Held<H>,
@@ -105,7 +105,7 @@ fn clash_of_nodes<H: Hasher>(
     )
 }
 
-// Where the pair items and the pair cover are not those of the pair tree.
+// Finds where the pair items and the pair cover differ from the pair tree.
 fn clash_of_pairs<H: Hasher>(
     alloc: Global,
     held: &Held<H>,
@@ -133,7 +133,7 @@ fn clash_of_pairs<H: Hasher>(
     )
 }
 
-/// What an accepted answer is evidence of over the book whose header it carries.
+/// Returns what an accepted answer is evidence of, given the book with its header.
 pub fn compare<H: Hasher>(
     alloc: Global,
     held: &Held<H>,

@@ -1,4 +1,4 @@
-//! Why there is no finding.
+//! Why an audit has no finding.
 
 use key_desk::DeskError;
 use octet_text::NoMemory;
@@ -6,24 +6,24 @@ use route_server::InstallError;
 use std::fmt::Display;
 use thiserror::Error;
 
-/// Why there is no finding, where a client refuses replies of this kind for an `E`. Out of memory is `Memory`
-/// alone, never inside another.
+/// Why an audit has no finding. `E` is the type of the reasons for which a client refuses replies of this kind. Out
+/// of memory is always `Memory` and never part of another error.
 #[derive(Clone, Copy, Debug, PartialEq, Eq, Error)]
 #[error_bound(E: Display)]
 pub enum AuditError<E> {
-    /// The public key is none of the desk's.
+    /// The public key does not belong to the desk.
     #[error("The public key is none of the desk's.")]
     OtherKey,
     /// The client does not accept the reply, for this reason.
     #[error("The reply is refused. {0}")]
     Refused(E),
-    /// The publication is not held, for this reason.
+    /// The publication was not installed, for this reason.
     #[error("{0}")]
     Install(InstallError),
-    /// The desk could not say what it has signed, for this reason.
+    /// The desk could not tell what it has signed, for this reason.
     #[error("{0}")]
     Desk(DeskError),
-    /// The header that the reply carries is signed, but is not that of the publication.
+    /// The reply's header is signed, but differs from that of the publication.
     #[error("The reply is of another publication.")]
     OtherPublication,
     /// Out of memory.

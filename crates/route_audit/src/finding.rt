@@ -10,17 +10,17 @@ use octet_text::Octets;
 /// What an accepted reply is evidence of.
 #[derive(Debug, Drop)]
 pub enum Finding {
-    /// Its items and covers are those of the publication's own trees, and what the client takes from it
-    /// holds in the publication's map: its route is a shortest one, or no walk joins the two ends.
+    /// Its items and covers come from the publication's own trees, and the result that the client takes from it is
+    /// true of the publication's map: its route is a shortest one, or no walk joins the two ends.
     Right,
-    /// Two different texts have one digest: the left one of the publication's trees, the right one of what
-    /// the reply brings.
+    /// Two different texts have the same digest. The left one belongs to the publication's trees, and the right one
+    /// to the reply.
     Collision {
         left: Octets,
         right: Octets,
     },
-    /// A text that the owner never signed, the link text of a chain or a header, has a signature that is
-    /// verified on it under one of the owner's keys.
+    /// The owner never signed a text, which is a link text of the chain or a header, but a signature of it verifies
+    /// under one of the owner's keys.
     Forged {
         key: [u8; 56],
         text: Octets,
@@ -29,7 +29,7 @@ pub enum Finding {
 }
 
 impl Finding {
-    /// The finding of two texts with one digest.
+    /// Makes the finding of two texts with the same digest.
     pub fn collision(two: TwoTexts) -> Finding
         ensures { result ≡ Collision two.left two.right }
     {
@@ -39,7 +39,7 @@ impl Finding {
         }
     }
 
-    /// The finding of a text that the owner never signed.
+    /// Makes the finding of a text that the owner never signed.
     pub fn forged(forgery: Forgery) -> Finding
         ensures { result ≡ Forged forgery.key forgery.text forgery.signature }
     {

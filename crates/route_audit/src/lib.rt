@@ -1,5 +1,5 @@
-//! The audit: what a reply that a client accepted is evidence of. Its steps and its findings are those of
-//! every kind of replies; those on routes are one, and those on the nodes within a radius another.
+//! The audit: what an accepted reply is evidence of. All kinds of replies share its steps and its findings. Replies
+//! for routes are one kind, and replies for the nodes within a radius are another.
 #![tactic(auto)]
 
 pub use auditing::{audit, audit_reply};

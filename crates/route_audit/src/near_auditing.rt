@@ -1,4 +1,4 @@
-//! The audit of a reply.
+//! Auditing a reply for a radius.
 ghost use Rattle.std.specs.Prelude.{◌<◌, ◌≤◌, ◌^◌, length};
 ghost use Rattle.sha2.specs.Sha256.{sha256};
 ghost use Rattle.key_desk.specs.Desk.{Fits};
@@ -15,9 +15,8 @@ use road_io::Disk;
 use route_client::NearError;
 use std::alloc::Global;
 
-/// The audit of a reply on the nodes within a radius, as `audit_reply` says: what is right are exactly the nodes
-/// within the radius of the publication's map, each with its distance, and what collides does so in the node
-/// tree.
+/// Audits a reply for the nodes within a radius, as `audit_reply` does. `Right` then means exactly the nodes within
+/// the radius in the publication's map, each with its distance. A collision is in the node tree.
 pub fn audit_near<H: Hasher, D: Disk>(
     alloc: Global,
     public: &[u8],

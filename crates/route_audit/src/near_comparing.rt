@@ -1,4 +1,4 @@
-// A reply against a publication's book.
+// Comparing a reply for a radius with a publication's book.
 ghost use Rattle.std.specs.Prelude.{◌≡◌, ◌<◌, ◌^◌, length, IfOk, Ok};
 ghost use Rattle.route_server.specs.Keeping.{header_in};
 ghost use Rattle.proof_octets.specs.NearReplies.{near_reply, IsGoodNear};
@@ -14,7 +14,7 @@ use route_client::reply_cuts;
 use route_server::Held;
 use std::alloc::Global;
 
-/// What an accepted reply is evidence of over the book whose header it carries.
+/// Returns what an accepted reply is evidence of, given the book with its header.
 pub(crate) fn compare<H: Hasher>(
     alloc: Global,
     held: &Held<H>,

@@ -1,4 +1,4 @@
-//! Replies on the nodes within a radius.
+//! Replies for the nodes within a radius.
 ghost use Rattle.std.specs.Prelude.{◌≡◌, ◌<◌, ◌≤◌, ◌^◌, length, IfOk, IfErr, Ok, Err};
 ghost use Rattle.route_client.specs.declared.within.Within.{Within as Taken};
 ghost use Rattle.route_client.specs.NearVerdicts.{IsNearVerdict};
@@ -16,10 +16,10 @@ use route_client::{NearError, Within, check_near, near_verdict_laws};
 use route_server::Held;
 use std::alloc::Global;
 
-/// Replies on the nodes within a radius.
+/// Replies for the nodes within a radius.
 pub struct Radii;
 
-// Whether the client accepts octets as a reply to a query, under a key and a chain.
+// Tests whether the client accepts octets as a reply to a query, under a key and a chain.
 fn test_reply<H: Hasher>(
     alloc: Global,
     public: &[u8],

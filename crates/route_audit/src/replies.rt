@@ -12,24 +12,25 @@ use proof_octets::Header;
 use route_server::Held;
 use std::alloc::Global;
 
-/// A kind of replies: how a client takes one, and how what it brings is compared with a publication's book.
+/// A kind of replies: how a client accepts a reply of this kind, and how its contents are compared with a
+/// publication's book.
 pub trait Replies {
-    /// What is asked.
+    /// The type of the queries.
     type Query: Copy;
 
-    /// What octets encode.
+    /// The type of the values that octets encode.
     type Answer: Drop;
 
-    /// What a client takes of an answer.
+    /// The type of the result that a client takes from an answer.
     type Taken: Drop;
 
-    /// Why it takes none.
+    /// The type of the reasons for which a client refuses a reply.
     type Refusal: Copy;
 
     // The kind.
     ghost kind: { ReplyKind Self.Query Self.Answer Self.Taken Self.Refusal };
 
-    /// The answer that octets encode, where the client accepts them as a reply to a query under a key and a
+    /// Returns the answer that octets encode, if the client accepts them as a reply to a query under a key and a
     /// chain, whatever its version.
     fn accepted<H: Hasher>(
         alloc: Global,
@@ -46,15 +47,15 @@ pub trait Replies {
         ensures refused { IfErr result
             (IsRefused kind H.hash public.now chain.now octets.now query) };
 
-    /// The header of an answer.
+    /// Returns the header of an answer.
     fn header(answer: &Self::Answer) -> &Header
         ensures { result.now ≡ kind.header answer.now };
 
-    /// The signature that an answer brings.
+    /// Returns the signature of an answer.
     fn signature(answer: &Self::Answer) -> &[u8]
         ensures { result.now ≡ kind.signature answer.now };
 
-    /// What an answer is evidence of over the book whose header it carries.
+    /// Returns what an answer is evidence of, given the book with its header.
     fn compare<H: Hasher>(
         alloc: Global,
         held: &Held<H>,
@@ -73,7 +74,7 @@ pub trait Replies {
         ensures { IfOk result
             (Compared kind H.hash sha256 (publication_in H.hash held.now) query answer.now) };
 
-    /// What holds of replies of this kind.
+    /// Laws of replies of this kind.
     fn laws()
         ensures { AreReplies kind };
 }

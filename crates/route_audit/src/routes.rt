@@ -1,4 +1,4 @@
-//! Replies on routes.
+//! Replies for routes.
 ghost use Rattle.std.specs.Prelude.{◌≡◌};
 
 use crate::comparing::compare;
@@ -12,7 +12,7 @@ use route_client::{CheckError, Checked, check_answer, verdict_laws};
 use route_server::Held;
 use std::alloc::Global;
 
-/// Replies on routes between two nodes.
+/// Replies for routes between two nodes.
 pub struct Routes;
 
 impl Replies for Routes {

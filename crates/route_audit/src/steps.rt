@@ -1,4 +1,4 @@
-//! The steps of an audit that are the same for every kind of replies.
+//! The steps of an audit that all kinds of replies share.
 ghost use Rattle.std.specs.Prelude.{IfOk, IfErr, Ok};
 ghost use Rattle.sha2.specs.Sha256.{sha256};
 ghost use Rattle.route_server.specs.Installing.{Installs};
@@ -11,7 +11,7 @@ use proof_octets::Publication;
 use route_server::{Held, InstallError};
 use std::alloc::Global;
 
-/// The book of a publication.
+/// Returns the book of a publication.
 pub(crate) fn install<H: Hasher, E: Copy>(
     alloc: Global,
     publication: Publication,

@@ -1,7 +1,8 @@
--- The leaves that a verdict rests on: each node of what is accepted has one.
+-- The leaves on which a verdict rests: each node of an accepted reply has a leaf.
 use Rattle.std.proofs.Common.{◌≡◌, ℕ, ◌+◌, ◌==◌, Bool, true, false, cond, List, [], ◌∷◌, Option, Some, None, is_some, Result, Ok, Err, refl, sym, subst, ◌∙◌}
-use Rattle.std.specs.Prelude.{All, Contains, IsSome, IfSome}
-use Rattle.std.proofs.lemmas.List.Elements.{All-nil, All-cons, All-weaker, All-contains_itself}
+use Rattle.std.specs.Prelude.{All, Contains, IsSome, IfOk, IfSome}
+use Rattle.octet_text.specs.declared.errors.NoMemory.{NoMemory as OutOfMemory}
+use Rattle.std.proofs.lemmas.List.Elements.{All-nil, All-cons, All-weaker, All-take, All-contains, All-contains_itself}
 use Rattle.octet_text.specs.Format.{whole}
 use Rattle.road_leaf.specs.declared.leaf.NodeLeaf.{NodeLeaf}
 use Rattle.lms_tree.specs.declared.links.Link.{Link}
@@ -31,10 +32,15 @@ use Rattle.route_client.specs.declared.within.CheckedReply.{CheckedReply}
 use Rattle.route_client.specs.NearVerdicts as near
 use Rattle.route_client.specs.NearVerdicts.{IsReached, LacksItem}
 use Rattle.route_client.proofs.NearVerdictLaws as near_laws
+use Rattle.std.specs.List.Sorted.{IsStrictlySortedBy}
+use Rattle.std.specs.Ordering.{nat_cmp}
+use Rattle.proof_octets.specs.Radius.{marked_ids}
+use Rattle.route_client.specs.declared.picking.Picked.{Picked}
+use Rattle.route_client.specs.Nearest.{PicksNearest}
 use Rattle.route_check_c.specs.Placing.{AreApart, HaveLeaves, HaveLeavesOf}
 use Rattle.road_map.specs.Least.{IsLeast}
 
--- ---- a route that was walked
+-- ---- a route that is a walk
 
 Has : List NodeLeaf → ℕ → Type 0
 Has nodes id = IsSome (item_at nodes id)
@@ -125,7 +131,7 @@ apart_by_way : (hash : List ℕ → List ℕ) (key : List ℕ) (links : List Lin
 apart_by_way hash key links octets query least a None read is = tt
 apart_by_way hash key links octets query least a (Some d) read is = route_apart hash key links octets query least a d read is
 
--- no two leaves of an answer with an accepted route are of one node
+-- no two leaves of an answer with an accepted route belong to the same node
 pub checked_apart : (hash : List ℕ → List ℕ) (key : List ℕ) (links : List Link) (octets : List ℕ) (query : Query) (least : ℕ) (c : CheckedAnswer) → whole reply octets ≡ Ok (reply_of c.answer)
     → UnlessMemory (IsVerdict hash key links octets query least) (taken (Ok c)) → IfSome c.length (λ _. AreApart c.answer.items.nodes)
 checked_apart hash key links octets query least c = apart_by_way hash key links octets query least c.answer c.length
@@ -158,7 +164,7 @@ reached_leaves hash key links octets q least c read is =
     (λ m there. subst (λ (r : NearReply). IsSome (item_at r.nodes m.id)) same (reached_has accepts.reply.nodes q m accepts.complete ((accepts.nodes.same m).0 there)))
     c.nodes (All-contains_itself c.nodes)
 
--- nor of an accepted reply within a radius
+-- nor do two leaves of an accepted reply for a radius
 pub reached_apart : (hash : List ℕ → List ℕ) (key : List ℕ) (links : List Link) (octets : List ℕ) (q : NearQuery) (least : ℕ) (c : CheckedReply) → whole near_reply octets ≡ Ok c.reply
     → near.UnlessMemory (near.IsNearVerdict hash key links octets q least) (near.taken (Ok c)) → AreApart c.reply.nodes
 reached_apart hash key links octets q least c read is =
@@ -167,7 +173,23 @@ reached_apart hash key links octets q least c read is =
     let same : accepts.reply ≡ c.reply = cc in
     subst (λ (r : NearReply). AreApart r.nodes) same accepts.distinct
 
--- of what is accepted the verdict holds without an exception
+-- the ids of its nodes ascend
+pub reached_rising : (hash : List ℕ → List ℕ) (key : List ℕ) (links : List Link) (octets : List ℕ) (q : NearQuery) (least : ℕ) (c : CheckedReply)
+    → near.UnlessMemory (near.IsNearVerdict hash key links octets q least) (near.taken (Ok c)) → IsStrictlySortedBy nat_cmp (marked_ids c.nodes)
+reached_rising hash key links octets q least c is = (near_laws.accepts_of hash key links octets q least _ is).nodes.rising
+
+-- and each node that is picked from them has a leaf
+picked_leaves : (leaves : List NodeLeaf) (marks : List Mark) (ids : List ℕ) (most : ℕ) (x : Picked) → HaveLeavesOf leaves marks → PicksNearest (λ m. Contains marks m) ids most x → HaveLeavesOf leaves x.nodes
+picked_leaves leaves marks ids most x all p =
+    let Has : Mark → Type 0 = λ m. IsSome (item_at leaves m.id) in
+    let listed : All Has p.all = All-weaker (Contains p.all) Has (λ m c. All-contains Has marks m all ((p.ranked.same m).0 c).0) p.all (All-contains_itself p.all) in
+    subst (All Has) (sym p.nodes) (All-take Has most p.all listed)
+
+pub pick_leaves : (leaves : List NodeLeaf) (marks : List Mark) (ids : List ℕ) (most : ℕ) (r : Result Picked OutOfMemory) → HaveLeavesOf leaves marks → IfOk r (PicksNearest (λ m. Contains marks m) ids most) → IfOk r (λ x. HaveLeavesOf leaves x.nodes)
+pick_leaves leaves marks ids most (Ok x) all p = picked_leaves leaves marks ids most x all p
+pick_leaves leaves marks ids most (Err none) all p = tt
+
+-- for an accepted reply the verdict holds without an exception
 pub accepted_so : (P : Result Checked CheckError → Type 0) (checked : CheckedAnswer) → UnlessMemory P (taken (Ok checked)) → P (taken (Ok checked))
 accepted_so P checked h = by_length checked.length h
   where

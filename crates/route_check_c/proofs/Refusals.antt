@@ -1,4 +1,4 @@
--- What is told of a refusal, as what is told of a check.
+-- The report about a refusal, as the report about a check.
 use Rattle.std.proofs.Common.{◌≡◌, ◌≢◌, ◌⊎◌, ℕ, List, length, Result, Ok, Err, refl, subst, inl, inr}
 use Rattle.std.specs.Prelude.{IfOk, IfErr}
 use Rattle.std.specs.declared.vec.Vec.{Vec}
@@ -21,7 +21,7 @@ use Rattle.route_check_c.specs.Codes.{told, refused_numbers}
 use Rattle.route_check_c.specs.Telling.{filled, NoMemory, Refuses, Unread}
 use Rattle.octet_text.specs.Want.{no_memory}
 
--- ---- a refusal for another reason than out of memory is a verdict
+-- ---- a refusal for a reason other than out of memory is a verdict
 
 pub route_refused : (P : Result Checked CheckError → Type 0) (e : CheckError) → e ≢ errors.Memory no_memory → UnlessMemory P (Err e) → P (Err e)
 route_refused P (errors.Memory _) not h = absurd (not refl)
@@ -43,9 +43,9 @@ reach_refused P (near_errors.BadCover why) not h = h
 reach_refused P (near_errors.MissingTuple id) not h = h
 reach_refused P (near_errors.RepeatedNode id) not h = h
 
--- ---- so what is told of it is told of the check
+-- ---- so its report is a report about the check
 
--- the line of a refusal was made, and is told with its reason, or memory was short for it
+-- the line of a refusal was made and is reported with its reason, or memory ran out for it
 pub refusal_told : {A E X : Type 0} (P : List Link → Result A E → Type 0) (short : E) (reason : E → Reason) (refused : E → List ℕ) (chain reply : List ℕ) (links : List Link) (e : E) (room : List X) (text : Result (Vec ℕ Global) OutOfMemory) (old_line new_line : List ℕ) (v : Verdict) →
     whole chain_file chain ≡ Ok links → (e ≢ short → P links (Err e)) → IfOk text (λ t. (e ≢ short) × (t.items ≡ refused e))
     → IfOk text (λ t. (v ≡ refused_numbers (reason e) (length t.items)) × (new_line ≡ filled t.items old_line)) → IfErr text (λ _. (v ≡ refused_numbers (told 16 0 0) 0) × (new_line ≡ old_line))

@@ -1,4 +1,4 @@
--- A room that is filled item by item.
+-- A buffer filled item by item.
 use Rattle.std.proofs.Common.{◌≡◌, ℕ, ◌+◌, ◌<◌, List, [], ◌∷◌, ◌++◌, length, take, drop, get_or, set, ap, sym, ◌∙◌, arith}
 use Rattle.std.proofs.lemmas.List.{take_more, drop_more, length-take-le, append_assoc}
 use Rattle.std.proofs.Math.Seq.{set-append_seam}

@@ -1,7 +1,7 @@
--- Verdicts in numbers. Each number is part of the library's interface: none changes its meaning, and
--- further ones follow the last. No verdict has the code 0, so that numbers that no check has written are
--- not taken for an acceptance.
-use Rattle.std.specs.Prelude.{ℕ}
+-- Verdicts as numbers. Each number is part of the library's interface: no number changes its meaning, and new ones
+-- follow the last. No verdict has the code 0, so memory that no check has written to cannot be mistaken for an
+-- acceptance.
+use Rattle.std.specs.Prelude.{ℕ, ◌==◌, if◌then◌else◌}
 use Rattle.lms_tree.specs.declared.seals.SealError.{SealError}
 use Rattle.lms_tree.specs.declared.seals.SealError.TheVariants as seals
 use Rattle.proof_judge.specs.declared.refusal.Refusal.{Refusal}
@@ -15,24 +15,24 @@ use Rattle.route_client.specs.declared.near_errors.NearError.TheVariants as near
 use Rattle.route_check_c.specs.declared.reasons.Reason.{Reason}
 use Rattle.route_check_c.specs.declared.verdict.Verdict.{Verdict}
 
--- a test by its number, and the two numbers that it found
+-- a test, given by its number, and the two numbers that it reports
 abbrev pub told : ℕ → ℕ → ℕ → Reason
 told code first second = record { code = code; first = first; second = second }
 
--- why a signature is not verified
+-- why a signature does not verify
 abbrev pub seal_number : SealError → ℕ
 seal_number seals.BadKey = 1
 seal_number seals.BadForm = 2
 seal_number seals.NoMatch = 3
 
--- why items and a cover don't give a root
+-- why items and a cover do not give a root
 abbrev pub cover_number : CoverFault → ℕ
 cover_number faults.Place = 1
 cover_number faults.Short = 2
 cover_number faults.Long = 3
 cover_number faults.Differs = 4
 
--- why the items don't show a shortest route, or that there is none
+-- why the items do not show a shortest route, or that no route exists
 abbrev pub judged_reason : Refusal → Reason
 judged_reason (refusals.RepeatedNode id) = told 9 id 0
 judged_reason (refusals.BadRoute hop) = told 10 hop 0
@@ -66,7 +66,7 @@ reach_reason (near_errors.Memory _) = told 16 0 0
 
 -- ---- the verdict
 
--- so many nodes are accepted, of a route of this length, out of a publication of this version
+-- this many nodes are accepted, for a route of this length, from a publication of this version
 abbrev pub accepted_numbers : ℕ → ℕ → ℕ → Verdict
 accepted_numbers count length version = record {
   code = 1;
@@ -78,7 +78,7 @@ accepted_numbers count length version = record {
   line = 0;
 }
 
--- it is accepted that no walk joins the two ends, out of a publication of this version
+-- the accepted result is that no walk joins the two ends, from a publication of this version
 abbrev pub apart_numbers : ℕ → Verdict
 apart_numbers version = record {
   code = 2;
@@ -90,7 +90,20 @@ apart_numbers version = record {
   line = 0;
 }
 
--- nothing is accepted, for this reason, and its line has so many octets
+-- this many of the accepted nodes within a radius are listed, from a publication of this version; zero has its own
+-- code
+abbrev pub listed_numbers : ℕ → ℕ → Verdict
+listed_numbers count version = record {
+  code = if count == 0 then 19 else 1;
+  count = count;
+  length = 0;
+  version = version;
+  first = 0;
+  second = 0;
+  line = 0;
+}
+
+-- nothing is accepted, for this reason; the reason's line has this many octets
 abbrev pub refused_numbers : Reason → ℕ → Verdict
 refused_numbers why line = record {
   code = why.code;

@@ -1,3 +1,4 @@
 pub mod Codes
 pub mod Placing
 pub mod Telling
+pub mod Listing

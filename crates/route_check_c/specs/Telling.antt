@@ -1,5 +1,5 @@
--- What a check says to a program in another language: the numbers of its verdict, and what it puts
--- into the caller's rooms.
+-- The report of a check to a program in another language: the numbers of its verdict, and the contents of the
+-- caller's buffers.
 use Rattle.std.specs.Prelude.{◌≡◌, ◌≢◌, ◌⊎◌, ℕ, ◌≤◌, ◌^◌, List, ◌++◌, length, take, drop, AllPairs, Option, None, Some, Result, Ok, Err}
 use Rattle.octet_text.specs.Format.{whole}
 use Rattle.lms_tree.specs.declared.links.Link.{Link}
@@ -27,25 +27,25 @@ use Rattle.route_check_c.specs.Codes.{told, route_reason, reach_reason, accepted
 use Rattle.route_check_c.specs.Placing.{HaveLeaves, HaveLeavesOf, route_nodes, reached_nodes}
 use Rattle.octet_text.specs.Want.{no_memory}
 
--- a room that took as many of the items as it has places for, and is as it was after them
+-- a buffer that took as many of the items as fit, and is unchanged after them
 abbrev pub filled : {X : Type 0} → List X → List X → List X
 filled items room = take (length room) items ++ drop (length items) room
 
--- ---- what is not checked
+-- ---- unchecked replies
 
 -- the octets of the chain or of the reply are too many to be read
 abbrev pub AreTooLong : List ℕ → List ℕ → Type 0
 AreTooLong chain reply = (2 ^ 32 ≤ length chain) ⊎ (2 ^ 32 ≤ length reply)
 
--- The reply was not checked: memory was short, or the octets of the chain or of the reply are too
--- many, or the chain's encode none; the first field that can't be read begins at that offset.
+-- The reply was not checked, for one of these reasons: memory ran out; the chain or the reply has too many octets;
+-- or the octets of the chain do not encode a chain, and the first field that cannot be read begins at that offset.
 pub data IsUnread (chain reply : List ℕ) (why : Reason) : Type 0 where
   NoMemory : why ≡ told 16 0 0 → IsUnread chain reply why
   TooLong : why ≡ told 17 0 0 → AreTooLong chain reply → IsUnread chain reply why
   NoChain : (at : ℕ) → why ≡ told 18 at 0 → whole chain_file chain ≡ Err at →
       IsUnread chain reply why
 
--- then both rooms stay
+-- the reply was not checked, and both buffers are unchanged
 pub record Unread {X : Type 0} (chain reply : List ℕ) (old_room new_room : List X)
     (old_line new_line : List ℕ) (v : Verdict) : Type 0 where
   pub why : Reason
@@ -54,10 +54,10 @@ pub record Unread {X : Type 0} (chain reply : List ℕ) (old_room new_room : Lis
   pub room : new_room ≡ old_room
   pub line : new_line ≡ old_line
 
--- ---- what is refused
+-- ---- refused replies
 
--- The client refuses the reply under the chain, for another reason than out of memory, which is told
--- as what is not checked; the line is in its room, and no node is written.
+-- The client refuses the reply under the chain, for a reason other than out of memory (in that case the reply
+-- counts as not checked). The line is in its buffer, and no node is written.
 pub record Refuses {A E X : Type 0} (IsVerdict : List Link → Result A E → Type 0) (short : E)
     (reason : E → Reason) (refused : E → List ℕ) (chain : List ℕ) (old_room new_room : List X)
     (old_line new_line : List ℕ) (v : Verdict) : Type 0 where
@@ -72,19 +72,19 @@ pub record Refuses {A E X : Type 0} (IsVerdict : List Link → Result A E → Ty
 
 -- ---- a route
 
--- a route passes no node twice
+-- a route visits no node twice
 abbrev pub IsSimple : List ℕ → Type 0
 IsSimple ids = AllPairs (λ x y. x ≢ y) ids
 
--- a route is wanted as far as no node may come twice, or it is refused for that, or memory runs out
+-- if simple is not 0, a route visits no node twice, or it is refused because it does, or memory runs out
 abbrev pub Unwanted : ℕ → List ℕ → Result (Unit {0}) Reason → Type 0
 Unwanted simple ids (Ok _) = simple ≢ 0 → IsSimple ids
 Unwanted simple ids (Err why) = (why ≡ told 16 0 0) ⊎
     ((why ≡ told 15 0 0) × (simple ≢ 0) × ¬ IsSimple ids)
 
--- What is told of an accepted route of this length: its numbers, and its nodes are in their room, each
--- by the leaf of its id among the answer's; or, where none such is wanted, that it passes a node twice;
--- or that memory was short.
+-- The report about an accepted route of this length: its numbers, and its nodes in their buffer, each given by the
+-- leaf of its id in the answer; or that it visits a node twice, if such a route is unwanted; or that memory ran
+-- out.
 pub data TellsFound (simple : ℕ) (a : answers.Answer) (d : ℕ) (old_room new_room : List RouteNode)
     (v : Verdict) : Type 0 where
   Found : HaveLeaves a.items.nodes a.items.route → (simple ≢ 0 → IsSimple a.items.route) →
@@ -96,8 +96,8 @@ pub data TellsFound (simple : ℕ) (a : answers.Answer) (d : ℕ) (old_room new_
   Short : v ≡ refused_numbers (told 16 0 0) 0 → new_room ≡ old_room →
       TellsFound simple a d old_room new_room v
 
--- what is told of an answer that passes each test: its route; or, by a code of its own, that no walk
--- joins the two ends, and then the room stays
+-- the report about an answer that passes every test: its route; or a code of its own which states that no walk
+-- joins the two ends, and then the buffer is unchanged
 abbrev pub TellsWay : ℕ → answers.Answer → Option ℕ → List RouteNode → List RouteNode → Verdict → Type 0
 TellsWay simple a (Some d) old_room new_room v = TellsFound simple a d old_room new_room v
 TellsWay simple a None old_room new_room v = (v ≡ apart_numbers a.header.version) ×
@@ -107,8 +107,8 @@ abbrev pub TellsChecked : ℕ → CheckedAnswer → List RouteNode → List Rout
 TellsChecked simple checked old_room new_room v =
     TellsWay simple checked.answer checked.length old_room new_room v
 
--- The client accepts the reply under the chain, by the answer that its octets encode. Of that answer is
--- what is told, and no line is written.
+-- The client accepts the reply under the chain, with the answer that the octets encode. The report is about this
+-- answer, and no line is written.
 pub record AcceptsRoute (IsVerdict : List Link → Result Checked CheckError → Type 0)
     (chain reply : List ℕ) (simple : ℕ) (old_room new_room : List RouteNode)
     (old_line new_line : List ℕ) (v : Verdict) : Type 0 where
@@ -130,8 +130,8 @@ TellsRoute IsVerdict chain reply simple old_room new_room old_line new_line v =
 
 -- ---- a radius
 
--- What is told of the accepted nodes: how many they are, and they are in their room, each by the leaf
--- of its id among the reply's; or that memory was short.
+-- The report about the accepted nodes: their number, and the nodes in their buffer, each given by the leaf of its
+-- id in the reply; or that memory ran out.
 pub data TellsReached (checked : CheckedReply) (old_room new_room : List ReachedNode)
     (v : Verdict) : Type 0 where
   Reached : HaveLeavesOf checked.reply.nodes checked.nodes →
@@ -141,9 +141,10 @@ pub data TellsReached (checked : CheckedReply) (old_room new_room : List Reached
   ReachShort : v ≡ refused_numbers (told 16 0 0) 0 → new_room ≡ old_room →
       TellsReached checked old_room new_room v
 
--- The client accepts the nodes under the chain, by the reply that the octets encode. Of that reply is
--- what is told, and no line is written.
+-- The client accepts the nodes under the chain, with the reply that the octets encode. Tells gives the report about
+-- this reply, and no line is written.
 pub record AcceptsReach (IsVerdict : List Link → Result Within NearError → Type 0)
+    (Tells : CheckedReply → List ReachedNode → List ReachedNode → Verdict → Type 0)
     (chain reply : List ℕ) (old_room new_room : List ReachedNode) (old_line new_line : List ℕ)
     (v : Verdict) : Type 0 where
   pub links : List Link
@@ -151,13 +152,19 @@ pub record AcceptsReach (IsVerdict : List Link → Result Within NearError → T
   pub checked : CheckedReply
   pub brought : whole near_reply reply ≡ Ok checked.reply
   pub verdict : IsVerdict links (near.taken (Ok checked))
-  pub told : TellsReached checked old_room new_room v
+  pub told : Tells checked old_room new_room v
   pub line : new_line ≡ old_line
+
+abbrev pub TellsRange : (List Link → Result Within NearError → Type 0) →
+    (CheckedReply → List ReachedNode → List ReachedNode → Verdict → Type 0) → List ℕ → List ℕ →
+    List ReachedNode → List ReachedNode → List ℕ → List ℕ → Verdict → Type 0
+TellsRange IsVerdict Tells chain reply old_room new_room old_line new_line v =
+    AcceptsReach IsVerdict Tells chain reply old_room new_room old_line new_line v ⊎
+    (Refuses IsVerdict (near_errors.Memory no_memory) reach_reason refused_near_line chain old_room new_room
+    old_line new_line v ⊎
+    Unread chain reply old_room new_room old_line new_line v)
 
 abbrev pub TellsReach : (List Link → Result Within NearError → Type 0) → List ℕ → List ℕ →
     List ReachedNode → List ReachedNode → List ℕ → List ℕ → Verdict → Type 0
 TellsReach IsVerdict chain reply old_room new_room old_line new_line v =
-    AcceptsReach IsVerdict chain reply old_room new_room old_line new_line v ⊎
-    (Refuses IsVerdict (near_errors.Memory no_memory) reach_reason refused_near_line chain old_room new_room
-    old_line new_line v ⊎
-    Unread chain reply old_room new_room old_line new_line v)
+    TellsRange IsVerdict TellsReached chain reply old_room new_room old_line new_line v

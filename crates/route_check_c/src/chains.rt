@@ -1,4 +1,4 @@
-//! The links of a chain, from the octets of a chain file.
+//! The links of a chain, read from the octets of a chain file.
 ghost use Rattle.std.specs.Prelude.{◌≡◌, ◌<◌, ◌≤◌, ◌^◌, length, IfOk, Ok, Err};
 ghost use Rattle.octet_text.specs.Format.{whole};
 ghost use Rattle.lms_tree.specs.ChainFiles.{chain_file};
@@ -11,8 +11,8 @@ use lms_tree::{Link, read_links};
 use octet_text::{List, Malformed, ReadError};
 use std::alloc::Global;
 
-/// The links of a chain, where it and the reply are short enough to be read. Where they are not, that is told whatever
-/// memory there is.
+/// Reads the links of a chain. Fails if the chain or the reply is too long to be read; this does not depend on the
+/// available memory.
 pub(crate) fn links_of(alloc: Global, chain: &[u8], reply: &[u8]) -> Result<List<Link>, Reason>
     ensures links { IfOk result (λ links. whole chain_file chain.now ≡ Ok links) }
     ensures few { IfOk result (λ links. length links ≤ 7) }

@@ -1,4 +1,4 @@
-//! What is put into a caller's room.
+//! Filling a caller's buffer.
 ghost use Rattle.std.specs.Prelude.{◌≡◌};
 ghost use Rattle.route_check_c.specs.Placing.{HaveLeaves, HaveLeavesOf, route_nodes, reached_nodes};
 ghost use Rattle.route_check_c.specs.Telling.{filled};
@@ -8,7 +8,7 @@ use crate::{ReachedNode, RouteNode};
 use proof_judge::NodesById;
 use proof_octets::Mark;
 
-/// Puts as many of the items as there is room for.
+/// Copies as many of the items as fit into the buffer.
 pub(crate) fn fill<T: Copy>(room: &mut [T], items: &[T])
     ensures { room.new ≡ filled items.now room.old }
 {
@@ -16,7 +16,7 @@ pub(crate) fn fill<T: Copy>(room: &mut [T], items: &[T])
     room[..count].copy_from_slice(&items[..count]);
 }
 
-/// Puts as many nodes of a route as there is room for.
+/// Copies as many nodes of a route as fit into the buffer.
 pub(crate) fn fill_route(room: &mut [RouteNode], by_id: &NodesById<'_>, ids: &[u32])
     requires { HaveLeaves by_id.now ids.now }
     ensures { room.new ≡ filled (route_nodes by_id.now ids.now) room.old }
@@ -27,7 +27,7 @@ pub(crate) fn fill_route(room: &mut [RouteNode], by_id: &NodesById<'_>, ids: &[u
     }
 }
 
-/// Puts as many nodes, each with its distance, as there is room for.
+/// Copies as many nodes as fit into the buffer, each with its distance.
 pub(crate) fn fill_reached(room: &mut [ReachedNode], by_id: &NodesById<'_>, marks: &[Mark])
     requires { HaveLeavesOf by_id.now marks.now }
     ensures { room.new ≡ filled (reached_nodes by_id.now marks.now) room.old }

@@ -1,7 +1,8 @@
-//! The check of a reply, for programs in other languages: octets and numbers go in, numbers come out.
-//! Nothing is kept between calls, and no room of the caller's is written past its length.
+//! The check of a reply for programs in other languages. Octets and numbers go in, and numbers come out. No state
+//! is kept between calls, and no buffer of the caller is written past its length.
 #![tactic(auto)]
 
+pub use nearby::gog_proved_nearest;
 pub use nodes::{ReachedNode, RouteNode};
 pub use reach::gog_proved_reach;
 pub use route::gog_proved_route;
@@ -9,6 +10,7 @@ pub use verdict::Verdict;
 
 mod chains;
 mod filling;
+mod nearby;
 mod nodes;
 mod reach;
 mod reasons;

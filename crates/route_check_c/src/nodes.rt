@@ -1,4 +1,4 @@
-//! The nodes of what is accepted, each as its leaf in the reply places it.
+//! The nodes of an accepted reply, each with the coordinates that its leaf in the reply gives.
 ghost use Rattle.std.specs.Prelude.{◌≡◌, IfOk, IsSome};
 ghost use Rattle.octet_text.specs.Want.{no_memory};
 ghost use Rattle.proof_judge.specs.ItemWalks.{item_at};
@@ -15,7 +15,7 @@ use std::alloc::Global;
 #[derive(Clone, Copy, Debug, PartialEq, Eq)]
 pub struct RouteNode {
     pub id: u32,
-    /// Where it lies, in the unit of the map.
+    /// Its coordinates, in the unit of the map.
     pub x: i32,
     pub y: i32,
 }
@@ -25,14 +25,14 @@ pub struct RouteNode {
 #[derive(Clone, Copy, Debug, PartialEq, Eq)]
 pub struct ReachedNode {
     pub id: u32,
-    /// Where it lies, in the unit of the map.
+    /// Its coordinates, in the unit of the map.
     pub x: i32,
     pub y: i32,
-    /// How far it is from the start, in the unit of the roads' lengths.
+    /// Its distance from the start, in the unit of the roads' lengths.
     pub distance: u64,
 }
 
-/// Leaves by their ids, of which no two are of one node.
+/// Returns leaves by their ids. No two of them may belong to the same node.
 pub(crate) fn by_ids<'a>(alloc: Global, leaves: &'a NodeLeaves) -> Result<NodesById<'a>, NoMemory>
     requires { AreApart leaves.now }
     ensures { IfOk result (λ by_id. by_id ≡ leaves.now) }
@@ -43,7 +43,7 @@ pub(crate) fn by_ids<'a>(alloc: Global, leaves: &'a NodeLeaves) -> Result<NodesB
     }
 }
 
-/// What is wanting where leaves by their ids are refused, which no two are.
+/// Returns out of memory, which is the only reason why leaves of different nodes are refused.
 fn want_of(why: Refusal) -> NoMemory
     requires { why ≡ Refusal.Memory no_memory }
 {
@@ -53,7 +53,7 @@ fn want_of(why: Refusal) -> NoMemory
     }
 }
 
-/// The node of an id that has a leaf.
+/// Returns the node with an id, which must have a leaf.
 pub(crate) fn route_node(by_id: &NodesById<'_>, id: u32) -> RouteNode
     requires { IsSome (item_at by_id.now id) }
     ensures { result ≡ placed (item_at by_id.now id) }
@@ -68,7 +68,7 @@ pub(crate) fn route_node(by_id: &NodesById<'_>, id: u32) -> RouteNode
     }
 }
 
-/// The node of a mark whose id has a leaf.
+/// Returns the node of a mark. The mark's id must have a leaf.
 pub(crate) fn reached_node(by_id: &NodesById<'_>, mark: Mark) -> ReachedNode
     requires { IsSome (item_at by_id.now mark.id) }
     ensures { result ≡ reached (item_at by_id.now mark.id) mark }

@@ -21,7 +21,7 @@ use road_line::line_of_refused_near;
 use route_client::{CheckedReply, NearError, check_near_reply};
 use std::alloc::Global;
 
-/// The numbers of what is accepted; the nodes go into their room.
+/// Returns the numbers of an accepted reply, and copies its nodes into their buffer.
 fn tell(alloc: Global, checked: &CheckedReply, nodes: &mut [ReachedNode]) -> Verdict
     requires leaves { HaveLeavesOf checked.now.reply.nodes checked.now.nodes }
     requires apart { AreApart checked.now.reply.nodes }
@@ -37,8 +37,8 @@ fn tell(alloc: Global, checked: &CheckedReply, nodes: &mut [ReachedNode]) -> Ver
     }
 }
 
-/// The line of a refusal; out of memory has none.
-fn line_of(alloc: Global, error: NearError) -> Result<Vec<u8>, NoMemory>
+/// Returns the line of a refusal. Running out of memory has no line.
+pub(crate) fn line_of(alloc: Global, error: NearError) -> Result<Vec<u8>, NoMemory>
     ensures { IfOk result (λ text. (error ≢ NearError.Memory no_memory) × (text.items ≡ refused_near_line error)) }
 {
     match error {
@@ -47,11 +47,11 @@ fn line_of(alloc: Global, error: NearError) -> Result<Vec<u8>, NoMemory>
     }
 }
 
-/// Checks a reply to the query for the nodes within a radius under the owner's public key, and answers
-/// the verdict's code; `chain` and `least` are as in `gog_proved_route`.
+/// Checks a reply to the query for the nodes within a radius under the owner's public key, and returns the
+/// verdict's code. The parameters `chain` and `least` are as in `gog_proved_route`.
 ///
-/// The accepted nodes go into `nodes`, by ascending id, as many as there is room for, each as its leaf in
-/// the reply places it; of a refused reply the line goes into `line`. The other room stays as it was.
+/// Copies the accepted nodes into `nodes` by ascending id, as many as fit. Each node has the coordinates that its
+/// leaf in the reply gives. Writes the line of a refused reply into `line`. The other buffer is unchanged.
 #[unsafe(no_mangle)]
 pub extern "C" fn gog_proved_reach(
     alloc: Global,

@@ -1,4 +1,4 @@
-//! Refusals in numbers.
+//! Refusals as numbers.
 ghost use Rattle.std.specs.Prelude.{◌≡◌, ◌≢◌};
 ghost use Rattle.route_check_c.specs.Codes.{cover_number, judged_reason, reach_reason, told as told_of, route_reason, seal_number};
 
@@ -7,7 +7,7 @@ use octet_text::NoMemory;
 use proof_judge::Refusal;
 use route_client::{CheckError, CoverFault, NearError};
 
-/// Which test failed, and the two numbers that it found; 0 for those that it has not.
+/// The failed test, and the two numbers that it reports. Unused fields are 0.
 #[derive(Clone, Copy, Debug, PartialEq, Eq)]
 pub struct Reason {
     pub code: u32,
@@ -15,7 +15,8 @@ pub struct Reason {
     pub second: u64,
 }
 
-/// A test by its number, with what it found. Want of memory is told by `short_of_memory` alone.
+/// Makes the reason from a test's number and the numbers that it reports. Only `short_of_memory` reports out of
+/// memory.
 pub(crate) fn told(code: u32, first: u64, second: u64) -> Reason
     requires { code ≢ 16 }
     ensures { result ≡ told_of code first second }
@@ -27,7 +28,7 @@ pub(crate) fn told(code: u32, first: u64, second: u64) -> Reason
     }
 }
 
-/// Want of memory.
+/// Makes the reason of out of memory.
 pub(crate) fn short_of_memory(_none: NoMemory) -> Reason
     ensures { result ≡ told_of 16 0 0 }
 {
@@ -73,7 +74,7 @@ fn reason_of_judged(why: Refusal) -> Reason
     }
 }
 
-/// The refusal of a route's reply.
+/// Returns the reason why a reply for a route is refused.
 pub(crate) fn reason_of_route(why: CheckError) -> Reason
     ensures { result ≡ route_reason why }
 {
@@ -89,7 +90,7 @@ pub(crate) fn reason_of_route(why: CheckError) -> Reason
     }
 }
 
-/// The refusal of a reply to a range query.
+/// Returns the reason why a reply to a range query is refused.
 pub(crate) fn reason_of_reach(why: NearError) -> Reason
     ensures { result ≡ reach_reason why }
 {

@@ -1,4 +1,4 @@
-//! Whether a route passes a node twice.
+//! Whether a route visits a node twice.
 ghost use Rattle.std.specs.Prelude.{◌↔◌, IfOk, IsTrue};
 ghost use Rattle.route_check_c.specs.Telling.{IsSimple};
 
@@ -6,7 +6,7 @@ use octet_text::{NoMemory, collected};
 use std::alloc::Global;
 use std::collections::BTreeSet;
 
-/// Whether a route passes no node twice.
+/// Tests whether a route visits no node twice.
 pub(crate) fn is_simple(alloc: Global, ids: &[u32]) -> Result<bool, NoMemory>
     ensures { IfOk result (λ simple. IsTrue simple ↔ IsSimple ids.now) }
 {

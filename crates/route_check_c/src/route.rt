@@ -1,4 +1,4 @@
-//! The check of a route's reply.
+//! The check of a reply for a route.
 ghost use Rattle.std.specs.Prelude.{◌≡◌, ◌≢◌, IfOk, IfSome};
 ghost use Rattle.octet_text.specs.Want.{no_memory};
 ghost use Rattle.sha2.specs.Sha256.{sha256};
@@ -23,7 +23,7 @@ use road_line::line_of_refused;
 use route_client::{CheckError, CheckedAnswer, check_answer};
 use std::alloc::Global;
 
-/// Why a route is not wanted where `simple` is not 0: it passes a node twice, or memory was short.
+/// Fails if a route visits a node twice and `simple` is not 0, or if memory runs out.
 fn unwanted(alloc: Global, ids: &[u32], simple: u32) -> Result<(), Reason>
     ensures { Unwanted simple ids.now result }
 {
@@ -37,7 +37,7 @@ fn unwanted(alloc: Global, ids: &[u32], simple: u32) -> Result<(), Reason>
     }
 }
 
-/// The numbers of a route; its nodes go into their room.
+/// Returns the numbers of a route, and copies its nodes into their buffer.
 fn tell_route(
     alloc: Global,
     answer: &Answer,
@@ -62,7 +62,7 @@ fn tell_route(
     }
 }
 
-/// The numbers of what is accepted; the nodes of a route go into their room.
+/// Returns the numbers of an accepted reply, and copies the nodes of its route into their buffer.
 fn tell(alloc: Global, checked: &CheckedAnswer, simple: u32, nodes: &mut [RouteNode]) -> Verdict
     requires leaves { IfSome checked.now.length
         (λ _. HaveLeaves checked.now.answer.items.nodes checked.now.answer.items.route) }
@@ -75,7 +75,7 @@ fn tell(alloc: Global, checked: &CheckedAnswer, simple: u32, nodes: &mut [RouteN
     }
 }
 
-/// The line of a refusal; out of memory has none.
+/// Returns the line of a refusal. Running out of memory has no line.
 fn line_of(alloc: Global, error: CheckError) -> Result<Vec<u8>, NoMemory>
     ensures { IfOk result (λ text. (error ≢ CheckError.Memory no_memory) × (text.items ≡ refused_line error)) }
 {
@@ -85,14 +85,15 @@ fn line_of(alloc: Global, error: CheckError) -> Result<Vec<u8>, NoMemory>
     }
 }
 
-/// Checks a reply to the query for a shortest route under the owner's public key, and answers the
-/// verdict's code. `chain` has the octets of a chain file that leads from the key to the owner's later
-/// ones, none for no link. `least` is the minimum version that is taken. Where `simple` is not 0, a route
-/// that passes a node twice is refused.
+/// Checks a reply to the query for a shortest route under the owner's public key, and returns the verdict's code.
 ///
-/// An accepted route's nodes go into `nodes`, as many as there is room for, each as its leaf in the reply
-/// places it; of a refused reply the line goes into `line`. The other room stays as it was, and where it
-/// is accepted that no walk joins the two ends both do.
+/// `chain` has the octets of a chain file that leads from the key to the owner's later keys. It is empty if there
+/// are no links. `least` is the minimum version accepted. If `simple` is not 0, a route that visits a node twice is
+/// refused.
+///
+/// Copies the nodes of an accepted route into `nodes`, as many as fit. Each node has the coordinates that its leaf
+/// in the reply gives. Writes the line of a refused reply into `line`. The other buffer is unchanged. Both buffers
+/// are unchanged if the accepted result is that no walk joins the two ends.
 #[unsafe(no_mangle)]
 pub extern "C" fn gog_proved_route(
     alloc: Global,

@@ -1,35 +1,36 @@
-//! What a check says, in numbers.
+//! The verdict of a check, as numbers.
 ghost use Rattle.std.specs.Prelude.{◌≡◌, length, IfOk, IfErr};
-ghost use Rattle.route_check_c.specs.Codes.{told as told_of, accepted_numbers, apart_numbers, refused_numbers};
+ghost use Rattle.route_check_c.specs.Codes.{told as told_of, accepted_numbers, apart_numbers, listed_numbers, refused_numbers};
 ghost use Rattle.route_check_c.specs.Telling.{filled};
 
 use crate::filling::fill;
 use crate::reasons::{Reason, short_of_memory};
 use octet_text::NoMemory;
 
-/// What a check says. A number that a verdict has not is 0.
+/// The verdict of a check. Unused fields are 0.
 #[repr(C)]
 #[derive(Clone, Copy, Debug, PartialEq, Eq)]
 pub struct Verdict {
-    /// 1 where the reply is accepted, with a route or with nodes; 2 where it is accepted that no walk
-    /// joins the two ends; else the number of the first test that it fails. Never 0.
+    /// 1 if the reply is accepted, with a route or with nodes; 2 if the accepted result is that no walk joins the
+    /// two ends; 19 if the accepted result is that no listed node lies within the radius; else the number of the
+    /// first test that fails. Never 0.
     pub code: u32,
-    /// How many nodes are accepted: those of the route, or those within the radius. There may be more
-    /// than the caller has room for.
+    /// The number of accepted nodes: those of the route, or those within the radius. With a list, only listed nodes
+    /// count. The number may exceed the room in the caller's buffer.
     pub count: u64,
     /// The length of the accepted route.
     pub length: u64,
-    /// The version of the publication that the accepted reply is of.
+    /// The version of the publication to which the accepted reply belongs.
     pub version: u64,
-    /// The first number that the failed test found.
+    /// The first number that the failed test reports.
     pub first: u64,
-    /// The second.
+    /// The second number that the failed test reports.
     pub second: u64,
-    /// How many octets the line of a refusal has. There may be more than the caller has room for.
+    /// The number of octets in the line of a refusal. It may exceed the room in the caller's buffer.
     pub line: u64,
 }
 
-/// An accepted reply.
+/// Makes the verdict of an accepted reply.
 pub(crate) fn accepted(count: u64, length: u64, version: u64) -> Verdict
     ensures { result ≡ accepted_numbers count length version }
 {
@@ -44,7 +45,7 @@ pub(crate) fn accepted(count: u64, length: u64, version: u64) -> Verdict
     }
 }
 
-/// An accepted reply by which no walk joins the two ends.
+/// Makes the verdict of an accepted reply which shows that no walk joins the two ends.
 pub(crate) fn accepted_apart(version: u64) -> Verdict
     ensures { result ≡ apart_numbers version }
 {
@@ -59,7 +60,22 @@ pub(crate) fn accepted_apart(version: u64) -> Verdict
     }
 }
 
-/// A refused reply, and how long its line is.
+/// Makes the verdict of an accepted reply to a range query, with the number of its listed nodes.
+pub(crate) fn accepted_listed(count: u64, version: u64) -> Verdict
+    ensures { result ≡ listed_numbers count version }
+{
+    Verdict {
+        code: if count == 0 { 19 } else { 1 },
+        count,
+        length: 0,
+        version,
+        first: 0,
+        second: 0,
+        line: 0,
+    }
+}
+
+/// Makes the verdict of a refused reply, with the length of its line.
 pub(crate) fn refused(why: Reason, line: u64) -> Verdict
     ensures { result ≡ refused_numbers why line }
 {
@@ -74,15 +90,15 @@ pub(crate) fn refused(why: Reason, line: u64) -> Verdict
     }
 }
 
-/// The numbers of what is not checked, since memory was short.
+/// Makes the verdict for a reply that was not checked because memory ran out.
 pub(crate) fn short(none: NoMemory) -> Verdict
     ensures { result ≡ refused_numbers (told_of 16 0 0) 0 }
 {
     refused(short_of_memory(none), 0)
 }
 
-/// The numbers of what is refused for this reason; its line goes into its room. Where memory was short for
-/// the line, that is told, and the room stays.
+/// Returns the numbers of a refusal, and copies its line into the line's buffer. If memory runs out for the line,
+/// reports this instead and leaves the buffer unchanged.
 pub(crate) fn tell_refused(why: Reason, text: Result<Vec<u8>, NoMemory>, line: &mut [u8]) -> Verdict
     ensures reasoned { IfOk text (λ text. (result ≡ refused_numbers why (length text.items)) ×
         (line.new ≡ filled text.items line.old)) }

@@ -21,7 +21,7 @@ use Rattle.route_client.specs.Crowds.{IsCrowded}
 use Rattle.route_client.specs.Verdicts.{◌>>=◌, IsNotAnswer, Meets, answered, header_tested, matched, nodes_covered, pairs_covered, tested, reply_tested, passed}
 use Rattle.route_client.proofs.FewItems.{few_rising}
 
--- what refuses at a step refuses after it
+-- a refusal at one step is a refusal after it
 meets_then : {A B : Type 0} (e : CheckError) (r : Result A CheckError) (k : A → Result B CheckError) → Meets {A = A} (Err e) r → Meets {A = B} (Err e) (r >>= k)
 meets_then (errors.Memory _) r k is = tt
 meets_then {A} (errors.NotAnswer kind) r k is = ap (λ (q : Result A CheckError). q >>= k) is
@@ -32,7 +32,7 @@ meets_then {A} (errors.BadSignature why) r k is = ap (λ (q : Result A CheckErro
 meets_then {A} (errors.BadCover tree why) r k is = ap (λ (q : Result A CheckError). q >>= k) is
 meets_then {A} (errors.Judged why) r k is = ap (λ (q : Result A CheckError). q >>= k) is
 
--- ---- places that are none of a tree's
+-- ---- indices that are not those of a leaf
 
 faulty : (tree : ℕ) (root : List ℕ) (none zero : Bool) (first : Result (Unit {0}) CheckError) (o : Option ℕ) (r : Result (List ℕ) FoldError) → none ≡ false → (o ≡ None → ⊥)
     → cond none first (cond zero (Err (errors.BadCover tree faults.Place)) (matched tree root (after_fault o r))) ≡ Err (errors.BadCover tree faults.Place)
@@ -87,12 +87,12 @@ pub if_crowded : (hash : List ℕ → List ℕ) (key : List ℕ) (links : List L
 if_crowded hash key links octets least o (Ok u) is good crowd = tt
 if_crowded hash key links octets least o (Err e) is good crowd = crowd_refused hash key links octets least o e (whole formats.reply octets) refl is good crowd
 
--- what holds anyway holds where there is an error
+-- a fact that always holds also holds after an error
 pub on_err : {A : Type 0} (r : Result A CheckError) (P : Type 0) → P → OnErr r P
 on_err (Ok x) P p = tt
 on_err (Err e) P p = p
 
--- ---- octets with an outline bring an answer, and octets that can't be read bring nothing
+-- ---- octets with an outline encode an answer, and octets that cannot be read encode nothing
 
 brings : (w : Result Reply ℕ) (o : Outline) (kind : ℕ) → outlined w ≡ Ok (Some o) → answered w ≡ Err (errors.NotAnswer kind) → ⊥
 brings (Ok (replies.Answer a)) o kind is not = cc

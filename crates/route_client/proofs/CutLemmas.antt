@@ -1,4 +1,4 @@
--- Where the texts of an answer's leaves stand in the octets that encode it.
+-- The positions of an answer's leaf texts in the octets that encode it.
 use Rattle.std.proofs.Common.{◌≡◌, ℕ, suc, ◌+◌, ◌-◌, ◌*◌, ◌^◌, ◌<◌, ◌≤◌, List, [], ◌∷◌, ◌++◌, length, map, take, drop, get_or, refl, sym, ap, subst, ◌∙◌, arith}
 use Rattle.std.specs.List.{AllByRecursion, flat_map}
 use Rattle.std.specs.Int.{w8, w16, w32, to_be_bytes}
@@ -26,7 +26,7 @@ use Rattle.route_client.specs.Cutting.{cuts_at, end_at, route_octets, nodes_at}
 
 -- ---- one text
 
--- a text that stands at an offset after a prefix of n octets
+-- a text at an offset after a prefix of n octets
 record Stands (octets : List ℕ) (at n : ℕ) (text tail : List ℕ) : Type 0 where
   pub is : take (at + n + length text - (at + n)) (drop (at + n) octets) ≡ text
   pub rest : drop (at + n + length text) octets ≡ tail
@@ -51,7 +51,7 @@ pub end_least : (n at : ℕ) (texts : List (List ℕ)) → at ≤ end_at n at te
 end_least n at [] = omega arith
 end_least n at (text ∷ texts) = omega (arith, end_least n (at + n + length text) texts)
 
--- cuts of texts that stand there, after which the octets end or go on with the rest
+-- the cuts of texts at these positions; after them the octets end or continue with the rest
 pub record AreCut (octets : List ℕ) (n at : ℕ) (texts : List (List ℕ)) (rest : List ℕ) : Type 0 where
   pub stand : map (cut_from octets) (cuts_at n at texts) ≡ texts
   pub within : AllByRecursion (IsIn octets) (cuts_at n at texts)
@@ -98,7 +98,7 @@ pairs_cut octets at (p ∷ ps) (l ∷ ls) rest e le is =
     let one = stands octets at 4 front text (more ++ rest) (omega arith) (omega arith) split in
     one_more octets 4 at text (more ++ rest) (map pair_leaf.spell ls) rest one (pairs_cut octets (at + 4 + length text) ps ls rest (omega (arith, e)) one.within one.rest)
 
--- ---- cuts that are added one by one
+-- ---- cuts that are added one at a time
 
 pub record Cutting {X : Type 0} (text : X → List ℕ) (n : ℕ) (whole : List Cut) (last : ℕ) (cuts : List Cut) (at : ℕ) (xs : List X) : Type 0 where
   pub all : cuts ++ cuts_at n at (map text xs) ≡ whole
@@ -109,7 +109,7 @@ next_split i xs x d lt same =
     let step : suc i ≡ i + 1 = omega arith in
     drop-cons xs i d lt ∙ ap (λ y. y ∷ drop (suc i) xs) (sym same) ∙ ap (λ (k : ℕ). x ∷ drop k xs) step
 
--- the next of them ends no later than the last
+-- the next cut ends no later than the last one
 pub next_within : {X : Type 0} (text : X → List ℕ) (n : ℕ) (whole : List Cut) (last : ℕ) (cuts : List Cut) (at i : ℕ) (xs : List X) (x d : X) → i < length xs → x ≡ get_or xs i d
     → Cutting text n whole last cuts at (drop i xs) → at + n + length (text x) ≤ last
 next_within text n whole last cuts at i xs x d lt same c =
@@ -129,7 +129,7 @@ one_cut text n whole last cuts new at i xs x split pushed c =
       ends = ap (λ ys. end_at n at (map text ys)) (sym split) ∙ c.ends;
     }
 
--- a text of k octets is cut next, up to the end
+-- the next cut has a text of k octets, up to the end
 pub next_cut : {X : Type 0} (text : X → List ℕ) (n : ℕ) (whole : List Cut) (last : ℕ) (cuts new : List Cut) (at i : ℕ) (xs : List X) (x d : X) (k end : ℕ) → i < length xs → x ≡ get_or xs i d → k ≡ length (text x)
     → end ≡ at + n + k → new ≡ cuts ++ record { start = at + n; end = at + n + k } ∷ [] → Cutting text n whole last cuts at (drop i xs) → Cutting text n whole last new end (drop (i + 1) xs)
 next_cut text n whole last cuts new at i xs x d k end lt same size here pushed c =
@@ -137,7 +137,7 @@ next_cut text n whole last cuts new at i xs x d k end lt same size here pushed c
     subst (λ (e : ℕ). Cutting text n whole last new e (drop (i + 1) xs)) (sym (here ∙ wide))
     (one_cut text n whole last cuts new at i xs x (next_split i xs x d lt same) (pushed ∙ ap (λ (e : ℕ). cuts ++ record { start = at + n; end = e } ∷ []) wide) c)
 
--- all of them are added
+-- all cuts are added
 pub record AllCut (whole : List Cut) (last : ℕ) (cuts : List Cut) (at : ℕ) : Type 0 where
   pub all : cuts ≡ whole
   pub ends : at ≡ last
@@ -150,7 +150,7 @@ all_cut text n whole last cuts at i xs past c =
       ends = ap (λ ys. end_at n at (map text ys)) (sym none) ∙ c.ends;
     }
 
--- ---- where the first of them stands
+-- ---- the position of the first cut
 
 behind_five : (k h g r c y z : List ℕ) → drop (length k + (length h + (length g + (length r + length c)))) (k ++ (h ++ (g ++ (r ++ ((c ++ y) ++ z))))) ≡ y ++ z
 behind_five k h g r c y z =
@@ -182,19 +182,19 @@ behind_long k h g r c y z =
       length-append c y,
     )
 
--- octets from an offset on, which they reach
+-- octets from an offset that lies within them
 pub record From (octets : List ℕ) (at : ℕ) (rest : List ℕ) : Type 0 where
   pub is : drop at octets ≡ rest
   pub within : at ≤ length octets
 
--- what stands after five pieces, of which the last says how many items there are
+-- the octets after five pieces, the last of which gives the number of items
 pub items_stand : (octets k h g r c y z : List ℕ) (at : ℕ) → octets ≡ k ++ (h ++ (g ++ (r ++ ((c ++ y) ++ z)))) → at ≡ length k + (length h + (length g + (length r + length c))) → From octets at (y ++ z)
 items_stand octets k h g r c y z at same first = record {
   is = ap (drop at) same ∙ ap (λ (n : ℕ). drop n (k ++ (h ++ (g ++ (r ++ ((c ++ y) ++ z)))))) first ∙ behind_five k h g r c y z;
   within = omega (arith, first, behind_long k h g r c y z, ap (λ (l : List ℕ). length l) same);
 }
 
--- a reply that brings an answer is written as its kind and the answer's text
+-- a reply with an answer consists of its kind and the answer's text
 written_with : (ids : List ℕ) (a : answers.Answer) → written (reply_with ids a) ≡ to_be_bytes w8 (tag_of (reply_with ids a)) ++ answer_text a
 written_with [] a = refl
 written_with (id ∷ ids) a = refl
@@ -231,7 +231,7 @@ pairs_stand a octets end le is =
       within = omega (arith, le, length-drop end octets, ap (λ (l : List ℕ). length l) is, length-append (c ++ y) (covers_text a), length-append c y, size);
     }
 
--- ---- all of them
+-- ---- all cuts
 
 abbrev pub pairs_at : answers.Answer → ℕ
 pairs_at a = end_at 6 (nodes_at a) (map node_leaf_text a.items.nodes) + 4
@@ -254,7 +254,7 @@ length-cuts_at : (n at : ℕ) (texts : List (List ℕ)) → length (cuts_at n at
 length-cuts_at n at [] = refl
 length-cuts_at n at (text ∷ texts) = omega (arith, length-cuts_at n (at + n + length text) texts)
 
--- what cuts of texts show that stand there
+-- cuts give the texts at their positions
 pub record Shown (octets : List ℕ) (cuts : List Cut) (texts : List (List ℕ)) : Type 0 where
   pub inside : AreIn octets cuts
   pub stand : map (cut_from octets) cuts ≡ texts
@@ -275,7 +275,7 @@ pub pairs_shown : (a : answers.Answer) (octets : List ℕ) (cuts : List Cut) →
 pairs_shown a octets cuts good spelled is =
     shown octets 4 (pairs_at a) (map pair_leaf.spell a.items.pairs) (covers_text a) cuts (omega (arith, length-map a.items.pairs pair_leaf.spell, good.pairs.one_each, good.pairs.few)) (leaves_cut a octets good spelled).pairs is
 
--- where the items end, after which the octets go on
+-- the offset at which the items end and the octets continue
 pub record ItemsEnd (a : answers.Answer) (octets : List ℕ) : Type 0 where
   pub nodes : end_at 6 (nodes_at a) (map node_leaf_text a.items.nodes) ≤ length octets
   pub between : pairs_at a ≤ length octets

@@ -1,4 +1,4 @@
--- The tests before the items are walked fail by few errors alone.
+-- The tests before the items are walked have only a few errors.
 use Rattle.std.proofs.Common.{ℕ, ◌==◌, nat_lt, Bool, true, false, cond, if◌then◌else◌, List, length, map, Result, Ok, Err, subst}
 use Rattle.std.specs.Str.{bytes_eq}
 use Rattle.road_leaf.specs.Leaves.{node_leaf_text}
@@ -63,7 +63,7 @@ of_tests hash key links least a =
     in_turn (fresh least a.header >>= λ _. linked keys >>= λ _. signed last) (items_covered hash a) (in_turn (fresh least a.header) (linked keys >>= λ _. signed last) is_fresh is_signed)
     (of_cover hash 1 a.header.nodes a.header.fan a.places (map node_leaf_text a.nodes) a.cover a.header.node_root)
 
--- a test that fails is one of them
+-- a test that fails is one of these tests
 pub early : (hash : List ℕ → List ℕ) (key : List ℕ) (links : List Link) (least : ℕ) (a : NearReply) (e : CheckError) → Meets {A = Unit {0}} (Err e) (header_and_cover hash key links least a) → IsEarly e
 unfolding OnlyEarly
 early hash key links least a (tests.Memory _) is = tt

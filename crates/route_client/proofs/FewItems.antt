@@ -1,4 +1,4 @@
--- Items that stand under a signed root are no more than its tree has leaves.
+-- Items under a signed root are at most as many as the tree has leaves.
 use Rattle.std.proofs.Common.{◌≡◌, ℕ, ◌<◌, ◌≤◌, ◌⊎◌, inl, inr, Bool, true, false, cond, List, [], ◌∷◌, Option, None, Some, Result, Ok, Err, length, nat_eq, refl, arith}
 use Rattle.std.proofs.lemmas.Bool.Decides.{nat_tests}
 use Rattle.lms_tree.specs.declared.links.Link.{Link}
@@ -25,7 +25,7 @@ folded : (tree : ℕ) (root : List ℕ) (r : Result (List ℕ) FoldError) → ma
 folded tree root (Ok digest) e = (digest, refl)
 folded tree root (Err why) e = absurd cc
 
--- a tree without items isn't recomputed, and any other is
+-- the root of a tree without items is not recomputed; any other root is
 folds : (none zero : Bool) (first m : Result (Unit {0}) CheckError) (e : CheckError) → cond none first (cond zero (Err e) m) ≡ Ok tt → (none ≡ true) ⊎ (m ≡ Ok tt)
 folds true zero first m e h = inl refl
 folds false true first m e h = absurd cc
@@ -43,7 +43,7 @@ few_covered hash tree leaves fan places texts cover root h =
           few_rising leaves places (rising-first_fault leaves places (no_fault (first_fault leaves places) (fold_exact hash leaves fan places texts cover) is.0 is.1))
     ]
 
--- an answer that passes has no more node items than a map has nodes
+-- an accepted answer has at most as many node items as a map has nodes
 pub few_nodes : (hash : List ℕ → List ℕ) (key : List ℕ) (links : List Link) (least : ℕ) (a : answers.Answer) → IsGood a → tested hash key links least a ≡ Ok tt → length a.items.nodes ≤ 65536
 unfolding tested nodes_covered
 few_nodes hash key links least a good h =

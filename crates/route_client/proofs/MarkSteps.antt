@@ -1,4 +1,4 @@
--- Ids in order, and their marks.
+-- Sorted ids and their marks.
 use Rattle.std.proofs.Common.{◌≡◌, ℕ, ◌+◌, ◌<◌, ◌≤◌, false, IsTrue, Option, None, Some, List, [], ◌∷◌, ◌++◌, inl, inr, length, take, get_or, nat_eq, refl, arith, ap, sym, ◌∙◌, subst}
 use Rattle.std.specs.Prelude.{nat_le, All, IsSome}
 use Rattle.std.specs.List.{Contains, IsDistinct}
@@ -25,7 +25,7 @@ less_between x y h k = grind (arith, h, k)
 flips : (x y : ℕ) → nat_eq x y ≡ nat_eq y x
 flips x y = grind (arith, nat_tests)
 
--- ids that differ, put in order
+-- distinct ids, sorted
 pub in_order : (found : Found) (most : ℕ) (ids sorted : List ℕ) → IsDistinct nat_eq ids → ((id : ℕ) → (Contains ids id → IsTrue (is_within most (length_at found id))) × (IsTrue (is_within most (length_at found id)) → Contains ids id)) → IsPermutation ids sorted
     → ((k d : ℕ) → 0 ≤ k → k + 1 < length sorted → is_lt (nat_cmp (get_or sorted (k + 1) d) (get_or sorted k d)) ≡ false) → RiseWithin found most sorted
 in_order found most ids sorted distinct within moved ordered =
@@ -50,7 +50,7 @@ one_marked found ids i before after m pushed more here so_far = record {
   ];
 }
 
--- ---- all of them
+-- ---- all cuts
 
 within_is : (most d : ℕ) (o : Option ℕ) → o ≡ Some d → IsTrue (is_within most o) → d ≤ most
 within_is most d None e h = cc
@@ -86,7 +86,7 @@ all_marked found most ids marks rise marked = record {
         let far : k.0.distance ≡ m.distance = cc in
         subst (Contains marks) (same_mark m k.0 k.2 far) k.1
 
--- ids that are within have lengths
+-- ids within the radius have lengths
 some_within : (most : ℕ) (o : Option ℕ) → IsTrue (is_within most o) → IsSome o
 some_within most None h = cc
 some_within most (Some d) h = refl

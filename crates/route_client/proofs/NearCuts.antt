@@ -1,4 +1,4 @@
--- Where the texts of a reply's leaves stand in the octets that encode it.
+-- The positions of a reply's leaf texts in the octets that encode it.
 use Rattle.std.proofs.Common.{◌≡◌, ℕ, ◌+◌, List, [], length, map, sym, ◌∙◌, arith}
 use Rattle.std.proofs.lemmas.List.{length-map}
 use Rattle.std.specs.List.{flat_map}

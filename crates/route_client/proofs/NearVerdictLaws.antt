@@ -1,4 +1,4 @@
--- Octets have at most one verdict, and what is accepted passes each test.
+-- Octets have at most one verdict, and accepted octets pass every test.
 use Rattle.std.proofs.Common.{◌≡◌, ℕ, ◌⊎◌, inl, inr, List, Option, Some, None, Result, Ok, Err, IfOk, refl, sym, ap, subst, ◌∙◌}
 use Rattle.octet_text.specs.Format.{whole}
 use Rattle.road_map.specs.Least.{IsLeast}
@@ -32,12 +32,12 @@ use Rattle.octet_text.specs.Want.{no_memory}
 
 -- ---- at most one verdict
 
--- what comes after the ids that lack an item
+-- the tests after the search for ids without an item
 Then : List NodeLeaf → NearQuery → Option ℕ → Result (List Mark) NearError → Type 0
 Then nodes q (Some id) r = r ≡ Err (errors.MissingTuple id)
 Then nodes q None r = (marks : List Mark) × ListsMarks (IsReached nodes q) marks × (r ≡ Ok marks)
 
--- what comes after the ids that stand twice
+-- the tests after the search for repeated ids
 After : List NodeLeaf → NearQuery → Option ℕ → Result (List Mark) NearError → Type 0
 unfolding Then
 After nodes q (Some id) r = r ≡ Err (errors.RepeatedNode id)
@@ -87,7 +87,7 @@ pub one_verdict : (hash : List ℕ → List ℕ) (key : List ℕ) (links : List 
 unfolding IsNearVerdict
 one_verdict hash key links octets q least v w = one_within (near_passed hash key links octets least) q v w
 
--- ---- what is accepted passes each test
+-- ---- an accepted reply passes each test
 
 record PassesBoth (h n : Result (Unit {0}) CheckError) : Type 0 where
   pub header : h ≡ Ok tt
@@ -160,17 +160,17 @@ accepts_of hash key links octets q least x is =
       header = all.header;
     }
 
--- the reply that passes the tests before its items are walked is the one that the octets encode
+-- the reply that passes the tests before its items are walked is the reply that the octets encode
 pub spelled_of : (hash : List ℕ → List ℕ) (key : List ℕ) (links : List Link) (octets : List ℕ) (least : ℕ) (a : NearReply) → near_passed hash key links octets least ≡ Ok a → whole near_reply octets ≡ Ok a
 unfolding near_passed
 spelled_of hash key links octets least a is = (passes_of hash key links least (whole near_reply octets) a is).spelled
 
--- what holds of a reply holds of the same one, once it passes
+-- a fact about a reply holds for the same reply after it passes
 pub of_same : (P : NearReply → Type 0) (a : NearReply) (r : Result CheckedReply NearError) → P a → IfOk r (λ c. c.reply ≡ a) → IfOk r (λ c. P c.reply)
 of_same P a (Ok c) holds same = subst P (sym same) holds
 of_same P a (Err e) holds same = tt
 
--- ---- and back
+-- ---- and in the other direction
 
 passed_is : (hash : List ℕ → List ℕ) (key : List ℕ) (links : List Link) (octets : List ℕ) (least : ℕ) (a : NearReply) → whole near_reply octets ≡ Ok a → header_tested key links least a.header a.signature ≡ Ok tt → items_covered hash a ≡ Ok tt
     → near_passed hash key links octets least ≡ Ok a
@@ -192,9 +192,9 @@ verdict_of hash key links octets q least x is =
     let front = passed_is hash key links octets least a is.spelled header is.covered in
     subst (λ (p : Result NearReply NearError). WalkedAfter p q (Ok x)) (sym front) (Ok x.nodes, (is.distinct, (is.complete, is.nodes)), same_within x a is.version is.header)
 
--- ---- what functions answer
+-- ---- the results of functions
 
--- what is weaker holds too
+-- a weaker fact also holds
 pub weaker : {A : Type 0} (P Q : Result A NearError → Type 0) (r : Result A NearError) → ((x : Result A NearError) → P x → Q x) → UnlessMemory P r → UnlessMemory Q r
 weaker P Q (Ok x) f h = f (Ok x) h
 weaker P Q (Err (errors.Malformed at)) f h = f (Err (errors.Malformed at)) h
@@ -228,12 +228,12 @@ pub walked : (hash : List ℕ → List ℕ) (key : List ℕ) (links : List Link)
 unfolding IsNearVerdict
 walked hash key links octets q least a r is h = subst (λ (p : Result NearReply NearError). UnlessMemory (WalkedAfter p q) r) (sym is) h
 
--- ---- what a check answers
+-- ---- the results of a check
 
 error_of : {A : Type 0} (e f : NearError) → ◌≡◌ {A = Result A NearError} (Err e) (Err f) → e ≡ f
 error_of e f is = cc
 
--- what is refused before the items are walked
+-- a reply that is refused before its items are walked
 pub checks_refused : (hash : List ℕ → List ℕ) (key : List ℕ) (links : List Link) (octets : List ℕ) (q : NearQuery) (least : ℕ) (e : NearError)
     → Meets {A = NearReply} (Err e) (near_passed hash key links octets least) → (◌≡◌ {A = Result NearReply NearError} (Err e) (Err (errors.Memory no_memory)) → IsNamed octets) → ChecksNear hash key links octets q least (Err e)
 checks_refused hash key links octets q least e is named =
@@ -244,7 +244,7 @@ checks_refused hash key links octets q least e is named =
       named = λ memory. named (ap (λ x. Err x) (error_of {A = Within} e (errors.Memory no_memory) memory));
     }
 
--- and what is walked
+-- a reply whose items are walked
 pub checks_walked : (hash : List ℕ → List ℕ) (key : List ℕ) (links : List Link) (octets : List ℕ) (q : NearQuery) (least : ℕ) (a : NearReply) (r : Result Within NearError) → near_passed hash key links octets least ≡ Ok a
     → UnlessMemory (WalkedAfter (Ok a) q) r → ChecksNear hash key links octets q least r
 checks_walked hash key links octets q least a r is h =
@@ -257,7 +257,7 @@ checks_walked hash key links octets q least a r is h =
 
 -- ---- the tests before the items are walked
 
--- a test that fails is the refusal
+-- the test that fails is the reason of the refusal
 pub failed : (a : NearReply) (t : Result (Unit {0}) CheckError) (e : CheckError) → MeetsTest {A = Unit {0}} (Err e) t → Meets {A = NearReply} (Err (near_error e)) (after_tests a t)
 failed a t (tests.Stale version) is = rw is refl
 failed a t (tests.BadChain link why) is = rw is refl
@@ -268,7 +268,7 @@ failed a t (tests.Malformed at) is = tt
 failed a t (tests.Judged why) is = tt
 failed a t (tests.Memory _) is = tt
 
--- octets that encode no reply are refused
+-- octets that do not encode a reply are refused
 pub unread : (hash : List ℕ → List ℕ) (key : List ℕ) (links : List Link) (octets : List ℕ) (least : ℕ) (e : NearError) → Meets {A = NearReply} (Err e) (spelled (whole near_reply octets)) → Meets {A = NearReply} (Err e) (near_passed hash key links octets least)
 unfolding near_passed
 unread hash key links octets least (errors.Memory _) is = tt
@@ -280,14 +280,14 @@ unread hash key links octets least (errors.BadCover why) is = rw is refl
 unread hash key links octets least (errors.RepeatedNode id) is = rw is refl
 unread hash key links octets least (errors.MissingTuple id) is = rw is refl
 
--- and a reply that was read meets the tests
+-- a reply that was read is tested
 pub read_tested : (hash : List ℕ → List ℕ) (key : List ℕ) (links : List Link) (octets : List ℕ) (least : ℕ) (a : NearReply) (r : Result NearReply NearError) → spelled (whole near_reply octets) ≡ Ok a → Meets r (after_tests a (header_and_cover hash key links least a)) → Meets r (near_passed hash key links octets least)
 unfolding near_passed
 read_tested hash key links octets least a r is meets = subst (λ (p : Result NearReply NearError). Meets r (tested hash key links least p)) (sym is) meets
 
 -- ---- the walks
 
--- what is listed is what was measured
+-- the listed nodes are the measured ones
 pub measured_of : (nodes : List NodeLeaf) (q : NearQuery) (r : Result Found NearError) → IsLeast (StandsTwice nodes) None → UnlessMemory (Reached nodes q) r → UnlessMemory (Measured nodes q) r
 measured_of nodes q (Ok found) distinct h = (distinct, h)
 measured_of nodes q (Err (errors.MissingTuple id)) distinct h = (distinct, h)
@@ -322,7 +322,7 @@ refused_walk a q (errors.BadCover why) h = (Err (errors.BadCover why), h, refl)
 refused_walk a q (errors.RepeatedNode id) h = (Err (errors.RepeatedNode id), h, refl)
 refused_walk a q (errors.MissingTuple id) h = (Err (errors.MissingTuple id), h, refl)
 
--- the least id that stands twice, as it was found
+-- the least repeated id, as it was found
 pub repeated_is : (nodes : List NodeLeaf) (q : NearQuery) (e : Refusal) (id : ℕ) → e ≡ refusals.RepeatedNode id → (e ≡ refusals.Memory no_memory) ⊎ ((n : ℕ) × (e ≡ refusals.RepeatedNode n) × IsLeast (StandsTwice nodes) (Some n)) → IsLeast (StandsTwice nodes) (Some id)
 repeated_is nodes q e id is (inl memory) = absurd (let bad : refusals.RepeatedNode id ≡ (refusals.Memory no_memory) = sym is ∙ memory in cc)
 repeated_is nodes q e id is (inr found) =

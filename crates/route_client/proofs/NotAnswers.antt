@@ -1,4 +1,4 @@
--- What is no answer is told whatever memory there is.
+-- A reply that is not an answer is refused for this reason, however little memory is available.
 use Rattle.std.proofs.Common.{◌≡◌, ℕ, List, Result, Ok, Err, refl}
 use Rattle.octet_text.specs.Format.{whole}
 use Rattle.proof_octets.specs.declared.reply.Answer as answers
@@ -18,11 +18,11 @@ begun (Ok replies.NoRoute) kind none e = none replies.NoRoute tt refl
 begun (Ok (replies.Apart a)) kind none e = cc
 begun (Err at) kind none e = cc
 
--- octets that encode no reply without an answer are not told to be one
+-- octets that do not encode a reply without an answer are not reported as one
 pub answer_begun : (octets : List ℕ) (kind : ℕ) → ((r : Reply) → BringsNone r → whole formats.reply octets ≡ Ok r → ⊥) → ¬ IsNotAnswer octets kind
 answer_begun octets kind none e = begun (whole formats.reply octets) kind none e
 
--- the first test that such octets fail, where memory is not it
+-- the first test that such octets fail, if memory does not run out
 pub refused_at_once : (octets : List ℕ) (kind : ℕ) (e : CheckError) → Meets {A = Reply} (Err e) (answered (whole formats.reply octets)) → (e ≡ errors.Memory no_memory → ¬ IsNotAnswer octets kind) → IsNotAnswer octets kind → e ≡ errors.NotAnswer kind
 refused_at_once octets kind (errors.Memory _) is memory not = absurd (memory refl not)
 refused_at_once octets kind (errors.NotAnswer other) is memory not = cc

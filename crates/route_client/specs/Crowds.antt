@@ -7,7 +7,7 @@ use Rattle.route_client.specs.declared.errors.CheckError.TheVariants as errors
 use Rattle.route_client.specs.declared.errors.CoverFault.TheVariants as faults
 use Rattle.route_client.specs.Verdicts.{Meets, header_tested}
 
--- there are more, and the header fails its tests so, or else a place is none of the tree's
+-- there are more items, so the header fails its tests, or an index lies outside the tree
 pub record IsCrowded (key : List ℕ) (links : List Link) (least : ℕ) (o : Outline)
     (e : CheckError) : Type 0 where
   pub many : 65536 < o.nodes

@@ -1,9 +1,7 @@
--- What a client says of octets as the reply to a query for what lies within a radius: the first
--- test that they don't pass, or the nodes that it accepts. What it accepts is said by the walks
--- over the items that the reply brings.
--- Source: Papadias, Zhang, Mamoulis and Tao, VLDB 2003 (range search in a road network), and Yiu,
--- Lin and Mouratidis, ICDE 2010 (signed roots, tuples and covers). The order of the tests is this
--- program's profile.
+-- The verdict of a client on octets as the reply to a query for the nodes within a radius: the first test that they
+-- fail, or the accepted nodes. The walks over the items of the reply determine the accepted nodes. Source:
+-- Papadias, Zhang, Mamoulis and Tao, VLDB 2003 (range search in a road network), and Yiu, Lin and Mouratidis, ICDE
+-- 2010 (signed roots, tuples and covers). The order of the tests is this program's profile.
 use Rattle.std.specs.Prelude.{◌≡◌, ℕ, ◌+◌, ◌≤◌, List, map, None, Some, Result, Ok, Err}
 use Rattle.octet_text.specs.Format.{whole}
 use Rattle.road_map.specs.Least.{IsLeast}
@@ -40,14 +38,14 @@ abbrev pub items_covered : (List ℕ → List ℕ) → NearReply → Result (Uni
 items_covered hash a = covered hash 1 a.header.nodes a.header.fan a.places
     (map node_leaf_text a.nodes) a.cover a.header.node_root
 
--- the tests that stand for routes too: those of the header, and the cover
+-- the tests that replies for routes share: the tests of the header, and the test of the cover
 unfoldable pub header_and_cover : (List ℕ → List ℕ) → List ℕ → List Link → ℕ → NearReply →
     Result (Unit {0}) CheckError
 header_and_cover hash key links least a = do
   _ ← header_tested key links least a.header a.signature
   items_covered hash a
 
--- a test that fails; no other errors come from these tests
+-- a failed test, converted to an error of this check; these tests have no other errors
 abbrev pub near_error : CheckError → NearError
 near_error (tests.Stale version) = errors.Stale version
 near_error (tests.BadChain link why) = errors.BadChain link why
@@ -55,7 +53,7 @@ near_error (tests.BadSignature why) = errors.BadSignature why
 near_error (tests.BadCover tree why) = errors.BadCover why
 near_error _ = errors.Memory no_memory
 
--- the tests before the walk fail by these errors alone
+-- the errors of the tests before the walk
 abbrev pub IsEarly : CheckError → Type 0
 IsEarly (tests.Stale _) = Unit {0}
 IsEarly (tests.BadChain _ _) = Unit {0}
@@ -73,7 +71,7 @@ abbrev pub tested : (List ℕ → List ℕ) → List ℕ → List Link → ℕ �
 tested hash key links least (Ok a) = after_tests a (header_and_cover hash key links least a)
 tested hash key links least (Err e) = Err e
 
--- the reply that passes all tests before its items are walked, or the first that fails
+-- the reply that passes every test before its items are walked, or the first test that fails
 unfoldable pub near_passed : (List ℕ → List ℕ) → List ℕ → List Link → List ℕ → ℕ →
     Result NearReply NearError
 near_passed hash key links octets least =
@@ -81,20 +79,21 @@ near_passed hash key links octets least =
 
 -- ---- the walks over the items
 
--- no longer than the radius
+-- the greatest length of a walk within the radius
 abbrev pub limit_of : NearQuery → ℕ
 limit_of q = q.radius + 1
 
--- walks that are no longer than the radius end at the id, the least of them of this length
+-- the id of the mark is the end of a walk no longer than the radius, and the mark has the least length of such a
+-- walk
 abbrev pub IsReached : List NodeLeaf → NearQuery → Mark → Type 0
 IsReached nodes q m = IsLeastPassing (any_ways (item_at nodes)) q.from (limit_of q) m.id
     (Some m.distance)
 
--- a walk that is no longer than the radius ends at an id without an item
+-- a walk no longer than the radius ends at an id without an item
 abbrev pub LacksItem : List NodeLeaf → NearQuery → ℕ → Type 0
 LacksItem nodes q id = Lacks (any_ways (item_at nodes)) q.from (limit_of q) id
 
--- what is listed where no id stands at two items
+-- the list of nodes, if no two items have the same id
 abbrev pub Listed : List NodeLeaf → NearQuery → Result (List Mark) NearError → Type 0
 Listed nodes q (Err (errors.MissingTuple id)) = IsLeast (LacksItem nodes q) (Some id)
 Listed nodes q (Ok marks) = IsLeast (LacksItem nodes q) None × ListsMarks (IsReached nodes q) marks
@@ -114,7 +113,7 @@ as_within a (Ok marks) = Ok (record {
 })
 as_within a (Err e) = Err e
 
--- and what it takes from what passes each test
+-- the part of the result that a client keeps
 abbrev pub taken : Result CheckedReply NearError → Result Within NearError
 taken (Ok checked) = as_within checked.reply (Ok checked.nodes)
 taken (Err e) = Err e
@@ -131,7 +130,7 @@ unfoldable pub IsNearVerdict : (List ℕ → List ℕ) → List ℕ → List Lin
 IsNearVerdict hash key links octets q least v =
     WalkedAfter (near_passed hash key links octets least) q v
 
--- the octets encode a reply that passes each test, and this is what it says
+-- the octets encode a reply that passes every test, and this is its content
 pub record NearAccepts (hash : List ℕ → List ℕ) (key : List ℕ) (links : List Link)
     (octets : List ℕ) (q : NearQuery) (least : ℕ) (x : Within) : Type 0 where
   pub reply : NearReply
@@ -146,9 +145,9 @@ pub record NearAccepts (hash : List ℕ → List ℕ) (key : List ℕ) (links : 
   pub version : x.version ≡ reply.header.version
   pub header : x.header ≡ reply.header
 
--- ---- what a function answers
+-- ---- the result of a function
 
--- Out of memory may come at any time.
+-- Every result that a predicate allows, and out of memory at any time.
 abbrev pub UnlessMemory : {A : Type 0} → (Result A NearError → Type 0) → Result A NearError → Type 0
 UnlessMemory P (Err (errors.Memory _)) = Unit {0}
 UnlessMemory P r = P r
@@ -156,8 +155,8 @@ UnlessMemory P r = P r
 abbrev pub Meets : {A : Type 0} → Result A NearError → Result A NearError → Type 0
 Meets r v = UnlessMemory (λ x. v ≡ x) r
 
--- what a check of octets answers: their verdict, so that each reply that passes each test is accepted, and
--- memory runs out only over octets that begin with the name of such a reply
+-- The result of checking octets. It is their verdict, so a reply that passes every test is accepted. Memory can
+-- only run out if the octets begin with the name of such a reply.
 pub record ChecksNear (hash : List ℕ → List ℕ) (key : List ℕ) (links : List Link) (octets : List ℕ)
     (q : NearQuery) (least : ℕ) (result : Result Within NearError) : Type 0 where
   pub verdict : UnlessMemory (IsNearVerdict hash key links octets q least) result

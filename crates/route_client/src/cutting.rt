@@ -1,4 +1,4 @@
-//! Where the texts of an answer's leaves stand in the octets that encode it.
+//! The positions of an answer's leaf texts in the octets that encode it.
 
 ghost use Rattle.std.specs.Prelude.{◌≡◌, ◌+◌, ◌<◌, ◌^◌, [], ◌∷◌, ◌++◌, length, map, IfOk, OnOk};
 ghost use Rattle.road_leaf.specs.Leaves.{node_leaf_text, pair_leaf};
@@ -14,14 +14,14 @@ use proof_octets::Answer;
 use road_leaf::{NodeLeaves, PairLeaf};
 use std::alloc::Global;
 
-/// Where the texts of an answer's leaves stand in the octets that encode it.
+/// The positions of an answer's leaf texts in the octets that encode it.
 #[derive(Drop)]
 pub struct LeafCuts {
     pub nodes: Vec<Cut>,
     pub pairs: Vec<Cut>,
 }
 
-// Adds the cut of a text, and answers where it ends.
+// Adds the position of a text, and returns the offset at which the text ends.
 fn push_cut(cuts: &mut Vec<Cut>, start: u32, length: u32) -> Result<u32, NoMemory>
     requires { start + length < 2 ^ 32 }
     ensures end { IfOk result (λ end. end ≡ start + length) }
@@ -33,8 +33,8 @@ fn push_cut(cuts: &mut Vec<Cut>, start: u32, length: u32) -> Result<u32, NoMemor
     Ok(end)
 }
 
-/// Adds the cuts of node items that stand one after the other from an offset on, each text after its
-/// index in the tree and its length, and answers where they end.
+/// Adds the positions of node items, which follow one another from an offset on. Returns the offset at which they
+/// end. Each text follows its index in the tree and its length.
 pub fn push_nodes(cuts: &mut Vec<Cut>, at: u32, leaves: &NodeLeaves) -> Result<u32, NoMemory>
     requires { end_at 6 at (map node_leaf_text leaves.now) < 2 ^ 32 }
     ensures cuts { OnOk result (cuts.new.items ≡ cuts.old.items ++ cuts_at 6 at
@@ -49,7 +49,7 @@ pub fn push_nodes(cuts: &mut Vec<Cut>, at: u32, leaves: &NodeLeaves) -> Result<u
     Ok(next)
 }
 
-// The same of pair items, each text after its index in the tree.
+// Adds the positions of pair items in the same way. Each text follows its index in the tree.
 fn push_pairs(cuts: &mut Vec<Cut>, at: u32, leaves: &[PairLeaf]) -> Result<u32, NoMemory>
     requires { end_at 4 at (map pair_leaf.spell leaves.now) < 2 ^ 32 }
     ensures cuts { OnOk result (cuts.new.items ≡ cuts.old.items ++ cuts_at 4 at
@@ -63,8 +63,8 @@ fn push_pairs(cuts: &mut Vec<Cut>, at: u32, leaves: &[PairLeaf]) -> Result<u32, 
     Ok(next)
 }
 
-// Where the first node item stands: after the kind of the reply, the header, the signature, the route
-// where there is one, and how many items there are.
+// Returns the offset of the first node item. It follows the kind of the reply, the header, the signature, the route
+// (if the answer has one), and the number of items.
 fn nodes_at(answer: &Answer) -> u32
     requires { IsGood answer.now }
     ensures { result ≡ nodes_at answer.now }
@@ -77,7 +77,7 @@ fn nodes_at(answer: &Answer) -> u32
     115 + signature + 4 * route.len() as u32
 }
 
-/// Where the texts of an answer's leaves stand in the octets that encode it.
+/// Returns the position of each leaf's text in the octets that encode an answer.
 pub fn leaf_cuts(alloc: Global, octets: &[u8], answer: &Answer) -> Result<LeafCuts, NoMemory>
     requires good { IsGood answer.now }
     requires spelled { octets.now ≡ reply_text (reply_of answer.now) }

@@ -1,4 +1,4 @@
-//! How long the text of a node's leaf is.
+//! The length of a node leaf's text.
 
 ghost use Rattle.std.specs.Prelude.{◌≡◌, ◌<◌, ◌^◌, length};
 ghost use Rattle.road_leaf.specs.Leaves.{node_leaf_text};
@@ -7,7 +7,7 @@ ghost use Rattle.proof_octets.specs.Lengths.{added_length};
 
 use road_leaf::{ExtraView, NodeView};
 
-// How many octets a leaf's text has of what its kind adds.
+// Returns the number of octets that the kind of a leaf adds to its text.
 fn length_added(extra: ExtraView<'_>) -> usize
     requires { added_length (extra_seen extra) < 2 ^ 32 }
     ensures { result ≡ added_length (extra_seen extra.entry) }
@@ -20,7 +20,7 @@ fn length_added(extra: ExtraView<'_>) -> usize
     }
 }
 
-/// How many octets the text of a node's leaf has.
+/// Returns the number of octets in the text of a node's leaf.
 pub fn text_length(leaf: &NodeView<'_>) -> u32
     requires { length (node_leaf_text (seen leaf.now)) < 2 ^ 32 }
     ensures { result ≡ length (node_leaf_text (seen leaf.now)) }

@@ -1,4 +1,4 @@
-//! The check of a reply.
+//! Checking a reply for the nodes within a radius.
 ghost use Rattle.std.specs.Prelude.{◌≡◌, ◌<◌, ◌≤◌, ◌^◌, length, IfOk, Ok, Err};
 ghost use Rattle.octet_text.specs.Want.{no_memory};
 ghost use Rattle.octet_text.specs.Format.{whole};
@@ -14,7 +14,7 @@ use octet_text::Hasher;
 use proof_octets::{Header, NearQuery, NearReply};
 use std::alloc::Global;
 
-// The verdict on a reply that passes all tests before its items are walked.
+// Returns the verdict on a reply that passes every test before its items are walked.
 fn accept(alloc: Global, reply: NearReply, query: NearQuery) -> Result<CheckedReply, NearError>
     requires { IsGoodNear reply }
     ensures verdict { UnlessMemory (WalkedAfter (Ok reply) query) (taken result) }
@@ -26,14 +26,14 @@ fn accept(alloc: Global, reply: NearReply, query: NearQuery) -> Result<CheckedRe
     }
 }
 
-// The header of a reply, of which nothing else is kept.
+// Returns the header of a reply and drops the rest.
 fn header_of(reply: NearReply) -> Header
     ensures { result ≡ reply.header }
 {
     reply.header
 }
 
-// The same verdict, and what a client takes. The items are given back before the nodes are listed.
+// Returns the same verdict with only the part that a client keeps. Frees the items before it lists the nodes.
 fn take(alloc: Global, reply: NearReply, query: NearQuery) -> Result<Within, NearError>
     ensures { UnlessMemory (WalkedAfter (Ok reply) query) result }
 {
@@ -51,16 +51,20 @@ fn take(alloc: Global, reply: NearReply, query: NearQuery) -> Result<Within, Nea
     }
 }
 
-/// Checks a reply to a query for what lies within a radius under the owner's public key, where `least`
-/// is the minimum version that the client takes, and hands out the whole reply. `chain` leads from that key
-/// to the owner's later ones, by at most seven links. The tests are made in this order: the octets encode a
-/// reply, it is of that version or a later one, each link is signed under the key before it, the header is
-/// signed under one of the keys, the items stand under the node root, no two carry one id, and each walk
-/// over them that is no longer than the radius ends at an item. The first that fails is answered.
+/// Checks a reply to a query for the nodes within a radius under the owner's public key, and returns the whole
+/// reply.
 ///
-/// An item that no such walk comes to is allowed, and not listed. No memory is reserved by a count
-/// that the octets don't bear out. Octets that don't begin with the name of such a reply are told so
-/// whatever memory there is.
+/// `least` is the minimum version that the client accepts. `chain` leads from the public key to the owner's later
+/// keys, over at most seven links.
+///
+/// The error is the first of these tests, in this order, that fails: the octets encode a reply; its version is at
+/// least `least`; each link is signed under the previous key; the header is signed under one of the keys; the items
+/// stand under the node root; no two items have the same id; each walk over the items that is no longer than the
+/// radius ends at an item.
+///
+/// An item that no such walk reaches is allowed, but not listed. No memory is reserved for a count that the
+/// remaining octets cannot hold. Octets that do not begin with the name of such a reply are refused for this
+/// reason, however little memory is available.
 pub fn check_near_reply<H: Hasher>(
     alloc: Global,
     public: &[u8],
@@ -82,7 +86,7 @@ pub fn check_near_reply<H: Hasher>(
     }
 }
 
-/// Checks a reply as `check_near_reply` does, and keeps of an accepted one only what a client takes.
+/// Checks a reply as `check_near_reply` does. Returns only the part of an accepted reply that a client keeps.
 pub fn check_near<H: Hasher>(
     alloc: Global,
     public: &[u8],
@@ -101,8 +105,8 @@ pub fn check_near<H: Hasher>(
     }
 }
 
-/// Checks a reply as `check_near` does, and gives its octets back before its items are walked, so that they
-/// and what the walks take are never held at once.
+/// Checks a reply as `check_near` does, but frees its octets before its items are walked. So the octets and the
+/// memory of the walks are never held at the same time.
 pub fn check_near_owned<H: Hasher>(
     alloc: Global,
     public: &[u8],

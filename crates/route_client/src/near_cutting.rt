@@ -1,4 +1,4 @@
-//! Where the texts of a reply's leaves stand in the octets that encode it.
+//! The positions of a reply's leaf texts in the octets that encode it.
 
 ghost use Rattle.std.specs.Prelude.{◌≡◌, ◌<◌, ◌^◌, length, map, IfOk};
 ghost use Rattle.road_leaf.specs.Leaves.{node_leaf_text};
@@ -11,7 +11,7 @@ use octet_text::NoMemory;
 use proof_octets::NearReply;
 use std::alloc::Global;
 
-/// Where the texts of a reply's leaves stand in the octets that encode it.
+/// Returns the position of each leaf's text in the octets that encode a reply.
 pub fn reply_cuts(alloc: Global, octets: &[u8], reply: &NearReply) -> Result<Vec<Cut>, NoMemory>
     requires good { IsGoodNear reply.now }
     requires spelled { octets.now ≡ near_reply.spell reply.now }

@@ -1,4 +1,4 @@
-// The tests before the items are walked. Those of the header and of the cover stand for routes too.
+// The tests before the items are walked. Replies for routes use the same tests of the header and of the cover.
 ghost use Rattle.std.specs.Prelude.{◌≡◌, ◌<◌, ◌≤◌, ◌^◌, length, Err, IfOk};
 ghost use Rattle.octet_text.specs.Want.{no_memory};
 ghost use Rattle.octet_text.specs.Format.{whole};
@@ -17,7 +17,7 @@ use octet_text::{Hasher, ReadError};
 use proof_octets::NearReply;
 use std::alloc::Global;
 
-// The reply that octets encode.
+// Reads the reply that octets encode.
 fn read_reply(alloc: Global, octets: &[u8]) -> Result<NearReply, NearError>
     requires { length octets.now < 2 ^ 32 }
     ensures is { Meets result (spelled (whole near_reply octets.now)) }
@@ -32,7 +32,7 @@ fn read_reply(alloc: Global, octets: &[u8]) -> Result<NearReply, NearError>
     }
 }
 
-// Whether the items, as they stand in the octets, recompute the node root.
+// Tests that the items, as they are in the octets, recompute the node root.
 fn test_items<H: Hasher>(alloc: Global, octets: &[u8], reply: &NearReply) -> Result<(), CheckError>
     requires good { IsGoodNear reply.now }
     requires spelled { octets.now ≡ near_reply.spell reply.now }
@@ -53,7 +53,7 @@ fn test_items<H: Hasher>(alloc: Global, octets: &[u8], reply: &NearReply) -> Res
     )
 }
 
-// The header's version and its signature, and then the cover.
+// Tests the header's version and signature, and then the cover.
 #[tactic(auto, unfolding(crate::specs::NearVerdicts::header_and_cover))]
 fn test_reply<H: Hasher>(
     alloc: Global,
@@ -74,7 +74,7 @@ fn test_reply<H: Hasher>(
     test_items::<H>(alloc, octets, reply)
 }
 
-// A failed test as a refusal of a reply. No other errors come from these tests.
+// Converts a failed test into the refusal of a reply. These tests have no other errors.
 fn near_error(error: CheckError) -> NearError
     requires { IsEarly error }
     ensures { result ≡ near_error error }
@@ -89,7 +89,7 @@ fn near_error(error: CheckError) -> NearError
     }
 }
 
-// The reply, where it passes these tests.
+// Returns the reply if it passes these tests.
 fn test<H: Hasher>(
     alloc: Global,
     public: &[u8],
@@ -112,7 +112,7 @@ fn test<H: Hasher>(
     }
 }
 
-// The reply that passes all tests before its items are walked, or the first that fails.
+// Returns the reply if it passes every test before its items are walked. Fails with the first test that it fails.
 pub(crate) fn pass<H: Hasher>(
     alloc: Global,
     public: &[u8],

@@ -1,4 +1,4 @@
-// The walks over the items of a reply.
+// Walks over the items of a reply.
 ghost use Rattle.std.specs.Prelude.{◌≡◌, ◌⊎◌, ℕ, ◌+◌, ◌≤◌, Some, IsSome, IfOk, All};
 ghost use Rattle.road_map.specs.Least.{IsLeast};
 ghost use Rattle.road_search.specs.Labelling.{length_at};
@@ -18,14 +18,14 @@ use road_leaf::NodeLeaves;
 use road_search::{Labels, search};
 use std::alloc::Global;
 
-// One more than a radius, but for the greatest one, above which no least length lies.
+// Returns the radius plus one. The greatest radius is returned unchanged, since no least length exceeds it.
 fn limit_above(radius: u64) -> u64
     ensures { IsLimitAbove radius result }
 {
     radius.saturating_add(1)
 }
 
-// The ids that have a length of at most this one, by ascending id.
+// Returns the ids with a length of at most `most`, in ascending order.
 fn ids_within(alloc: Global, labels: &Labels, most: u64) -> Result<Vec<u32>, NoMemory>
     ensures { IfOk result (λ ids. RiseWithin labels.now most ids.items) }
 {
@@ -34,7 +34,7 @@ fn ids_within(alloc: Global, labels: &Labels, most: u64) -> Result<Vec<u32>, NoM
     Ok(ids)
 }
 
-// Ids with their lengths.
+// Returns ids with their lengths.
 fn marks_of(alloc: Global, labels: &Labels, ids: &[u32]) -> Result<Marks, NoMemory>
     requires { All (λ id. IsSome (length_at labels.now id)) ids.now }
     ensures { IfOk result (AreMarked labels.now ids.now) }
@@ -49,7 +49,7 @@ fn marks_of(alloc: Global, labels: &Labels, ids: &[u32]) -> Result<Marks, NoMemo
     Ok(Marks::from_vec(marks))
 }
 
-// The ids that have a length of at most this one, by ascending id, each with its length.
+// Returns the ids with a length of at most `most`, in ascending order, each with its length.
 pub(crate) fn marks_within(alloc: Global, labels: &Labels, most: u64) -> Result<Marks, NoMemory>
     ensures { IfOk result (ListsMarks (IsLabelled labels.now most)) }
 {
@@ -58,7 +58,7 @@ pub(crate) fn marks_within(alloc: Global, labels: &Labels, most: u64) -> Result<
     Ok(marks)
 }
 
-// The least lengths of walks that are no longer than the radius.
+// Returns the least lengths of walks that are no longer than the radius.
 fn reach(alloc: Global, by_id: &NodesById<'_>, query: NearQuery) -> Result<Labels, NoMemory>
     requires { IsNarrow (any_ways (item_at by_id.now)) }
     ensures least { IfOk result (λ found.
@@ -72,7 +72,8 @@ fn reach(alloc: Global, by_id: &NodesById<'_>, query: NearQuery) -> Result<Label
     Ok(labels)
 }
 
-// The same, where each such walk ends at an item, or the least id at which one ends that has none.
+// Returns the same lengths if each such walk ends at an item. Otherwise fails with the least id without an item at
+// which such a walk ends.
 fn reached(alloc: Global, by_id: &NodesById<'_>, query: NearQuery) -> Result<Labels, NearError>
     requires { IsNarrow (any_ways (item_at by_id.now)) }
     ensures { UnlessMemory (Reached by_id.now query) result }
@@ -84,7 +85,7 @@ fn reached(alloc: Global, by_id: &NodesById<'_>, query: NearQuery) -> Result<Lab
     Ok(labels)
 }
 
-// The least lengths of walks that are no longer than the radius, or why the items are refused.
+// Returns the least lengths of walks that are no longer than the radius. Fails if the items are refused.
 pub(crate) fn measured(
     alloc: Global,
     nodes: &NodeLeaves,
@@ -101,7 +102,7 @@ pub(crate) fn measured(
     }
 }
 
-// What the items show, or why they are refused.
+// Returns the nodes that the items show. Fails if the items are refused.
 pub(crate) fn walk(alloc: Global, nodes: &NodeLeaves, query: NearQuery) -> Result<Marks, NearError>
     ensures { UnlessMemory (Walked nodes.now query) result }
 {

@@ -1,4 +1,4 @@
--- What refuses a publication is answered.
+-- A reason to refuse a publication is returned.
 use Rattle.std.proofs.Common.{◌≡◌, ◌≢◌, ◌⊎◌, inl, inr, ◌↔◌, ℕ, ◌+◌, ◌<◌, List, true, false, refl, sym, ap, subst, ◌∙◌, IsErrOf, IsOk}
 use Rattle.std.specs.declared.result.Result.{Result}
 use Rattle.std.specs.declared.result.Result.TheVariants.{Ok, Err}
@@ -18,12 +18,12 @@ use Rattle.route_owner.specs.declared.errors.PublishError.TheVariants.{Build, De
 use Rattle.route_owner.specs.Published.{IsNoBook, IsUsedUp, IsClosed, Refuses, AnswersRefusal}
 use Rattle.octet_text.specs.Want.{no_memory}
 
--- parts and settings make one thing
+-- parts and settings have one result
 abbrev pub Makings : Type 0
 Makings = (hash sha : List ℕ → List ℕ) (parts : Parts) (s : Settings) (one other : Result Header BuildError)
     → Makes hash sha parts s one → Makes hash sha parts s other → one ≢ Err (build_errors.Memory no_memory) → other ≢ Err (build_errors.Memory no_memory) → one ≡ other
 
--- one of the two kinds of answers
+-- the result is one of two kinds
 abbrev pub made : Header → Result Header BuildError
 made h = Ok h
 
@@ -36,7 +36,7 @@ same_reason e f is = cc
 made_isnt : (h : Header) (e : BuildError) → made h ≡ unmade e → ⊥
 made_isnt h e is = cc
 
--- an answer of a desk that signs
+-- the result of a desk that signs
 abbrev pub signed : ℕ → Result ℕ DeskError
 signed q = Ok q
 
@@ -50,11 +50,11 @@ signed_isnt : (q : ℕ) (e : DeskError) → signed q ≡ unsigned e → ⊥
 signed_isnt q e is = cc
 
 module _ (makings : Makings) (hash : List ℕ → List ℕ) (parts : Parts) (s : Settings) (desk : View) where
-  -- where there is a header, there is a book
+  -- if there is a header, there is a book
   pub no_reason : (h : Header) (e : BuildError) → HasHeader hash sha256 parts s h → IsNoBook hash parts s e → ⊥
   no_reason h e has none = made_isnt h e (makings hash sha256 parts s (made h) (unmade e) has none.0 (λ is. made_isnt h (build_errors.Memory no_memory) is) (λ is. none.1 (same_reason e (build_errors.Memory no_memory) is)))
 
-  -- nothing refused what was published
+  -- there was no reason to refuse the published map
   pub none_refused : {X : Type 0} (p : X) (h : Header) (q : ℕ) → HasHeader hash sha256 parts s h → (HasNoFree desk → desk.is_open ≡ true → signed q ≡ Err KeysUsedUp) → (desk.is_open ≡ false → signed q ≡ Err Closed)
       → AnswersRefusal {X = X} hash parts s desk (Ok p)
   none_refused p h q has used closed (Build e) none = absurd (no_reason h e has none)
@@ -63,7 +63,7 @@ module _ (makings : Makings) (hash : List ℕ → List ℕ) (parts : Parts) (s :
   none_refused p h q has used closed (Desk DiskFault) is = absurd is
   none_refused p h q has used closed (Memory _) is = absurd is
 
-  -- the desk's refusal is what refused it
+  -- the desk's refusal is the reason
   pub desk_refused : {X : Type 0} (f : DeskError) (h : Header) → HasHeader hash sha256 parts s h → (HasNoFree desk → desk.is_open ≡ true → unsigned f ≡ Err KeysUsedUp) → (desk.is_open ≡ false → unsigned f ≡ Err Closed)
       → AnswersRefusal {X = X} hash parts s desk (Err (Desk f))
   desk_refused f h has used closed (Build e) none = absurd (no_reason h e has none)
@@ -81,6 +81,6 @@ module _ (makings : Makings) (hash : List ℕ → List ℕ) (parts : Parts) (s :
   book_refused b none (Desk DiskFault) is = absurd is
   book_refused b none (Memory _) is = absurd is
 
--- out of memory answers any
+-- out of memory is always an allowed result
 pub memory_answers : {X : Type 0} (hash : List ℕ → List ℕ) (parts : Parts) (s : Settings) (desk : View) → AnswersRefusal {X = X} hash parts s desk (Err (Memory no_memory))
 memory_answers hash parts s desk e is = inr refl

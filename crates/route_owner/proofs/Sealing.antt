@@ -1,5 +1,5 @@
--- What is signed is the publication that was promised.
-use Rattle.std.proofs.Common.{◌≡◌, ℕ, ◌+◌, ◌^◌, ◌≤◌, ◌<◌, List, ◌++◌, length, take, drop, [], append-nil, append_assoc, ◌-◌, refl, sym, ap, subst, ◌∙◌, arith, inr, ◌↔◌}
+-- The signed publication is the promised one.
+use Rattle.std.proofs.Common.{◌≡◌, ◌⊎◌, ℕ, ◌+◌, ◌^◌, ◌≤◌, ◌<◌, List, ◌++◌, length, take, drop, [], append-nil, append_assoc, ◌-◌, refl, sym, ap, subst, ◌∙◌, arith, inl, inr, ◌↔◌}
 use Rattle.std.specs.List.{All}
 use Rattle.std.proofs.lemmas.List.{length-append, length-take-le, length-drop, drop-drop}
 use Rattle.std.proofs.Math.Seq.{drop-length, take-length}
@@ -7,24 +7,26 @@ use Rattle.std.proofs.lemmas.Bool.Decides.{nat_tests}
 use Rattle.sha2.specs.Sha256.{sha256}
 use Rattle.road_map.specs.declared.parts.Parts.{Parts}
 use Rattle.road_io.specs.declared.disk.Disk.{Ghosts}
-use Rattle.road_io.specs.Moments.{EachImage, AtEachMoment}
+use Rattle.road_io.specs.Moments.{Image, EachImage, AtEachMoment}
 use Rattle.road_io.proofs.MomentLaws.{weaker}
 use Rattle.book_model.specs.declared.settings.Settings.{Settings}
 use Rattle.lms_tree.specs.Signatures.{KeyOf, number_at, sealed, seal_len, height_of}
 use Rattle.lms_tree.specs.Links.{IsLink}
-use Rattle.key_desk.specs.Desk.{IsSignature, HasAreas, slot_here}
+use Rattle.desk_areas.specs.declared.area.Count.TheVariants.{Free, Spent}
+use Rattle.key_desk.specs.Desk.{IsSignature, HasAreas, Fits, PutsLowest, count_at, slot_here}
 use Rattle.key_desk.specs.declared.desk.Desk.{Desk}
+use Rattle.key_desk.proofs.Counts.{own_here, count_here, free_isnt_spent}
 use Rattle.key_desk.proofs.Successors.{slots_on}
-use Rattle.desk_areas.specs.Layout.{SlotId, slots_of, slots_at, base_of, gate_of, IsCurrent, IsSigned, OutsideSlot, SignsAtMost}
+use Rattle.desk_areas.specs.Layout.{SlotId, slots_of, slots_at, base_of, gate_of, IsCurrent, IsSigned, PutsText, SignsAtMost}
 use Rattle.proof_octets.specs.declared.header.Header.{Header}
 use Rattle.proof_octets.specs.declared.publication.Publication.{Publication}
 use Rattle.proof_octets.specs.Headers.{header_text}
 use Rattle.proof_octets.specs.Publications.{publication, publication_text}
 use Rattle.proof_octets.specs.Good.{IsGoodPublication, IsGoodNode, IsGoodRoad, IsGoodHeader}
 use Rattle.route_server.specs.Headers.{HasHeader, header_of}
-use Rattle.route_owner.specs.Published.{HasSettingWidths, IsPublication, IsSealed, IsSignable, SignsInSlot, SignsHeader}
+use Rattle.route_owner.specs.Published.{HasSettingWidths, IsPublication, IsSealed, IsSignable, SignsInSlot, SignsLowest, SignsHeader, SignsLowestHeader}
 
--- the publication of these
+-- the publication of these parts and settings
 abbrev pub publication_with : Header → Parts → Settings → List ℕ → Publication
 publication_with header parts s signature =
     record { header = header; signature = signature; settings = s; parts = parts }
@@ -72,13 +74,13 @@ pub fits_with : Ranges → (hash : List ℕ → List ℕ) (parts left : Parts) (
     → publication.Fits (publication_with header left s signature)
 fits_with ranges hash parts left s header signature is short = (ranges (publication_with header left s signature)).1 (good_publication hash parts left s header signature is short)
 
--- what a vector holds after a write to all of it
+-- the content of a vector after all of it was overwritten
 pub all_written : (n : ℕ) (out items : List ℕ) → n ≡ length items → length out ≡ length items → take n (out ++ drop (length out) items) ≡ out
 all_written n out items whole same =
     let none : drop (length out) items ≡ [] = ap (λ k. drop k items) same ∙ drop-length items in
     rw none (rw append-nil (ap (λ k. take k out) (whole ∙ sym same) ∙ take-length out))
 
--- the slot that a signature names is one of the key's, and not its last
+-- the slot that a signature names belongs to the key and is not its last
 slot_so : (key : KeyOf) (q : ℕ) (signature : List ℕ) → q + 1 < slots_of key.kind → number_at signature 0 ≡ q → number_at signature 0 + 1 < slots_of key.kind
 slot_so key q signature early number = omega (arith, early, number)
 
@@ -88,33 +90,72 @@ pub signed_so : (key now : KeyOf) (q : ℕ) (header : Header) (text signature : 
 signed_so key now q header text signature same is good =
     (good.number_is, record { number_is = refl; good = rw (sym is, sym same) good.good })
 
--- a header is no link text
+-- a header is not a link text
 pub no_link : (header : Header) (text : List ℕ) → length (header_text header) ≡ 104 → text ≡ header_text header → IsLink text → ⊥
 no_link header text long is link = omega (arith, link.size, ap length is, long)
 
 module _ {D : Type 0} (g : Ghosts D) (old new : D) where
-  -- a change of one slot of a desk's current area that is not its last
-  in_slot : (desk : Desk) (q : ℕ) (header : Header) (text d i : List ℕ) → text ≡ header_text header → q + 1 < slots_of desk.key.kind → HasAreas desk d
-      → OutsideSlot (slot_here desk q) d i × SignsAtMost (slot_here desk q) text d i → SignsInSlot (slot_here desk q) (header_text header) d i
-  in_slot desk q header text d i is early areas h = record {
+  -- a text and a gate in one slot of a desk's current area, other than the last slot
+  in_slot : (desk : Desk) (q : ℕ) (header : Header) (text d i : List ℕ) → text ≡ header_text header → length (header_text header) ≤ 104 → q + 1 < slots_of desk.key.kind → HasAreas desk d
+      → PutsLowest desk q text d i → SignsAtMost (slot_here desk q) text d i → SignsInSlot (slot_here desk q) (header_text header) d i
+  in_slot desk q header text d i is short early areas h signs = record {
     current = areas.current;
     early = omega (arith, early, slots_on desk d areas);
-    outside = h.0;
-    signs = subst (λ t. SignsAtMost (slot_here desk q) t d i) is h.1;
+    short = short;
+    alone = subst (λ t. PutsText (slot_here desk q) t d i) is h.alone;
+    signs = subst (λ t. SignsAtMost (slot_here desk q) t d i) is signs;
   }
 
+  -- the slot is the lowest free one, if no other slot is in use by a signing
+  in_lowest : (desk : Desk) (q : ℕ) (header : Header) (text d i : List ℕ) → text ≡ header_text header → length (header_text header) ≤ 104 → q + 1 < slots_of desk.key.kind → Fits g desk old → Image g old d
+      → ((s : ℕ) → (count_at desk s ≡ Free) ⊎ (count_at desk s ≡ Spent))
+      → PutsLowest desk q text d i → SignsAtMost (slot_here desk q) text d i → SignsLowest (slot_here desk q) (header_text header) d i
+  in_lowest desk q header text d i is short early fits now either h signs = record {
+    free = record {
+      current = areas.current;
+      early = omega (arith, early, slots_on desk d areas);
+      shut = fits.others h.opened d now (slot_here desk q) (own_here desk q (omega (arith, early))) (λ spent. free_isnt_spent (sym h.free ∙ sym (count_here desk (slot_here desk q) refl) ∙ spent));
+      lowest = λ s less. elim (either s) [
+        | inl free ↦ absurd (h.lowest s less free)
+        | inr spent ↦ let same = fits.spent h.opened d d now now (slot_here desk s) (own_here desk s (omega (arith, early, less))) (count_here desk (slot_here desk s) refl ∙ spent) in same.open_gate
+      ];
+    };
+    short = short;
+    alone = subst (λ t. PutsText (slot_here desk q) t d i) is h.alone;
+    signs = subst (λ t. SignsAtMost (slot_here desk q) t d i) is signs;
+  }
+    where
+      areas : HasAreas desk d
+      areas = fits.areas d now
+
   -- the moments of a signing
-  pub signs_header : (hash : List ℕ → List ℕ) (parts : Parts) (s : Settings) (header : Header) (text : List ℕ) (desk : Desk) (q : ℕ) → HasHeader hash sha256 parts s header → text ≡ header_text header
+  pub signs_header : (hash : List ℕ → List ℕ) (parts : Parts) (s : Settings) (header : Header) (text : List ℕ) (desk : Desk) (q : ℕ) → HasHeader hash sha256 parts s header → text ≡ header_text header → length (header_text header) ≡ 104
       → EachImage g old (HasAreas desk) → q + 1 < slots_of desk.key.kind
-      → AtEachMoment g old new (λ d i. OutsideSlot (slot_here desk q) d i × SignsAtMost (slot_here desk q) text d i) → SignsHeader g old new hash parts s
-  signs_header hash parts s header text desk q has is areas early each = record {
+      → AtEachMoment g old new (λ d i. ((i ≡ d) ⊎ PutsLowest desk q text d i) × SignsAtMost (slot_here desk q) text d i) → SignsHeader g old new hash parts s
+  signs_header hash parts s header text desk q has is long areas early each = record {
     slot = slot_here desk q;
     header = header;
     of_book = has;
-    each = weaker g old new _ _ each (λ d i now h. inr (in_slot desk q header text d i is early (areas d now) h));
+    each = weaker g old new _ _ each (λ d i now h. elim h.0 [
+      | inl same ↦ inl same
+      | inr puts ↦ inr (in_slot desk q header text d i is (omega (arith, long)) early (areas d now) puts h.1)
+    ]);
   }
 
-  -- what stands after one, in the current area of the desk
+  pub signs_lowest : (hash : List ℕ → List ℕ) (parts : Parts) (s : Settings) (header : Header) (text : List ℕ) (desk : Desk) (q : ℕ) → HasHeader hash sha256 parts s header → text ≡ header_text header → length (header_text header) ≡ 104
+      → Fits g desk old → q + 1 < slots_of desk.key.kind → ((s : ℕ) → (count_at desk s ≡ Free) ⊎ (count_at desk s ≡ Spent))
+      → AtEachMoment g old new (λ d i. ((i ≡ d) ⊎ PutsLowest desk q text d i) × SignsAtMost (slot_here desk q) text d i) → SignsLowestHeader g old new hash parts s
+  signs_lowest hash parts s header text desk q has is long fits early either each = record {
+    slot = slot_here desk q;
+    header = header;
+    of_book = has;
+    each = weaker g old new _ _ each (λ d i now h. elim h.0 [
+      | inl same ↦ inl same
+      | inr puts ↦ inr (in_lowest desk q header text d i is (omega (arith, long)) early fits now either puts h.1)
+    ]);
+  }
+
+  -- the pairs that are signed afterwards, in the current area of the desk
   pub sealed_so : (p : Publication) (desk : Desk) (area q : ℕ) (text : List ℕ) → number_at p.signature 0 ≡ q → text ≡ header_text p.header → EachImage g new (HasAreas desk) → length desk.earlier ≡ area → q + 1 < slots_of desk.key.kind
       → EachImage g old (λ i. gate_of i (record { area = area; number = q }) ≡ 0) → EachImage g new (λ i. IsSigned i (record { area = area; number = q }) text) → IsSealed g old new area p
   sealed_so p desk area q text number is areas here below free stands = record {
@@ -135,7 +176,7 @@ exact_so key now q header text signature made same keys of number exact =
     let here : q ≡ number_at made 0 = sym (ap (λ (x : List ℕ). number_at x 0) same ∙ number) in
     same ∙ own ∙ ap (λ (n : ℕ). sealed key n text) here ∙ ap (λ (t : List ℕ). sealed key (number_at made 0) t) of
 
--- the publication that is made of parts, a header and its signature
+-- the publication that is made from parts, a header and its signature
 pub published_so : Ranges → (hash : List ℕ → List ℕ) (parts left : Parts) (s : Settings) (header : Header) (made signature : List ℕ) (key now : KeyOf) (q : ℕ) (text : List ℕ)
     → IsSignable hash parts s header left → made ≡ signature → length signature ≤ 1452 → now ≡ key → q + 1 < slots_of key.kind → text ≡ header_text header → IsSignature now q text signature → signature ≡ sealed now q text
     → IsPublication hash key parts s (publication_with header left s made)
@@ -149,7 +190,7 @@ published_so ranges hash parts left s header made signature key now q text is sa
   fits = fits_with ranges hash parts left s header made is (rw same short);
 }
 
--- a signature is no longer than a tree of height 10 makes it
+-- a signature is at most as long as that of a tree of height 10
 pub seal_short : (kind n room : ℕ) (signature : List ℕ) → n ≡ seal_len (height_of kind) → length signature ≡ n → length signature ≤ 1452
 seal_short kind n room signature is same = omega (arith, is, same, by kind)
   where

@@ -1,4 +1,4 @@
--- A disk that no call was made on, and a desk that stays.
+-- A disk without calls and an unchanged desk.
 use Rattle.std.proofs.Common.{refl}
 use Rattle.road_io.specs.declared.disk.Disk.{Ghosts}
 use Rattle.road_io.specs.Disk.{Stays}
@@ -8,7 +8,7 @@ use Rattle.key_desk.specs.Desk.{SameAreas}
 use Rattle.key_desk.specs.Stands.{KeepsStanding}
 use Rattle.key_desk.proofs.Standing.{standing_same}
 
--- what stands on the disk stays
+-- pairs that are signed on the disk remain signed
 pub stands_same : {D : Type 0} (g : Ghosts D) (d : D) → KeepsStanding g d d
 stands_same g d = standing_same g d d (nothing g d Stays (λ i now. refl))
 

@@ -1,4 +1,4 @@
--- What the words of publishing say at some answers, so that a changed word is seen.
+-- The definitions of publishing, evaluated for some results. A changed definition fails here.
 use Rattle.std.proofs.Common.{◌≡◌, ◌⊎◌, ℕ, ◌+◌, List, Ok, Err, true, false, arith}
 use Rattle.std.specs.declared.result.Result.{Result}
 use Rattle.road_map.specs.declared.parts.Parts.{Parts}
@@ -6,7 +6,7 @@ use Rattle.road_io.specs.declared.disk.Disk.{Ghosts}
 use Rattle.road_io.specs.Moments.{EachImage, AtEachMoment}
 use Rattle.book_model.specs.declared.settings.Settings.{Settings}
 use Rattle.lms_tree.specs.Signatures.{KeyOf, number_at}
-use Rattle.desk_areas.specs.Layout.{slots_of, slots_at, base_of, gate_of, IsSigned, OutsideSlot}
+use Rattle.desk_areas.specs.Layout.{slots_of, slots_at, base_of, gate_of, IsSigned, PutsText}
 use Rattle.key_desk.specs.Desk.{IsSignature}
 use Rattle.key_desk.specs.declared.desk.Desk.{Desk as View}
 use Rattle.key_desk.specs.declared.desk.DeskError.TheVariants as desk_errors
@@ -18,7 +18,7 @@ use Rattle.route_owner.specs.declared.errors.PublishError.TheVariants.{Build, De
 use Rattle.route_owner.specs.Published.{slot_of, IsPublication, IsSealed, OnSigning, OnNoSigning, SignsInSlot, SignsHeader, IsUsedUp, IsClosed, Refuses, AnswersRefusal, CanPublish}
 use Rattle.octet_text.specs.Want.{no_memory}
 
--- ---- which answers come after a signing
+-- ---- results that come after a signing
 
 module _ (P : Type 0) where
   at_success : (p : Publication) → OnSigning (Ok p) P → P
@@ -33,7 +33,7 @@ module _ (P : Type 0) where
   at_short_memory : OnNoSigning {X = Publication} (Err (Memory no_memory)) P → P
   at_short_memory h = h
 
--- ---- what is published
+-- ---- the published octets
 
 module _ (hash : List ℕ → List ℕ) (key : KeyOf) (parts : Parts) (s : Settings) (p : Publication) where
   -- the last slot of a key signs no header
@@ -59,12 +59,12 @@ module _ {D : Type 0} (g : Ghosts D) (old new : D) (area : ℕ) (p : Publication
   not_in_the_last : IsSealed g old new area p → EachImage g new (λ i. slot_of p + 1 ≡ slots_at i (base_of i area) → ⊥)
   not_in_the_last h i now is = omega (arith, h.early i now, is)
 
--- a signing is in no last slot, and changes nothing else
+-- a signing is not in a last slot, and changes nothing else
 not_the_last : (area number : ℕ) (text d i : List ℕ) → SignsInSlot (record { area = area; number = number }) text d i → number + 1 ≡ slots_at d (base_of d area) → ⊥
 not_the_last area number text d i h is = omega (arith, h.early, is)
 
-nothing_else : (area number : ℕ) (text d i : List ℕ) → SignsInSlot (record { area = area; number = number }) text d i → OutsideSlot (record { area = area; number = number }) d i
-nothing_else area number text d i h = h.outside
+nothing_else : (area number : ℕ) (text d i : List ℕ) → SignsInSlot (record { area = area; number = number }) text d i → PutsText (record { area = area; number = number }) text d i
+nothing_else area number text d i h = h.alone
 
 -- the text that is signed is the header of the parts and the settings
 one_header : {D : Type 0} (g : Ghosts D) (old new : D) (hash : List ℕ → List ℕ) (parts : Parts) (s : Settings) → (h : SignsHeader g old new hash parts s)
@@ -91,6 +91,6 @@ module _ (hash : List ℕ → List ℕ) (parts : Parts) (s : Settings) (desk : V
   closed_desk_is_closed : IsClosed hash parts s desk → desk.is_open ≡ false
   closed_desk_is_closed h = h.closed
 
-  -- the last slot lets nothing be published
+  -- a free last slot does not allow a publication
   last_is_kept : (c : CanPublish hash parts s desk) → c.number + 1 ≡ slots_of desk.key.kind → ⊥
   last_is_kept c is = omega (arith, c.early, is)

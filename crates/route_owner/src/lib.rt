@@ -1,4 +1,4 @@
-//! The owner's part: a map and its hints are signed and published.
+//! The owner, who signs and publishes a map and its hints.
 #![tactic(auto)]
 
 pub use errors::PublishError;

@@ -15,7 +15,7 @@ ghost use Rattle.proof_octets.specs.declared.publication.Publication.{Publicatio
 ghost use Rattle.proof_octets.specs.Publications.{publication_text};
 ghost use Rattle.route_server.specs.Headers.{HasHeader, Makes};
 ghost use Rattle.route_server.specs.declared.errors.BuildError.{BuildError};
-ghost use Rattle.route_owner.specs.Published.{slot_of, IsPublication, IsSealed, IsNoBook, IsUsedUp, AnswersRefusal, CanPublish, OnSigning, OnNoSigning, SignsHeader, IsSignable};
+ghost use Rattle.route_owner.specs.Published.{slot_of, IsPublication, IsSealed, IsNoBook, IsUsedUp, AnswersRefusal, CanPublish, OnSigning, OnNoSigning, SignsHeader, SignsLowestHeader, IsSignable};
 
 use crate::errors::PublishError;
 use crate::widths::{parts_have_widths, settings_have_widths};
@@ -28,8 +28,8 @@ use road_map::Parts;
 use route_server::{BuildError, Headed, header_of, server_laws};
 use std::alloc::Global;
 
-/// The header that parts and settings have, and the parts again, or the first reason why they have none.
-/// An owner signs the header.
+/// Returns the header of parts and settings, which the owner signs, and gives the parts back. Fails with the first
+/// reason why they have no header.
 pub fn make_signable<H: Hasher>(
     alloc: Global,
     parts: Parts,
@@ -44,16 +44,17 @@ pub fn make_signable<H: Hasher>(
     Ok(headed)
 }
 
-/// So many zeros, which a signature will replace.
+/// Returns `count` zeros, which a signature will replace.
 fn zeros(alloc: Global, count: usize) -> Result<Vec<u8>, NoMemory>
     ensures { IfOk result (λ octets. length octets.items ≡ count) }
 {
     filled(alloc, 0u8, count)
 }
 
-/// Signs the header of the book of parts and settings by the next one-time key, and answers the
-/// publication. All memory is taken before the signing begins. It makes four calls of the disk, and fewer where
-/// one of them fails or nothing is signed.
+/// Signs the header of the book of parts and settings with the next one-time key, and returns the publication.
+///
+/// Takes all memory before the signing begins. Makes four calls to the disk, or fewer if one of them fails or
+/// nothing is signed.
 #[tactic(auto, using(crate::proofs::Standing::stands_same, crate::proofs::Standing::same_areas))]
 pub fn publish<H: Hasher, D: Disk>(
     alloc: Global,
@@ -95,6 +96,9 @@ pub fn publish<H: Hasher, D: Disk>(
         IsOk result ⊎ (result ≡ Err (PublishError.Memory no_memory)) }
     ensures moments { OnSigning result
         (SignsHeader D.Disk disk.old disk.new H.hash parts settings.now) }
+    ensures lowest_moments { ((s : ℕ) → (count_at desk.old s ≡ Free) ⊎ (count_at desk.old s ≡ Spent))
+        → OnSigning result
+        (SignsLowestHeader D.Disk disk.old disk.new H.hash parts settings.now) }
     ensures fits { Fits D.Disk desk.new disk.new }
     ensures same { SameAreas desk.old desk.new }
     ensures stands { KeepsStanding D.Disk disk.old disk.new }

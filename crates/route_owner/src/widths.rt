@@ -1,4 +1,4 @@
-//! What the types of parts say of their numbers.
+//! The widths of the numbers in parts and settings.
 
 ghost use Rattle.std.specs.Prelude.{◌<◌, ◌^◌, All};
 ghost use Rattle.route_owner.specs.Published.{HasSettingWidths};
@@ -23,7 +23,7 @@ fn road_has_widths(road: Road)
     } = road;
 }
 
-/// The numbers of settings have the widths that their types say.
+/// Gives the fact that the numbers of settings fit the widths of their types.
 pub fn settings_have_widths(settings: Settings)
     ensures numbers { HasSettingWidths settings }
     ensures version { settings.version < 2 ^ 64 }
@@ -47,7 +47,7 @@ fn roads_have_widths(roads: &[Road])
     }
 }
 
-/// The numbers of parts have the widths that their types say.
+/// Gives the fact that the numbers of parts fit the widths of their types.
 pub fn parts_have_widths(parts: &Parts)
     ensures nodes { All IsGoodNode parts.now.nodes }
     ensures roads { All IsGoodRoad parts.now.roads }

@@ -1,4 +1,4 @@
--- Indices of leaves of a book that is held.
+-- Indices of leaves of a held book.
 use Rattle.std.proofs.Common.{◌≡◌, ℕ, List, length, ap, sym, subst, ◌∙◌}
 use Rattle.std.specs.Prelude.{All}
 use Rattle.std.specs.List.Sorted.{IsPermutation}

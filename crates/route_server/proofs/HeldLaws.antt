@@ -1,4 +1,4 @@
--- A book that was planned over a map, with its trees, is what is held.
+-- A book planned over a map, with its trees, is the held book.
 use Rattle.std.proofs.Common.{◌≡◌, ℕ, ◌≤◌, None, Some, Option, List, length, refl, arith, ap, sym, subst, ◌∙◌}
 use Rattle.std.proofs.lemmas.List.{length-map}
 use Rattle.road_map.specs.Maps.{Charted, IsMap}
@@ -15,7 +15,7 @@ use Rattle.route_server.proofs.BooksFit.{books_fit}
 use Rattle.route_server.proofs.Brought.{most_pairs_few}
 use Rattle.route_server.proofs.Known.{length-leaves_of}
 
--- a book that was planned has an encoding
+-- a planned book has an encoding
 pub planned_fits : (kind : Kind) (parts : Parts) (s : Settings) (order : List ℕ) (b : Book) → IsMap parts → IsOrderOf parts order → kind_of s.method ≡ Some kind → own_fault (kind_of s.method) parts s ≡ None → IsBookOf kind parts s order b → FitsFormats kind b
 planned_fits kind parts s order b is_map lists method allowed book = books_fit kind parts s order b is_map lists (subst (λ (o : Option Kind). own_fault o parts s ≡ None) method allowed) book
 
@@ -23,7 +23,7 @@ planned_fits kind parts s order b is_map lists method allowed book = books_fit k
 pub few_pairs : (kind : Kind) (b : Book) → FitsFormats kind b → length b.pairs ≤ 2097152
 few_pairs kind b fits = omega (arith, fits.pairs_few, most_pairs_few kind)
 
--- what is kept of a map's book under a method
+-- the data kept of a map's book under a method
 abbrev pub is_kept : (kind : Kind) (map : Charted) (s : Settings) (order places : List ℕ) (b : Book) (nodes : Leaves) (pairs : Option Leaves) (signature : List ℕ) → IsHeldBook kind map s order places b nodes pairs → IsKept (kept_as map s order b signature)
 is_kept kind map s order places b nodes pairs signature held = record {
   is_map = held.planned.is_map;
@@ -41,7 +41,7 @@ is_kept kind map s order places b nodes pairs signature held = record {
   numbers = refl;
 }
 
--- what its leaves are of
+-- the contents of its leaves
 pub record IsShown (order : List ℕ) (b : Book) : Type 0 where
   pub is_map : IsMap b.parts
   pub lists : IsOrderOf b.parts order

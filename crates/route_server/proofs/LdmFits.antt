@@ -23,7 +23,7 @@ use Rattle.proof_method.proofs.BookLaws.{leaf_extra}
 use Rattle.route_server.specs.Fitting.{ExtraHasWidths}
 use Rattle.route_server.proofs.MethodFits.{BooksFit}
 
--- own codes for so many landmarks, or a reference
+-- own codes for this many landmarks, or a reference
 abbrev IsLong : ℕ → Extra → Type 0
 IsLong n (Own codes) = length codes ≡ n
 IsLong n (Near reference error) = Unit {0}

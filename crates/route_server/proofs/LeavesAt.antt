@@ -1,4 +1,4 @@
--- The leaves of the ids at indices of an order are those whose texts stand there.
+-- The leaves of the ids at indices of an order are the leaves whose texts are at these indices.
 use Rattle.std.proofs.Common.{◌≡◌, ℕ, zero, suc, ◌<◌, Some, List, [], ◌∷◌, length, map, get_or, refl, arith, ap, sym, subst, ◌∙◌}
 use Rattle.std.specs.Prelude.{All}
 use Rattle.std.specs.List.{Contains, AllByRecursion}
@@ -38,7 +38,7 @@ by_each b order (p ∷ ps) known below =
 texts_at : (b : Book) (order places : List ℕ) → IsOrderOf b.parts order → IsRising (length order) places → map (placed.text_at (node_texts (leaves_of b order))) places ≡ node_texts (leaves_of b (ids_at order places))
 texts_at b order places lists rising = by_each b order places (λ id h. (lists.same id).0 h) (recursion_from_All (λ p. p < length order) places (below_all (length order) places rising))
 
--- what holds of each leaf holds of the one at an index
+-- a fact about each leaf holds for the leaf at an index
 one_at : (P : NodeLeaf → Type 0) (b : Book) (order : List ℕ) (i : ℕ) (l : NodeLeaf) → ((id : ℕ) → Contains order id → Knows b.parts id) → i < length order → leaf b (get_or order i 0) ≡ Some l → AllByRecursion P (leaves_of b order) → P l
 one_at P b [] i l known within e each = absurd (omega (arith, within))
 one_at P b (id ∷ order) zero l known within e each = (rw e at each).0

@@ -1,4 +1,4 @@
--- What is proved of each method: its books fit the formats.
+-- The books of each method fit the formats.
 use Rattle.std.specs.Prelude.{◌≡◌, ℕ, None, List}
 use Rattle.road_map.specs.declared.parts.Parts.{Parts}
 use Rattle.road_map.specs.Maps.{IsMap}

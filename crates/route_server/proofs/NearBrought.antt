@@ -1,4 +1,4 @@
--- What a reply brings out of a book that is held.
+-- The contents that a reply takes from a held book.
 use Rattle.std.proofs.Common.{◌≡◌, ℕ, ◌-◌, ◌*◌, ◌^◌, ◌<◌, ◌≤◌, List, length, nat_eq, refl, arith, ap, sym, ◌∙◌, subst}
 use Rattle.std.specs.Prelude.{All}
 use Rattle.std.specs.List.{Contains, IsDistinct}
@@ -47,7 +47,7 @@ flips x y = grind (arith, nat_tests)
 abbrev pub placed_with : Header → List ℕ → PlacesBrought → PlacedNear
 placed_with header signature b = record { header = header; signature = signature; places = b.places; cover = b.cover }
 
--- the leaves there
+-- the leaves at these indices
 abbrev leaves_there : (hash : List ℕ → List ℕ) (k : Kept) (ids : List ℕ) (b : PlacesBrought) → AreBrought hash k ids b → List NodeLeaf
 leaves_there hash k ids b br = leaves_of br.kept.book (ids_at k.order b.places)
 
@@ -77,7 +77,7 @@ over hash k q ids b header signature br distinct same header_is signature_is = r
   };
 }
 
--- ---- it has an encoding
+-- ---- the reply has an encoding
 
 kind_is : (hash : List ℕ → List ℕ) (k : Kept) (kept : IsKept k) → leaf_kind (header_in hash k) ≡ kind_of_leaves kept.kind kept.book.numbers
 unfolding header_of
@@ -113,7 +113,7 @@ good hash k ids b header signature size br known header_is good_header short =
       cover = subst IsCover (sym br.cover) (cover_good hash k.settings.fan (node_texts k.nodes) b.places size range.fan range.fan_max (omega (arith, texts, few)) (subst (λ n. IsRising n b.places) (sym texts) br.rising));
     }
 
--- ---- it is not long
+-- ---- the reply is not long
 
 pub over_short : (hash : List ℕ → List ℕ) (k : Kept) (q : NearQuery) (a : NearReply) → IsOver hash k q a → near_reply.Fits a → length (near_reply.spell a) < 2 ^ 32 - 16
 over_short hash k q a is fits =
@@ -141,7 +141,7 @@ told_over hash k q ids b header signature size law br distinct known same header
       told = has_near_leaves placed (node_texts k.nodes) kept.book k.order (lists_book k kept) (ap (λ (ls : List NodeLeaf). node_texts ls) kept.nodes) br.rising (law (near_with placed leaves) is_good);
     }
 
--- ---- and is honest
+-- ---- the reply is honest
 
 pub honest : (hash : List ℕ → List ℕ) (k : Kept) (q : NearQuery) (a : NearReply) (octets : List ℕ) → Knows k.map.parts q.from → IsOver hash k q a → near_reply.Fits a → octets ≡ near_reply.spell a → IsNearHonest hash sha256 (publication_in hash k) q octets
 honest hash k q a octets known is fits spelled = record {

@@ -1,4 +1,4 @@
--- What a search over a map within a limit says of a radius.
+-- A search over a map up to a limit finds the nodes within a radius.
 use Rattle.std.proofs.Common.{◌≡◌, ℕ, ◌+◌, ◌-◌, ◌^◌, ◌<◌, ◌≤◌, min, IsTrue, Option, None, Some, List, refl, arith, sym, subst}
 use Rattle.std.specs.Prelude.{nat_le, All}
 use Rattle.std.specs.List.{Contains}
@@ -51,11 +51,11 @@ module _ (parts : Parts) (is_map : IsMap parts) (laws : DistanceLaws parts) (q :
       by_length None h m r le = absurd (h m r)
       by_length (Some e) h m r le = le_true e q.radius (omega (arith, h.1 m r, le, w.2))
 
-  -- ids with a length that is at most the radius are those within it
+  -- ids with a length of at most the radius are those within it
   pub ids_same : (ids : List ℕ) → ((id : ℕ) → (Contains ids id → IsTrue (is_within q.radius (len id))) × (IsTrue (is_within q.radius (len id)) → Contains ids id)) → (id : ℕ) → (Contains ids id → IsWithin parts q id) × (IsWithin parts q id → Contains ids id)
   ids_same ids same id = (λ c. within_to id ((same id).0 c), λ w. (same id).1 (within_from id w))
 
-  -- and are known
+  -- and they are known
   pub ids_known : (ids : List ℕ) → ((id : ℕ) → (Contains ids id → IsTrue (is_within q.radius (len id))) × (IsTrue (is_within q.radius (len id)) → Contains ids id)) → All (Knows parts) ids
   ids_known ids same = all_from_contains (Knows parts) ids (λ id c.
       let w : IsWithin parts q id = within_to id ((same id).0 c) in

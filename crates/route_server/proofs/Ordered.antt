@@ -1,4 +1,4 @@
--- What is moved from a map's ids is an order of its leaves.
+-- A permutation of a map's ids is an order of its leaves.
 use Rattle.std.proofs.Common.{ℕ, List, nat_eq}
 use Rattle.std.specs.List.Sorted.{IsPermutation}
 use Rattle.std.specs.Ordering.{nat_cmp}

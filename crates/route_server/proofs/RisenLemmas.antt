@@ -32,14 +32,14 @@ use Rattle.route_server.proofs.Known.{known_leaf, length-leaves_of}
 pub few_ids : (parts : Parts) (order : List ℕ) → IsMap parts → IsOrderOf parts order → length order ≤ 65536
 few_ids parts order is_map lists = few_known parts order is_map lists.distinct (λ x h. (lists.same x).0 h)
 
--- each has a leaf, and a text
+-- each id has a leaf, and the leaf has a text
 pub length-leaves : (b : Book) (order : List ℕ) → IsOrderOf b.parts order → length (leaves_of b order) ≡ length order
 length-leaves b order lists = length-leaves_of b order (λ id h. (lists.same id).0 h)
 
 pub length-node_texts : (b : Book) (order : List ℕ) → IsOrderOf b.parts order → length (node_texts (leaves_of b order)) ≡ length order
 length-node_texts b order lists = length-map (leaves_of b order) node_leaf_text ∙ length-leaves b order lists
 
--- the text at an index is that of the leaf of the id there
+-- the text at an index belongs to the leaf of the id at this index
 pub text_at : (b : Book) (order : List ℕ) → ((x : ℕ) → Contains order x → Knows b.parts x) → (i : ℕ) (l : NodeLeaf) → i < length order → leaf b (get_or order i 0) ≡ Some l → get_or (node_texts (leaves_of b order)) i [] ≡ node_leaf_text l
 text_at b [] known i l within e = absurd (omega (arith, within))
 text_at b (id ∷ order) known zero l within e = rw e refl
@@ -48,7 +48,7 @@ text_at b (id ∷ order) known (suc i) l within e =
     let rest = text_at b order (λ x h. known x (Contains-there id x order h)) i l (omega (arith, within)) e in
     rw first.1 rest
 
--- the text at an index is that of the pair there
+-- the text at an index belongs to the pair at this index
 pub pair_at : (pairs : List PairLeaf) (i : ℕ) (d : PairLeaf) (text : List ℕ) → i < length pairs → text ≡ pair_leaf.spell (get_or pairs i d) → get_or (pair_texts pairs) i [] ≡ text
 pair_at pairs i d text within e = get_or-map pair_leaf.spell pairs i d [] within ∙ sym e
 
@@ -61,7 +61,7 @@ header_so hash s nodes pairs numbers given count node_root pair_count pair_root 
     header_is hash s nodes pairs numbers given (record { fan = s.fan; texts = node_texts nodes }) (leaves_in s.fan (pair_texts pairs)) count node_root pair_count pair_root
     refl (omega (arith, long, some)) refl (n ∙ sym long) r (m ∙ sym (length-map pairs pair_leaf.spell) ∙ sym (count_either s.fan (pair_texts pairs))) (q ∙ sym (root_either hash s.fan (pair_texts pairs))) e
 
--- a book that was planned over a leaf order
+-- a book planned over a leaf order
 pub over_order : (kind : Kind) (parts : Parts) (s : Settings) (ids order : List ℕ) (b : Book) → ids ≡ order → IsBookOf kind parts s ids b → IsBookOf kind parts s order b
 over_order kind parts s ids order b same is = subst (λ (o : List ℕ). IsBookOf kind parts s o b) same is
 
@@ -70,7 +70,7 @@ pub order_fits : (kind : Kind) (parts : Parts) (s : Settings) (ids order : List 
     → IsBookOf kind parts s ids b → FitsFormats kind b
 order_fits kind parts s ids order b same is_map lists method allowed is = planned_fits kind parts s order b is_map lists method allowed (over_order kind parts s ids order b same is)
 
--- what is kept of it, whose trees are not
+-- the data kept of it, without its trees
 pub planned_kept : (kind : Kind) (map : Charted) (s : Settings) (order : List ℕ) (b : Book) → IsMap map.parts → IsById map.parts.nodes map.order → book_fault map.parts s ≡ None → order ≡ leaf_order sha256 map.parts s
     → IsOrderOf map.parts order → kind_of s.method ≡ Some kind → IsBookOf kind map.parts s order b → HasVectors kind b → FitsFormats kind b → IsKept (kept_as map s order b [])
 planned_kept kind map s order b is_map by_id allowed order_is lists method book vectors fits = record {
@@ -89,7 +89,7 @@ planned_kept kind map s order b is_map by_id allowed order_is lists method book 
   numbers = refl;
 }
 
--- its header is that of the map's parts and the settings
+-- its header is the header of the map's parts and the settings
 pub has_so : (hash : List ℕ → List ℕ) (map : Charted) (s : Settings) (order : List ℕ) (b : Book) (h : Header) → IsKept (kept_as map s order b []) → h ≡ header_of hash s (leaves_of b order) b.pairs b.numbers → HasHeader hash sha256 map.parts s h
 has_so hash map s order b h kept e = subst (λ x. HasHeader hash sha256 map.parts s x) (sym e) (has_header hash (kept_as map s order b []) kept)
 

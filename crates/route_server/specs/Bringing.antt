@@ -1,4 +1,4 @@
--- Leaves that are brought out of a book that is held.
+-- Leaves taken from a held book.
 use Rattle.std.specs.Prelude.{◌≡◌, ℕ, ◌^◌, ◌<◌, Option, List, length, slice_get, All, IsPermutation}
 use Rattle.std.specs.List.{filter_map}
 use Rattle.road_leaf.specs.declared.pair.PairLeaf.{PairLeaf}
@@ -16,14 +16,14 @@ use Rattle.route_server.specs.Honesty.{ids_at}
 use Rattle.route_server.specs.Keeping.{Kept, IsKept, cover_in}
 use Rattle.route_server.specs.LeafTrees.{Leaves}
 
--- these indices, and the cover of all other indices of the tree
+-- these indices, with the cover of all other indices of the tree
 pub record ArePlaces (hash : List ℕ → List ℕ) (tree : Leaves) (chosen : List ℕ)
     (b : PlacesBrought) : Type 0 where
   pub places : b.places ≡ chosen
   pub small : All (λ p. p < 2 ^ 32) b.places
   pub cover : b.cover ≡ cover_of hash tree.texts tree.fan chosen
 
--- the pairs at these indices, and the cover of all other indices of the tree that may be there
+-- the pairs at these indices, with the cover of all other indices of the tree, if there is a tree
 pub record ArePairsAt (hash : List ℕ → List ℕ) (table : List PairLeaf) (tree : Option Leaves)
     (chosen : List ℕ) (b : PairsBrought) : Type 0 where
   pub places : b.places ≡ chosen
@@ -33,8 +33,8 @@ pub record ArePairsAt (hash : List ℕ → List ℕ) (table : List PairLeaf) (tr
   pub fit : All pair_leaf.Fits b.pairs
   pub cover : b.cover ≡ cover_in hash tree chosen
 
--- exactly the indices of these ids, ascending, and the cover of all other indices; each leaf of the
--- book has an encoding
+-- exactly the indices of these ids in ascending order, with the cover of all other indices; each leaf of the book
+-- has an encoding
 pub record AreBrought (hash : List ℕ → List ℕ) (k : Kept) (ids : List ℕ)
     (b : PlacesBrought) : Type 0 where
   pub kept : IsKept k
@@ -45,8 +45,7 @@ pub record AreBrought (hash : List ℕ → List ℕ) (k : Kept) (ids : List ℕ)
       (leaves_of kept.book k.order)
   pub cover : b.cover ≡ cover_of hash (node_texts k.nodes) k.settings.fan b.places
 
--- the answer with this header and signature that brings what was found, whose node leaves stand at
--- their indices
+-- the answer with this header and signature and the items that were found; its node leaves are at their indices
 abbrev pub placed_of : Header → List ℕ → Found → PlacesBrought → PairsBrought → PlacedAnswer
 placed_of header signature found nodes pairs = record {
   header = header;

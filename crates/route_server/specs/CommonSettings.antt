@@ -5,8 +5,7 @@ use Rattle.book_model.specs.declared.settings.Settings.{Settings}
 use Rattle.book_model.specs.Books.{kind_of}
 use Rattle.proof_method.specs.Planning.{book_fault, own_fault}
 
--- a method that is offered, and an order and a fan-out in their ranges: the method's own tests are
--- all that is left
+-- a supported method, and an order and a fan-out in their ranges, so only the method's own tests remain
 pub record IsCommon (s : Settings) : Type 0 where
   pub order : s.order ≤ 5
   pub fan : 2 ≤ s.fan

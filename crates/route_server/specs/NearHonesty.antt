@@ -1,6 +1,6 @@
--- The honest reply to a query for what lies within a radius.
--- Source: Papadias, Zhang, Mamoulis and Tao, VLDB 2003 (range search in a road network), and Yiu,
--- Lin and Mouratidis, ICDE 2010 (what an honest provider sends: tuples and the integrity proof).
+-- The honest reply to a query for the nodes within a radius. Source: Papadias, Zhang, Mamoulis and Tao,
+-- VLDB 2003 (range search in a road network), and Yiu, Lin and Mouratidis, ICDE 2010 (an honest provider
+-- sends tuples and the integrity proof).
 use Rattle.std.specs.Prelude.{◌≡◌, ◌↔◌, ℕ, List, length, Contains, nat_eq}
 use Rattle.std.specs.List.{IsDistinct}
 use Rattle.road_map.specs.declared.parts.Parts.{Parts}
@@ -45,17 +45,17 @@ pub record IsNearHonest (hash sha : List ℕ → List ℕ) (p : Publication) (q 
   pub fits : near_reply.Fits reply
   pub spelled : octets ≡ near_reply.spell reply
 
--- why there is none. Out of memory may come at any time.
+-- Why there is no reply. Memory may run out at any time.
 abbrev pub WhyNot : Parts → NearQuery → NearRefusal → Type 0
 WhyNot parts q (UnknownNode id) = (id ≡ q.from) × ¬ Knows parts q.from
 WhyNot parts q (Memory _) = Unit {0}
 
--- the reply over the book that is held
+-- the reply over the held book
 pub record IsOver (hash : List ℕ → List ℕ) (k : Kept) (q : NearQuery) (a : NearReply) : Type 0 where
   pub kept : IsKept k
   pub says : IsNearReply hash k.order kept.book (publication_in hash k) q a
 
--- and its leaves are those whose texts the book holds
+-- the leaves of the reply are those whose texts the book holds
 pub record IsToldOver (hash : List ℕ → List ℕ) (k : Kept) (q : NearQuery) (a : PlacedNear) :
     Type 0 where
   pub leaves : List NodeLeaf

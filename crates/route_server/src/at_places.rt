@@ -1,4 +1,4 @@
-//! The pair leaves at indices, and the cover of the others.
+//! The pair leaves at indices, and the cover of all other leaves.
 ghost use Rattle.std.specs.Prelude.{◌≡◌, ℕ, ◌<◌, ◌^◌, IfOk, All, length, slice_get};
 ghost use Rattle.std.specs.List.{filter_map};
 ghost use Rattle.std.specs.Option.{option_copied};
@@ -13,7 +13,7 @@ use octet_text::{Digests, Hasher, NoMemory, push};
 use road_leaf::PairLeaf;
 use std::alloc::Global;
 
-/// The pair leaves at indices of their list.
+/// Copies the pair leaves at the given indices of their list.
 pub fn pairs_at(alloc: Global, pairs: &[PairLeaf], places: &[u32]) -> Result<PairLeaves, NoMemory>
     requires rising { IsRising (length pairs.now) places.now }
     requires ids { All (λ p. p.a < p.b) pairs.now }
@@ -30,7 +30,7 @@ pub fn pairs_at(alloc: Global, pairs: &[PairLeaf], places: &[u32]) -> Result<Pai
     Ok(PairLeaves::from_vec(leaves))
 }
 
-/// The cover of indices in a tree that may be there.
+/// Returns the cover of indices in a tree. It is empty if there is no tree.
 pub fn cover_at<H: Hasher>(
     alloc: Global,
     tree: Option<&LeafTree<H>>,

@@ -1,4 +1,5 @@
-//! What is brought out of a publication's book: indices of node leaves, and leaves of pairs, with their covers.
+//! The contents that a reply takes from a publication's book: indices of node leaves, and leaves of pairs, with
+//! their covers.
 ghost use Rattle.std.specs.Prelude.{◌≡◌, ◌<◌, ◌^◌, IfOk, All, length, nat_eq};
 ghost use Rattle.std.specs.List.{IsDistinct};
 ghost use Rattle.std.specs.Option.{option_copied};
@@ -19,19 +20,19 @@ use proof_method::MethodBook;
 use road_leaf::PairLeaf;
 use std::alloc::Global;
 
-/// Indices of node leaves, and what shows which leaves stand there under the root of the node tree.
+/// Indices of node leaves, and the cover that proves their leaves under the root of the node tree.
 #[derive(Drop)]
 pub(crate) struct PlacesBrought {
-    /// The indices, ascending.
+    /// The indices, in ascending order.
     pub(crate) places: Places,
     /// The cover of all other indices.
     pub(crate) cover: Digests,
 }
 
-/// Leaves of pairs, and what shows that they stand under the root of the pair tree.
+/// Leaves of pairs, and the cover that proves them under the root of the pair tree.
 #[derive(Drop)]
 pub(crate) struct PairsBrought {
-    /// The indices of the leaves in the pair tree, by ascending index.
+    /// The indices of the leaves in the pair tree, in ascending order.
     pub(crate) places: Places,
     /// The leaves at these indices.
     pub(crate) pairs: PairLeaves,
@@ -39,7 +40,7 @@ pub(crate) struct PairsBrought {
     pub(crate) cover: Digests,
 }
 
-/// Ids and indices have their width.
+/// Gives the fact that ids and indices fit their width.
 pub(crate) fn numbers_fit(numbers: &[u32])
     ensures { All (λ n. n < 2 ^ 32) numbers.now }
 {
@@ -53,7 +54,7 @@ fn places_from(alloc: Global, places: &[u32]) -> Result<Places, NoMemory>
     Ok(Places::from_vec(places))
 }
 
-/// Indices of the leaves of a tree, with the cover of all other indices.
+/// Returns indices of a tree's leaves, together with the cover of all other indices.
 pub(crate) fn places_brought<H: Hasher>(
     alloc: Global,
     tree: &LeafTree<H>,
@@ -70,7 +71,7 @@ pub(crate) fn places_brought<H: Hasher>(
     })
 }
 
-/// The pair leaves at indices of their list, with the cover of all other indices.
+/// Returns the pair leaves at the given indices of their list, with the cover of all other indices.
 pub(crate) fn pairs_brought<H: Hasher>(
     alloc: Global,
     pairs: &[PairLeaf],
@@ -91,7 +92,8 @@ pub(crate) fn pairs_brought<H: Hasher>(
 }
 
 impl<H: Hasher> Held<H> {
-    /// The indices of the leaves of some nodes, given in any order, and the cover of all others.
+    /// Returns the indices of the leaves of some nodes, and the cover of all other indices. The ids may come in any
+    /// order.
     pub(crate) fn bring(&self, alloc: Global, ids: &[u32]) -> Result<PlacesBrought, NoMemory>
         requires distinct { IsDistinct nat_eq ids.now }
         requires known { All (Knows self.now.map.parts) ids.now }
@@ -101,7 +103,7 @@ impl<H: Hasher> Held<H> {
         places_brought(alloc, &self.nodes, places)
     }
 
-    /// The texts of the node leaves, in their order.
+    /// Returns the texts of the node leaves, in the order of the leaves.
     pub(crate) fn node_texts(&self) -> &Texts
         ensures { result.now ≡ node_texts self.now.nodes }
     {

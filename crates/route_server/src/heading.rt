@@ -1,4 +1,4 @@
-//! The header of a book whose leaves are not kept.
+//! The header of a book, made without keeping the leaves.
 ghost use Rattle.std.specs.Prelude.{◌≡◌, ◌≤◌, ◌<◌, ◌^◌, IfOk, IfErr, Err};
 ghost use Rattle.sha2.specs.Sha256.{sha256};
 ghost use Rattle.road_map.specs.Maps.{IsMap};
@@ -23,13 +23,13 @@ use proof_octets::Header;
 use road_map::{Map, Parts};
 use std::alloc::Global;
 
-/// The header of a book, and the parts that it was made of.
+/// The header of a book, and the parts from which it was made.
 pub struct Headed {
     pub header: Header,
     pub parts: Parts,
 }
 
-// The header of a book whose node leaves stand in this order, and the parts of the book.
+// Returns the header of a book whose node leaves are in this order, and the parts of the book.
 fn header_over_book<H: Hasher, B: MethodBook>(
     alloc: Global,
     book: B,
@@ -62,7 +62,7 @@ fn header_over_book<H: Hasher, B: MethodBook>(
     })
 }
 
-// The header of the book of a map, under settings that pass the tests that all methods share.
+// Returns the header of the book of a map. The settings pass the tests that all methods share.
 fn header_over<H: Hasher>(
     alloc: Global,
     map: Map,
@@ -86,9 +86,10 @@ fn header_over<H: Hasher>(
     Ok(header_over_book::<H, AnyBook>(alloc, book, settings, ids)?)
 }
 
-/// The header of the book of parts and settings, and the parts again: what `Held::build` answers,
-/// without the texts of the leaves and the digests of their trees. The memory that it takes is that of
-/// the map and the book.
+/// Returns the header of the book of parts and settings, and gives the parts back.
+///
+/// The result is that of `Held::build`, but the texts of the leaves and the digests of their trees are not kept.
+/// Takes memory for the map and the book only.
 pub fn header_of<H: Hasher>(
     alloc: Global,
     parts: Parts,

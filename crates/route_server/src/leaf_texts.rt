@@ -10,7 +10,7 @@ use octet_text::NoMemory;
 use road_leaf::{NodeLeaf, PairLeaf};
 use std::alloc::Global;
 
-/// Adds the text of a node's leaf, which is encoded in a buffer that each leaf uses again.
+/// Appends the text of a node's leaf. All leaves are encoded in the same buffer.
 pub fn push_leaf(texts: &mut Texts, text: &mut Vec<u8>, leaf: &NodeLeaf) -> Result<(), NoMemory>
     requires arcs { length leaf.now.arcs ≤ 255 }
     requires room { HasRoom texts.old (node_leaf_text leaf.now) }
@@ -21,7 +21,8 @@ pub fn push_leaf(texts: &mut Texts, text: &mut Vec<u8>, leaf: &NodeLeaf) -> Resu
     texts.push(text)
 }
 
-/// The numbers of a pair's leaf have their widths, so that it has an encoding where the ids ascend.
+/// Gives the fact that the numbers of a pair's leaf fit their widths. So the leaf has an encoding if its ids
+/// ascend.
 #[tactic(auto, unfolding(road_leaf::specs::Leaves::pair_leaf))]
 pub fn pair_fits(pair: &PairLeaf)
     ensures { pair.now.a < pair.now.b → pair_leaf.Fits pair.now }
@@ -31,7 +32,7 @@ pub fn pair_fits(pair: &PairLeaf)
     let _distance = pair.distance;
 }
 
-/// The texts of pair leaves; each leaf has an encoding where its ids ascend.
+/// Encodes pair leaves. Each leaf whose ids ascend has an encoding.
 pub fn pair_texts(alloc: Global, leaves: &[PairLeaf]) -> Result<Texts, NoMemory>
     requires { length leaves.now + length (flat_map pair_leaf.spell leaves.now) < 2 ^ 32 }
     ensures texts { IfOk result (λ t. t ≡ map pair_leaf.spell leaves.now) }

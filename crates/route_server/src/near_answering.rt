@@ -1,4 +1,4 @@
-//! The reply to a query for what lies within a radius.
+//! Answering queries for the nodes within a radius.
 ghost use Rattle.std.specs.Prelude.{◌≡◌, ◌<◌, ◌≤◌, ◌-◌, ◌^◌, IfOk, IfErr, length};
 ghost use Rattle.sha2.specs.Sha256.{sha256};
 ghost use Rattle.route_server.specs.NearHonesty.{IsNearHonest, WhyNot, IsToldOver};
@@ -19,14 +19,14 @@ fn signature_of(alloc: Global, octets: &[u8]) -> Result<Octets, NoMemory>
     Ok(Octets::from_vec(octets))
 }
 
-// The version of a header has its width.
+// Gives the fact that the version of a header fits its width.
 fn version_fits(header: &Header)
     ensures { header.now.version < 2 ^ 64 }
 {
     let _version = header.version;
 }
 
-// The reply over the nodes within the radius, from a node that is known.
+// Makes the reply for the nodes within the radius of a known node.
 fn reply_from<H: Hasher>(
     alloc: Global,
     held: &Held<H>,
@@ -52,13 +52,14 @@ fn reply_from<H: Hasher>(
     })
 }
 
-/// The octets of the honest reply to a query for what lies within a radius: the leaves of exactly the
-/// nodes whose distance is at most the radius, under the publication's header and signature, with the
-/// cover of all other leaves.
+/// Returns the octets of the honest reply to a query for the nodes within a radius. The reply has the leaves of
+/// exactly the nodes whose distance is at most the radius, the publication's header and signature, and the cover of
+/// all other leaves.
 ///
-/// There are fewer than 2^32 - 16 of them, so that a frame, whose length has 32 bits, holds them.
+/// The reply has fewer than 2^32 - 16 octets, so its length fits in the 32 bits of a frame's length.
 ///
-/// `UnknownNode` comes exactly where no node has the id that was asked about, whatever memory there is.
+/// Fails with `UnknownNode` exactly if no node has the id in the query. This does not depend on the available
+/// memory.
 pub fn answer_near<H: Hasher>(
     alloc: Global,
     held: &Held<H>,

@@ -1,4 +1,4 @@
-//! Why there is no reply.
+//! Why there is no reply for a radius.
 
 ghost use Rattle.std.specs.Prelude.{◌≡◌};
 ghost use Rattle.route_server.specs.declared.near_errors.NearRefusal.TheVariants as refusals;
@@ -9,7 +9,7 @@ use thiserror::Error;
 /// Why there is no reply.
 #[derive(Clone, Copy, Debug, PartialEq, Eq, Error)]
 pub enum NearRefusal {
-    /// No node of the map has this id, which was asked about.
+    /// The query names this id, but no node of the map has it.
     #[error("The map has no node {0}.")]
     UnknownNode(u32),
     /// Out of memory.

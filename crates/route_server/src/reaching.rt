@@ -7,19 +7,19 @@ ghost use Rattle.proof_octets.specs.Radius.{IsWithin};
 use octet_text::NoMemory;
 use proof_octets::NearQuery;
 use road_map::{Map, map_laws};
-use road_search::{WholeMap, search};
+use road_search::{NoGate, lengths_through};
 use std::alloc::Global;
 
-// One more than a radius, but for the greatest one, which no distance comes near.
+// Returns the radius plus one. The greatest radius is returned unchanged, since no distance comes near it.
 fn limit_above(radius: u64) -> u64
     ensures { result ≡ min (radius + 1) (2 ^ 64 - 1) }
 {
     radius.saturating_add(1)
 }
 
-/// The ids of the nodes within a radius, each once, in no order.
+/// Returns the ids of the nodes within a radius, each once, in no particular order.
 ///
-/// The search ends at the radius, so that it costs what lies within.
+/// The search stops at the radius, so its cost depends only on the part of the map within it.
 pub(crate) fn ids_within(alloc: Global, map: &Map, query: NearQuery) -> Result<Vec<u32>, NoMemory>
     requires { Knows map.now.parts query.from }
     ensures distinct { IfOk result (λ ids. IsDistinct nat_eq ids.items) }
@@ -30,7 +30,7 @@ pub(crate) fn ids_within(alloc: Global, map: &Map, query: NearQuery) -> Result<V
     map_laws();
     let _parts = map.parts();
     let limit = limit_above(query.radius);
-    let labels = search(alloc, &WholeMap { map }, query.from, limit)?;
+    let labels = lengths_through(alloc, map, &NoGate, query.from, limit)?;
     let ids = labels.near(alloc, query.radius)?;
     Ok(ids)
 }

@@ -1,4 +1,4 @@
-//! The roots of the trees over a book's leaves, which are encoded one at a time.
+//! The roots of the trees over a book's leaves. One leaf is encoded at a time.
 ghost use Rattle.std.specs.Prelude.{◌≡◌, ℕ, ◌≤◌, List, [], length, IfOk};
 ghost use Rattle.road_map.specs.Maps.{IsMap};
 ghost use Rattle.book_model.specs.Books.{leaves_of};
@@ -16,7 +16,7 @@ use road_leaf::PairLeaf;
 use road_map::map_laws;
 use std::alloc::Global;
 
-/// The root of the tree over a book's node leaves, in an order of its ids.
+/// Returns the root of the tree over a book's node leaves, in the given order of ids.
 pub fn node_root<H: Hasher, B: MethodBook>(
     alloc: Global,
     book: &B,
@@ -45,7 +45,7 @@ pub fn node_root<H: Hasher, B: MethodBook>(
     Ok(rising.end().root)
 }
 
-/// The root of the tree over the leaves of pairs, and zeros where there are none.
+/// Returns the root of the tree over the leaves of pairs, or zeros if there are none.
 pub fn pair_root<H: Hasher>(
     alloc: Global,
     pairs: &[PairLeaf],

@@ -8,7 +8,7 @@ use book_model::{PlanError, Settings};
 use method_books::AnyBook;
 use proof_method::MethodBook;
 
-/// Makes the tests that all methods share: setting 0 is the method, 1 the order, 2 the fan-out.
+/// Runs the tests that all methods share. In the error, setting 0 is the method, 1 the order, 2 the fan-out.
 pub fn check_settings(settings: &Settings) -> Result<(), PlanError>
     ensures common { OnOk result (IsCommon settings.now) }
     ensures fault { IfErr result (λ e. (parts : Parts) → book_fault parts settings.now ≡ Some e) }

@@ -17,7 +17,7 @@ use proof_method::MethodBook;
 use road_leaf::PairLeaf;
 use std::alloc::Global;
 
-/// The tree over a book's node leaves, in an order of its ids.
+/// Builds the tree over a book's node leaves, in the given order of ids.
 pub fn node_tree<H: Hasher, B: MethodBook>(
     alloc: Global,
     book: &B,
@@ -39,7 +39,7 @@ pub fn node_tree<H: Hasher, B: MethodBook>(
     LeafTree::build(alloc, texts, fan)
 }
 
-/// The tree over the leaves of pairs, if there are some.
+/// Builds the tree over the leaves of pairs, if there are any.
 pub fn pair_tree<H: Hasher>(
     alloc: Global,
     pairs: &[PairLeaf],
@@ -60,18 +60,18 @@ pub fn pair_tree<H: Hasher>(
     Ok(Some(tree))
 }
 
-/// A book, and the trees over its leaves.
+/// A book with the trees over its leaves.
 #[derive(Drop)]
 pub struct BookTrees<H: Hasher, B: MethodBook> {
     /// The book.
     pub book: B,
     /// The tree over its node leaves.
     pub nodes: LeafTree<H>,
-    /// The tree over its pair leaves, if there are some.
+    /// The tree over its pair leaves, if there are any.
     pub pairs: Option<LeafTree<H>>,
 }
 
-/// A book with the trees over its leaves, in an order of its ids.
+/// Builds the trees over a book's leaves, in the given order of ids, and returns them with the book.
 pub fn with_trees<H: Hasher, B: MethodBook>(
     alloc: Global,
     book: B,
@@ -97,7 +97,7 @@ pub fn with_trees<H: Hasher, B: MethodBook>(
     Ok(BookTrees { book, nodes, pairs })
 }
 
-/// How many leaves a tree has and its root, 0 and zeros where there is none.
+/// Returns the number of a tree's leaves and its root, or 0 and zeros if there is no tree.
 pub fn count_and_root<H: Hasher>(tree: Option<&LeafTree<H>>) -> (u32, Digest32)
     ensures count { result.0 ≡ count_in (option_copied tree.entry) }
     ensures root { result.1 ≡ root_in H.hash (option_copied tree.entry) }

@@ -1,4 +1,5 @@
--- A book adds at each id what stands at its index: the book of parts and settings under any method.
+-- A book adds to the leaf of each id the extra contents at the id's index. This holds for the book of parts and
+-- settings under any method.
 use Rattle.std.proofs.Common.{◌≡◌, ℕ, nat_eq, Bool, true, false, cond, if◌then◌else◌, List, [], ◌∷◌, length, map, refl, arith, ap, ◌∙◌}
 use Rattle.std.specs.List.{IsDistinct, AllByRecursion}
 use Rattle.std.proofs.lemmas.Bool.Decides.{nat_tests}
@@ -18,7 +19,7 @@ use Rattle.road_order.proofs.ListingLaws.{lists}
 use Rattle.route_server.proofs.Ordered.{order_from_moves}
 use Rattle.route_service.specs.Refusals.{numbers_of}
 
--- what stands at the index of an id
+-- the value at the index of an id
 abbrev extra_at : List ℕ → List Extra → ℕ → Extra
 extra_at [] extras id = Plain
 extra_at (v ∷ order) [] id = Plain
@@ -27,7 +28,7 @@ extra_at (v ∷ order) (x ∷ extras) id = if nat_eq v id then x else extra_at o
 itself : (v : ℕ) → nat_eq v v ≡ true
 itself v = grind (arith, nat_tests)
 
--- ids that are not the first are looked for after it
+-- an id that is not the first one is searched after it
 behind : (v : ℕ) (x : Extra) (order : List ℕ) (extras : List Extra) (ids : List ℕ) → AllByRecursion (λ y. nat_eq v y ≡ false) ids →
     map (extra_at (v ∷ order) (x ∷ extras)) ids ≡ map (extra_at order extras) ids
 behind v x order extras [] apart = refl
@@ -51,7 +52,7 @@ length_extras_of codes threshold kept (v ∷ order) =
     let rest = length_extras_of codes threshold (kept_after (extra_of codes threshold kept v) v kept) order in
     omega (arith, rest)
 
--- a method adds something to each leaf
+-- a method adds contents to each leaf
 length_extras : (kind : Kind) (parts : Parts) (s : Settings) (order : List ℕ) → length (extras kind parts s order) ≡ length order
 length_extras Dij parts s order = length-map order _
 length_extras Full parts s order = length-map order _
@@ -61,7 +62,7 @@ length_extras Hyp parts s order = length-map order _
 pub order_lists : (sha : List ℕ → List ℕ) (parts : Parts) (s : Settings) → IsMap parts → IsOrderOf parts (leaf_order sha parts s)
 order_lists sha parts s is_map = order_from_moves parts (leaf_order sha parts s) is_map (lists (λ u. sha (seed_text s.seed u)) parts s.order is_map)
 
--- the book of parts and settings whose leaves stand in this order
+-- the book of parts and settings whose leaves are in this order
 abbrev pub book_in : Kind → Parts → Settings → List ℕ → Book
 book_in kind parts s order = record {
   parts = parts;

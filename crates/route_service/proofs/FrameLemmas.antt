@@ -44,14 +44,14 @@ pub length_frame : (body : List ℕ) → length (frame_of body) ≡ 4 + length b
 unfolding frame_of
 length_frame body = omega arith
 
--- these octets are all of a source that has them alone
+-- these octets are the whole contents of a source
 pub Consumes_alone : (octets : List ℕ) → Consumes (Some octets) (Some []) octets
 Consumes_alone octets = sym (append-nil octets)
 
--- and with more after them, this is left
+-- and if more octets follow them, these are left
 pub Consumes_before : (octets more text : List ℕ) → Consumes (Some octets) (Some []) text → Consumes (Some (octets ++ more)) (Some more) text
 Consumes_before octets more text is = ap (λ t. t ++ more) (is ∙ append-nil text)
 
--- one text and then another, of a source that has these alone
+-- one text and then another, from a source with these contents
 pub Consumes_both : (first next xs ys : List ℕ) → Consumes (Some first) (Some []) xs → Consumes (Some next) (Some []) ys → Consumes (Some (first ++ next)) (Some []) (xs ++ ys)
 Consumes_both first next xs ys one other = Consumes-++ (Some (first ++ next)) (Some next) (Some []) xs ys (Consumes_before first next xs one) other

@@ -1,4 +1,4 @@
--- A guard never changes, and what a service takes is signed as its guard wants it.
+-- A guard never changes, and every publication that a service installs is signed as its guard requires.
 use Rattle.std.proofs.Common.{◌≡◌, ◌==◌, ℕ, Bool, true, false, cond, nat_lt, nat_le, List, [], ◌∷◌, Option, None, Some, Result, Ok, Err, IfSome, refl, ◌∙◌}
 use Rattle.std.specs.Int.{w64, to_be_bytes}
 use Rattle.lms_tree.specs.declared.seals.SealError.{SealError}
@@ -29,9 +29,9 @@ pub guard_after : (hash sha : List ℕ → List ℕ) (state : State) (bodies : L
 guard_after hash sha state [] = refl
 guard_after hash sha state (body ∷ bodies) = guard_after hash sha (next hash sha state body) bodies ∙ guard_applied state (decided hash sha state body)
 
--- ---- what is taken is signed
+-- ---- an installed publication is signed
 
--- what a decision installs is signed
+-- the publication that a decision installs is signed
 abbrev Allows : Guard → Decision → Type 0
 Allows guard (Installs p) = IsSigned guard p
 Allows guard d = Unit {0}

@@ -1,4 +1,4 @@
--- What nothing refuses has the header of its book.
+-- A publication that has no reason to be refused has the header of its book.
 use Rattle.std.proofs.Common.{◌≡◌, ℕ, Bool, true, false, cond, Option, None, Some, List, refl, ap, sym, ◌∙◌}
 use Rattle.book_model.specs.declared.settings.PlanError.{PlanError}
 use Rattle.book_model.specs.declared.settings.PlanError.TheVariants as plan

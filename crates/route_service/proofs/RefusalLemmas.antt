@@ -1,4 +1,4 @@
--- What installing answers is what the functions say.
+-- The result of an install is the result of the functions.
 use Rattle.std.proofs.Common.{◌≡◌, ◌≢◌, ◌==◌, ℕ, ◌&&◌, Bool, true, false, cond, Option, None, Some, List, [], ◌∷◌, Err, refl, arith, ap, sym, ◌∙◌, inl, inr, map}
 use Rattle.std.specs.List.{cons_option, filter_map}
 use Rattle.std.specs.Option.{option_map}
@@ -40,7 +40,7 @@ use Rattle.octet_text.specs.Want.{no_memory}
 node_id : (nodes : List Node) (id : ℕ) (n : Node) → node_at nodes id ≡ Some n → n.id ≡ id
 node_id nodes id n e = let found = find_some (λ (m : Node). m.id == id) nodes n e in grind (arith, found.1)
 
--- the leaf of an id says what is added there
+-- the leaf of an id has the contents that are added for the id
 leaf_here : (parts : Parts) (f : ℕ → Extra) (id : ℕ) → leaf_of parts f id ≡ leaf_of parts (λ _. f id) id
 leaf_here parts f id = by_node (node_at parts.nodes id) refl
   where
@@ -54,7 +54,7 @@ leaves_here parts f (id ∷ order) =
     ap (λ o. cons_option o (filter_map (leaf_of parts f) order)) (leaf_here parts f id)
     ∙ ap (cons_option (leaf_of parts (λ _. f id) id)) (leaves_here parts f order)
 
--- the header of a book is the one that is computed
+-- the header of a book is the computed header
 pub header_is : (hash sha : List ℕ → List ℕ) (kind : Kind) (parts : Parts) (s : Settings) (b : Book) → IsBookOf kind parts s (leaf_order sha parts s) b →
     book_header hash s (leaf_order sha parts s) b ≡ header_by hash sha kind parts s
 unfolding header_by
@@ -77,7 +77,7 @@ bytes_same xs = grind (arith, bytes_eq-Decides)
 header_itself : (h : Header) → is_same_header h h ≡ true
 header_itself h = let a = bytes_same h.node_root in let b = bytes_same h.pair_root in grind (arith, nat_tests, a, b)
 
--- headers that pass the test are one
+-- headers that pass the test are equal
 pub headers_same : (a b : Header) → is_same_header a b ≡ true → a ≡ b
 headers_same a b e =
     let second = and_parts (is_same_but_second a b) (a.numbers.second == b.numbers.second) e in
@@ -133,7 +133,7 @@ headers_same a b e =
         ≡ header_with_all b.method b.order b.fan b.version b.nodes b.node_root b.pairs b.pair_root b.numbers.first b.numbers.second = cc in
         whole
 
--- nothing refuses a publication with the header of its book
+-- a publication with the header of its book has no reason to be refused
 pub none_refuses : (hash sha : List ℕ → List ℕ) (p : Publication) → HasHeader hash sha p.parts p.settings p.header → refusal_of hash sha p ≡ None
 unfolding refusal_of
 none_refuses hash sha p h =
@@ -150,7 +150,7 @@ header_differs hash sha p h has apart =
     let other : is_same_header h p.header ≡ false = elim (cases_Bool (is_same_header h p.header)) [ inl e ↦ absurd (apart (headers_same h p.header e)) | inr e ↦ e ] in
     ap (is_header_by hash sha p) has.is_book.method ∙ ap (λ x. is_same_header x p.header) is ∙ other
 
--- a fault of maps, that of books, and another header
+-- a fault of maps, a fault of books, and another header
 map_refuses : (hash sha : List ℕ → List ℕ) (p : Publication) (e : MapError) → FaultLaws p.parts → Fault p.parts e → e ≢ map_errors.Memory no_memory → refusal_of hash sha p ≡ Some 2
 unfolding refusal_of
 map_refuses hash sha p e laws fault known =
@@ -170,7 +170,7 @@ header_refuses hash sha p h has apart =
     ∙ ap (λ f. book_refusal f (is_header_by hash sha p (kind_of p.settings.method))) has.allowed
     ∙ ap (λ b. cond b None (Some 4)) (header_differs hash sha p h has apart)
 
--- what installing answers
+-- the result of an install
 pub refused_as : (hash sha : List ℕ → List ℕ) (p : Publication) (e : InstallError) → FaultLaws p.parts → Installs hash sha p (Err e) → Pins hash sha p (Err (not_pinned e))
 refused_as hash sha p (installs.Build (build.Map e)) laws h = map_refuses hash sha p e laws h.0.0 h.0.1
 refused_as hash sha p (installs.Build (build.Plan e)) laws h = book_refuses hash sha p e h.0.0 h.0.1

@@ -1,4 +1,4 @@
--- One frame more.
+-- One more frame.
 use Rattle.std.proofs.Common.{refl, sym, ap, ◌∙◌, subst, ◌≡◌, inl, inr, ℕ, ◌+◌, ◌≤◌, ◌<◌, List, [], ◌∷◌, ◌++◌, length, append-nil, length-append, Option, Some, None, Err, arith}
 use Rattle.std.proofs.lemmas.Grind.{flat_map-append}
 use Rattle.std.specs.List.{AllByRecursion}
@@ -30,11 +30,11 @@ pub Appends-none : (a : Option (List ℕ)) → Appends a a []
 Appends-none None = tt
 Appends-none (Some xs) = sym (append-nil xs)
 
--- some octets and then others were given
+-- first some octets were given, and then others
 Gave-++ : (a b c : List ℕ) (P Q R : List ℕ → Type 0) → ((xs ys : List ℕ) → P xs → Q ys → R (xs ++ ys)) → Gave a b P → Gave b c Q → Gave a c R
 Gave-++ a b c P Q R both s t = record { octets = s.octets ++ t.octets; gave = gave_more a b c s.octets t.octets s.gave t.gave; is = both s.octets t.octets s.is t.is }
 
--- why serving ends where a frame isn't taken whole
+-- why serving ends if a frame is not read whole
 abbrev refused : FrameError → ServeError
 refused TooLong = Unserved.FrameTooLong
 refused Truncated = Unserved.TruncatedFrame
@@ -66,7 +66,7 @@ module _ (hash sha : List ℕ → List ℕ) where
         number = rw (length-append, served.number) refl;
       }
 
-  -- ---- the octets that were given, as those of a source that had them alone
+  -- ---- the octets that were given, as those of a source that had no others
 
   served_before : (first last : State) (most count : ℕ) (octets more : List ℕ) (old new : Option (List ℕ)) →
       Served hash sha first last most count (Some octets) (Some []) old new → Served hash sha first last most count (Some (octets ++ more)) (Some more) old new
@@ -81,7 +81,7 @@ module _ (hash sha : List ℕ → List ℕ) where
     number = served.number;
   }
 
-  -- one frame more
+  -- one more frame
   pub given_more : (first mid last : State) (most count : ℕ) (a b c : List ℕ) (old written new : Option (List ℕ)) (frame reply : List ℕ) →
       Gave a b (λ octets. Served hash sha first mid most count (Some octets) (Some []) old written) →
       Gave b c (λ octets. (length frame ≤ most) × Consumes (Some octets) (Some []) (frame_of frame)) →
@@ -92,7 +92,7 @@ module _ (hash sha : List ℕ → List ℕ) where
       (λ xs ys served taken.
       served-more first mid last most count (Some (xs ++ ys)) (Some ys) (Some []) old written new frame reply (served_before first mid most count xs ys old written served) taken.1 taken.0 step wrote) s t
 
-  -- and some octets more
+  -- and some more octets
   then_more : (first last : State) (most count : ℕ) (octets more text : List ℕ) (old new : Option (List ℕ)) (Is : List ℕ → Type 0) →
       Served hash sha first last most count (Some octets) (Some []) old new → Consumes (Some more) (Some []) text → Is text →
       Then hash sha first last most count (Some (octets ++ more)) (Some []) old new Is
@@ -104,7 +104,7 @@ module _ (hash sha : List ℕ → List ℕ) where
     is = is;
   }
 
-  -- of an octet past the last frame that is taken
+  -- for an octet after the greatest number of frames
   pub given_many : (first last : State) (most limit count : ℕ) (a b c : List ℕ) (old new : Option (List ℕ)) (text : List ℕ) → count ≡ limit →
       Gave a b (λ octets. Served hash sha first last most count (Some octets) (Some []) old new) → c ≡ b ++ text → length text ≡ 1 →
       Gave a c (λ octets. Serves hash sha first last most limit (Some octets) (Some []) old new (Err Unserved.TooManyFrames))
@@ -113,7 +113,7 @@ module _ (hash sha : List ℕ → List ℕ) where
       (λ xs ys served taken. then_more first last most limit xs ys ys old new (λ octets. length octets ≡ 1)
       (subst (λ n. Served hash sha first last most n (Some xs) (Some []) old new) all served) (Consumes_alone ys) taken) s (record { octets = text; gave = gave; is = one })
 
-  -- of a frame that wasn't taken whole
+  -- for a frame that was not read whole
   serves_refused : (first last : State) (most limit count : ℕ) (octets more body : List ℕ) (old new : Option (List ℕ)) (e : FrameError) → count < limit →
       Served hash sha first last most count (Some octets) (Some []) old new → TakesFrame most (Some more) (Some []) body (Err e) →
       Serves hash sha first last most limit (Some (octets ++ more)) (Some []) old new (Err (refused e))
@@ -132,7 +132,7 @@ module _ (hash sha : List ℕ → List ℕ) where
       Gave-++ a b c _ _ (λ octets. Serves hash sha first last most limit (Some octets) (Some []) old new (Err (refused e)))
       (λ xs ys. serves_refused first last most limit count xs ys body old new e below) s t
 
-  -- of a whole frame that isn't answered
+  -- for a whole frame without an answer
   pub given_unanswered : (first mid last : State) (most limit count : ℕ) (a b c : List ℕ) (old new : Option (List ℕ)) (frame : List ℕ) → last ≡ mid → count < limit →
       Gave a b (λ octets. Served hash sha first mid most count (Some octets) (Some []) old new) →
       Gave b c (λ octets. (length frame ≤ most) × Consumes (Some octets) (Some []) (frame_of frame)) →
@@ -145,7 +145,7 @@ module _ (hash sha : List ℕ → List ℕ) where
         then_more first last most count xs ys (frame_of frame) old new (IsUnanswered most) (subst (λ (state : State). Served hash sha first state most count (Some xs) (Some []) old new) (sym same) served) taken.1 (inr (frame, taken.0, refl)),
       )) s t
 
-  -- of a frame, of whose reply a front is written
+  -- for a frame of whose reply a prefix is written
   pub given_cut : (first mid last : State) (most limit count : ℕ) (a b c : List ℕ) (old written new : Option (List ℕ)) (frame reply : List ℕ) → count < limit →
       Gave a b (λ octets. Served hash sha first mid most count (Some octets) (Some []) old written) →
       Gave b c (λ octets. (length frame ≤ most) × Consumes (Some octets) (Some []) (frame_of frame)) →

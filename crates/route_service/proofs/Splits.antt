@@ -1,4 +1,4 @@
--- An input falls into frames in one way.
+-- An input divides into frames in exactly one way.
 use Rattle.std.proofs.Common.{refl, sym, ap, ◌∙◌, subst, ◌≡◌, ℕ, zero, suc, ◌+◌, ◌-◌, ◌≤◌, ◌<◌, ◌^◌, List, [], ◌∷◌, ◌++◌, length, take, take_all, append_assoc, append-nil, length-append, Option, None, Some, Result, Ok, Err, arith}
 use Rattle.std.proofs.lemmas.Bool.Decides.{nat_tests}
 use Rattle.std.proofs.Math.Seq.{take-append_seam, drop-append_seam}
@@ -19,7 +19,7 @@ use Rattle.route_service.specs.declared.serving.ServeError.{ServeError}
 use Rattle.route_service.specs.declared.serving.ServeError.TheVariants.{FrameTooLong, TruncatedFrame, TooManyFrames, Source, Sink, Memory}
 use Rattle.route_service.proofs.ServeLemmas.{framed-more, short-more, run-more}
 
--- ---- what an input begins with
+-- ---- how an input begins
 
 front_at-whole : (most : ℕ) (body more : List ℕ) → length body ≤ most → front_at most (length body) (body ++ more) ≡ WholeMap body more
 front_at-whole most body more short = grind (arith, nat_tests, take-append_seam, drop-append_seam, length-append, short)
@@ -46,7 +46,7 @@ front-short most (a ∷ b ∷ []) some is = refl
 front-short most (a ∷ b ∷ c ∷ []) some is = refl
 front-short most (a ∷ b ∷ c ∷ d ∷ octets) some is = let whole = is.whole (omega arith) in grind (arith, nat_tests, whole)
 
--- ---- frames in front of the rest are taken first
+-- ---- frames before the rest are read first
 
 split-framed : (most m : ℕ) (frames : List (List ℕ)) (tail : List ℕ) → most < 2 ^ 32 → AllByRecursion (λ frame. length frame ≤ most) frames →
     split most (length frames + m) (framed frames ++ tail) ≡ record { frames = frames ++ (split most m tail).frames; ending = (split most m tail).ending }
@@ -80,14 +80,14 @@ split-many most zero [] rest none some = absurd (omega (arith, some))
 split-many most zero (x ∷ octets) rest none some = refl
 split-many most (suc m) octets rest none some = absurd (omega (arith, none))
 
--- the frames, and then those of the rest
+-- the frames, followed by those of the rest
 splits : (most limit : ℕ) (text : List ℕ) (fs : List (List ℕ)) (tail : List ℕ) → most < 2 ^ 32 → text ≡ framed fs ++ tail → AllByRecursion (λ frame. length frame ≤ most) fs → length fs ≤ limit →
     split most limit text ≡ record { frames = fs ++ (split most (limit - length fs) tail).frames; ending = (split most (limit - length fs) tail).ending }
 splits most limit text fs tail small is short within =
     let room : limit ≡ length fs + (limit - length fs) = omega (arith, within) in
     ap (λ n. split most n text) room ∙ ap (split most (length fs + (limit - length fs))) is ∙ split-framed most (limit - length fs) fs tail small short
 
--- these frames alone, where the rest has none
+-- only these frames, if the rest has none
 ends : (most limit : ℕ) (text : List ℕ) (fs : List (List ℕ)) (tail : List ℕ) (ending : Ending) → most < 2 ^ 32 → text ≡ framed fs ++ tail → AllByRecursion (λ frame. length frame ≤ most) fs → length fs ≤ limit →
     split most (limit - length fs) tail ≡ record { frames = []; ending = ending } → split most limit text ≡ record { frames = fs; ending = ending }
 ends most limit text fs tail ending small is short within rest =
@@ -95,13 +95,13 @@ ends most limit text fs tail ending small is short within rest =
     ∙ ap (λ (input : Input). record { frames = fs ++ input.frames; ending = input.ending }) rest
     ∙ ap (λ xs. record { frames = xs; ending = ending }) (append-nil fs)
 
--- and in any case the first ones
+-- in any case, the first frames
 first_ones : (most limit : ℕ) (text : List ℕ) (fs : List (List ℕ)) (tail : List ℕ) → most < 2 ^ 32 → text ≡ framed fs ++ tail → AllByRecursion (λ frame. length frame ≤ most) fs → length fs ≤ limit →
     take (length fs) (split most limit text).frames ≡ fs
 first_ones most limit text fs tail small is short within =
     ap (λ (input : Input). take (length fs) input.frames) (splits most limit text fs tail small is short within) ∙ take-append_seam fs (split most (limit - length fs) tail).frames
 
--- ---- what serving an input leaves
+-- ---- the result of serving an input
 
 module _ (hash sha : List ℕ → List ℕ) where
   all_written : (first last : State) (most limit count : ℕ) (text : List ℕ) (between old new : Option (List ℕ)) (ending : Ending) → most < 2 ^ 32 → count ≤ limit →
@@ -165,7 +165,7 @@ module _ (hash sha : List ℕ → List ℕ) where
             },
           )
 
-  -- what comes of the rest
+  -- the result for the rest
   at_end : (most m : ℕ) (rest : Option (List ℕ)) → IsAtEnd rest → (xs : List ℕ) → rest ≡ Some xs → split most m xs ≡ record { frames = []; ending = Regular }
   at_end most m None end xs e = absurd (cc e)
   at_end most m (Some ys) end xs e = let same : ys ≡ xs = cc in ap (split most m) (sym same ∙ end) ∙ split-none most m
@@ -206,7 +206,7 @@ module _ (hash sha : List ℕ → List ℕ) where
   told_input first last most limit text rest old new (Err (Memory _)) small serves = let s = serves.2 in
       some_written first last most limit serves.0 text s.between old new small (omega (arith, serves.1)) s.served
 
-  -- where the source tells nothing, some frames were served
+  -- if the source does not state its contents, some frames were served
 
   untold_written : (first last : State) (most count : ℕ) (between old new : Option (List ℕ)) (served : Served hash sha first last most count None between old new) → WritesRun hash sha first served.frames old new
   untold_written first last most count between old new served = record { last = last; replies = served.replies; run = served.run; isolated = served.isolated; wrote = served.wrote }

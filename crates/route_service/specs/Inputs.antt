@@ -1,4 +1,4 @@
--- How an input falls into frames, as a function, and how serving it ends.
+-- How an input divides into frames, as a function, and how serving the input ends.
 use Rattle.std.specs.Prelude.{◌≡◌, ℕ, zero, suc, List, [], ◌∷◌, length, take, drop, nat_lt, if◌then◌else◌, Option, None, Some, Result, Ok, Err}
 use Rattle.std.specs.Int.{w32, from_be_bytes}
 use Rattle.std.specs.Io.KnownBytes.{Appends}
@@ -9,16 +9,16 @@ use Rattle.route_service.specs.Isolation.{IsIsolated}
 use Rattle.route_service.specs.declared.serving.ServeError.{ServeError}
 use Rattle.route_service.specs.declared.serving.ServeError.TheVariants.{FrameTooLong, TruncatedFrame, TooManyFrames, Source, Sink, Memory}
 
--- how an input ends: between two frames, at a length above the greatest, within a frame, or past
--- the last frame that is taken
+-- how an input ends: between two frames, at a length that exceeds the greatest one, within a frame, or after the
+-- greatest number of frames
 pub data Ending : Type 0 where
   Regular : Ending
   TooLong : Ending
   Truncated : Ending
   TooMany : Ending
 
--- what an input begins with: nothing, a length above the greatest, less than a frame, or a frame's
--- body and the rest
+-- how an input begins: it is empty, or begins with a length that exceeds the greatest one, with less than a frame,
+-- or with a frame, given as its body and the rest of the input
 pub data Front : Type 0 where
   End : Front
   Long : Front
@@ -44,7 +44,7 @@ pub record Input : Type 0 where
   pub frames : List (List ℕ)
   pub ending : Ending
 
--- by what it begins with, and how the rest falls into frames
+-- the division of an input, from how it begins and how the rest divides into frames
 abbrev pub split_at : (List ℕ → Input) → Front → Input
 split_at again End = record { frames = []; ending = Regular }
 split_at again Long = record { frames = []; ending = TooLong }
@@ -52,19 +52,19 @@ split_at again Short = record { frames = []; ending = Truncated }
 split_at again (WholeMap body rest) =
     record { frames = body ∷ (again rest).frames; ending = (again rest).ending }
 
--- the frames of at most so many octets, of which at most n are taken
+-- the frames, each with at most this many octets and at most n of them
 unfoldable pub split : ℕ → ℕ → List ℕ → Input
 split most zero [] = record { frames = []; ending = Regular }
 split most zero (x ∷ text) = record { frames = []; ending = TooMany }
 split most (suc n) text = split_at (split most n) (front most text)
 
--- it is what is left in a source that tells it
+-- this is the rest of a source, if the source states its contents
 abbrev pub IsInput : ℕ → ℕ → Option (List ℕ) → Input → Type 0
 IsInput most limit None input = Unit {0}
 IsInput most limit (Some text) input = input ≡ split most limit text
 
 module _ (hash sha : List ℕ → List ℕ) where
-  -- the framed replies of a run over these frames are written; each session is isolated
+  -- the replies of a run over these frames are written as frames, and each session is isolated
   pub record WritesRun (first : State) (frames : List (List ℕ))
       (old new : Option (List ℕ)) : Type 0 where
     pub last : State
@@ -73,7 +73,7 @@ module _ (hash sha : List ℕ → List ℕ) where
     pub isolated : IsIsolated hash sha first frames replies
     pub wrote : Appends old new (framed replies)
 
-  -- a prefix of the framed replies of a run over these frames is written
+  -- a prefix of the replies of a run over these frames, as frames, is written
   pub record WritesFront (first : State) (frames : List (List ℕ))
       (old new : Option (List ℕ)) : Type 0 where
     pub last : State
@@ -82,8 +82,8 @@ module _ (hash sha : List ℕ → List ℕ) where
     pub isolated : IsIsolated hash sha first frames replies
     pub wrote : AppendsFront old new (framed replies)
 
-  -- What serving an input ends with, and what it has written by then: the replies to all its
-  -- frames, or, where the source or the sink failed or memory ran out, to the first of them.
+  -- How serving an input ends, and what has been written: the replies to all its frames, or to the first of them if
+  -- the source or the sink failed or memory ran out.
   abbrev pub ServesInput : State → Input → Option (List ℕ) → Option (List ℕ) →
       Result (Unit {0}) ServeError → Type 0
   ServesInput first input old new (Ok done) = (input.ending ≡ Regular) ×

@@ -1,5 +1,5 @@
--- Whether a publication can be installed, as functions: the octets encode one, its parts make a map,
--- the map has a book under its settings, and the book's header is the publication's.
+-- Whether a publication can be installed, as functions: the octets encode a publication, its parts are a map, the
+-- map has a book under its settings, and the book's header is the publication's.
 use Rattle.std.specs.Prelude.{ℕ, ◌==◌, Bool, true, ◌&&◌, if◌then◌else◌, Option, None, Some, Result, Ok, Err, List, [], ◌∷◌}
 use Rattle.std.specs.List.{cons_option}
 use Rattle.std.specs.Str.{bytes_eq}
@@ -26,13 +26,13 @@ abbrev pub as_spelled : Result Publication ℕ → Option Publication
 as_spelled (Ok p) = Some p
 as_spelled (Err at) = None
 
--- the publication that octets encode, all of them
+-- the publication that all these octets encode
 unfoldable pub spelled_publication : List ℕ → Option Publication
 spelled_publication text = as_spelled (whole publication text)
 
 -- ---- the book's header is the publication's
 
--- the leaves of ids, with what a method adds to each
+-- the leaves of ids, with the contents that a method adds to each
 abbrev pub leaves_with : Parts → List ℕ → List Extra → List NodeLeaf
 leaves_with parts [] extras = []
 leaves_with parts (id ∷ order) [] = []
@@ -46,7 +46,7 @@ numbers_of kind parts s = record {
   second = second_number kind s;
 }
 
--- the header of the book of parts and settings under a method, where sha shuffles
+-- the header of the book of parts and settings under a method; sha shuffles
 unfoldable pub header_by : (List ℕ → List ℕ) → (List ℕ → List ℕ) → Kind → Parts → Settings → Header
 header_by hash sha kind parts s =
     header_of hash s (leaves_with parts (leaf_order sha parts s)
@@ -65,8 +65,8 @@ is_header_by hash sha p None = true
 is_header_by hash sha p (Some kind) = is_same_header
     (header_by hash sha kind p.parts p.settings) p.header
 
--- ---- the first reason why it can't be installed: 2 its parts make no map, 3 the map has no book,
--- 4 the header is another
+-- ---- the first reason why it cannot be installed: 2 if its parts are not a map, 3 if the map has no book,
+-- 4 if the header is another
 
 abbrev pub book_refusal : Option PlanError → Bool → Option ℕ
 book_refusal (Some fault) same = Some 3

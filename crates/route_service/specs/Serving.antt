@@ -1,5 +1,4 @@
--- What serving leaves: a run of the machine over the frames that were read, and its replies on the
--- sink.
+-- The result of serving: a run of the machine over the frames that were read; the replies are on the sink.
 use Rattle.std.specs.Prelude.{◌≡◌, ◌⊎◌, ℕ, ◌<◌, ◌≤◌, List, length, Option, Result, Ok, Err}
 use Rattle.std.specs.List.{AllByRecursion}
 use Rattle.std.specs.Io.KnownBytes.{Appends, Consumes, IsAtEnd}
@@ -10,14 +9,14 @@ use Rattle.route_service.specs.Isolation.{IsIsolated}
 use Rattle.route_service.specs.declared.serving.ServeError.{ServeError}
 use Rattle.route_service.specs.declared.serving.ServeError.TheVariants.{FrameTooLong, TruncatedFrame, TooManyFrames, Source, Sink, Memory}
 
--- the octets after the frames that were answered, where memory ran out: the length of a frame, for
--- whose body there was none, or a whole frame, for whose reply there was none
+-- the octets taken after the answered frames if memory ran out: the length of a frame, if memory for its body was
+-- refused, or a whole frame, if memory for its reply was refused
 abbrev pub IsUnanswered : ℕ → List ℕ → Type 0
 IsUnanswered most octets =
     IsHead most octets ⊎ ((frame : List ℕ) × (length frame ≤ most) × (octets ≡ frame_of frame))
 
 module _ (hash sha : List ℕ → List ℕ) where
-  -- so many frames were taken, and the replies of a run over them are written
+  -- this many frames were taken, and the replies of a run over them are written
   pub record Served (first last : State) (most count : ℕ)
       (left rest old new : Option (List ℕ)) : Type 0 where
     pub frames : List (List ℕ)
@@ -29,7 +28,7 @@ module _ (hash sha : List ℕ → List ℕ) where
     pub short : AllByRecursion (λ frame. length frame ≤ most) frames
     pub number : length frames ≡ count
 
-  -- and then some more octets were taken
+  -- then some more octets were taken
   pub record Then (first last : State) (most count : ℕ) (left rest old new : Option (List ℕ))
       (Is : List ℕ → Type 0) : Type 0 where
     pub between : Option (List ℕ)
@@ -38,7 +37,7 @@ module _ (hash sha : List ℕ → List ℕ) where
     pub took : Consumes between rest octets
     pub is : Is octets
 
-  -- and then one more frame was taken, of whose reply a front is written
+  -- then one more frame was taken, and a prefix of its reply is written
   pub record Cut (first last : State) (most count : ℕ)
       (left rest old new : Option (List ℕ)) : Type 0 where
     pub state : State
@@ -52,8 +51,8 @@ module _ (hash sha : List ℕ → List ℕ) where
     pub step : Step hash sha state frame reply last
     pub front : AppendsFront written new (frame_of reply)
 
-  -- What serving leaves, by its end, where at most so many frames are taken, each of at most so
-  -- many octets: nothing is read ahead of the replies.
+  -- The result of serving, by how it ended: at most this many frames were taken, each of at most this many octets,
+  -- and nothing was read ahead of the replies.
   abbrev pub Serves : State → State → ℕ → ℕ → Option (List ℕ) → Option (List ℕ) → Option (List ℕ) →
       Option (List ℕ) → Result (Unit {0}) ServeError → Type 0
   Serves first last most limit left rest old new (Ok done) = (count : ℕ) × (count ≤ limit) ×

@@ -1,4 +1,4 @@
--- What taking the next frame takes, and what the buffer then holds.
+-- The octets that reading the next frame takes from a source, and the contents of the buffer afterwards.
 use Rattle.std.specs.Prelude.{ℕ, ◌<◌, ◌≤◌, Bool, true, false, List, [], length, Option, Result, Ok, Err}
 use Rattle.std.specs.Io.KnownBytes.{Consumes, IsAtEnd}
 use Rattle.route_service.specs.Frames.{frame_of, IsPart, IsTooLong, IsHead}

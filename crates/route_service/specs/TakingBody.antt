@@ -1,4 +1,4 @@
--- What taking so many octets takes, and what the buffer then holds.
+-- The octets that reading this many octets takes from a source, and the contents of the buffer afterwards.
 use Rattle.std.specs.Prelude.{◌≡◌, ℕ, ◌<◌, List, [], length, Option, Result, Ok, Err}
 use Rattle.std.specs.Io.KnownBytes.{Consumes, IsAtEnd}
 use Rattle.route_service.specs.declared.reading.BodyError.{BodyError}

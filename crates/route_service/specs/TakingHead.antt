@@ -1,4 +1,4 @@
--- What taking the length of a frame takes.
+-- The octets that reading a frame's length takes from a source.
 use Rattle.std.specs.Prelude.{ℕ, ◌<◌, List, [], length, Option, Some, None, Result, Ok, Err}
 use Rattle.std.specs.Int.{w32, to_be_bytes}
 use Rattle.std.specs.Io.KnownBytes.{Consumes, IsAtEnd}

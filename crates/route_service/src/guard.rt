@@ -1,4 +1,4 @@
-//! What a service asks of a publication before it takes it.
+//! Which publications a service accepts.
 ghost use Rattle.std.specs.Prelude.{◌≡◌};
 ghost use Rattle.std.specs.Option.{option_map};
 ghost use Rattle.route_service.specs.Guards.{answers_near, cause_of, unsigned};
@@ -7,17 +7,17 @@ use lms_tree::{Link, SealError, verify_along};
 use octet_text::List;
 use proof_octets::Publication;
 
-/// What a service asks of the publications that it installs, and with it which bodies it knows.
+/// Which publications a service installs, and which bodies it knows.
 #[derive(Debug, Drop)]
 pub enum Guard {
-    /// Nothing but that they can be installed. Range queries are not known.
+    /// Every publication that can be installed. Range queries are unknown.
     Open,
-    /// That their headers are signed under this key, or under one that the links lead to from it.
-    /// Range queries are answered.
+    /// Publications whose headers are signed under this key, or under a key to which the links lead from it. Range
+    /// queries are answered.
     Signed { key: [u8; 56], links: List<Link> },
 }
 
-// Why a signature is refused, as a number.
+// Returns the reason why a signature is refused, as a number.
 fn cause_of(why: SealError) -> u8
     ensures { result ≡ cause_of why }
 {
@@ -29,7 +29,7 @@ fn cause_of(why: SealError) -> u8
 }
 
 impl Guard {
-    // Whether range queries are known.
+    // Tests whether the service knows range queries.
     pub(crate) fn answers_near(&self) -> bool
         ensures { result ≡ answers_near self.now }
     {
@@ -39,8 +39,8 @@ impl Guard {
         }
     }
 
-    // Why a publication is refused for its signature: 1 the key is none, 2 the octets are no signature
-    // under this type of key, 3 the signature is another's. It builds no book.
+    // Returns the reason why the signature of a publication is refused: 1 if the key is not a public key, 2 if the
+    // octets are not a signature under this type of key, 3 if the signature does not verify. Builds no book.
     pub(crate) fn unsigned(&self, publication: &Publication) -> Option<u8>
         ensures { result ≡ unsigned self.now publication.now }
     {

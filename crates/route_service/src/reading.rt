@@ -11,10 +11,10 @@ use octet_text::{NoMemory, fill_up};
 use road_io::{Failed, Source, read_whole};
 use thiserror::Error;
 
-/// Why there is no next frame.
+/// Why no further frame was read.
 #[derive(Clone, Copy, Debug, PartialEq, Eq, Error)]
 pub enum FrameError {
-    /// The length of a frame is above the greatest that is taken.
+    /// The length of a frame exceeds the greatest one accepted.
     #[error("a frame is too long")]
     TooLong,
     /// The input ends within a frame.
@@ -23,14 +23,14 @@ pub enum FrameError {
     /// The source failed.
     #[error("the source failed")]
     Source,
-    /// There was no memory for the body of a frame.
+    /// Out of memory for the body of a frame.
     #[error("there is no memory for a frame")]
     Memory(NoMemory),
 }
 
-/// Reads the body of the next frame into a buffer, in place of what it held, and answers whether there
-/// was one. A frame has at most `most` octets after its length, and no more than one frame is taken
-/// from the source. The buffer's memory is used again.
+/// Reads the body of the next frame into a buffer, replacing the buffer's contents. Returns whether there was a
+/// frame. The body may have at most `most` octets. Takes at most one frame from the source. The buffer's memory is
+/// reused.
 pub fn next_frame<S: Source>(
     source: &mut S,
     most: u32,
@@ -63,7 +63,7 @@ pub fn next_frame<S: Source>(
     }
 }
 
-// Why there is no body.
+// Why no body was read.
 #[derive(Clone, Copy, Debug, PartialEq, Eq)]
 enum BodyError {
     Truncated,
@@ -71,7 +71,7 @@ enum BodyError {
     Memory(NoMemory),
 }
 
-// Reads so many octets into a buffer, in place of what it held.
+// Reads this many octets into a buffer, replacing its contents.
 fn read_body<S: Source>(source: &mut S, size: usize, body: &mut Vec<u8>) -> Result<(), BodyError>
     ensures takes { TakesBody size (S.left source.old) (S.left source.new) body.new.items result }
     ensures gave { Gave (S.given source.old) (S.given source.new)
@@ -93,14 +93,14 @@ fn read_body<S: Source>(source: &mut S, size: usize, body: &mut Vec<u8>) -> Resu
     }
 }
 
-// Why there is no length.
+// Why no length was read.
 #[derive(Clone, Copy, Debug, PartialEq, Eq)]
 enum HeadError {
     Truncated,
     Source,
 }
 
-// The length of the next frame, or nothing at the end.
+// Reads the length of the next frame. Returns `None` at the end of the input.
 fn read_head<S: Source>(source: &mut S) -> Result<Option<u32>, HeadError>
     ensures takes { TakesHead (S.left source.old) (S.left source.new) result }
     ensures gave { Gave (S.given source.old) (S.given source.new)
@@ -124,7 +124,7 @@ fn read_head<S: Source>(source: &mut S) -> Result<Option<u32>, HeadError>
     }
 }
 
-// The number that four octets encode.
+// Returns the number that four octets encode.
 fn size_of(a: u8, b: u8, c: u8, d: u8) -> u32
     ensures { to_be_bytes w32 result ≡ a ∷ b ∷ c ∷ d ∷ [] }
 {

@@ -13,16 +13,16 @@ use road_io::{Failed, Sink, Source};
 use std::alloc::Global;
 use thiserror::Error;
 
-/// Why serving ended before the end of its input.
+/// Why serving stopped before the end of the input.
 #[derive(Clone, Copy, Debug, PartialEq, Eq, Error)]
 pub enum ServeError {
-    /// The length of a frame is above the greatest that is taken.
+    /// The length of a frame exceeds the greatest one accepted.
     #[error("a frame is too long")]
     FrameTooLong,
     /// The input ends within a frame.
     #[error("the input ends within a frame")]
     TruncatedFrame,
-    /// The input goes on after the last frame that is taken.
+    /// The input continues after the greatest number of frames.
     #[error("there are too many frames")]
     TooManyFrames,
     /// The source failed.
@@ -36,8 +36,8 @@ pub enum ServeError {
     Memory(NoMemory),
 }
 
-/// Answers the frames of a source, at most `limit` of them and each of at most `most` octets. Each reply
-/// is written, framed, before the next frame is read.
+/// Answers the frames of a source: at most `limit` frames with bodies of at most `most` octets. Writes each reply
+/// as a frame before it reads the next frame.
 pub fn serve<H: Hasher, S: Source, K: Sink>(
     alloc: Global,
     service: &mut Service<H>,
@@ -71,7 +71,7 @@ pub fn serve<H: Hasher, S: Source, K: Sink>(
     turns(alloc, service, source, sink, most, limit)
 }
 
-// Takes the frames in turn.
+// Answers the frames, one after the other.
 #[tactic(auto, using(crate::proofs::FrameLemmas::length_frame))]
 fn turns<H: Hasher, S: Source, K: Sink>(
     alloc: Global,

@@ -7,8 +7,8 @@ ghost use Rattle.route_service.specs.Frames.{frame_of};
 
 use road_io::{Failed, Sink, write_all};
 
-/// Writes a frame of this body, or fails with a prefix of it written. The body has fewer than 2^32
-/// octets.
+/// Writes a frame with this body. If it fails, it has written a prefix of the frame. The body must have fewer than
+/// 2^32 octets.
 #[tactic(auto, unfolding(crate::specs::Frames::frame_of))]
 pub fn write_frame<K: Sink>(sink: &mut K, body: &[u8]) -> Result<(), Failed>
     requires { length body.now < 2 ^ 32 }
@@ -22,7 +22,7 @@ pub fn write_frame<K: Sink>(sink: &mut K, body: &[u8]) -> Result<(), Failed>
     write_both(sink, &size.to_be_bytes(), body)
 }
 
-// Writes two pieces.
+// Writes two pieces, one after the other.
 #[tactic(auto, using(crate::proofs::Pieces::Appends_both, crate::proofs::Pieces::AppendsFront_first, crate::proofs::Pieces::AppendsFront_next))]
 fn write_both<K: Sink>(sink: &mut K, first: &[u8], second: &[u8]) -> Result<(), Failed>
     ensures ok { OnOk result (Appends (K.taken sink.old) (K.taken sink.new)

@@ -1,4 +1,4 @@
--- What a client accepts over a survey's publication.
+-- The replies that a client accepts over a survey's publication.
 use Rattle.std.proofs.Common.{◌≡◌, ◌↔◌, ℕ, ◌≤◌, Option, None, Some, Result, Ok, Err, List, [], length, refl, arith, ap, sym, subst}
 use Rattle.sha2.specs.Sha256.{sha256}
 use Rattle.lms_tree.specs.Signatures.{public_key}
@@ -28,7 +28,7 @@ use Rattle.route_survey.specs.Surveys.{survey_key, IsSurveyed}
 use Rattle.route_survey.specs.Tallies.{IsAskable}
 use Rattle.octet_text.specs.Want.{no_memory}
 
--- where a reply is accepted, no other verdict comes than out of memory
+-- if a reply is accepted, the only other result is out of memory
 pub refused_as : (e : CheckError) (x : Checked) → UnlessMemory {A = Checked} (λ r. r ≡ Ok x) (Err e) → e ≡ errors.Memory no_memory
 refused_as (errors.Memory _) x h = refl
 refused_as e x h = cc
@@ -45,13 +45,13 @@ shortest_is parts laws s t d route short = by_least parts s t d (distance parts 
 pub known_of : (parts : Parts) (q : Query) → AreJoined parts q → AreKnown parts q
 known_of parts q joined = record { from = joined.from; to = joined.to }
 
--- the length of a route that holds in a map
+-- the length of a route that is true of a map
 pub length_is : (parts : Parts) → DistanceLaws parts → (q : Query) (x : Checked) → HoldsIn parts q x → (y : Accepted) → x ≡ Route y → distance parts q.from q.to ≡ Some y.length
 length_is parts laws q x holds y is =
     let short : IsShortest parts q.from q.to y.route y.length = subst (HoldsIn parts q) is holds in
     shortest_is parts laws q.from q.to y.length y.route short
 
--- over joined ends it never holds that they are apart
+-- if a walk joins the ends, the result that no walk joins them is never true
 pub never_apart : (parts : Parts) (q : Query) (x : Checked) (version : ℕ) (header : Header) → AreJoined parts q → HoldsIn parts q x → x ≡ Apart version header → ⊥
 never_apart parts q x version header joined holds is = (subst (HoldsIn parts q) is holds).2 joined.length joined.joins
 
@@ -69,13 +69,13 @@ askable_as : ((b : Publication) → publication.Fits b ↔ IsGoodPublication b) 
     → IsSigned sha256 sha256 (public_key survey_key) p × (1 ≤ p.header.version) × (length p.signature ≤ 1452)
 askable_as ranges p parts s is one = (signed_of p parts s is, version_of p parts s is one, ((ranges p).0 is.fits).signature)
 
--- a survey's publication that is held can be asked
+-- an installed publication of a survey can answer queries
 pub is_askable : ((b : Publication) → publication.Fits b ↔ IsGoodPublication b) → (k : Kept) (p : Publication) (parts : Parts) (s : Settings) → publication_in sha256 k ≡ p → IsSurveyed parts s p → s.version ≡ 1 → IsAskable k
 is_askable ranges k p parts s held is one =
     let all = askable_as ranges (publication_in sha256 k) parts s (subst (IsSurveyed parts s) (sym held) is) one in
     record { signed = all.0; version = all.1; short = all.2 }
 
--- what a client says of octets that are accepted
+-- the result that a client takes from accepted octets
 pub accepted_as : (key public items octets : List ℕ) (q : Query) (parts : Parts) (r : Result Checked CheckError) → public ≡ key → octets ≡ items → (a : AreAccepted sha256 key [] items q 1 parts)
     → ((x : Checked) → Accepts sha256 public [] octets q 1 x → UnlessMemory {A = Checked} (λ v. v ≡ Ok x) r) → UnlessMemory {A = Checked} (λ v. v ≡ Ok a.accepted) r
 accepted_as key public items octets q parts r same whole a accepts =
@@ -84,6 +84,6 @@ accepted_as key public items octets q parts r same whole a accepts =
 pub same_accepted : (x y : Checked) (r : Result Checked CheckError) → r ≡ Ok x → r ≡ Ok y → x ≡ y
 same_accepted x y r is same = cc
 
--- what a survey's publication says of its own parts and settings
+-- the facts that a survey's publication implies for its own parts and settings
 pub of_itself : (parts : Parts) (s : Settings) (p : Publication) → IsSurveyed parts s p → IsSurveyed p.parts p.settings p
 of_itself parts s p is = record { of_parts = refl; of_settings = refl; has_header = (signed_of p parts s is).header; signed = is.signed; good = is.good; fits = is.fits }

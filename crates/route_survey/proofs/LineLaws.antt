@@ -1,4 +1,4 @@
--- The line of what was counted.
+-- The line of the counts.
 use Rattle.std.proofs.Common.{◌≡◌, ℕ, Result, OnOk, List, ◌++◌, length, arith, ap, sym, ◌∙◌, subst}
 use Rattle.std.specs.List.{All, sum_by, concat}
 use Rattle.sha2.specs.Sha256.{sha256}
@@ -13,7 +13,7 @@ use Rattle.route_survey.specs.Surveys.{IsSurveyed, IsSurveyLine, length_of, surv
 use Rattle.route_survey.specs.Tallies.{CountsAll, IsTallied, IsCounted}
 use Rattle.route_survey.specs.declared.tally.Tally.{Tally}
 
--- what was counted over what is held was counted over the publication that is held
+-- the counts over the held book are the counts over the held publication
 pub counts_over : {E : Type 0} (held p : Publication) (queries : List Query) (old new : Tally) (r : Result Unit E) → held ≡ p → OnOk r (CountsAll held queries old new) → OnOk r (CountsAll p queries old new)
 counts_over held p queries old new r same counts = subst (λ (x : Publication). OnOk r (CountsAll x queries old new)) same counts
 
@@ -29,15 +29,15 @@ tallied_so p queries old new all none zero holds = record {
 pub joined_in : (held p : Publication) (queries : List Query) → held ≡ p → All (AreJoined p.parts) queries → All (AreJoined held.parts) queries
 joined_in held p queries same all = subst (λ (x : Publication). All (AreJoined x.parts) queries) (sym same) all
 
--- the publication is of version 1, where the settings are
+-- the publication has version 1 if the settings do
 pub version_one : (parts : Parts) (s : Settings) (p : Publication) → IsSurveyed parts s p → s.version ≡ 1 → p.settings.version ≡ 1
 version_one parts s p is one = ap (λ (x : Settings). x.version) is.of_settings ∙ one
 
--- queries that are joined in the parts are so in the publication
+-- queries whose ends are joined in the parts have joined ends in the publication
 pub joined_over : (parts : Parts) (s : Settings) (p : Publication) (queries : List Query) → IsSurveyed parts s p → All (AreJoined parts) queries → All (AreJoined p.parts) queries
 joined_over parts s p queries is all = subst (λ (x : Parts). All (AreJoined x) queries) (sym is.of_parts) all
 
--- the line of what was counted
+-- the line of the counts
 pub line_so : (parts : Parts) (s s' : Settings) (queries queries' : List Query) (tally : Tally) (wanted : ℕ) (text : List ℕ)
     → s ≡ s' → queries ≡ queries' → IsCounted parts s queries tally → wanted ≡ length queries'
     → ((t : List ℕ) → HoldsText tally.hasher t → text ≡ survey_line wanted tally.accepted tally.total (sha256 t)) → IsSurveyLine parts s' queries' text

@@ -30,7 +30,7 @@ surveyed_so ranges parts left s header made out text key is keys same sealed_is 
   fits = fits_with ranges sha256 parts left s header made is (subst (λ (x : List ℕ). length x ≤ 1452) (sym same) short);
 }
 
--- parts and settings make one thing at most
+-- parts and settings have at most one result
 abbrev pub MakesOne : Type 0
 MakesOne = (hash sha : List ℕ → List ℕ) (parts : Parts) (s : Settings) (one other : Result Header BuildError)
     → Makes hash sha parts s one → Makes hash sha parts s other → one ≢ Err (build.Memory no_memory) → other ≢ Err (build.Memory no_memory) → one ≡ other
@@ -44,7 +44,7 @@ ok_is x y r is same = cc
 not_both : (x : Header) (e : BuildError) (r : Result Header BuildError) → r ≡ Ok x → r ≡ Err e → ⊥
 not_both x e r is same = cc
 
--- where they have a header, nothing else comes
+-- if they have a header, there is no other result
 pub no_fault : MakesOne → (p : Publication) → HasHeader sha256 sha256 p.parts p.settings p.header → (e : BuildError) → Makes sha256 sha256 p.parts p.settings (Err e) → e ≢ build.Memory no_memory → ⊥
 no_fault law p has e makes other =
     not_both p.header e (Ok p.header) refl (law sha256 sha256 p.parts p.settings (Ok p.header) (Err e) has makes (λ bad. not_both p.header (build.Memory no_memory) (Ok p.header) refl bad) (λ bad. other (err_is e (build.Memory no_memory) (Err e) refl bad)))

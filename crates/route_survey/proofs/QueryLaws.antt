@@ -1,4 +1,4 @@
--- Drawn queries, one after another, and that a grid has their ends.
+-- Random queries, one after the other; their ends are nodes of the grid.
 use Rattle.std.proofs.Common.{◌≡◌, ℕ, zero, suc, ◌+◌, ◌-◌, ◌*◌, ◌%◌, ◌<◌, ◌≤◌, List, [], ◌∷◌, ◌++◌, refl, arith, ap, sym, ◌∙◌, append_assoc, length, subst}
 use Rattle.std.specs.List.{All}
 use Rattle.std.proofs.lemmas.List.Elements.{All-nil, All-cons}
@@ -42,7 +42,7 @@ module _ (parts : Parts) (count : ℕ) (some : 0 < count) (knows : (id : ℕ) �
   all_joined state zero = All-nil (AreJoined parts)
   all_joined state (suc n) = All-cons (AreJoined parts) (query_drawn state count) (queries_drawn count (after_draws state 4) n) (are_joined state) (all_joined (after_draws state 4) n)
 
--- the queries of a survey join nodes of its grid, and are as many as were wanted
+-- the queries of a survey join nodes of its grid, and there are as many as requested
 pub survey_joined : (width seed n : ℕ) (parts : Parts) (items : List Query) → 2 ≤ width → ((id : ℕ) → 1 ≤ id → id ≤ width * width → Knows (grid_of width seed) id) → IsConnected (grid_of width seed)
     → parts ≡ grid_of width seed → items ≡ survey_queries width seed n → All (AreJoined parts) items
 unfolding survey_queries

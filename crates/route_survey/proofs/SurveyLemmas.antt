@@ -1,4 +1,4 @@
--- How `survey` ends, and that it has one end.
+-- How `survey` ends, and that it has only one end.
 use Rattle.std.proofs.Common.{◌≡◌, ℕ, List, [], refl, ap, IfSome}
 use Rattle.std.specs.declared.option.Option.{Option}
 use Rattle.std.specs.declared.option.Option.TheVariants.{None, Some}
@@ -39,13 +39,13 @@ module _ (width seed method queries k k' : ℕ) (old : Option (List ℕ)) where
   any : (files : Option Folder) (o : Result Conclusion Fault) (text : List ℕ) → EndsSurvey width seed method queries o text → CallsFor (λ folder. EndsSurvey width seed method queries) files o text
   any files o text h = over_any files (λ folder. EndsSurvey width seed method queries o text) (λ folder. h)
 
-  -- a line that was told
+  -- a line that was returned
   pub surveyed : (new : Option (List ℕ)) (o : Result Conclusion Fault) (text line : List ℕ) → text ≡ line → EndsSurvey width seed method queries (Ok Done) line → Writes (Ok Done) text old new k k' o
       → PromisesWithoutFiles (EndsSurvey width seed method queries) NoDisk old new k k' o
   surveyed new o text line same is w files faults =
       written_done (λ folder. EndsSurvey width seed method queries) TellsNone NoDisk files faults faults k k' old (EndsSurvey width seed method queries) (any files) new Done o text line same is w
 
-  -- a grid that has no book
+  -- a grid without a book
   pub not_surveyed : (e : PlanError) → EndsSurvey width seed method queries (Err (Plan e)) [] → PromisesWithoutFiles (EndsSurvey width seed method queries) NoDisk old old k k' (Err (Plan e))
   not_surveyed e h files faults =
       refused (λ folder. EndsSurvey width seed method queries) TellsNone NoDisk files faults faults k k' old (EndsSurvey width seed method queries) (any files) (Plan e) h

@@ -1,4 +1,4 @@
--- One query after another is counted.
+-- Counting one query after another.
 use Rattle.std.proofs.Common.{◌≡◌, ℕ, suc, ◌+◌, ◌<◌, List, [], ◌∷◌, ◌++◌, arith, ap, sym, ◌∙◌, subst, append_assoc, append-nil, length, length-append}
 use Rattle.std.specs.List.{sum_by, concat}
 use Rattle.std.proofs.Common.{take, get_or}

@@ -1,4 +1,4 @@
--- What `survey` writes.
+-- The output of `survey`.
 use Rattle.std.specs.Prelude.{◌≡◌, ℕ, List, []}
 use Rattle.std.specs.declared.option.Option.TheVariants.{Some}
 use Rattle.std.specs.declared.result.Result.TheVariants.{Ok, Err}
@@ -10,9 +10,8 @@ use Rattle.command_files.specs.Endings.{Ending}
 use Rattle.command_files.specs.declared.fault.Fault.TheVariants.{Plan}
 use Rattle.command_files.specs.declared.ended.Conclusion.TheVariants.{Done}
 
--- `survey` over the grid of a width and a seed: the line of so many drawn queries, or the first
--- reason why the grid has no book under the method; nothing that a file or the owner's disk holds
--- is asked for
+-- `survey` over the grid of a width and a seed: the line of this many random queries, or the first reason why the
+-- grid has no book under the method; it uses no file and not the owner's disk
 abbrev pub EndsSurvey : ℕ → ℕ → ℕ → ℕ → Ending
 EndsSurvey width seed method queries (Ok Done) text =
     IsSurveyLine (grid_of width seed) (survey_settings method seed)

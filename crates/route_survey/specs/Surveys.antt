@@ -1,5 +1,5 @@
--- What a survey writes.
--- Source: this program's profile. Yiu, Lin and Mouratidis, ICDE 2010, run methods on drawn queries.
+-- The output of a survey. Source: this program's profile. Yiu, Lin and Mouratidis, ICDE 2010, measure methods with
+-- random queries.
 use Rattle.std.specs.Prelude.{◌≡◌, ℕ, Ok, Some, List, [], ◌∷◌, ◌++◌, length, codes, replicate}
 use Rattle.std.specs.List.{sum_by, concat}
 use Rattle.std.specs.Option.{unwrap_or}
@@ -21,19 +21,18 @@ use Rattle.near_proof.specs.Honest.{AreAccepted}
 use Rattle.route_survey.specs.declared.errors.SurveyError.{SurveyError}
 use Rattle.route_survey.specs.declared.errors.SurveyError.TheVariants.{Plan, Memory}
 
--- the key that a survey makes in memory: of height 5, with an identifier and a seed of zeros
+-- the key that a survey makes in memory: it has height 5, and its identifier and seed are zeros
 abbrev pub survey_key : KeyOf
 survey_key = record { kind = 5; i = replicate 16 0; seed = replicate 32 0 }
 
--- the line of a survey: how many queries, how many were accepted, their lengths' total, and a
--- digest
+-- the line of a survey: the number of queries, the number accepted, the sum of their lengths, and a digest
 abbrev pub survey_line : ℕ → ℕ → ℕ → List ℕ → List ℕ
 survey_line queries accepted total digest =
     codes "queries " ++ decimal queries ++ codes " accepted " ++ decimal accepted ++ codes " total "
     ++ decimal total ++ codes " digest " ++ encode_lower digest ++ codes "\n"
 
--- the publication that a survey makes of parts and settings: with the header of their book, and the
--- signature of that by slot 0 of the survey's key, which is good
+-- the publication that a survey makes of parts and settings: it has the header of their book, and a valid signature
+-- of this header by slot 0 of the survey's key
 pub record IsSurveyed (parts : Parts) (s : Settings) (p : Publication) : Type 0 where
   pub of_parts : p.parts ≡ parts
   pub of_settings : p.settings ≡ s
@@ -42,25 +41,23 @@ pub record IsSurveyed (parts : Parts) (s : Settings) (p : Publication) : Type 0 
   pub good : verified (public_key survey_key) (header_text p.header) p.signature ≡ Ok tt
   pub fits : publication.Fits p
 
--- an honest reply to a query over a publication, which a client with the survey's public key
--- accepts
+-- an honest reply to a query over a publication, which a client with the survey's public key accepts
 pub record IsAnswered (p : Publication) (q : Query) (reply : List ℕ) : Type 0 where
   pub honest : IsHonest sha256 sha256 p q reply
   pub accepted : AreAccepted sha256 (public_key survey_key) [] reply q 1 p.parts
 
--- one to each query, in turn
+-- one such reply to each query, in turn
 abbrev pub AllAnswered : Publication → List Query → List (List ℕ) → Type 0
 AllAnswered p [] [] = Unit {0}
 AllAnswered p (q ∷ queries) (reply ∷ replies) = IsAnswered p q reply × AllAnswered p queries replies
 AllAnswered p queries replies = ⊥
 
--- the length of a shortest walk between a query's ends, which some walk joins
+-- the length of a shortest walk between a query's ends, which a walk joins
 abbrev pub length_of : Parts → Query → ℕ
 length_of parts q = unwrap_or (distance parts q.from q.to) 0
 
--- The line of a survey over some parts: each query is answered and accepted, the total is that of
--- the lengths of shortest walks, and the digest is of the publication and of all replies, in their
--- order.
+-- The line of a survey over some parts. Each query is answered, and its reply accepted. The sum is that of the
+-- lengths of shortest walks. The digest is that of the publication followed by all replies in their order.
 pub record IsSurveyLine (parts : Parts) (s : Settings) (queries : List Query)
     (text : List ℕ) : Type 0 where
   pub made : Publication
@@ -70,7 +67,7 @@ pub record IsSurveyLine (parts : Parts) (s : Settings) (queries : List Query)
   pub line : text ≡ survey_line (length queries) (length queries) (sum_by (length_of parts) queries)
       (sha256 (publication_text made ++ concat replies))
 
--- why there is none: the settings make no book of the parts, for this first reason
+-- why there is no survey: the parts have no book under the settings, for this first reason
 abbrev pub WhyNoSurvey : Parts → Settings → SurveyError → Type 0
 WhyNoSurvey parts s (Plan e) = plan_fault (kind_of s.method) parts s ≡ Some e
 WhyNoSurvey parts s (Memory _) = Unit {0}

@@ -1,4 +1,4 @@
--- What a survey has counted.
+-- The counts of a survey.
 use Rattle.std.specs.Prelude.{◌≡◌, ℕ, ◌+◌, ◌≤◌, List, ◌++◌, length}
 use Rattle.std.specs.List.{sum_by, concat}
 use Rattle.sha2.specs.Sha256.{sha256}
@@ -14,13 +14,13 @@ use Rattle.near_proof.specs.Honest.{IsSigned}
 use Rattle.route_survey.specs.Surveys.{survey_key, IsSurveyed, IsAnswered, AllAnswered, length_of}
 use Rattle.route_survey.specs.declared.tally.Tally.{Tally}
 
--- a publication of version 1 or a later one is held that the survey's key has signed
+-- an installed publication of version 1 or later, signed by the survey's key
 pub record IsAskable (k : Kept) : Type 0 where
   pub signed : IsSigned sha256 sha256 (public_key survey_key) (publication_in sha256 k)
   pub version : 1 ≤ (publication_in sha256 k).header.version
   pub short : length k.signature ≤ 1452
 
--- one query more was answered and accepted
+-- one more query was answered, and its reply accepted
 pub record CountsOne (p : Publication) (q : Query) (old new : Tally) : Type 0 where
   pub reply : List ℕ
   pub answered : IsAnswered p q reply
@@ -28,7 +28,7 @@ pub record CountsOne (p : Publication) (q : Query) (old new : Tally) : Type 0 wh
   pub total : new.total ≡ old.total + length_of p.parts q
   pub digested : (text : List ℕ) → HoldsText old.hasher text → HoldsText new.hasher (text ++ reply)
 
--- all of these were
+-- all these queries were answered, and their replies accepted
 pub record CountsAll (p : Publication) (queries : List Query) (old new : Tally) : Type 0 where
   pub replies : List (List ℕ)
   pub answered : AllAnswered p queries replies
@@ -37,7 +37,7 @@ pub record CountsAll (p : Publication) (queries : List Query) (old new : Tally) 
   pub digested : (text : List ℕ) → HoldsText old.hasher text →
       HoldsText new.hasher (text ++ concat replies)
 
--- what a survey has counted over its publication
+-- the counts of a survey over its publication
 pub record IsTallied (p : Publication) (queries : List Query) (tally : Tally) : Type 0 where
   pub replies : List (List ℕ)
   pub answered : AllAnswered p queries replies
@@ -45,7 +45,7 @@ pub record IsTallied (p : Publication) (queries : List Query) (tally : Tally) : 
   pub total : tally.total ≡ sum_by (length_of p.parts) queries
   pub digested : HoldsText tally.hasher (publication_text p ++ concat replies)
 
--- what a survey of parts by some settings has counted, over the publication that it made of these
+-- the counts of a survey of parts and settings, over the publication that it made from them
 pub record IsCounted (parts : Parts) (s : Settings) (queries : List Query)
     (tally : Tally) : Type 0 where
   pub made : Publication

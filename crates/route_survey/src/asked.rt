@@ -1,4 +1,4 @@
-//! What a survey asks for, and by which settings it publishes.
+//! The queries of a survey, and the settings of its publication.
 ghost use Rattle.std.specs.Prelude.{◌≡◌, ◌<◌, ◌≤◌, IfOk};
 ghost use Rattle.road_reader.specs.Grid.{after_draws};
 ghost use Rattle.route_survey.specs.Asked.{id_drawn, query_drawn, survey_queries, survey_settings, parameters_of};
@@ -8,7 +8,7 @@ use octet_text::{NoMemory, push};
 use road_reader::Draw;
 use std::alloc::Global;
 
-/// The settings of a survey by a method.
+/// Returns the settings of a survey of a method.
 pub fn survey_settings(method: u8, seed: u64) -> Settings
     ensures { result ≡ survey_settings method seed }
 {
@@ -25,7 +25,7 @@ pub fn survey_settings(method: u8, seed: u64) -> Settings
     }
 }
 
-/// A method's three parameters.
+/// Returns a method's three parameters.
 fn parameters(method: u8) -> (u64, u64, u64)
     ensures { result ≡ parameters_of method }
 {
@@ -36,7 +36,7 @@ fn parameters(method: u8) -> (u64, u64, u64)
     }
 }
 
-/// So many queries between the nodes of a grid, drawn from the seed after the grid's.
+/// Draws `count` queries between the nodes of a grid, from the random numbers that follow those of the grid.
 #[tactic(auto, unfolding(crate::specs::Asked::survey_queries))]
 pub fn survey_queries(
     alloc: Global,
@@ -58,7 +58,7 @@ pub fn survey_queries(
     Ok(queries)
 }
 
-/// The next query among as many ids.
+/// Draws the next query among ids from 1 to `count`.
 fn next_query(draw: &mut Draw, count: u32) -> Query
     requires some { 0 < count }
     requires few { count ≤ 65536 }
@@ -70,7 +70,7 @@ fn next_query(draw: &mut Draw, count: u32) -> Query
     Query { from, to }
 }
 
-/// The next id among as many.
+/// Draws the next id from 1 to `count`.
 fn next_id(draw: &mut Draw, count: u32) -> u32
     requires some { 0 < count }
     requires few { count ≤ 65536 }

@@ -1,4 +1,4 @@
-//! The queries of a survey: each is answered by the server and checked by a client.
+//! Answering and checking the queries of a survey.
 ghost use Rattle.std.specs.Prelude.{◌≡◌, ℕ, ◌+◌, ◌*◌, ◌^◌, ◌<◌, ◌≤◌, Some, All, IfOk, OnOk, length};
 ghost use Rattle.octet_text.specs.Want.{no_memory};
 ghost use Rattle.sha2.specs.Sha256.{sha256};
@@ -18,14 +18,14 @@ use route_client::{CheckError, Checked, check};
 use route_server::Held;
 use std::alloc::Global;
 
-/// A reply, and the length of the route that it brings.
+/// A reply, and the length of its route.
 #[derive(Drop)]
 struct Answered {
     reply: Vec<u8>,
     length: u64,
 }
 
-/// Out of memory, which is why an honest reply may not be accepted, and the only reason.
+/// Returns out of memory, which is the only reason why an honest reply may not be accepted.
 fn memory_of(error: CheckError) -> NoMemory
     requires { error ≡ CheckError.Memory no_memory }
 {
@@ -35,7 +35,7 @@ fn memory_of(error: CheckError) -> NoMemory
     }
 }
 
-/// The reply to a query whose ends a walk joins, and the length that a client accepts.
+/// Returns the reply to a query whose ends a walk joins, and the length that a client accepts.
 fn ask(
     alloc: Global,
     held: &Held<Sha>,
@@ -64,7 +64,7 @@ fn ask(
     }
 }
 
-/// Counts the reply to one query.
+/// Adds the reply to one query to the counts.
 fn count_one(
     alloc: Global,
     held: &Held<Sha>,
@@ -88,7 +88,7 @@ fn count_one(
     Ok(())
 }
 
-/// Counts the replies to all queries.
+/// Adds the replies to all queries to the counts.
 pub fn count_all(
     alloc: Global,
     held: &Held<Sha>,

@@ -10,7 +10,7 @@ use road_command::Survey;
 use road_io::Sink;
 use std::alloc::Global;
 
-/// Surveys a method over a grid, and writes the line. No file is loaded, and the owner's disk is not used.
+/// Surveys a method over a grid and writes the line. Loads no file and does not use the owner's disk.
 pub fn survey<K: Sink>(alloc: Global, sink: &mut K, asked: Survey) -> Result<Conclusion, Fault>
     ensures promised { PromisesWithoutFiles
         (EndsSurvey asked.width asked.seed asked.method asked.queries) NoDisk

@@ -1,10 +1,10 @@
-//! Why there is no survey.
+//! Why a survey was not made.
 
 use book_model::PlanError;
 use octet_text::NoMemory;
 use thiserror::Error;
 
-/// Why there is no survey. Out of memory is `Memory` alone, never inside another.
+/// Why a survey was not made. Out of memory is always `Memory` and never part of another error.
 #[derive(Clone, Copy, Debug, PartialEq, Eq, Error)]
 pub enum SurveyError {
     /// The grid has no book under the method, for this reason.

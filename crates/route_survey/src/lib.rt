@@ -1,5 +1,5 @@
-//! A survey: drawn queries over a grid, each answered by a server and checked by a client; and the
-//! command over no file that makes one.
+//! A survey: random queries over a grid, each of which a server answers and a client checks. This crate also has
+//! the command that makes a survey without any file.
 #![tactic(auto)]
 
 pub use commanding::survey;

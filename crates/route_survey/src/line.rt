@@ -5,8 +5,8 @@ ghost use Rattle.route_survey.specs.Surveys.{survey_line};
 use octet_text::{Digest32, NoMemory, hex_of, print};
 use std::alloc::Global;
 
-/// The line of a survey: the counts of its queries and of those that were accepted, the total of
-/// their lengths, and a digest in lower case hex.
+/// Returns the line of a survey: the number of its queries, the number of those accepted, the sum of their lengths,
+/// and a digest in lower-case hex.
 pub fn line_of_survey(
     alloc: Global,
     queries: u32,

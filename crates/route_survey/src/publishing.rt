@@ -1,4 +1,4 @@
-//! The publication of a survey: signed in memory, and held.
+//! The publication of a survey, which is signed in memory and installed.
 ghost use Rattle.std.specs.Prelude.{◌≡◌, ◌≤◌, IfOk, IfErr, Err};
 ghost use Rattle.octet_text.specs.Sha.{HoldsText};
 ghost use Rattle.sha2.specs.Sha256.{sha256};
@@ -19,8 +19,8 @@ use route_owner::make_signable;
 use route_server::{BuildError, Headed, Held, InstallError, server_laws};
 use std::alloc::Global;
 
-/// The key of a survey, of height 5 and made from zeros. Whoever knows that can sign by it, so it
-/// is a key for surveys alone.
+/// Returns the key of a survey, which has height 5 and is made from zeros. Anyone can sign with it, so it must only
+/// be used for surveys.
 pub fn survey_key(alloc: Global) -> Result<Key, NoMemory>
     ensures { IfOk result (λ key. key ≡ survey_key) }
 {
@@ -31,7 +31,7 @@ pub fn survey_key(alloc: Global) -> Result<Key, NoMemory>
     }
 }
 
-/// The publication of parts and settings, signed by slot 0 of the survey's key.
+/// Signs the publication of parts and settings with slot 0 of the survey's key.
 fn sign(
     alloc: Global,
     key: &Key,
@@ -55,8 +55,8 @@ fn sign(
     })
 }
 
-/// The publication of a grid, signed by slot 0 of the survey's key. No key on a disk signs, and the
-/// signature stays in memory.
+/// Signs the publication of a grid with slot 0 of the survey's key. No key on a disk is used, and the signature
+/// stays in memory.
 pub fn sign_grid(
     alloc: Global,
     key: &Key,
@@ -85,7 +85,7 @@ pub fn sign_grid(
     }
 }
 
-/// A hasher that was given the publication's octets.
+/// Returns a hasher that has taken the publication's octets.
 pub fn hash_publication(alloc: Global, signed: &Publication) -> Result<Sha, NoMemory>
     requires { publication.Fits signed.now }
     ensures { IfOk result (λ hasher. HoldsText hasher (publication_text signed.now)) }
@@ -96,7 +96,7 @@ pub fn hash_publication(alloc: Global, signed: &Publication) -> Result<Sha, NoMe
     Ok(hasher)
 }
 
-/// The book of a publication whose header is that of its book.
+/// Installs a publication whose header is that of its book.
 pub fn install(alloc: Global, publication: Publication) -> Result<Held<Sha>, NoMemory>
     requires { HasHeader sha256 sha256 publication.parts publication.settings publication.header }
     ensures { IfOk result (λ held. publication_in sha256 held ≡ publication) }

@@ -21,7 +21,7 @@ use proof_octets::{Publication, range_laws};
 use road_reader::grid_laws;
 use std::alloc::Global;
 
-/// Counts the replies to all queries over a publication, which is installed.
+/// Returns the counts for the replies to all queries over an installed publication.
 fn count_installed(
     alloc: Global,
     public: &[u8; 56],
@@ -43,7 +43,7 @@ fn count_installed(
     count_all(alloc, &held, public, tally, queries)
 }
 
-/// What a survey counts over its publication.
+/// Returns the counts of a survey over its publication.
 fn count_over(
     alloc: Global,
     public: &[u8; 56],
@@ -67,7 +67,7 @@ fn count_over(
     Ok(tally)
 }
 
-/// What a survey counts over the publication that it makes of a grid.
+/// Returns the counts of a survey over the publication that it makes of a grid.
 fn count_grid(
     alloc: Global,
     width: u32,
@@ -89,7 +89,7 @@ fn count_grid(
     Ok(tally)
 }
 
-/// The line of what was counted over so many queries.
+/// Returns the line of these counts for `queries` queries.
 fn line_of_tally(alloc: Global, queries: u32, tally: Tally) -> Result<Vec<u8>, NoMemory>
     ensures { IfOk result (λ line. (text : List ℕ) → HoldsText tally.hasher text →
         line.items ≡ survey_line queries tally.accepted tally.total (sha256 text)) }
@@ -102,11 +102,11 @@ fn line_of_tally(alloc: Global, queries: u32, tally: Tally) -> Result<Vec<u8>, N
     line_of_survey(alloc, queries, accepted, total, &hasher.end())
 }
 
-/// Surveys a method over a grid: publishes the grid of a width and a seed in memory, answers so many
-/// drawn queries, checks each reply as a client does, and answers the line of the counts.
+/// Surveys a method over a grid. Publishes the grid of a width and a seed in memory, answers `queries` random
+/// queries, checks each reply as a client does, and returns the line of the counts.
 ///
-/// All replies are accepted: a grid is a map, and a walk joins any two of its nodes. `Plan` comes
-/// exactly where the grid has no book under the method.
+/// All replies are accepted, because a grid is a map and a walk joins any two of its nodes. Fails with `Plan`
+/// exactly if the grid has no book under the method.
 pub fn survey_method(
     alloc: Global,
     width: u32,

@@ -1,8 +1,8 @@
-//! What a survey counts.
+//! The counts of a survey.
 
 use octet_text::Sha;
 
-/// What a survey has counted: the accepted replies, the sum of their lengths, and the hash of the
+/// The counts of a survey: the number of accepted replies, the sum of their lengths, and the hash of the
 /// publication and of all replies so far.
 #[derive(Drop)]
 pub struct Tally {

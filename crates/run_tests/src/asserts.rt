@@ -1,9 +1,9 @@
-//! Assertions in functions of their own, so that the proof of a test has one call for each.
+//! Assertions as functions. The proof of a test then has one call for each assertion.
 
 use std::fmt::Debug;
 use std::process::Abort;
 
-/// Asserts that what was found at a command line is what is wanted.
+/// Asserts that the value for a command line is the expected one.
 pub(crate) fn assert_same<T: Debug + PartialEq>(
     rt: &impl Abort,
     line: &str,
@@ -13,7 +13,7 @@ pub(crate) fn assert_same<T: Debug + PartialEq>(
     assert_eq!(rt; found, wanted, "at {line}");
 }
 
-/// The same of octets.
+/// Asserts that the octets for a command line are the expected ones.
 pub(crate) fn assert_octets(rt: &impl Abort, line: &str, found: &[u8], wanted: &[u8]) {
     assert_eq!(rt; found, wanted, "at {line}");
 }

@@ -1,5 +1,4 @@
-//! Tests of `run`, and of what standard error says of its ends, over objects in memory: what no
-//! clause says.
+//! Tests of `run`, and of the messages about its ends, over objects in memory: facts that no clause states.
 #![tactic(auto)]
 
 #[cfg(test)]

@@ -1,4 +1,4 @@
-//! An owner, a server and a client, each by its commands over objects in memory.
+//! An owner, a server and a client, each of whom uses the party's commands over objects in memory.
 
 use crate::asserts::{assert_octets, assert_same};
 use book_model::PlanError;
@@ -17,8 +17,8 @@ use test_maps::FIVE_NODES;
 pub(crate) const ZEROS: &str =
     "000000000000000000000000000000000000000000000000000000000000000000000000000000000000000000000000";
 
-/// What `desk` writes of the key of the kind h5 of 48 zero octets, after two publications. An
-/// independent implementation makes this public key.
+/// The output of `desk` after two publications, for the key of kind h5 made from 48 zero octets. An independent
+/// implementation makes this public key.
 const TWO_USED: &str =
     "000000050000000400000000000000000000000000000000829887511085dc8b9946d97b20163fe2ab4385e734979f535139cabe33cd694f 29 31\n";
 
@@ -29,7 +29,7 @@ const OTHER_KEY: &str =
 /// Publishes the road file in version 3 under DIJ.
 pub(crate) const PUBLISH: &str = "publish map.roads dij 3 id 0 2 0 0 0";
 
-/// The arguments of a line.
+/// Returns the arguments of a line.
 pub(crate) fn words_of(rt: &impl Abort, alloc: Global, line: &str) -> Result<Words, Fail> {
     let mut words = Words::new(alloc);
     for word in line.split(' ') {
@@ -48,7 +48,7 @@ pub(crate) struct World {
     mirrors: Vec<MemMirror>,
 }
 
-/// A world with a road file, a secret and an empty disk.
+/// Makes a world with a road file, a secret and an empty disk.
 fn new_world(alloc: Global) -> Result<World, Fail> {
     let mut library = MemLibrary::new(alloc, Vec::new(alloc));
     library.put("map.roads", FIVE_NODES.as_bytes())?;
@@ -61,7 +61,7 @@ fn new_world(alloc: Global) -> Result<World, Fail> {
     })
 }
 
-/// How a command line ends over a world, with this output.
+/// Returns how a command line ends over a world, with this output.
 fn ended(
     rt: &impl Abort,
     alloc: Global,
@@ -82,7 +82,7 @@ fn ended(
     ))
 }
 
-/// Runs a command line, compares how it ends, and answers what it has written.
+/// Runs a command line, compares how it ends, and returns what it has written.
 pub(crate) fn written(
     rt: &impl Abort,
     alloc: Global,
@@ -112,7 +112,7 @@ pub(crate) fn assert_written(
     Ok(())
 }
 
-/// Runs a command line that ends well, and keeps what it has written under a name.
+/// Runs a command line, which must succeed, and stores its output under a name.
 fn keep(
     rt: &impl Abort,
     alloc: Global,
@@ -125,7 +125,7 @@ fn keep(
     Ok(())
 }
 
-/// The world of an owner with a key, a publication that this line makes, and a reply.
+/// Makes the world of an owner with a key, a publication that this line makes, and a reply.
 pub(crate) fn published(rt: &impl Abort, alloc: Global, publish: &str) -> Result<World, Fail> {
     let mut world = new_world(alloc)?;
     keep(rt, alloc, &mut world, "key", "key secret h5")?;
@@ -155,7 +155,7 @@ fn a_mirror_that_fails_is_lost_and_the_output_is_whole(rt: HostRuntime) -> Resul
     Ok(())
 }
 
-/// The same world with a later publication and another key.
+/// Makes the same world, with a later publication and another key.
 fn published_twice(rt: &impl Abort, alloc: Global) -> Result<World, Fail> {
     let mut world = published(rt, alloc, PUBLISH)?;
     keep(
@@ -256,7 +256,7 @@ fn words_of_no_command_are_refused(rt: HostRuntime) -> Result<(), Fail> {
     Ok(())
 }
 
-/// What `serve` writes to a session 7 of its own: that it has begun, and the reply of `prove`.
+/// Returns the frames that `serve` writes to its session 7: that the session has begun, and the reply of `prove`.
 fn answered(alloc: Global, reply: &[u8]) -> Result<Vec<u8>, Fail> {
     let mut octets = BEGUN.to_vec(alloc)?;
     octets.extend_from_slice(b"\x00\x00\x06\x4d\x82\x07")?;
@@ -264,11 +264,10 @@ fn answered(alloc: Global, reply: &[u8]) -> Result<Vec<u8>, Fail> {
     Ok(octets)
 }
 
-/// The frame of the reply to what begins the session 7, over version 3.
+/// The reply, as a frame, to the frame that begins session 7 over version 3.
 const BEGUN: &[u8] = b"\x00\x00\x00\x0a\x81\x07\x00\x00\x00\x00\x00\x00\x00\x03";
 
-/// Compares what `serve` writes, over the publication, to what begins the session 7 and more
-/// octets.
+/// Compares the output of `serve` over the publication, for the frame that begins session 7 and more octets.
 fn assert_served(
     rt: &impl Abort,
     alloc: Global,
@@ -297,7 +296,8 @@ fn frames_are_answered(rt: HostRuntime) -> Result<(), Fail> {
     assert_served(&rt, alloc, &mut world, b"\x00\x40\x00\x01", BEGUN, 3, long)
 }
 
-/// Keeps the replies on the radius 0, 4 and the greatest, and the second with one more octet.
+/// Stores the replies for the radius 0, for 4 and for the greatest radius, and the second reply with one more
+/// octet.
 fn reached(rt: &impl Abort, alloc: Global) -> Result<World, Fail> {
     let mut world = published(rt, alloc, PUBLISH)?;
     keep(rt, alloc, &mut world, "here", "reach pub 1 0")?;

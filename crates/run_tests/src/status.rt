@@ -1,5 +1,5 @@
-//! The statuses of a run that no other test meets, and the faults after them, over objects in
-//! memory that fail as planned and over desks that were changed by hand.
+//! Those statuses of a run that no other test covers, and their faults. The objects in memory fail as planned, and
+//! the desks were altered by hand.
 
 use crate::asserts::assert_same;
 use crate::parties::{PUBLISH, World, assert_written, published, words_of, written};
@@ -16,7 +16,7 @@ use std::alloc::Global;
 use std::process::Abort;
 use std::test::Fail;
 
-/// Which object fails at its first call.
+/// The object that fails at its first call.
 #[derive(Clone, Copy)]
 enum Failing {
     Library,
@@ -25,7 +25,7 @@ enum Failing {
     Disk,
 }
 
-/// The plan of an object that fails at its first call, or at none.
+/// Returns the plan of an object that fails at its first call, or never.
 fn plan(alloc: Global, fails: bool) -> Result<Vec<u64>, Fail> {
     let mut plan = Vec::new(alloc);
     if fails {
@@ -34,7 +34,7 @@ fn plan(alloc: Global, fails: bool) -> Result<Vec<u64>, Fail> {
     Ok(plan)
 }
 
-/// A library of the same files, where it may fail at its first call.
+/// Makes a library of the same files, which may fail at its first call.
 fn copied(alloc: Global, world: &mut World, fails: bool) -> Result<MemLibrary, Fail> {
     let mut library = MemLibrary::new(alloc, plan(alloc, fails)?);
     for name in ["map.roads", "secret", "key", "pub", "reply"] {
@@ -44,7 +44,7 @@ fn copied(alloc: Global, world: &mut World, fails: bool) -> Result<MemLibrary, F
     Ok(library)
 }
 
-/// How arguments end over a library, where another object may fail at its first call.
+/// Returns how arguments end over a library. Another object may fail at its first call.
 fn ended(
     alloc: Global,
     words: &Words,
@@ -69,7 +69,7 @@ fn ended(
     ))
 }
 
-/// Compares how a command line ends over a world's files, where one object fails at its first call.
+/// Compares how a command line ends over a world's files if one object fails at its first call.
 fn assert_ends(
     rt: &impl Abort,
     alloc: Global,
@@ -107,7 +107,7 @@ fn an_object_that_fails_is_told_by_its_status(rt: HostRuntime) -> Result<(), Fai
     Ok(())
 }
 
-/// A road file of 257 nodes, with a road from the first to each other.
+/// Returns a road file of 257 nodes, with a road from the first node to each of the others.
 fn crowded(alloc: Global) -> Result<String, Fail> {
     let mut text = "roads 1\nnode 1 0 0\n".to_string(alloc)?;
     for id in 2..258u32 {
@@ -119,7 +119,7 @@ fn crowded(alloc: Global) -> Result<String, Fail> {
     Ok(text)
 }
 
-/// The publication with another octet in the root of the nodes.
+/// Returns the publication with one octet of the node root replaced.
 fn wrong(alloc: Global, world: &mut World) -> Result<Vec<u8>, Fail> {
     let mut octets = world.library.load(alloc, "pub", 10_000)?;
     if let Some(octet) = octets.get_mut(30) {
@@ -128,7 +128,7 @@ fn wrong(alloc: Global, world: &mut World) -> Result<Vec<u8>, Fail> {
     Ok(octets)
 }
 
-/// A world with four files of a fault each.
+/// Makes a world with four files that have one fault each.
 fn faulty(rt: &impl Abort, alloc: Global) -> Result<World, Fail> {
     let mut world = published(rt, alloc, PUBLISH)?;
     let wrong = wrong(alloc, &mut world)?;
@@ -158,7 +158,7 @@ fn a_file_with_a_fault_is_refused(rt: HostRuntime) -> Result<(), Fail> {
     Ok(())
 }
 
-/// Puts octets on the owner's disk.
+/// Writes octets to the owner's disk.
 fn put(rt: &impl Abort, disk: &mut MemDisk, at: u64, octets: &[u8]) -> Result<(), Fail> {
     let len = disk.len()?;
     assert!(rt; at <= len);
@@ -185,7 +185,7 @@ fn a_desk_that_cannot_sign_is_told_by_its_status(rt: HostRuntime) -> Result<(), 
 fn a_key_of_no_kind_is_told_by_its_status(rt: HostRuntime) -> Result<(), Fail> {
     let alloc = rt.alloc();
     let mut world = published(&rt, alloc, PUBLISH)?;
-    // No key is of the kind 9.
+    // No key has the kind 9.
     put(&rt, &mut world.disk, 1, &[0, 0, 0, 9])?;
     for line in ["desk", PUBLISH, "links", "audit key pub reply 1 3"] {
         let bad = Some(Fault::BadBlock);
@@ -194,7 +194,7 @@ fn a_key_of_no_kind_is_told_by_its_status(rt: HostRuntime) -> Result<(), Fail> {
     Ok(())
 }
 
-/// Puts the publication and the reply of one world into another.
+/// Copies the publication and the reply of one world into another.
 fn hand_over(alloc: Global, from: &mut World, to: &mut World) -> Result<(), Fail> {
     for name in ["pub", "reply"] {
         let octets = from.library.load(alloc, name, 10_000)?;

@@ -1,4 +1,4 @@
-//! A table of what standard error says of runs over objects in memory.
+//! A table of messages on runs over objects in memory.
 
 use crate::asserts::assert_octets;
 use crate::parties::{ZEROS, words_of};
@@ -16,7 +16,7 @@ use std::process::Abort;
 use std::test::Fail;
 use test_maps::FIVE_NODES;
 
-/// The files that the command lines name.
+/// Makes the files that the command lines name.
 fn files(alloc: Global) -> Result<MemLibrary, Fail> {
     let mut library = MemLibrary::new(alloc, Vec::new(alloc));
     library.put("map.roads", FIVE_NODES.as_bytes())?;
@@ -28,7 +28,7 @@ fn files(alloc: Global) -> Result<MemLibrary, Fail> {
     Ok(library)
 }
 
-/// What is known of a run that asked for this file last, which was not there where nothing was kept of it.
+/// Returns the facts of a run that loaded this file last. If no content was kept, the file did not exist.
 fn facts_of<'a>(name: &'a str, file: Content<'a>, line: &'a [u8]) -> Facts<'a> {
     Facts {
         name,
@@ -43,7 +43,7 @@ fn facts_of<'a>(name: &'a str, file: Content<'a>, line: &'a [u8]) -> Facts<'a> {
     }
 }
 
-/// What is said of words over those files and a desk without a key.
+/// Returns the message about a run with these words, over those files and a desk without a key.
 fn told_of_run(alloc: Global, words: &Words, name: &str) -> Result<String, Fail> {
     let mut library = KeptLibrary::new(alloc, files(alloc)?, 1000);
     let mut sink = KeptSink::new(MemSink::new(alloc, 1000, 1000, Vec::new(alloc))?);
@@ -66,7 +66,7 @@ fn told_of_run(alloc: Global, words: &Words, name: &str) -> Result<String, Fail>
     told(alloc, words, ended, facts_of(name, file, sink.front()))
 }
 
-/// What is said of an end.
+/// Returns the message about an end.
 fn told(alloc: Global, words: &Words, ended: Ended, facts: Facts<'_>) -> Result<String, Fail> {
     match message_on(words, ended, facts) {
         Some(message) => Ok(format!(in alloc; "{message}")?),
@@ -74,7 +74,7 @@ fn told(alloc: Global, words: &Words, ended: Ended, facts: Facts<'_>) -> Result<
     }
 }
 
-/// Runs a command line over the files, and compares what is said of it.
+/// Runs a command line over the files, and compares the message.
 fn says(rt: &impl Abort, alloc: Global, line: &str, name: &str, wanted: &str) -> Result<(), Fail> {
     let words = words_of(rt, alloc, line)?;
     let text = told_of_run(alloc, &words, name)?;
@@ -164,7 +164,7 @@ fn of_a_secrets_file_no_octet_is_told(rt: HostRuntime) -> Result<(), Fail> {
     Ok(())
 }
 
-/// Compares what is said of a line that accepted the reply `r`, whose octets these are.
+/// Compares the message after this line accepted the reply `r`, which has these octets.
 fn says_of_accepted(
     rt: &impl Abort,
     alloc: Global,
@@ -181,7 +181,14 @@ fn says_of_accepted(
         alloc,
         &words,
         ended,
-        facts_of("r", Content::Octets(reply), b"accepted none\n"),
+        facts_of(
+            "r",
+            Content::Octets {
+                front: reply,
+                length: reply.len(),
+            },
+            b"accepted none\n",
+        ),
     )?;
     assert_octets(rt, line, text.as_bytes(), wanted.as_bytes());
     Ok(())
@@ -213,7 +220,7 @@ fn an_accepted_reply_without_a_route_is_told(rt: HostRuntime) -> Result<(), Fail
     Ok(())
 }
 
-/// Compares what is said of a run of a line that ended so, where each object has this error.
+/// Compares the message about a run that wrote this line and ended in this way, if each object has this error.
 fn assert_told(
     rt: &impl Abort,
     alloc: Global,

@@ -12,8 +12,8 @@ use std::alloc::Global;
 use std::process::Abort;
 use std::test::Fail;
 
-// A desk over a new key of zero octets, and its disk, whose device calls fail from this number on,
-// if any.
+// Makes a desk over a new key of zero octets, and the desk's disk. If `stop` is given, the disk's calls from this
+// number on fail.
 fn owner(alloc: Global, stop: Option<u64>) -> Result<(Desk, MemDisk), Fail>
     ensures fits { IfOk result (λ both. Fits ⟦<MemDisk as Disk>⟧ both.0 both.1) }
     ensures kind { IfOk result (λ both. both.0.key.kind ≡ 5) }
@@ -23,9 +23,9 @@ fn owner(alloc: Global, stop: Option<u64>) -> Result<(Desk, MemDisk), Fail>
     Ok((desk, disk))
 }
 
-// The disk of a signing that stops after three of its four device calls, and releases nothing.
+// Returns the disk of a signing that stops after three of its four calls to the disk and releases nothing.
 fn stopped(rt: &impl Abort, alloc: Global) -> Result<MemDisk, Fail> {
-    // Ten device calls make the key.
+    // Making the key takes ten calls to the disk.
     let (mut desk, mut disk) = owner(alloc, Some(13))?;
     let mut out = [0; 1292];
     let first = desk.sign(&mut disk, b"stopped", &mut out);
@@ -36,7 +36,7 @@ fn stopped(rt: &impl Abort, alloc: Global) -> Result<MemDisk, Fail> {
     Ok(disk)
 }
 
-// Where the next text is signed on such a disk after a crash, and whether the stopped one is.
+// After a crash of such a disk, returns the slot that signs the next text, and whether the stopped text is signed.
 fn next_after(alloc: Global, disk: MemDisk, pick: Pick) -> Result<(u32, bool), Fail> {
     let mut disk = disk.crash(pick);
     let mut desk = Desk::reopen(alloc, &mut disk)?;
@@ -46,22 +46,23 @@ fn next_after(alloc: Global, disk: MemDisk, pick: Pick) -> Result<(u32, bool), F
     Ok((slot, is_signed))
 }
 
-// Where the next text is signed after a signing that stopped and a crash, and whether the stopped
-// one is.
+// After a signing that stopped and a crash, returns the slot that signs the next text, and whether the stopped text
+// is signed.
 fn next_after_a_stop(rt: &impl Abort, alloc: Global, pick: Pick) -> Result<(u32, bool), Fail> {
     let disk = stopped(rt, alloc)?;
     next_after(alloc, disk, pick)
 }
 
-// Where a text is signed, and whether it is after a crash: the example of the crate `key_desk`.
+// Returns the slot that signs a text, and whether the text is signed after a crash. This is the example of the
+// crate `key_desk`.
 fn signed_before_a_crash(alloc: Global) -> Result<(u32, bool), Fail> {
-    // Any `Disk` serves, as one over a file; this one is in memory.
+    // Any `Disk` can be used, for example one over a file. This disk is in memory.
     let mut disk = MemDisk::new(alloc, 4160, 65_536, Vec::new(alloc), None)?;
     let mut desk = Desk::create(alloc, &mut disk, 5, &[0; 48])?;
     let mut signature = [0; 1292];
     let slot = desk.sign(&mut disk, b"version 1", &mut signature)?;
     verify(&desk.public(), b"version 1", &signature)?;
-    // The text stands after a crash, and its one-time key signs no other.
+    // The text is still signed after a crash, and its one-time key signs no other text.
     let mut disk = disk.crash(Pick::Old);
     let mut desk = Desk::reopen(alloc, &mut disk)?;
     let is_signed = desk.signed(&mut disk, b"version 1")?;
@@ -86,7 +87,7 @@ fn a_stopped_signing_uses_its_slot_or_none(rt: HostRuntime) -> Result<(), Fail> 
     Ok(())
 }
 
-// Signs so many times, and answers the last slot.
+// Signs as many texts as given, and returns the last slot.
 fn sign_often<D: Disk>(
     desk: &mut Desk,
     disk: &mut D,
@@ -143,7 +144,7 @@ fn take<D: Disk>(rt: &impl Abort, desk: &mut Desk, disk: &D) -> Ticket
     }
 }
 
-// Two tickets.
+// Takes two tickets.
 fn take_two<D: Disk>(rt: &impl Abort, desk: &mut Desk, disk: &D) -> (Ticket, Ticket)
     requires fits { Fits D.Disk desk.old disk.now }
     ensures fits { Fits D.Disk desk.new disk.now }
@@ -157,7 +158,7 @@ fn take_two<D: Disk>(rt: &impl Abort, desk: &mut Desk, disk: &D) -> (Ticket, Tic
     (first, second)
 }
 
-// Puts a text into the slot of a ticket.
+// Writes a text into the slot of a ticket.
 fn put<D: Disk>(
     rt: &impl Abort,
     ticket: Ticket,
@@ -182,7 +183,7 @@ fn put<D: Disk>(
     }
 }
 
-// Puts the texts of two tickets, side by side.
+// Writes the texts of two tickets that are held at the same time.
 fn put_two<D: Disk>(
     rt: &impl Abort,
     first: Ticket,
@@ -224,7 +225,7 @@ fn spend<D: Disk>(rt: &impl Abort, texted: Texted, desk: &mut Desk, disk: &mut D
     }
 }
 
-// Spends the slots of two texts, and seals the second first.
+// Spends the slots of two texts, and seals the second one first.
 fn seal_two<D: Disk>(
     rt: &impl Abort,
     first: Texted,
@@ -246,7 +247,7 @@ fn seal_two<D: Disk>(
     assert_same(rt, &first.seal(desk, disk, out), &0);
 }
 
-// Whether each of two texts is signed on a disk after a crash.
+// After a crash, tests for each of two texts whether it is signed on a disk.
 fn are_signed(alloc: Global, disk: MemDisk) -> Result<(bool, bool), Fail> {
     let mut disk = disk.crash(Pick::Old);
     let mut desk = Desk::reopen(alloc, &mut disk)?;
@@ -280,8 +281,8 @@ fn a_key_of_an_unknown_kind_is_not_opened(rt: HostRuntime) -> Result<(), Fail> {
     Ok(())
 }
 
-// The disk of an owner whose first key has signed 31 texts, and the public key of its next, before
-// a crash.
+// Returns the disk of an owner whose first key has signed 31 texts, and the public key of the next key, before a
+// crash.
 fn followed(alloc: Global) -> Result<(MemDisk, [u8; 56]), Fail> {
     let (mut desk, mut disk) = owner(alloc, None)?;
     sign_often(&mut desk, &mut disk, &mut [0; 1292], 31)?;

@@ -1,4 +1,4 @@
-//! Tests of signatures and of the desk: worked rows, outside vectors, and what no clause says.
+//! Tests of signatures and of the desk: worked examples, outside vectors, and facts that no clause states.
 #![tactic(auto)]
 
 #[cfg(test)]
@@ -11,3 +11,5 @@ mod reducing;
 mod signatures;
 #[cfg(test)]
 mod standard;
+#[cfg(test)]
+mod turned;

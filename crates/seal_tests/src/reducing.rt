@@ -1,4 +1,4 @@
-//! What no clause says: the values of an independent program, a collision over the hash for tests, and texts
+//! Facts that no clause states: the values of an independent program, a collision of the hash for tests, and texts
 //! of refusals.
 use crate::asserts::{assert_octets, assert_same};
 use lms_reduce::{ReduceError, Reduced, highest_meeting, meeting, reduce};
@@ -9,7 +9,7 @@ use std::fmt::Write;
 use std::process::Abort;
 use std::test::Fail;
 
-// The key of height 5 whose I and SEED are the octets 0 to 47.
+// Makes the key of height 5 whose I and SEED are the octets 0 to 47.
 fn key_of_rising_octets(alloc: Global) -> Result<Key, KeyError> {
     let mut i = [0; 16];
     for place in 0..16u8 {
@@ -22,7 +22,7 @@ fn key_of_rising_octets(alloc: Global) -> Result<Key, KeyError> {
     Key::build(alloc, 5, &i, &seed)
 }
 
-// A signature that the key makes, past the desk that keeps count of its slots.
+// Makes a signature with the key. Bypasses the desk, which counts the slots.
 fn signature(rt: &impl Abort, key: &Key, slot: u32, text: &[u8]) -> [u8; 1292] {
     assert!(rt; key.kind() == 5 && slot < 32);
     let mut sig = [0; 1292];
@@ -30,7 +30,7 @@ fn signature(rt: &impl Abort, key: &Key, slot: u32, text: &[u8]) -> [u8; 1292] {
     sig
 }
 
-// The octets in hex.
+// Returns the octets in hex.
 fn hex(alloc: Global, octets: &[u8]) -> Result<String, Fail> {
     let mut text = String::new(alloc);
     for octet in octets {
@@ -39,8 +39,9 @@ fn hex(alloc: Global, octets: &[u8]) -> Result<String, Fail> {
     Ok(text)
 }
 
-// The reference computes these (`checks/sources.py`): a slot that holds nothing, one that holds another text, one where
-// three digits are not lesser, and a text of no octets, of which a secret value is shown.
+// The reference computes these values (`checks/sources.py`) in four cases: a slot that holds nothing; a slot that
+// holds another text; a slot where three digits are not less; and an empty text, whose signature shows a secret
+// value.
 #[test]
 fn forgeries_show_what_an_independent_program_says(rt: HostRuntime) -> Result<(), Fail> {
     let alloc = rt.alloc();
@@ -135,14 +136,14 @@ fn signed_texts_and_bad_signatures_are_refused(rt: HostRuntime) -> Result<(), Fa
     Ok(())
 }
 
-// The digest of a text by the hash for tests.
+// Returns the digest of a text under the hash for tests.
 fn digest_of(text: &[u8]) -> Digest32 {
     let mut hasher = Toy::start();
     hasher.add(text);
     hasher.end()
 }
 
-// A digest whose first two octets are these.
+// Returns a digest that begins with these two octets.
 fn digest(first: u8, second: u8) -> Digest32 {
     let mut digest = [0; 32];
     digest[0] = first;
@@ -166,8 +167,8 @@ fn values_with_one_sum_meet_in_the_next_step(rt: HostRuntime) -> Result<(), Fail
     Ok(())
 }
 
-// Ways from leaf 5 of a tree of height 2: they differ at the leaf and at the root's children, and meet above
-// each.
+// Two paths from leaf 5 of a tree of height 2. They differ at the leaf and at the root's children, and meet above
+// each of these levels.
 #[test]
 fn the_meeting_nearest_to_the_root_is_found(rt: HostRuntime) -> Result<(), Fail> {
     let (left, right) = (digest(1, 2), digest(2, 1));

@@ -9,7 +9,7 @@ use std::fmt::Write;
 use std::process::Abort;
 use std::test::Fail;
 
-// The octets in hex.
+// Returns the octets in hex.
 fn hex(alloc: Global, octets: &[u8]) -> Result<String, Fail> {
     let mut text = String::new(alloc);
     for octet in octets {
@@ -85,10 +85,10 @@ const BY_1024: [(u32, &str, &str); 3] = [
     ),
 ];
 
-// A slot, a text, and the SHA-256 of the signature.
+// A slot, a text, and the SHA-256 digest of the signature.
 type Row = (u32, &'static str, &'static str);
 
-// The signature of a row has this digest, and is verified.
+// Asserts that the signature of a row has this digest and verifies.
 fn is_signed_as(
     rt: &impl Abort,
     alloc: Global,
@@ -108,15 +108,15 @@ fn is_signed_as(
     Ok(())
 }
 
-// The public key in hex.
+// Asserts the public key in hex.
 fn has_public(rt: &impl Abort, alloc: Global, key: &Key, public: &str) -> Result<(), Fail> {
     let found = hex(alloc, &key.public())?;
     assert_octets(rt, found.as_bytes(), public.as_bytes());
     Ok(())
 }
 
-// The public keys, and the SHA-256 of whole signatures, that Bouncy Castle makes of the same I and
-// SEED: `checks/lms/run` prints them.
+// The public keys, and the SHA-256 digests of whole signatures, that Bouncy Castle makes from the same I and SEED,
+// as `checks/lms/run` prints them.
 #[test]
 fn keys_and_signatures_of_height_5_are_bouncy_castles(rt: HostRuntime) -> Result<(), Fail> {
     let key = Key::build(rt.alloc(), 5, &[0; 16], &[0; 32])?;
@@ -128,7 +128,7 @@ fn keys_and_signatures_of_height_5_are_bouncy_castles(rt: HostRuntime) -> Result
     Ok(())
 }
 
-// The same of height 10.
+// The same for height 10.
 #[test]
 fn keys_and_signatures_of_height_10_are_bouncy_castles(rt: HostRuntime) -> Result<(), Fail> {
     let key = Key::build(rt.alloc(), 6, &[0; 16], &[0; 32])?;
@@ -152,18 +152,18 @@ fn the_standards_key_is_made(rt: HostRuntime) -> Result<(), Fail> {
     has_public(&rt, rt.alloc(), &key, public)
 }
 
-// The signature of "abc" by the last slot of a key of zero octets, and its public key.
+// Returns the signature of "abc" by the last slot of a key of zero octets, and its public key.
 fn sealed(alloc: Global) -> Result<([u8; 56], [u8; 1292]), Fail> {
     let key = Key::build(alloc, 5, &[0; 16], &[0; 32])?;
     let mut signature = [0; 1292];
-    // Of this key's 32 one-time keys the last signs, and must sign no other text, ever.
+    // This key has 32 one-time keys. The last one signs here, and must never sign another text.
     key.sign_into(31, b"abc", &mut signature);
     let public = key.public();
     verify(&public, b"abc", &signature)?;
     Ok((public, signature))
 }
 
-// Compares what a client says of "abc" and such a signature under a key.
+// Compares the verdict on "abc" and such a signature under a key.
 fn says(rt: &impl Abort, public: &[u8], sig: &[u8], verdict: Result<(), SealError>) {
     assert_same(rt, &verify(public, b"abc", sig), &verdict);
 }
@@ -176,7 +176,7 @@ fn each_fault_has_its_answer(rt: HostRuntime) -> Result<(), Fail> {
     assert_same(&rt, &other_text, &Err(SealError::NoMatch));
     says(&rt, &public, &[0; 1291], Err(SealError::BadForm));
     says(&rt, &[0; 55], &sig, Err(SealError::BadKey));
-    // The number 32 of no leaf.
+    // No leaf has the number 32.
     sig[3] = 0x20;
     says(&rt, &public, &sig, Err(SealError::BadForm));
     Ok(())

@@ -1,5 +1,5 @@
-//! RFC 8554, Appendix F, test case 1: two signatures whose randomisers were drawn, are good, and are not
-//! where a bit of a field is turned. The octets are those of the reference (`checks/sources.py`).
+//! RFC 8554, Appendix F, test case 1: two signatures with random randomisers verify. They do not verify after a bit
+//! of a field is flipped. The octets are those of the reference (`checks/sources.py`).
 use crate::asserts::assert_same;
 use lms_tree::{SealError, verify};
 
@@ -11,7 +11,7 @@ pub const FIRST_PUBLIC: [u8; 56] = [
     0x43, 0x4c, 0xb2, 0xb8, 0x78,
 ];
 
-/// The key of the second level, which the first signature is of.
+/// The key of the second level, which the first signature signs.
 pub const SECOND_PUBLIC: [u8; 56] = [
     0, 0, 0, 0x05, 0, 0, 0, 0x04, 0xd2, 0xf1, 0x4f, 0xf6, 0x34, 0x6a, 0xf9, 0x64, 0x56, 0x9f, 0x7d,
     0x6c, 0xb8, 0x80, 0xa1, 0xb6, 0x6c, 0x50, 0x04, 0x91, 0x7d, 0xa6, 0xea, 0xfe, 0x4d, 0x9e, 0xf6,
@@ -19,7 +19,7 @@ pub const SECOND_PUBLIC: [u8; 56] = [
     0xfe, 0xc5, 0x82, 0xd7, 0xab,
 ];
 
-/// The message, which the second signature is of.
+/// The message, which the second signature signs.
 pub const MESSAGE: [u8; 162] = [
     0x54, 0x68, 0x65, 0x20, 0x70, 0x6f, 0x77, 0x65, 0x72, 0x73, 0x20, 0x6e, 0x6f, 0x74, 0x20, 0x64,
     0x65, 0x6c, 0x65, 0x67, 0x61, 0x74, 0x65, 0x64, 0x20, 0x74, 0x6f, 0x20, 0x74, 0x68, 0x65, 0x20,
@@ -204,7 +204,7 @@ pub const SECOND_SIGNATURE: [u8; 1292] = [
     0xa0, 0x7d, 0xd5, 0x6c, 0x73, 0xe7, 0xee,
 ];
 
-// What is said of the second signature where the lowest bit of an octet is turned.
+// The verdict on the second signature after the lowest bit of an octet is flipped.
 const TURNED: [(usize, SealError); 8] = [
     (0, SealError::BadForm),
     (3, SealError::NoMatch),
@@ -232,7 +232,8 @@ fn the_standards_signatures_are_good(rt: HostRuntime) {
     assert_same(&rt, &other_level, &Err(SealError::NoMatch));
 }
 
-// Octet, number and types, randomiser, first and last value of a chain, and the end of the path.
+// The octets lie in the number and the types, the randomiser, the first and the last value of a chain, and the end
+// of the path.
 #[test]
 fn a_turned_bit_of_each_field_is_refused(rt: HostRuntime) {
     for (at, why) in TURNED {

@@ -1,4 +1,4 @@
--- A guard's files: what is read of them, and which were asked for.
+-- The files of a guard: the values read from them, and which files were loaded.
 use Rattle.std.proofs.Common.{◌≡◌, ℕ, suc, List, [], ◌∷◌, ◌++◌, take, refl, ap, subst, ◌∙◌, arith, IfSome, IfNone}
 use Rattle.std.specs.declared.option.Option.{Option}
 use Rattle.std.specs.declared.option.Option.TheVariants.{None, Some}
@@ -19,7 +19,7 @@ use Rattle.command_files.proofs.Asked.{then_asked}
 use Rattle.command_files.proofs.Written.{over_both, moved}
 use Rattle.server_commands.specs.Guarding.{signed_of, guard_at}
 
--- one name that was asked for, and a prefix of others after it
+-- one name that was requested, and a prefix of further names after it
 pub front_behind : (names old mid new : List (List ℕ)) (name : List ℕ) → mid ≡ old ++ name ∷ [] → AsksFront names mid new → AsksFront (name ∷ names) old new
 front_behind names old mid new name first h = record {
   n = suc h.n;
@@ -27,14 +27,14 @@ front_behind names old mid new name first h = record {
   asked = then_asked old mid new name (take h.n names) first h.asked;
 }
 
--- a function that gave nothing, for this fault
+-- a function that failed with this fault
 abbrev fault_in : (X : Type 0) → Fault → Result X Fault
 fault_in X f = Err f
 
 one_fault : (X : Type 0) (e f : Fault) → fault_in X e ≡ fault_in X f → e ≡ f
 one_fault X e f is = cc
 
--- a fault of one of a value's files is a fault of the value
+-- a fault of one of the files of a value is a fault of the value
 module _ {X Y Z W : Type 0} (view : X → Z) (wanted : Y → W) (meaning : Folder → Result Z Fault) (whole : Folder → Result W Fault) (files : Option Folder) (before mid now : ℕ) (e : Fault) where
   loads_fault : mid ≡ before → IfSome files (λ folder. Fails e (whole folder)) → Loads view meaning files mid now (Err e) → Loads wanted whole files before now (Err e)
   loads_fault same read loads = record {

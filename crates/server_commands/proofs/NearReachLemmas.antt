@@ -17,7 +17,7 @@ use Rattle.command_books.proofs.Installings.{installed, not_installed}
 use Rattle.server_commands.specs.NearReaching.{EndsNear, EndsReach, ends_reach}
 
 module _ (files : Option Folder) (name : List ℕ) (p : Publication) (q : NearQuery) (l l' k k' : ℕ) (read : IfSome files (λ folder. publication_at folder name ≡ Ok p)) (old : Option (List ℕ)) where
-  -- what the file of a publication calls for
+  -- what the file of a publication requires
   calls : (o : Result Conclusion Fault) (text : List ℕ) → EndsReach q p o text → CallsFor (ends_reach name q) files o text
   calls o text h =
       over files (λ folder. publication_at folder name ≡ Ok p) (λ folder. ends_reach name q folder o text)
@@ -27,21 +27,21 @@ module _ (files : Option Folder) (name : List ℕ) (p : Publication) (q : NearQu
   pub reply_written : (new : Option (List ℕ)) (o : Result Conclusion Fault) (text : List ℕ) → EndsReach q p (Ok Done) text → Writes (Ok Done) text old new k k' o → Promises (ends_reach name q) TellsNone NoDisk files l l' old new k k' o
   reply_written new o text h w = written (ends_reach name q) TellsNone NoDisk files l l' k k' old (EndsReach q p) calls new (Ok Done) o text tt h w
 
-  -- a publication that is not installed, or an unknown node
+  -- a publication that was not installed, or an unknown node
   pub reach_refused : (f : Fault) → WhyNot NoDisk (EndsReach q p) f → Promises (ends_reach name q) TellsNone NoDisk files l l' old old k k' (Err f)
   reach_refused f h = refused (ends_reach name q) TellsNone NoDisk files l l' k k' old (EndsReach q p) calls f h
 
--- ---- after an installing
+-- ---- after an install
 
 pub if_err : {T E : Type 0} (r : Result T E) (P Q : E → Type 0) → ((x : E) → P x → Q x) → IfErr r P → IfErr r Q
 if_err (Ok x) P Q f h = tt
 if_err (Err e) P Q f h = f e h
 
--- what ends the reply over the installed publication ends the command
+-- an end of the reply over the installed publication is an end of the command
 pub why_behind : (p b : Publication) (q : NearQuery) → b ≡ p → IsInstallable p → (f : Fault) → WhyNot NoDisk (EndsNear q b) f → WhyNot NoDisk (EndsReach q p) f
 why_behind p b q same is f h =
     why_map NoDisk NoDisk (EndsNear q p) (EndsReach q p) (λ x. x) (λ o text e. installed p (EndsNear q p) o text is e) f (subst (λ (x : Publication). WhyNot NoDisk (EndsNear q x) f) same h)
 
--- and what is not installed ends it too
+-- and so is the reason why a publication was not installed
 pub why_before : (p : Publication) (q : NearQuery) (f : Fault) → WhyNot NoDisk (EndsInstalling p NoEnd) f → WhyNot NoDisk (EndsReach q p) f
 why_before p q f h = why_map NoDisk NoDisk (EndsInstalling p NoEnd) (EndsReach q p) (λ x. x) (not_installed p (EndsNear q p)) f h

@@ -1,4 +1,4 @@
--- Over its file, `reach` has one end.
+-- `reach` has one result over its file.
 use Rattle.std.proofs.Common.{◌≡◌, ℕ, List, refl, sym, ap, ◌∙◌}
 use Rattle.std.specs.declared.result.Result.{Result}
 use Rattle.std.specs.declared.result.Result.TheVariants.{Ok, Err}
@@ -24,7 +24,7 @@ one_near p q (Err (UnknownNode id)) (Err (UnknownNode b)) s t h k = ap (λ x. Er
 one_near p q (Err (UnknownNode id)) e s t h k = absurd k
 one_near p q o e s t h k = absurd h
 
--- and so over the file
+-- so it has one end over the file
 pub only_reach : OneMaking → (name : List ℕ) (q : NearQuery) (folder : Folder) → HasOneEnd (ends_reach name q folder)
 only_reach makings name q folder =
     one_reading (publication_at folder name) (EndsReach q) (λ b o p s t. one_installing makings b (EndsNear q b) o p s t (one_near b q o p s t))

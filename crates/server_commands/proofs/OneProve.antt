@@ -1,4 +1,4 @@
--- Over its file, `prove` has one end.
+-- `prove` has one result over its file.
 use Rattle.std.proofs.Common.{◌≡◌, ℕ, List, refl, ap}
 use Rattle.std.specs.declared.result.Result.{Result}
 use Rattle.std.specs.declared.result.Result.TheVariants.{Ok, Err}
@@ -25,7 +25,7 @@ one_reply p q (Err (UnknownNode id)) (Err (UnknownNode b)) s t h k = ap (λ x. E
 one_reply p q (Err (UnknownNode id)) e s t h k = absurd k
 one_reply p q o e s t h k = absurd h
 
--- and so over the file
+-- so it has one end over the file
 pub only_prove : OneMaking → (name : List ℕ) (q : Query) (folder : Folder) → HasOneEnd (ends_prove name q folder)
 only_prove makings name q folder =
     one_reading (publication_at folder name) (EndsProve q) (λ b o p s t. one_installing makings b (EndsReply q b) o p s t (one_reply b q o p s t))

@@ -1,4 +1,4 @@
--- Where no object outside failed, `serve` ends as the file and the input call for.
+-- If no outside object failed, `serve` ends as its files and its input require.
 use Rattle.std.proofs.Common.{◌≡◌, ◌≢◌, ℕ, List, [], refl, sym, subst, ◌∙◌, IfSome}
 use Rattle.std.specs.declared.option.Option.{Option}
 use Rattle.std.specs.declared.option.Option.TheVariants.{None, Some}
@@ -20,7 +20,7 @@ use Rattle.command_books.proofs.OneBuilding.{OneMaking, one_installing}
 use Rattle.server_commands.specs.Serving.{EndsFrames, EndsServe, ends_serving, AnswersFrames, ServesFrames, most_octets, most_frames}
 use Rattle.octet_text.specs.Want.{no_memory}
 
--- tests have one end, where what follows them has
+-- tests have one end if the rest of the command has one
 one_testing : (r : Result (Unit {0}) CheckError) (Next : Ending) → HasOneEnd Next → HasOneEnd (EndsTesting r Next)
 one_testing (Ok passed) Next one o p s t h k = one o p s t h k
 one_testing (Err why) Next one o p s t h k = h.0 ∙ sym k.0
@@ -51,7 +51,7 @@ exact_input makings name input folder old new o a l s k = record {
   only_one = λ other text full h. let mine = called name input folder old new o a l s k full in only_serving makings name input folder o other mine.0 text mine.1 h;
 }
 
--- what was served is exact where no object outside failed
+-- a result of serving is exact if no outside object failed
 pub exact_serve : OneMaking → (name : ServeFiles) (files : Option Folder) (left rest old new : Option (List ℕ)) (o : Result Conclusion Fault) (l l' s s' k k' d d' : ℕ)
     → ServesFrames name files left rest s s' old new o → (o ≡ Err Library → Rose l l') → (o ≡ Err Sink → Rose k k')
     → ¬ Rose s s' → NoneFailed l l' k k' d d' → IfSome files (λ folder. IfSome left (λ text. IsExact (ends_serving name (split most_octets most_frames text) folder) o))

@@ -44,7 +44,7 @@ first_octet (replies.Apart a) = refl
 same_number : (a b : ℕ) → Some a ≡ Some b → a ≡ b
 same_number a b e = cc
 
--- what a reply says whose first octet is known
+-- the meaning of a reply whose first octet is known
 module _ (hash : List ℕ → List ℕ) (kind : Kind) (order : List ℕ) (b : Book) (p : Publication) (q : Query) where
   of_answer : (r : Reply) → Replies hash kind order b p q r → tag_of r ≢ 1 → Knows b.parts q.from × Knows b.parts q.to
   of_answer (replies.Answer a) says one = says.1.gathered.shortest.known
@@ -58,7 +58,7 @@ module _ (hash : List ℕ → List ℕ) (kind : Kind) (order : List ℕ) (b : Bo
   of_unknown replies.NoRoute says is = absurd says
   of_unknown (replies.Apart a) says is = absurd (cc)
 
--- the first of the two ends that is not known
+-- the first of the two ends that is unknown
 named : (parts : Parts) (q : Query) (id other : ℕ) → IsFirst parts q other → (Knows parts q.from → id ≡ q.to) → (¬ Knows parts q.from → id ≡ q.from) → IsFirstUnknown parts q.from q.to id
 named parts q id other (inl is) known unknown =
     record { unknown = λ k. is.1 (subst (Knows parts) (unknown is.1) k); first = λ ne. absurd (ne (unknown is.1)) }
@@ -87,26 +87,26 @@ module _ (p : Publication) (q : Query) (octets : List ℕ) (honest : IsHonest sh
 
 -- ---- the command
 
--- a reply is written where the work was done, and where its client is told
+-- a reply is written if the work was done, or if the client is informed by it
 may_end : (q : Query) (p : Publication) (o : Result Conclusion Fault) (text : List ℕ) → EndsReply q p o text → MayEnd TellsEnds o
 may_end q p (Ok Done) text h = tt
 may_end q p (Err (UnknownNode id)) text h = tt
 may_end q p o text h = absurd h
 
 module _ (files : Option Folder) (name : List ℕ) (p : Publication) (q : Query) (l l' k k' : ℕ) (read : IfSome files (λ folder. publication_at folder name ≡ Ok p)) (old : Option (List ℕ)) where
-  -- what the file of a publication calls for
+  -- what the file of a publication requires
   calls : (o : Result Conclusion Fault) (text : List ℕ) → EndsProve q p o text → CallsFor (ends_prove name q) files o text
   calls o text h =
       over files (λ folder. publication_at folder name ≡ Ok p) (λ folder. ends_prove name q folder o text)
       (λ folder is. reads (publication_at folder name) p (EndsProve q) o text is h) read
 
-  -- a reply that was told
+  -- a reply that was returned
   pub reply_told : (new : Option (List ℕ)) (end o : Result Conclusion Fault) (text : List ℕ) → IsInstallable p → EndsReply q p end text → Writes end text old new k k' o
       → Promises (ends_prove name q) TellsEnds NoDisk files l l' old new k k' o
   reply_told new end o text is h w =
       written (ends_prove name q) TellsEnds NoDisk files l l' k k' old (EndsProve q p) calls new end o text (may_end q p end text h) (installed p (EndsReply q p) end text is h) w
 
-  -- a publication that is not installed
+  -- a publication that was not installed
   pub prove_refused : (f : Fault) → WhyNot NoDisk (EndsInstalling p NoEnd) f → Promises (ends_prove name q) TellsEnds NoDisk files l l' old old k k' (Err f)
   prove_refused f h =
       refused (ends_prove name q) TellsEnds NoDisk files l l' k k' old (EndsProve q p) calls f

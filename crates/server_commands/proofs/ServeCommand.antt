@@ -44,25 +44,25 @@ use Rattle.octet_text.specs.Want.{no_memory}
 abbrev not_loaded : Fault → Result Publication Fault
 not_loaded f = Err f
 
--- the frames of what is left, or of some input
+-- the frames of the octets that are left, or of some input
 some_input : (left : Option (List ℕ)) → (input : Input) × IsInput most_octets most_frames left input
 some_input None = (record { frames = []; ending = Regular }, tt)
 some_input (Some text) = (split most_octets most_frames text, refl)
 
--- one fault is no other
+-- two faults differ
 same_fault : (e g : Fault) → failed e ≡ failed g → e ≡ g
 same_fault e g is = cc
 
 not_done : (e : Fault) → failed e ≡ Ok Done → ⊥
 not_done e is = cc
 
--- ---- a file of a publication or of a guard that can't be read
+-- ---- a file of a publication or of a guard that cannot be read
 
--- what serves after the guard's file
+-- serving after the guard's files are read
 abbrev behind_guard : ServeFiles → (Guard → Publication → Ending) → Folder → Publication → Ending
 behind_guard named Serves folder p = EndsReading (guard_at folder named.guard) (λ guard. EndsTesting (tested guard p) (Serves guard p))
 
--- with tests that are passed, or not
+-- with tests that pass or fail
 behind_tests : (Serves : Guard → Publication → Ending) (named : ServeFiles) (guard : Guard) (p : Publication) (folder : Folder) → Holds named guard p folder → (o : Result Conclusion Fault) (text : List ℕ)
     → EndsTesting (tested guard p) (Serves guard p) o text → EndsServing named Serves folder o text
 behind_tests Serves named guard p folder h o text s =
@@ -74,7 +74,7 @@ serves_in : (Serves : Guard → Publication → Ending) (named : ServeFiles) (gu
 serves_in Serves named guard p passed folder h o text s =
     behind_tests Serves named guard p folder h o text (subst (λ (r : Result (Unit {0}) CheckError). EndsTesting r (Serves guard p) o text) (sym passed) s)
 
--- a file that encodes no publication, and one that holds no guard
+-- a file that does not encode a publication, and one that does not hold a guard
 pub no_publication : (Serves : Guard → Publication → Ending) (named : ServeFiles) (folder : Folder) (e : Fault) → publication_at folder named.publication ≡ Err e → EndsServing named Serves folder (failed e) []
 no_publication Serves named folder e read = subst (λ (r : Result Publication Fault). EndsReading r (behind_guard named Serves folder) (failed e) []) (sym read) (refl, refl)
 
@@ -84,7 +84,7 @@ no_guard Serves named p folder is e read =
     reads (publication_at folder named.publication) p (behind_guard named Serves folder) (failed e) [] is
     (subst (λ (r : Result Guard Fault). EndsReading r (λ guard. EndsTesting (tested guard p) (Serves guard p)) (failed e) []) (sym read) (refl, refl))
 
--- either of them, as a function that reads it tells
+-- one of them, as reported by a function that reads it
 unread : {X : Type 0} (read : Result X Fault) (named : ServeFiles) (input : Input) (folder : Folder) (old : Option (List ℕ)) (e : Fault) → IsOfFiles e
     → ((f : Fault) → read ≡ Err f → ends_serving named input folder (failed f) []) → Fails e read → AnswersFrames named input folder old old (Err e)
 unread read named input folder old Missing of ends is = (ends Missing is, keeps_same old)
@@ -97,13 +97,13 @@ unread read named input folder old Library of ends is = keeps_same old
 unread read named input folder old (Memory _) of ends is = inl (keeps_same old)
 unread read named input folder old e of ends is = absurd of
 
--- ---- what is left
+-- ---- the octets that are left
 
 -- no octet was taken
 none_taken : (left : Option (List ℕ)) → TookFrames left left
 none_taken left = record { frames = []; octets = []; took = Consumes-none left; few = omega arith }
 
--- a file that encodes no publication leaves all of it
+-- a file that does not encode a publication leaves the whole input
 unread_leaves : (left : Option (List ℕ)) (e : Fault) → IsOfFiles e → LeavesInput left left (Err e)
 unread_leaves left Missing of = refl
 unread_leaves left too_long of = refl
@@ -137,7 +137,7 @@ unread_takes files named left old Library of = (refl, keeps_same old)
 unread_takes files named left old (Memory _) of = inl (refl, keeps_same old)
 unread_takes files named left old e of = absurd of
 
--- frames that were served, and what was taken after them
+-- frames that were served, and the octets taken after them
 module _ (first last : State) (count : ℕ) (left rest old new : Option (List ℕ)) where
   took_then : (Is : List ℕ → Type 0) → ((octets : List ℕ) → Is octets → length octets ≤ 4 + most_octets) → Then sha256 sha256 first last most_octets count left rest old new Is → TookFrames left rest
   took_then Is few t = record {
@@ -168,14 +168,14 @@ leaves first last left rest old new (Err errors.Source) s = took_then first last
 leaves first last left rest old new (Err errors.Sink) s = took_cut first last s.0 left rest old new s.2
 leaves first last left rest old new (Err (errors.Memory _)) s = took_then first last s.0 left rest old new (IsUnanswered most_octets) unanswered_few s.2
 
--- the faults of a book that isn't built or is another's
+-- the faults of a book that is not built, or that belongs to another publication
 abbrev IsOfBooks : Fault → Type 0
 IsOfBooks (Map fault) = Unit {0}
 IsOfBooks (Plan fault) = Unit {0}
 IsOfBooks HeaderWrong = Unit {0}
 IsOfBooks fault = ⊥
 
--- a file that was read by a function, of which this is the meaning in a folder
+-- a file that a function has read, with this meaning in a folder
 pub unread_serves : {X : Type 0} (read : Folder → Result X Fault) (files : Option Folder) (named : ServeFiles) (left old : Option (List ℕ)) (s s' : ℕ) (e : Fault) → IsOfFiles e
     → ((folder : Folder) (input : Input) (f : Fault) → read folder ≡ Err f → ends_serving named input folder (failed f) []) → IfSome files (λ folder. Fails e (read folder))
     → ServesFrames named files left left s s' old old (Err e)
@@ -189,7 +189,7 @@ unread_serves read files named left old s s' e of ends fails = record {
 }
 
 module _ (files : Option Folder) (named : ServeFiles) (guard : Guard) (p : Publication) (l l' k k' : ℕ) (passed : tested guard p ≡ Ok tt) (holds : IfSome files (Holds named guard p)) where
-  -- what the file of a publication calls for
+  -- what the file of a publication requires
   calls : (o : Result Conclusion Fault) (text : List ℕ) → EndsServeSome guard p o text → CallsFor (ends_serve named) files o text
   calls o text h =
       over files (Holds named guard p) (λ folder. ends_serve named folder o text)
@@ -198,12 +198,12 @@ module _ (files : Option Folder) (named : ServeFiles) (guard : Guard) (p : Publi
   serving : (input : Input) (o : Result Conclusion Fault) (text : List ℕ) (folder : Folder) → Holds named guard p folder → EndsServe guard input p o text → ends_serving named input folder o text
   serving input o text folder is h = serves_in (λ g q. EndsServe g input q) named guard p passed folder is o text h
 
-  -- ---- a publication that is not installed
+  -- ---- a publication that was not installed
 
   no_frames : Input
   no_frames = record { frames = []; ending = Regular }
 
-  -- it has one of these
+  -- the fault is one of these
   of_books : (f : Fault) (text : List ℕ) → EndsInstalling p NoEnd (failed f) text → IsOfBooks f
   of_books f text h = after h.made h.follows
     where
@@ -214,7 +214,7 @@ module _ (files : Option Folder) (named : ServeFiles) (guard : Guard) (p : Publi
       after (Err (build.Plan e)) a = subst IsOfBooks (sym (same_fault f (Plan e) a.0)) tt
       after (Err (build.Memory _)) a = absurd a
 
-  -- no source is blamed for it
+  -- it does not report a failure of the source
   no_source : (text : List ℕ) → EndsInstalling p NoEnd (failed Source) text → ⊥
   no_source text h = of_books Source text h
 
@@ -276,7 +276,7 @@ module _ (files : Option Folder) (named : ServeFiles) (guard : Guard) (p : Publi
   -- ---- frames that were served
 
   module _ (installable : IsInstallable p) where
-    -- the replies to frames, whichever way their input ends
+    -- the replies to frames, however their input ends
     replied : (frames : List (List ℕ)) (ending : InputEnding) (old new : Option (List ℕ)) (w : WritesRun sha256 sha256 (first_state guard p) frames old new) →
         EndsServe guard (record { frames = frames; ending = ending }) p (ended_at ending) (framed w.replies)
     replied frames ending old new w =
@@ -289,11 +289,11 @@ module _ (files : Option Folder) (named : ServeFiles) (guard : Guard) (p : Publi
         installed p (EndsFrames guard (record { frames = frames; ending = Regular }) p) (Ok Done) (framed w.replies) installable
         (record { last = w.last; replies = w.replies; run = w.run; isolated = w.isolated; written = refl; end = refl })
 
-    -- the input's own ending
+    -- the end of the input itself
     of_input : (input : Input) (ending : InputEnding) (old new : Option (List ℕ)) → input.ending ≡ ending → (w : WritesRun sha256 sha256 (first_state guard p) input.frames old new) → EndsServe guard input p (ended_at ending) (framed w.replies)
     of_input input ending old new is w = subst (λ e. EndsServe guard input p (ended_at e) (framed w.replies)) is (replied input.frames input.ending old new w)
 
-    -- replies that were written whole
+    -- replies that were written in full
     told : (old new : Option (List ℕ)) (o : Result Conclusion Fault) (text : List ℕ) → MayEnd TellsFrames o → EndsServeSome guard p o text → Appends old new text
         → Promises (ends_serve named) TellsFrames NoDisk files l l' old new k k' o
     told old new o text may h app = written (ends_serve named) TellsFrames NoDisk files l l' k k' old (EndsServeSome guard p) calls new o o text may h (inl (refl, app))
@@ -343,7 +343,7 @@ module _ (files : Option Folder) (named : ServeFiles) (guard : Guard) (p : Publi
         over files (Holds named guard p) (λ folder. AnswersInput named left folder old new (ended_serving r))
         (λ folder is. (h.0, h.1, served_here folder is h.0 old new r h.2)) holds
 
-    -- the same from the state that the service starts with
+    -- the same, from the state in which the service starts
 
     from_first : (left old new : Option (List ℕ)) (r : Result (Unit {0}) ServeError) (state : State) → state ≡ first_state guard p →
         ((input : Input) × IsInput most_octets most_frames left input × ServesInput sha256 sha256 state input old new r) → (input : Input) × IsInput most_octets most_frames left input × ServesInput sha256 sha256 (first_state guard p) input old new r
@@ -354,7 +354,7 @@ module _ (files : Option Folder) (named : ServeFiles) (guard : Guard) (p : Publi
         → Promises (ends_serve named) TellsFrames NoDisk files l l' old new k k' (ended_serving r)
     serve_ends left old new r state is h rose = let i = from_first left old new r state is h in served_ends i.0 old new r i.2 rose
 
-    -- what the source has done, by the end
+    -- what the source has done at the end
     blamed : (r : Result (Unit {0}) ServeError) → ended_serving r ≡ Err Source → r ≡ Err errors.Source
     blamed (Ok ended) e = absurd (cc)
     blamed (Err errors.FrameTooLong) e = absurd (cc)
@@ -398,22 +398,22 @@ module _ (files : Option Folder) (named : ServeFiles) (guard : Guard) (p : Publi
       drained = λ e. at_end state last left rest old new r serves e;
     }
 
--- ---- where no guard is asked for
+-- ---- without a guard
 
--- a file that encodes this publication holds it, and no guard
+-- a file that encodes this publication holds it and no guard
 pub open_holds : (files : Option Folder) (name : List ℕ) (p : Publication) → IfSome files (λ folder. publication_at folder name ≡ Ok p) → IfSome files (Holds (unguarded name) Open p)
 open_holds files name p read = over files (λ folder. publication_at folder name ≡ Ok p) (Holds (unguarded name) Open p) (λ folder is. (is, refl)) read
 
--- ---- where a guard is
+-- ---- with a guard
 
--- what was read before, and then the guard
+-- the values read before, and then the guard
 pub both_hold : (first files : Option Folder) (named : ServeFiles) (guard : Guard) (p : Publication) → Narrows first files → IfSome first (λ folder. publication_at folder named.publication ≡ Ok p)
     → IfSome files (λ folder. guard_at folder named.guard ≡ Ok guard) → IfSome files (Holds named guard p)
 both_hold first files named guard p narrows read guards =
     over_both files (λ folder. publication_at folder named.publication ≡ Ok p) (λ folder. guard_at folder named.guard ≡ Ok guard) (Holds named guard p)
     (λ folder is same. (is, same)) (moved first files (λ folder. publication_at folder named.publication ≡ Ok p) narrows read) guards
 
--- a guard that can't be read
+-- a guard that cannot be read
 pub unread_guard_serves : (files : Option Folder) (named : ServeFiles) (p : Publication) (left old : Option (List ℕ)) (s s' : ℕ) (e : Fault) → IsOfFiles e
     → IfSome files (λ folder. publication_at folder named.publication ≡ Ok p) → IfSome files (λ folder. Fails e (guard_at folder named.guard)) → ServesFrames named files left left s s' old old (Err e)
 unread_guard_serves files named p left old s s' e of read fails = record {
@@ -428,7 +428,7 @@ unread_guard_serves files named p left old s s' e of read fails = record {
   drained = λ is. absurd (not_done e is);
 }
 
--- a function that gave no guard for this fault
+-- a function that failed to read a guard, with this fault
 abbrev no_guard_for : Fault → Result Guard Fault
 no_guard_for f = Err f
 
@@ -484,12 +484,12 @@ pub memory_promised : (files : Option Folder) (named : ServeFiles) (l l' k k' : 
 memory_promised files named l l' k k' old e is =
     subst (λ f. Promises (ends_serve named) TellsFrames NoDisk files l l' old old k k' (Err f)) (sym is) (out_of_memory (ends_serve named) TellsFrames NoDisk files l l' k k' old)
 
--- tests that write no line are passed
+-- if no line is written, the tests passed
 pub passes : (r : Result (Unit {0}) CheckError) → refusal_line r ≡ None → r ≡ Ok tt
 passes (Ok passed) none = refl
 passes (Err why) none = absurd (cc)
 
--- a line that is written is that of the test that is not passed
+-- a line that is written is the line of a test that failed
 pub writes_line : (r : Result (Unit {0}) CheckError) (Next : Ending) (text : List ℕ) → refusal_line r ≡ Some text → EndsTesting r Next (Ok Refused) text
 writes_line (Ok passed) Next text is = absurd (cc)
 writes_line (Err why) Next text is = (refl, by is)
@@ -497,7 +497,7 @@ writes_line (Err why) Next text is = (refl, by is)
     by : Some (refused_line why) ≡ Some text → text ≡ refused_line why
     by e = cc
 
--- and says which test that is
+-- and it names this test
 refused_why : (r : Result (Unit {0}) CheckError) (text : List ℕ) → refusal_line r ≡ Some text → (why : CheckError) × (r ≡ Err why) × (text ≡ refused_line why)
 refused_why (Ok passed) text is = absurd (cc)
 refused_why (Err why) text is = (why, refl, by is)
@@ -505,7 +505,7 @@ refused_why (Err why) text is = (why, refl, by is)
     by : Some (refused_line why) ≡ Some text → text ≡ refused_line why
     by e = cc
 
--- beside which there is no outcome but a sink that failed
+-- the only other outcome is a sink that failed
 pub line_is_no : (text : List ℕ) (old new : Option (List ℕ)) (k k' : ℕ) (end o : Result Conclusion Fault) → end ≡ Ok Refused → Writes end text old new k k' o → (x : Result Conclusion Fault) → (Ok Refused ≡ x → ⊥)
     → (failed Sink ≡ x → ⊥) → o ≡ x → ⊥
 line_is_no text old new k k' end o ends (inl done) x refused sink e = refused (sym ends ∙ sym done.0 ∙ e)
@@ -561,9 +561,9 @@ module _ (files : Option Folder) (named : ServeFiles) (guard : Guard) (p : Publi
     drained = λ e. absurd (line_is_no text old new k k' end o ends wrote (Ok Done) (λ x. cc) (λ x. cc) e);
   }
 
--- ---- what serving over them answers for the files
+-- ---- the results of serving for the files
 
--- a regular end comes where the source gave nothing more
+-- a regular end occurs if the source gave nothing more
 pub ended_done : (r : Result Conclusion Fault) (Ended : Type 0) → IfOk r (λ verdict. verdict ≡ Done) → (r ≡ Ok Done → Ended) → OnOk r Ended
 ended_done (Ok verdict) Ended done ended = ended (ap (λ v. Ok v) done)
 ended_done (Err f) Ended done ended = tt
@@ -572,7 +572,7 @@ pub done_ended : (r : Result Conclusion Fault) (Ended : Type 0) → OnOk r Ended
 done_ended (Ok verdict) Ended ended is = ended
 done_ended (Err f) Ended ended is = absurd (cc)
 
--- serving ends with no verdict but that it is done
+-- the only verdict with which serving ends is that the work is done
 pub done_serving : (r : Result (Unit {0}) ServeError) → IfOk (ended_serving r) (λ verdict. verdict ≡ Done)
 done_serving (Ok ended) = refl
 done_serving (Err errors.FrameTooLong) = tt
@@ -582,7 +582,7 @@ done_serving (Err errors.Source) = tt
 done_serving (Err errors.Sink) = tt
 done_serving (Err (errors.Memory _)) = tt
 
--- tests that are passed write no line
+-- tests that pass write no line
 pub no_line : (r : Result (Unit {0}) CheckError) (text : List ℕ) → r ≡ Ok tt → refusal_line r ≡ Some text → ⊥
 no_line r text passed is = by (sym (ap refusal_line passed) ∙ is)
   where

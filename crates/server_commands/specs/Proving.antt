@@ -1,4 +1,4 @@
--- What `prove` writes.
+-- The output of `prove`.
 use Rattle.std.specs.Prelude.{ℕ, List}
 use Rattle.std.specs.declared.result.Result.TheVariants.{Ok, Err}
 use Rattle.sha2.specs.Sha256.{sha256}
@@ -15,8 +15,8 @@ use Rattle.command_files.specs.declared.fault.Fault.TheVariants.{UnknownNode}
 use Rattle.command_files.specs.declared.ended.Conclusion.TheVariants.{Done}
 use Rattle.command_books.specs.Installing.{EndsInstalling}
 
--- over an installed publication: an honest reply, which brings a route, or the proof that there is
--- none, where both ends are nodes
+-- over an installed publication: if both ends are nodes, an honest reply, with a route or with the proof that none
+-- exists
 abbrev pub EndsReply : Query → Publication → Ending
 EndsReply q p (Ok Done) text = Knows p.parts q.from × Knows p.parts q.to ×
     IsHonest sha256 sha256 p q text
@@ -28,11 +28,11 @@ EndsReply q p outcome text = ⊥
 abbrev pub EndsProve : Query → Publication → Ending
 EndsProve q p = EndsInstalling p (EndsReply q p)
 
--- the same over the publication file of this name
+-- the same over the publication file with this name
 abbrev pub ends_prove : List ℕ → Query → Folder → Ending
 ends_prove publication q folder = EndsReading (publication_at folder publication) (EndsProve q)
 
--- its client is told of unknown nodes
+-- the faults that are reported to the client: unknown nodes
 abbrev pub TellsEnds : Fault → Type 0
 TellsEnds (UnknownNode id) = Unit {0}
 TellsEnds fault = ⊥

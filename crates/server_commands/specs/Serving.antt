@@ -1,4 +1,4 @@
--- What `serve` writes.
+-- The output of `serve`.
 use Rattle.std.specs.Prelude.{◌≡◌, ◌⊎◌, ℕ, ◌+◌, ◌≤◌, List, [], ◌++◌, length, take, IfSome}
 use Rattle.std.specs.declared.option.Option.{Option}
 use Rattle.std.specs.declared.result.Result.{Result}
@@ -29,22 +29,22 @@ use Rattle.command_books.specs.Installing.{EndsInstalling}
 use Rattle.server_commands.specs.Guarding.{ServeFiles, IsAsNamed, guard_at, Holds, tested, EndsTesting}
 use Rattle.octet_text.specs.Want.{no_memory}
 
--- the most octets of a frame's body, and the most frames
+-- the greatest number of octets in a frame's body, and the greatest number of frames
 abbrev pub most_octets : ℕ
 most_octets = 4194304
 
 abbrev pub most_frames : ℕ
 most_frames = 1000000
 
--- how a run ends whose input ends so
+-- how a run ends if its input ends in this way
 abbrev pub ended_at : InputEnding → Result Conclusion Fault
 ended_at Regular = Ok Done
 ended_at TooLong = Err FrameTooLong
 ended_at Truncated = Err TruncatedFrame
 ended_at TooMany = Err TooManyFrames
 
--- over an installed publication and the frames of an input: the framed replies of a run of the
--- service under this guard, in which no session is told what depends on others
+-- over an installed publication and the frames of an input: the replies, as frames, of a run of the service under
+-- this guard; no session gets anything that depends on other sessions
 pub record EndsFrames (guard : Guard) (input : Input) (p : Publication) (outcome : Result Conclusion Fault)
     (text : List ℕ) : Type 0 where
   pub last : State
@@ -58,13 +58,13 @@ pub record EndsFrames (guard : Guard) (input : Input) (p : Publication) (outcome
 abbrev pub EndsServe : Guard → Input → Publication → Ending
 EndsServe guard input p = EndsInstalling p (EndsFrames guard input p)
 
--- `serve` over a publication and some input, after whose frames the source may fail
+-- `serve` over a publication and some input; the source may fail after the frames of the input
 abbrev pub EndsServeSome : Guard → Publication → Ending
 EndsServeSome guard p (Err Source) text = (input : Input) × EndsServe guard input p (Ok Done) text
 EndsServeSome guard p outcome text = (input : Input) × EndsServe guard input p outcome text
 
--- what serving ends with over the files of these names: the publication's is read, then those of
--- the guard, and the guard's tests of the publication are passed before its book is built
+-- How serving ends over the files with these names. It first reads the publication's file, then those of the guard.
+-- The publication passes the guard's tests before its book is built.
 abbrev pub EndsServing : ServeFiles → (Guard → Publication → Ending) → Folder → Ending
 EndsServing files Serves folder = EndsReading (publication_at folder files.publication)
     (λ p. EndsReading (guard_at folder files.guard)
@@ -74,11 +74,11 @@ EndsServing files Serves folder = EndsReading (publication_at folder files.publi
 abbrev pub ends_serving : ServeFiles → Input → Folder → Ending
 ends_serving files input = EndsServing files (λ guard p. EndsServe guard input p)
 
--- `serve` over files and some input; of which, `AnswersInput` says
+-- `serve` over files and some input; `AnswersInput` tells which input
 abbrev pub ends_serve : ServeFiles → Folder → Ending
 ends_serve files = EndsServing files EndsServeSome
 
--- its client is told where the taking of frames ends, for it has answered frames by then
+-- the faults that are reported to the client: faults of the frames, since `serve` has answered frames before
 abbrev pub TellsFrames : Fault → Type 0
 TellsFrames TruncatedFrame = Unit {0}
 TellsFrames FrameTooLong = Unit {0}
@@ -87,9 +87,9 @@ TellsFrames Source = Unit {0}
 TellsFrames (Memory _) = Unit {0}
 TellsFrames fault = ⊥
 
--- ---- what the sink has taken
+-- ---- the octets that the sink has taken
 
--- the first n frames alone
+-- only the first n frames
 abbrev pub first_frames : ℕ → Input → Input
 first_frames n input = record { frames = take n input.frames; ending = Regular }
 
@@ -97,9 +97,9 @@ first_frames n input = record { frames = take n input.frames; ending = Regular }
 abbrev pub EndsFirst : ServeFiles → Input → Folder → ℕ → List ℕ → Type 0
 EndsFirst files input folder n = ends_serving files (first_frames n input) folder (Ok Done)
 
--- What the sink has taken, by the end of `serve`: the replies to all frames of the input, or, where
--- the source or the sink failed or memory ran out, to the first of them; or the line of a guard's
--- test that is not passed; and nothing with any other fault.
+-- The octets that the sink has taken by the end of `serve`: the replies to all frames of the input, or to the first
+-- of them if the source or the sink failed or memory ran out; or the line of a guard's test that failed. With any
+-- other fault, the sink has taken nothing.
 abbrev pub AnswersFrames : ServeFiles → Input → Folder → Option (List ℕ) → Option (List ℕ) →
     Result Conclusion Fault → Type 0
 AnswersFrames files input folder old new (Ok verdict) = (text : List ℕ) ×
@@ -122,21 +122,21 @@ AnswersFrames files input folder old new (Err Library) = Keeps old new
 AnswersFrames files input folder old new (Err fault) = ends_serving files input folder (Err fault) []
     × Keeps old new
 
--- the frames are those of what is left in a source that tells it
+-- the frames are those of the octets that are left in a source which states its contents
 abbrev pub AnswersInput : ServeFiles → Option (List ℕ) → Folder → Option (List ℕ) → Option (List ℕ) →
     Result Conclusion Fault → Type 0
 AnswersInput files left folder old new outcome = (input : Input) ×
     IsInput most_octets most_frames left input × AnswersFrames files input folder old new outcome
 
--- frames were taken from the source, and at most the octets of one frame more
+-- frames were taken from the source, and at most part of one more frame, or all of it
 pub record TookFrames (left rest : Option (List ℕ)) : Type 0 where
   pub frames : List (List ℕ)
   pub octets : List ℕ
   pub took : Consumes left rest (framed frames ++ octets)
   pub few : length octets ≤ 4 + most_octets
 
--- What is left in the source, by the end of `serve`: what is after the frames that it took, and all
--- of it where it took none.
+-- The octets that are left in the source at the end of `serve`: everything after the frames that it took, or the
+-- whole input if it took none.
 abbrev pub LeavesInput : Option (List ℕ) → Option (List ℕ) → Result Conclusion Fault → Type 0
 LeavesInput left rest (Ok Done) = TookFrames left rest
 LeavesInput left rest (Ok verdict) = rest ≡ left
@@ -148,12 +148,12 @@ LeavesInput left rest (Err Sink) = TookFrames left rest
 LeavesInput left rest (Err (Memory _)) = TookFrames left rest
 LeavesInput left rest (Err fault) = rest ≡ left
 
--- ---- each frame that was taken, with its reply
+-- ---- each frame taken, with its reply
 
--- Serving over the first publication, which the guard's tests pass: which whole frames were taken,
--- that the replies of a run over exactly these are written, but for the last of them where the sink
--- failed or memory ran out, and what was taken after them. Where no files are told, it is served over
--- some publication, and under some guard where a public key is named.
+-- Serving over the first publication, which passes the guard's tests: which whole frames were taken, that the
+-- replies of a run over exactly these frames are written (except the last reply, if the sink failed or memory ran
+-- out), and which octets were taken after them. If no files are known, it serves some publication, under some guard
+-- if a public key is given.
 pub record ServedOver (named : ServeFiles) (files : Option Folder)
     (left rest old new : Option (List ℕ)) (served : Result (Unit {0}) ServeError) : Type 0 where
   pub publication : Publication
@@ -165,12 +165,12 @@ pub record ServedOver (named : ServeFiles) (files : Option Folder)
   pub serves : Serves sha256 sha256 (first_state guard publication) last most_octets most_frames left
       rest old new served
 
--- no octet was taken, and none written
+-- no octet was taken, and none was written
 abbrev pub ServedNone : (left rest old new : Option (List ℕ)) → Type 0
 ServedNone left rest old new = (rest ≡ left) × Keeps old new
 
--- no octet was taken, for the guard's tests don't pass the first publication: the line that `check`
--- would write of the first that doesn't pass was written so
+-- no octet was taken, since the first publication fails the guard's tests; the line that `check` would write for
+-- the first failed test was written
 pub record RefusedFirst (named : ServeFiles) (files : Option Folder) (left rest : Option (List ℕ))
     (Wrote : List ℕ → Type 0) : Type 0 where
   pub publication : Publication
@@ -182,9 +182,9 @@ pub record RefusedFirst (named : ServeFiles) (files : Option Folder) (left rest 
   pub untaken : rest ≡ left
   pub wrote : Wrote (refused_line why)
 
--- What was taken and written by the end of `serve`: nothing where it ended before its first frame,
--- but for the line of a test that the first publication doesn't pass. Memory may run out before that
--- or later, and the sink may fail at that line or at a reply.
+-- The octets taken and written by the end of `serve`. If it ended before its first frame, there are none, except
+-- the line of a test that the first publication fails. Memory may run out before that or later, and the sink may
+-- fail at that line or at a reply.
 abbrev pub AnswersTaken : ServeFiles → Option Folder → (left rest old new : Option (List ℕ)) →
     Result Conclusion Fault → Type 0
 AnswersTaken named files left rest old new (Ok Done) =
@@ -206,10 +206,10 @@ AnswersTaken named files left rest old new (Err (Memory _)) = ServedNone left re
     ServedOver named files left rest old new (Err (serve.Memory no_memory))
 AnswersTaken named files left rest old new (Err fault) = ServedNone left rest old new
 
--- What `serve` does with its source, beside what each command promises: the sink has taken the
--- replies to the frames of what was left in it; each whole frame that was taken is answered; a
--- source that is blamed has failed; what is left is after the frames that were taken; and where the
--- work was done, nothing is.
+-- The effect of `serve` on its source, besides the guarantees of every command. The sink has taken the replies to
+-- the frames that were left in the source. Each whole frame that was taken is answered. A source that is reported
+-- to have failed has failed. The octets left come after the frames that were taken. If the work was done, nothing
+-- is left.
 pub record ServesFrames (named : ServeFiles) (files : Option Folder)
     (left_before left_now : Option (List ℕ)) (source_before source_now : ℕ)
     (old new : Option (List ℕ)) (outcome : Result Conclusion Fault) : Type 0 where

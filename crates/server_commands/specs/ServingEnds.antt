@@ -1,4 +1,4 @@
--- How a run ends that served frames.
+-- How a run ends that has served frames.
 use Rattle.std.specs.declared.result.Result.{Result}
 use Rattle.std.specs.declared.result.Result.TheVariants.{Ok, Err}
 use Rattle.route_service.specs.declared.serving.ServeError.{ServeError}

@@ -1,5 +1,5 @@
-//! The server's commands: the reply to a query over a publication, for a route or a range, and
-//! the service over frames.
+//! The server's commands: the reply to a query for a route or a range over a publication, and the service over
+//! frames.
 #![tactic(auto)]
 
 pub use proving::prove;

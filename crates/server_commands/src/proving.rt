@@ -22,7 +22,7 @@ use road_search::knows;
 use route_server::Held;
 use std::alloc::Global;
 
-/// Writes a reply to a query over a publication.
+/// Writes the reply to a query over a publication.
 pub fn prove<L: Library, K: Sink>(
     alloc: Global,
     library: &mut L,
@@ -43,7 +43,7 @@ pub fn prove<L: Library, K: Sink>(
     write_told(sink, &told)
 }
 
-/// The reply to a query over a publication, which is installed first.
+/// Installs a publication and returns the reply to a query over it.
 fn told_of(alloc: Global, publication: Publication, query: Query) -> Result<Told, Fault>
     requires { length publication.signature ≤ 1452 }
     ensures installable { OnOk result (IsInstallable publication) }
@@ -54,7 +54,7 @@ fn told_of(alloc: Global, publication: Publication, query: Query) -> Result<Told
     reply(alloc, &held, query)
 }
 
-/// The reply to a query.
+/// Returns the reply to a query.
 fn reply(alloc: Global, held: &Held<Sha>, query: Query) -> Result<Told, Fault>
     requires { length held.now.signature ≤ 1452 }
     ensures told { IfOk result (λ told.
@@ -70,7 +70,7 @@ fn reply(alloc: Global, held: &Held<Sha>, query: Query) -> Result<Told, Fault>
     }
 }
 
-/// How a run ends that has written an honest reply.
+/// Returns how a run ends after an honest reply.
 fn end_of(held: &Held<Sha>, query: Query, octets: &[u8]) -> Result<Conclusion, Fault>
     requires { IsHonest sha256 sha256 (publication_in sha256 held.now) query octets.now }
     ensures { EndsReply query (publication_in sha256 held.now) result octets.now }
@@ -81,7 +81,7 @@ fn end_of(held: &Held<Sha>, query: Query, octets: &[u8]) -> Result<Conclusion, F
     }
 }
 
-/// The first end that is no node, where one of the two is none.
+/// Returns the first of the two ends that is not a node. One of them must not be a node.
 fn first_unknown(held: &Held<Sha>, query: Query) -> u32
     ensures known { Knows held.now.map.parts query.from → result ≡ query.to }
     ensures unknown { ¬ Knows held.now.map.parts query.from → result ≡ query.from }

@@ -37,7 +37,7 @@ pub fn reach<L: Library, K: Sink>(
     write_text(sink, &text)
 }
 
-/// The reply over a publication, which is installed first.
+/// Installs a publication and returns the reply over it.
 fn reply_over(alloc: Global, publication: Publication, query: NearQuery) -> Result<Vec<u8>, Fault>
     requires { length publication.signature ≤ 1452 }
     ensures replied { IfOk result (λ text. EndsReach query publication (Ok Done) text.items) }
@@ -49,7 +49,7 @@ fn reply_over(alloc: Global, publication: Publication, query: NearQuery) -> Resu
     }
 }
 
-/// The reply over a book that is held.
+/// Returns the reply over a held book.
 fn reply_of(alloc: Global, held: &Held<Sha>, query: NearQuery) -> Result<Vec<u8>, Fault>
     requires { length held.now.signature ≤ 1452 }
     ensures replied { IfOk result (λ text.

@@ -29,13 +29,13 @@ use route_client::{CheckError, test_header};
 use route_service::{Guard, ServeError, Service};
 use std::alloc::Global;
 
-/// The most octets of a frame's body.
+/// The greatest number of octets in a frame's body.
 const MOST_OCTETS: u32 = 4_194_304;
 
-/// The most frames that are taken.
+/// The greatest number of frames.
 const MOST_FRAMES: u32 = 1_000_000;
 
-/// Answers the frames of a source over a publication, and over those that are installed after it.
+/// Answers the frames of a source over a publication and over those installed later.
 pub fn serve<L: Library, S: Source, K: Sink>(
     alloc: Global,
     library: &mut L,
@@ -64,10 +64,10 @@ pub fn serve<L: Library, S: Source, K: Sink>(
     serve_tested(alloc, source, sink, Guard::Open, publication)
 }
 
-/// Answers the frames of a source over a publication that is signed under a public key, or under one that
-/// the chain of a file leads to from it, where one is named, and over those that are installed after it,
-/// which must be signed likewise. Where the chain or the publication is not signed, the line that `check`
-/// would write is written, and no frame is taken.
+/// Answers the frames of a source over a publication that is signed under a public key or, if a chain is given,
+/// under a key to which the chain leads. Also answers over those installed later, which must be signed in the same
+/// way. If the chain or the first publication is not signed, writes the line that `check` would write, and takes no
+/// frame.
 pub fn serve_signed<L: Library, S: Source, K: Sink>(
     alloc: Global,
     library: &mut L,
@@ -103,8 +103,8 @@ pub fn serve_signed<L: Library, S: Source, K: Sink>(
     serve_tested(alloc, source, sink, guard, publication)
 }
 
-/// Answers the frames of a source over a publication that passes the guard's tests. Where it doesn't,
-/// the line of the first that it doesn't pass is written, and no frame is taken.
+/// Answers the frames of a source over a publication, if it passes the guard's tests. If it fails one, writes the
+/// line of the first test that fails, and takes no frame.
 fn serve_tested<S: Source, K: Sink>(
     alloc: Global,
     source: &mut S,
@@ -167,7 +167,7 @@ fn serve_over<S: Source, K: Sink>(
     ended_serving(served)
 }
 
-/// The guard under the public key of a file, along the chain of a file where one is named.
+/// Loads the guard: the public key in a file and, if given, the chain in a file.
 fn load_guard<L: Library>(
     alloc: Global,
     library: &mut L,
@@ -191,7 +191,7 @@ fn load_guard<L: Library>(
     Ok(Guard::Signed { key, links })
 }
 
-/// What is written of a publication that a guard's tests don't pass: the line that `check` would write.
+/// If the publication fails a guard's tests, returns the line that `check` would write. Otherwise returns `None`.
 fn refusal(alloc: Global, guard: &Guard, publication: &Publication) -> Result<Option<Told>, Fault>
     requires { IsFollowed guard.now }
     ensures line { IfOk result (λ told. option_map (λ t. t.text.items) told
@@ -205,7 +205,7 @@ fn refusal(alloc: Global, guard: &Guard, publication: &Publication) -> Result<Op
     }
 }
 
-/// The same for a public key and a chain from it.
+/// Does the same for a public key and a chain from it.
 fn refusal_along(
     alloc: Global,
     key: &[u8],
@@ -237,7 +237,7 @@ fn refusal_along(
     }
 }
 
-/// The service over a publication under a guard, in which no session is begun.
+/// Makes the service over a publication with a guard and without open sessions.
 fn service_over(
     alloc: Global,
     guard: Guard,
@@ -255,7 +255,7 @@ fn service_over(
     }
 }
 
-/// How a run ends that served frames.
+/// Returns how a run ends after it served frames.
 fn ended_serving(served: Result<(), ServeError>) -> Result<Conclusion, Fault>
     ensures { result ≡ ended_serving served }
 {

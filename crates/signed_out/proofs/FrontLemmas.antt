@@ -1,5 +1,6 @@
--- What was taken of octets that were shown, after a part or the whole of a piece.
-use Rattle.std.proofs.Common.{◌≡◌, true, ℕ, ◌+◌, ◌≤◌, List, ◌++◌, length, take, drop, sym, ◌∙◌, ap, arith, append_assoc, length-append}
+-- The accepted part of octets, after a part or the whole of a piece.
+use Rattle.std.proofs.Common.{◌≡◌, true, ℕ, ◌+◌, ◌≤◌, List, ◌++◌, length, take, drop, Option, Some, None, sym, ◌∙◌, ap, arith, append_assoc, length-append}
+use Rattle.std.specs.Io.KnownBytes.{Appends, Keeps}
 use Rattle.std.proofs.lemmas.List.{length-take-le, take-append-drop, take_all, take-take, take_at, take-append-le}
 use Rattle.std.specs.Prelude.{◌==◌}
 use Rattle.std.proofs.lemmas.Bool.Decides.{nat_tests}
@@ -28,3 +29,16 @@ more_after taken front more s le is = take-append-le s taken more le ∙ is
 
 pub longer_after : (taken more : List ℕ) (s : ℕ) → s ≤ length taken → s ≤ length (taken ++ more)
 longer_after taken more s le = omega (arith, length-append taken more)
+
+-- a sink that states what it took states this after a write too
+pub appended : (old new : Option (List ℕ)) (xs bs : List ℕ) → old ≡ Some xs → Appends old new bs → new ≡ Some (xs ++ bs)
+appended None new xs bs is grows = absurd cc
+appended (Some ys) None xs bs is grows = absurd grows
+appended (Some ys) (Some zs) xs bs is grows =
+    let same : ys ≡ xs = cc in
+    ap Some (grows ∙ ap (λ (l : List ℕ). l ++ bs) same)
+
+pub kept_taken : (old new : Option (List ℕ)) (xs : List ℕ) → old ≡ Some xs → Keeps old new → new ≡ Some xs
+kept_taken None new xs is keeps = absurd cc
+kept_taken (Some ys) None xs is keeps = absurd keeps
+kept_taken (Some ys) (Some zs) xs is keeps = ap Some keeps ∙ is

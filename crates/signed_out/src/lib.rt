@@ -1,4 +1,4 @@
-//! A sink that takes a publication only where the awaited key has signed it.
+//! A sink that accepts a publication only if the expected key has signed it.
 #![tactic(auto)]
 
 pub use signed_front::is_signed_under;

@@ -5,7 +5,7 @@ ghost use Rattle.signed_out.specs.Fronts.{is_signed, is_verified, seal_length};
 use lms_tree::verify;
 use octet_text::array_at;
 
-/// How many octets the signature has.
+/// Returns the length of the signature, in octets.
 #[tactic(auto, unfolding(crate::specs::Fronts::seal_length))]
 fn length_of(octets: &[u8]) -> usize
     requires { 110 ≤ length octets.now }
@@ -15,7 +15,7 @@ fn length_of(octets: &[u8]) -> usize
     usize::from(u16::from_be_bytes(array_at(octets, 108)))
 }
 
-/// Whether a signature is this key's on a header.
+/// Tests whether a signature by this key is valid for a header.
 #[tactic(auto, unfolding(crate::specs::Fronts::is_verified))]
 fn is_good(public: &[u8; 56], header: &[u8], signature: &[u8]) -> bool
     ensures { result ≡ is_verified public.now header.now signature.now }
@@ -23,8 +23,8 @@ fn is_good(public: &[u8; 56], header: &[u8], signature: &[u8]) -> bool
     verify(public, header, signature).is_ok()
 }
 
-/// Whether a publication that begins with these octets is signed under a public key: its header, at offset 4, by the
-/// signature after its length, at offset 108.
+/// Tests whether a publication that begins with these octets is signed under a public key. Its header is
+/// at offset 4. Its signature follows the signature's length, which is at offset 108.
 #[tactic(auto, unfolding(crate::specs::Fronts::is_signed))]
 pub fn is_signed_under(public: &[u8; 56], octets: &[u8]) -> bool
     ensures { result ≡ is_signed public.now octets.now }

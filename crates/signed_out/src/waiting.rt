@@ -1,35 +1,37 @@
-//! A sink that takes a publication only where the awaited key has signed it.
-ghost use Rattle.std.specs.Prelude.{◌≡◌, ◌+◌, ◌<◌, ◌≤◌, [], ◌++◌, true, false, length, take, IfOk, OnOk, IsSome};
+//! A sink that accepts a publication only if the expected key has signed it.
+ghost use Rattle.std.specs.Prelude.{◌≡◌, ◌↔◌, ◌+◌, ◌<◌, ◌≤◌, [], ◌++◌, true, false, length, take, IfOk, OnOk, IsSome};
 ghost use Rattle.std.specs.declared.option.Option.TheVariants.{Some};
 ghost use Rattle.std.specs.Io.KnownBytes.{WriteAppends};
 ghost use Rattle.road_io.specs.Causes.{HasCause};
 ghost use Rattle.road_io.specs.Noted.{noted};
-ghost use Rattle.signed_out.specs.Fronts.{is_signed_by};
+ghost use Rattle.signed_out.specs.Fronts.{GoesOut, is_signed_by};
 
 use crate::signed_front::is_signed_under;
 use road_io::{Failed, Record, Sink};
 
-/// How many octets are looked at: a header and the longest signature stand in the first 1,562.
+/// The number of octets examined. A header and the longest signature lie within the first 1,562 octets.
 const MOST: usize = 2048;
 
-/// A sink over another one, which awaits a publication under a public key, or nothing.
+/// A sink over another one. It either expects a publication under a public key, or expects nothing.
 ///
-/// Where it awaits one, it refuses each piece until one begins, behind what was taken of an earlier one, with a header
-/// and a signature on it by that key. Where the sink below takes such a piece in parts, the rest has to fit to what it
-/// took. Nothing that is refused reaches the sink below.
+/// If it expects a publication, it refuses every piece until one begins, after the accepted part of an earlier
+/// piece, with a header and a signature of this header by that key. If the underlying sink takes such a piece in
+/// parts, the rest must match the part already taken. No refused octet reaches the underlying sink: it has taken just
+/// the accepted octets.
 #[derive(Drop)]
 pub struct SignedSink<K: Sink + Drop> {
     inner: K,
     awaited: Option<[u8; 56]>,
-    /// Octets that begin with a header and its signature, `shown` of them.
+    /// Octets that begin with a header and its signature. `shown` is their number.
     front: [u8; MOST],
     shown: usize,
-    /// How many of these the sink below has taken.
+    /// The number of these octets that the underlying sink has taken.
     taken: usize,
-    /// Whether anything may follow.
+    /// Whether any octets may follow.
     is_open: bool,
     refusals: u64,
     history: Record,
+    pub ghost inside: { K.taken inner ≡ Some (noted history.events) },
     pub ghost room: { shown ≤ 2048 },
     pub ghost behind: { taken ≤ shown },
     pub ghost waits: { is_open ≡ false → taken < 2048 },
@@ -38,13 +40,18 @@ pub struct SignedSink<K: Sink + Drop> {
     pub ghost whole: { is_open ≡ true → IsSome awaited →
         take shown (noted history.events) ≡ take shown front },
     pub ghost signed: { 0 < shown → is_signed_by awaited (take shown front) ≡ true },
+    pub ghost opened: { is_open ≡ true → is_signed_by awaited (take shown front) ≡ true },
 }
 
 impl<K: Sink + Drop> SignedSink<K> {
-    /// A sink over this one, which awaits a publication under this key, or nothing.
+    /// Makes a sink over this one, which has taken nothing. It expects a publication under this key, or expects
+    /// nothing.
     pub fn new(inner: K, awaited: Option<[u8; 56]>) -> SignedSink<K>
+        requires { K.taken inner ≡ Some [] }
         ensures awaited { result.awaited ≡ awaited }
+        ensures inner { result.inner ≡ inner }
         ensures nothing { noted result.history.events ≡ [] }
+        ensures refusals { result.refusals ≡ 0 }
     {
         SignedSink {
             inner,
@@ -58,14 +65,14 @@ impl<K: Sink + Drop> SignedSink<K> {
         }
     }
 
-    /// The sink below.
+    /// Returns the underlying sink.
     pub fn inner(&self) -> &K {
         &self.inner
     }
 
-    /// Whether this is the key under which a publication is awaited.
+    /// Tests whether this is the key under which a publication is expected.
     pub fn awaits(&self, key: &Option<[u8; 56]>) -> bool
-        ensures { result ≡ true → self.now.awaited ≡ key.now }
+        ensures { (result ≡ true) ↔ (self.now.awaited ≡ key.now) }
     {
         match (&self.awaited, key) {
             (None, None) => true,
@@ -74,12 +81,16 @@ impl<K: Sink + Drop> SignedSink<K> {
         }
     }
 
-    /// Whether a piece was refused.
-    pub fn has_refused(&self) -> bool {
+    /// Tests whether a piece was refused. Everything that the underlying sink has taken is signed as expected.
+    pub fn has_refused(&self) -> bool
+        ensures refused { (result ≡ true) ↔ (0 < self.now.refusals) }
+        ensures out { GoesOut self.now.awaited (noted self.now.history.events) }
+        ensures inside { K.taken self.now.inner ≡ Some (noted self.now.history.events) }
+    {
         self.refusals > 0
     }
 
-    /// What was taken of the front, and octets behind it.
+    /// Returns the accepted octets, followed by these.
     fn with(&self, octets: &[u8]) -> [u8; MOST]
         requires { self.now.taken + length octets.now ≤ 2048 }
         ensures { take (self.now.taken + length octets.now) result ≡
@@ -90,7 +101,7 @@ impl<K: Sink + Drop> SignedSink<K> {
         front
     }
 
-    /// Whether octets are a publication's that is awaited.
+    /// Tests whether octets belong to the expected publication.
     fn is_awaited(&self, octets: &[u8]) -> bool
         ensures { result ≡ is_signed_by self.now.awaited octets.now }
     {
@@ -100,7 +111,7 @@ impl<K: Sink + Drop> SignedSink<K> {
         }
     }
 
-    /// Hands octets to the sink below where anything may follow, and notes what it took.
+    /// Passes octets to the underlying sink if any octets may follow, and stores how many it took.
     #[tactic(auto, using(crate::proofs::FrontLemmas::more_after, crate::proofs::FrontLemmas::longer_after))]
     fn pass(&mut self, octets: &[u8]) -> Result<usize, Failed>
         requires { self.old.is_open ≡ true }
@@ -118,30 +129,36 @@ impl<K: Sink + Drop> SignedSink<K> {
         Ok(count)
     }
 
-    /// Notes that the sink below took so many octets of a piece, which stands in this front behind what was taken.
-    fn advance(&mut self, front: [u8; MOST], piece: &[u8], count: usize)
+    /// Passes a piece to the underlying sink, and stores how many of its octets that sink took. `front` has the
+    /// accepted octets, followed by the piece.
+    fn advance(&mut self, front: [u8; MOST], piece: &[u8]) -> Result<usize, Failed>
         requires closed { self.old.is_open ≡ false }
         requires room { self.old.taken + length piece.now ≤ 2048 }
         requires old_front { self.old.taken ≤ length self.old.front }
-        requires part { count ≤ length piece.now }
         requires front { take (self.old.taken + length piece.now) front ≡
             take self.old.taken self.old.front ++ piece.now }
         requires signed { is_signed_by self.old.awaited
             (take (self.old.taken + length piece.now) front) ≡ true }
-        ensures noted { noted self.new.history.events ≡
-            noted self.old.history.events ++ take count piece.now }
-        ensures inner { self.new.inner ≡ self.old.inner }
+        ensures most { IfOk result (λ n. n ≤ length piece.now) }
+        ensures least { IfOk result (λ n. 0 < length piece.now → 0 < n) }
+        ensures noted { WriteAppends (Some (noted self.old.history.events))
+            (Some (noted self.new.history.events)) result piece.now }
+        ensures inside { WriteAppends (K.taken self.old.inner) (K.taken self.new.inner) result piece.now }
         ensures same { self.new.refusals ≡ self.old.refusals }
+        ensures kept { OnOk result (K.faults self.new.inner ≡ K.faults self.old.inner) }
+        ensures cause { HasCause (K.faults self.old.inner) (K.faults self.new.inner) result }
     {
+        let count = self.inner.write(piece)?;
         self.history.note(&[], &piece[..count]);
         self.front = front;
         self.shown = self.taken + piece.len();
         self.taken += count;
         self.is_open = self.taken == self.shown;
+        Ok(count)
     }
 
-    /// Hands a piece to the sink below where it begins, behind what was taken, with a signed header, and refuses it
-    /// otherwise.
+    /// Passes a piece to the underlying sink if the accepted octets and this piece begin with a signed header.
+    /// Otherwise refuses the piece.
     fn begin(&mut self, octets: &[u8]) -> Result<usize, Failed>
         requires { self.old.is_open ≡ false }
         ensures most { IfOk result (λ n. n ≤ length octets.now) }
@@ -162,9 +179,7 @@ impl<K: Sink + Drop> SignedSink<K> {
             self.refusals = self.refusals.saturating_add(1);
             return Err(Failed);
         }
-        let count = self.inner.write(piece)?;
-        self.advance(front, piece, count);
-        Ok(count)
+        self.advance(front, piece)
     }
 }
 

@@ -8,7 +8,7 @@ use road_io::{Disk, Failed, FileDisk};
 use std::fs::File;
 use std::rt::Files;
 
-/// Whether the gate at a place of a real file is open.
+/// Tests whether the gate at an offset of a real file is open.
 pub fn gate<R: Files<File = File> + Drop>(
     disk: &mut FileDisk<R>,
     place: u64,
@@ -22,7 +22,7 @@ pub fn gate<R: Files<File = File> + Drop>(
     read_gate(disk, place)
 }
 
-/// Opens the gate at a place of a real file, in every image that a crash may leave.
+/// Opens the gate at an offset of a real file, in every image that a crash may leave.
 pub fn open<R: Files<File = File> + Drop>(disk: &mut FileDisk<R>, place: u64) -> Result<(), Failed>
     requires within { EachImage ⟦<FileDisk<R> as Disk>⟧ disk.old (λ i. place + 128 ≤ length i) }
     requires start { ForSome (⟦<FileDisk<R> as Disk>⟧.content disk.old) (λ c. place ≤ length c) }

@@ -1,8 +1,9 @@
-//! Standard input, standard output, a mirror in a file and the gates of a real file: what the calls below
-//! `serve` and `publish` and the desk's lower calls promise, at the objects that ship.
+//! Tests of standard input, standard output, a mirror in a file, and the gates of a real file. They show the
+//! guarantees of the functions below `serve` and `publish`, and of the desk's lower functions, for the objects that
+//! the program uses.
 //!
-//! The program's own calls are generic. Here their clauses stand at these objects, so that a body that
-//! reads nothing, or writes nothing, is seen to be refused there too.
+//! The program's own functions are generic. Their clauses are stated here for these objects, so a body that reads
+//! or writes nothing is refused here too.
 #![tactic(auto)]
 
 pub use gates::{gate, open};

@@ -8,7 +8,7 @@ use mirror_out::{FileMirror, Mirror};
 use road_io::{Failed, Sink, Source, StdSink, StdSource, write_all};
 use route_service::{FrameError, next_frame};
 
-/// Writes all octets to standard output, or fails with a prefix of them written.
+/// Writes all octets to standard output, or fails after writing a prefix of them.
 pub fn print<R: Print + Drop>(sink: &mut StdSink<R>, octets: &[u8]) -> Result<(), Failed>
     ensures ok { OnOk result (Appends (⟦<StdSink<R> as Sink>⟧.taken sink.old)
         (⟦<StdSink<R> as Sink>⟧.taken sink.new) octets.now) }
@@ -18,7 +18,7 @@ pub fn print<R: Print + Drop>(sink: &mut StdSink<R>, octets: &[u8]) -> Result<()
     write_all(sink, octets)
 }
 
-/// Reads the next frame of standard input, or answers that there is none.
+/// Reads the next frame of standard input, or reports that there is none.
 pub fn frame<R: Input>(
     source: &mut StdSource<R>,
     most: u32,
@@ -33,7 +33,7 @@ pub fn frame<R: Input>(
     next_frame(source, most, body)
 }
 
-/// Puts a piece into the file of a mirror.
+/// Appends a piece to the file of a mirror.
 pub fn mirror(mirror: &mut FileMirror, piece: &[u8]) -> Result<(), Failed>
     ensures ok { OnOk result (Appends (⟦<FileMirror as Mirror>⟧.octets mirror.old)
         (⟦<FileMirror as Mirror>⟧.octets mirror.new) piece.now) }

@@ -9,7 +9,7 @@ use road_map::{Arc, Arcs, Map};
 use road_search::knows;
 use std::alloc::Global;
 
-// The arcs out of one of the nodes 1 to 4.
+// Returns the arcs out of one of the nodes 1 to 4.
 fn arcs_of(id: u32) -> [Arc; 2] {
     match id {
         1 => [Arc { to: 2, length: 4 }, Arc { to: 4, length: 3 }],
@@ -19,7 +19,7 @@ fn arcs_of(id: u32) -> [Arc; 2] {
     }
 }
 
-/// The leaf of one of the nodes 1 to 4, which says this of its own.
+/// Returns the leaf of one of the nodes 1 to 4, with these extra contents.
 pub fn leaf_with(alloc: Global, id: u32, extra: Extra) -> Result<NodeLeaf, NoMemory> {
     let arcs = arcs_of(id);
     Ok(NodeLeaf {
@@ -31,7 +31,7 @@ pub fn leaf_with(alloc: Global, id: u32, extra: Extra) -> Result<NodeLeaf, NoMem
     })
 }
 
-/// The plain leaves of some of the nodes 1 to 4.
+/// Returns the plain leaves of some of the nodes 1 to 4.
 pub fn leaves_of(alloc: Global, ids: &[u32]) -> Result<Vec<NodeLeaf>, NoMemory> {
     let mut leaves = Vec::new(alloc);
     for id in ids {
@@ -40,7 +40,7 @@ pub fn leaves_of(alloc: Global, ids: &[u32]) -> Result<Vec<NodeLeaf>, NoMemory> 
     Ok(leaves)
 }
 
-/// Whether all ids are those of nodes.
+/// Tests whether all ids belong to nodes.
 pub fn are_known(map: &Map, ids: &[u32]) -> bool
     ensures { IsTrue result → (id : ℕ) → Contains ids.now id → Knows map.now.parts id }
 {

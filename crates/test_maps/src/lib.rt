@@ -1,16 +1,16 @@
-//! Maps and settings that tests share, above all the map of five nodes: two ways from 1 to 3, of length 9
-//! over 2 and of length 10 over 4, and the node 5 without roads.
+//! Maps and settings that tests share. The most used one is the map of five nodes. It has two routes from 1 to 3:
+//! one of length 9 over 2, and one of length 10 over 4. Node 5 has no road.
 #![tactic(auto)]
 
 pub use leaves::{are_known, leaf_with, leaves_of};
-pub use maps::{FIVE_NODES, NODES, ROADS, apart, map_of, parts_of, refusal};
+pub use maps::{FIVE_NODES, NODES, ROADS, apart, map_of, parts_of};
 
 mod leaves;
 mod maps;
 
 use book_model::Settings;
 
-/// DIJ by id with fan-out 2, version 3.
+/// DIJ in order of ids, with fan-out 2 and version 3.
 pub const DIJ: Settings = Settings {
     method: 1,
     version: 3,

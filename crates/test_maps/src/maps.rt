@@ -1,6 +1,6 @@
-//! Maps of rows.
+//! Maps that are made from rows.
 
-use octet_text::{NoMemory, filled, push, with_room};
+use octet_text::{NoMemory, push};
 use road_map::{Map, MapError, Node, Nodes, Parts, Road, Roads};
 use std::alloc::Global;
 
@@ -13,7 +13,7 @@ pub const NODES: [(u32, i32, i32); 5] = [
     (5, 50, 50),
 ];
 
-/// Their roads: two ends and a length.
+/// Their roads: the two ends and the length of each.
 pub const ROADS: [(u32, u32, u32); 4] = [(1, 2, 4), (2, 3, 5), (1, 4, 3), (4, 3, 7)];
 
 /// Their road file.
@@ -29,7 +29,7 @@ road 1 4 3
 road 4 3 7
 ";
 
-/// The parts of rows: of each node its id, x and y, of each road its two ends and its length.
+/// Returns the parts that rows list: the id, x and y of each node, and the two ends and the length of each road.
 pub fn parts_of(
     alloc: Global,
     nodes: &[(u32, i32, i32)],
@@ -59,7 +59,7 @@ fn roads_of(alloc: Global, rows: &[(u32, u32, u32)]) -> Result<Roads, NoMemory> 
     Ok(Roads::from_vec(roads))
 }
 
-/// The map of rows.
+/// Returns the map that rows list.
 pub fn map_of(
     alloc: Global,
     nodes: &[(u32, i32, i32)],
@@ -68,18 +68,11 @@ pub fn map_of(
     Map::build(alloc, parts_of(alloc, nodes, roads)?)
 }
 
-/// The rows of so many nodes at one place, with the ids from 1 on.
+/// Returns the rows of this many nodes, all with the same coordinates, with ids from 1 on.
 pub fn apart(alloc: Global, count: u32) -> Result<Vec<(u32, i32, i32)>, NoMemory> {
     let mut rows = Vec::new(alloc);
     for index in 0..count {
         push(&mut rows, (index.saturating_add(1), 0, 0))?;
     }
     Ok(rows)
-}
-
-/// What is told where memory is refused: no system gives 2^48 octets at once, which 2^28 items of
-/// 2^20 octets need.
-pub fn refusal(alloc: Global) -> Option<NoMemory> {
-    let at_hand = filled(alloc, 0u8, 1 << 18).ok()?;
-    with_room::<[u8; 1 << 20], u8>(alloc, 1 << 28, &at_hand).err()
 }

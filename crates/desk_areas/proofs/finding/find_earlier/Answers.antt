@@ -12,7 +12,7 @@ use Rattle.desk_areas.proofs.finding.find_earlier.Given.{Over}
 use Rattle.desk_areas.proofs.finding.find_earlier.Goals as goal
 use Rattle.desk_areas.proofs.finding.find_earlier.Goals.{After-counts-counts}
 
--- one area more in which nothing is found
+-- one more area in which nothing is found
 none_more : (areas : List AreaView) (text c : List ℕ) (i base : ℕ) (item : AreaView) → item ≡ area_in areas i → base ≡ base_of c i → (FindsIn item.counts base text c → ⊥)
     → ((a : ℕ) → a < i → FindsIn (area_in areas a).counts (base_of c a) text c → ⊥) → (a : ℕ) → a < i + 1 → FindsIn (area_in areas a).counts (base_of c a) text c → ⊥
 none_more areas text c i base item item_is base_is none before a lt finds = elim (cases_lt a i) [

@@ -12,12 +12,12 @@ use Rattle.desk_areas.proofs.making.open_first.Given.{Over}
 use Rattle.desk_areas.proofs.making.open_first.Goals as goal
 use Rattle.desk_areas.proofs.making.open_first.Goals.{After-open_block}
 
--- the block is put after a gate that stays shut
+-- the block is written behind a gate that stays closed
 shut : {D : Type 0} (g : Ghosts D) (kind : ℕ) (old new : D) → EachImage g old (IsZero 0 (place_in 0 (slots_of kind))) → AtEachMoment g old new (AgreesOutside 1 53) → AtEachMoment g old new (λ d i. gate_at i 0 ≡ 0)
 shut g kind old new clear m = weaker g old new _ (λ d i. gate_at i 0 ≡ 0) m (λ d i now h. h.same 0 (inl (omega arith)) ∙ (clear d now).zero 0 (omega arith) (omega arith))
 
 module _ (g : Over) (c : After-open_block g) where
-  -- after an open gate, all is there
+  -- once the gate is open, everything is there
   blank : (d i : List ℕ) → Image g.D.Disk c.put_block.new.disk d → AgreesOutside 0 1 d i → 0 < gate_at i 0 → IsBlank (key_from c.args.kind c.args.secret.now) i
   blank d i now h opened =
       let area = c.in_ok-put_block.ensures.blank d now in

@@ -11,7 +11,7 @@ store-requires g c = record { within = λ i image. omega (arith, c.requires.with
 pub returns-clause-moments : goal.returns-clause-moments
 returns-clause-moments g c =
     weaker g.D.Disk _ _ _ _ c.in_ok-store.ensures.moments
-    (λ d i image step. widen _ _ (c.args.place + 1) (c.args.place + 128) d i (omega arith) (omega (arith, length-take (length c.args.text.now + 1) c.piece_of-piece.result)) step)
+    (λ d i image step. widen _ _ (c.args.place + 1) (c.args.place + 2 + length c.args.text.now) d i (omega arith) (omega (arith, length-take (length c.args.text.now + 1) c.piece_of-piece.result)) step)
 
 pub returns-clause-stored : goal.returns-clause-stored
 returns-clause-stored g c i image =

@@ -3,7 +3,7 @@ use Rattle.lms_tree.specs.Chains.{verified_along}
 use Rattle.desk_look.specs.Forgeries.{key_before}
 use Rattle.desk_look.proofs.keys.sealing_key.Given as goal
 
--- the key is one to which the chain leads, and from it the text is verified along the rest
+-- the chain leads to this key, and the text verifies along the rest of the chain from this key
 abbrev pub invariant-loop-link : goal.invariant-loop-link
 invariant-loop-link l = record {
   reached : l.key ≡ key_before l.public l.chain l.link-index;

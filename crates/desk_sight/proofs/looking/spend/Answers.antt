@@ -9,3 +9,6 @@ returns-in-Succeed-clause-spends g c = succeed_spends g.D.Disk c.args.what c.arg
 
 pub returns-in-Key-clause-spends : goal.returns-in-Key-clause-spends
 returns-in-Key-clause-spends g c = idle g.D.Disk c.args.what c.args.disk.now
+
+pub returns-in-Succeed-clause-strange : goal.returns-in-Succeed-clause-strange
+returns-in-Succeed-clause-strange g c e is = let s = c.spend_link.ensures.strange e is in (s.0, c.in-Succeed.is, s.1)

@@ -1,4 +1,4 @@
-use Rattle.std.proofs.Common.{◌≡◌, ◌≤◌, ℕ, List, suc, Option, Some, MatchOption, refl, sym, ap, ◌∙◌, arith, subst}
+use Rattle.std.proofs.Common.{◌≡◌, ◌≤◌, ℕ, List, suc, Option, Some, MatchOption, inl, refl, sym, ap, ◌∙◌, arith, subst}
 use Rattle.road_io.specs.Disk.{Stays}
 use Rattle.road_io.proofs.MomentLaws.{nothing}
 use Rattle.desk_areas.specs.Layout.{base_of}
@@ -7,7 +7,8 @@ use Rattle.desk_sight.specs.Areas.{IsWaitingLink}
 use Rattle.desk_sight.specs.Looks.{HasClosedLink}
 use Rattle.desk_sight.proofs.FrontSteps.{closed_in}
 use Rattle.desk_sight.proofs.LinkSteps.{spends_nothing}
-use Rattle.desk_sight.proofs.LookSteps.{at_most_seven}
+use Rattle.desk_sight.proofs.Exclusive.{at_most_seven}
+use Rattle.desk_sight.proofs.Unlinked.{unlinked_some, unlinked_other, unlinked_key, unlinked_followed, unlinked_by}
 use Rattle.desk_sight.proofs.looking.spend_link.Goals as goal
 
 pub returns-in_default-clause-spends : goal.returns-in_default-clause-spends
@@ -35,3 +36,15 @@ returns-then-sight-clause-spends g c = spends_nothing g.D.Disk c.args.disk.now c
 
 pub returns-clause-spends : goal.returns-clause-spends
 returns-clause-spends g c = spends_nothing g.D.Disk c.args.disk.now c.args.disk.now (nothing g.D.Disk c.args.disk.now Stays (λ d now. refl))
+
+pub returns-in_default-clause-unlinked : goal.returns-in_default-clause-unlinked
+returns-in_default-clause-unlinked g c e it = absurd (unlinked_some c.args.image.now c.args.sight c.requires.sight e it c.in_default.is)
+
+pub returns-then-branch-clause-unlinked : goal.returns-then-branch-clause-unlinked
+returns-then-branch-clause-unlinked g c e it = absurd (unlinked_other c.args.image.now c.args.sight c.requires.sight e it c.in-Some.link c.in-Some.is (c.in_ok-is_made.ensures.0 c.if-branch.true))
+
+pub returns-then-sight-clause-unlinked : goal.returns-then-sight-clause-unlinked
+returns-then-sight-clause-unlinked g c e it = let same = unlinked_key c.args.image.now c.args.sight c.requires.sight e it in inl (cc)
+
+pub returns-clause-unlinked : goal.returns-clause-unlinked
+returns-clause-unlinked g c e it = absurd (unlinked_followed c.args.image.now c.args.sight c.requires.sight e it c.if-sight.false)

@@ -4,7 +4,7 @@ use Rattle.dimacs_reader.specs.Dimacs.{is_arc}
 use Rattle.dimacs_reader.specs.Left.{left_of}
 use Rattle.dimacs_reader.proofs.pairing.count_arcs.Given as goal
 
--- a number for each index, and the arcs so far are counted
+-- there is a number for each index, and the arcs so far are counted
 abbrev pub invariant-loop-arc : goal.invariant-loop-arc
 invariant-loop-arc l = record {
   long : length l.left.items ≡ length l.sorted;

@@ -5,7 +5,7 @@ use Rattle.road_leaf.specs.Seen.{seen}
 use Rattle.proof_octets.specs.Placed.{text_at}
 use Rattle.format_tests.proofs.placed.texts_for.Goals as goal
 
--- a list of two items is told by them
+-- a list of two items is determined by them
 two_items : {X : Type 0} (xs : List X) (a b : X) → length xs ≡ 2 → slice_get xs 0 ≡ Some a → slice_get xs 1 ≡ Some b → xs ≡ a ∷ b ∷ []
 two_items [] a b two first last = cc
 two_items (x ∷ []) a b two first last = cc
@@ -18,7 +18,7 @@ two_places (x ∷ []) two first last = cc
 two_places (x ∷ y ∷ []) two first last = cc
 two_places (x ∷ y ∷ z ∷ xs) two first last = absurd (omega (arith, two))
 
--- the texts at these places are those of the leaves
+-- the texts at these indices are those of the leaves
 spelled : (places : List ℕ) (leaves : List NodeLeaf) (a b : NodeLeaf) → places ≡ 0 ∷ 2 ∷ [] → leaves ≡ a ∷ b ∷ [] → (texts : List (List ℕ)) → texts ≡ node_leaf_text a ∷ [] ∷ node_leaf_text b ∷ [] → map (text_at texts) places ≡ map node_leaf_text leaves
 spelled places leaves a b p l texts t = rw (p, l, t) refl
 

@@ -13,7 +13,7 @@ use Rattle.landmarks.proofs.picking.pick_next.Goals.{After-as_slice-3}
 pub lengths_from-requires-clause-known : goal.lengths_from-requires-clause-known
 lengths_from-requires-clause-known c = sorted_from (ids c.args.map.now.parts.nodes) c.in-Some.id (subst (λ (l : List ℕ). Contains l c.in-Some.id) c.requires.ids c.in-Some.ensures.known)
 
--- the row of the one that was picked
+-- the row of the landmark that was picked
 row : (c : After-as_slice-3) → c.as_slice-3.result.now ≡ row_of (distance c.args.map.now.parts) c.args.ids.now c.in-Some.id
 row c = c.as_slice-3.ensures ∙ (c.in_ok-row.ensures.row ∙ ap (λ (l : List ℕ). row_of (distance c.args.map.now.parts) l c.in-Some.id) (sym c.requires.ids))
 

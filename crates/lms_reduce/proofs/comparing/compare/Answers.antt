@@ -28,7 +28,7 @@ claimed c =
     c.digits-digits.ensures ∙ ap (λ (x : List ℕ). digits_of x q c.array_at.result text) c.i-i.ensures
     ∙ ap (λ n. digits_of key.i n c.array_at.result text) c.requires.slot ∙ ap (λ (x : List ℕ). digits_of key.i (number_at sig 0) x text) c_is
 
--- what a clash is, it is under a weaker word
+-- a clash also satisfies the weaker statement
 found_map : (r : Result (Option Clash) NoMemory) (P Q : Clash → Type 0) → ((x : Clash) → P x → Q x) → IfOk r (λ o. IfSome o P) → IfOk r (λ o. IfSome o Q)
 found_map (Err e) P Q by found = tt
 found_map (Ok None) P Q by found = tt

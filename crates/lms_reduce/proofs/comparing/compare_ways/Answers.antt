@@ -39,7 +39,7 @@ highest_meeting-requires c =
           ∙ sym (length-take-le (length sig - 1132) (drop 1132 sig) (omega (arith, back)));
     }
 
--- the hashes of the key's own public key, and of the one that the signature shows
+-- the hash of the key's own public key, and of the public key that the signature shows
 own_key : (c : After-highest_meeting) → c.public_hash.result ≡ public_of c.args.key.now.i c.args.q c.args.key.now.seed
 own_key c =
     let key = c.args.key.now in
@@ -48,7 +48,7 @@ own_key c =
 shown_key : (c : After-highest_meeting) → c.candidate.result ≡ candidate_of c.args.key.now.i c.args.q (take 1124 (drop 4 c.args.sig.now)) c.args.text.now
 shown_key c = c.candidate.ensures ∙ ap (λ (x : List ℕ). candidate_of x c.args.q (take 1124 (drop 4 c.args.sig.now)) c.args.text.now) c.i-i.ensures
 
--- both ways lead to the root
+-- both paths lead to the root
 ends : (c : After-highest_meeting) → (λ (n : ℕ) (path : List ℕ). raised sha256 c.i-i.result (c.slots.result + c.args.q) c.digest_of.result (take (32 * c.height.result) c.own_path-own_path.result) n ≡ raised sha256 c.i-i.result (c.slots.result + c.args.q) c.digest_of-2.result path n) (length (take (length c.args.sig.now - 1132) (drop 1132 c.args.sig.now)) / 32) (take (length c.args.sig.now - 1132) (drop 1132 c.args.sig.now))
 ends c =
     let key = c.args.key.now in
@@ -66,7 +66,7 @@ ends c =
     (c.digest_of.ensures ∙ ap sha256 c.leaf_text-own.ensures ∙ sha256-leaf_text i leaf c.public_hash.result ∙ ap (leaf_of i leaf) (own_key c))
     (c.digest_of-2.ensures ∙ ap sha256 c.leaf_text-shown.ensures ∙ sha256-leaf_text i leaf c.candidate.result ∙ ap (leaf_of i leaf) (shown_key c))
 
--- where they meet on the way
+-- where the paths meet
 nodes : (c : After-highest_meeting) (one other : List ℕ) → (λ (path : List ℕ). IsHighestMeeting sha256 c.i-i.result (c.slots.result + c.args.q) c.digest_of.result (take (32 * c.height.result) c.own_path-own_path.result) c.digest_of-2.result path (length path / 32) one other) (take (length c.args.sig.now - 1132) (drop 1132 c.args.sig.now)) → MeetAtNode c.args.key.now c.args.q c.args.text.now c.args.sig.now one other
 nodes c one other m =
     let key = c.args.key.now in
@@ -95,7 +95,7 @@ keep-requires-then-not-is_same-clause-one_digest c =
     let e = ends (goal.at.keep-requires-then-not-is_same-clause-one_digest c).After-highest_meeting in
     sym c.digest_of.ensures ∙ c.in_default.ensures.none e ∙ c.digest_of-2.ensures
 
--- the text of a leaf, in the terms of the key
+-- the text of a leaf, in terms of the key
 leaf_is : (i of_key : List ℕ) (n leaf : ℕ) (public own : List ℕ) → i ≡ of_key → n ≡ leaf → public ≡ own → leaf_text i n public ≡ leaf_text of_key leaf own
 leaf_is i of_key n leaf public own ei en ep = ap (λ (x : List ℕ). leaf_text x n public) ei ∙ ap (λ x. leaf_text of_key x public) en ∙ ap (leaf_text of_key leaf) ep
 

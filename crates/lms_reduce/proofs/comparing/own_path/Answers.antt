@@ -8,7 +8,7 @@ use Rattle.lms_tree.proofs.PathLemmas.{sibling-in, node-in, path-in, length-node
 use Rattle.lms_reduce.proofs.RootLemmas.{take-inside}
 use Rattle.lms_reduce.proofs.comparing.own_path.Goals as goal
 
--- a node beside the way is at least the root's number
+-- the number of a node beside the path is at least that of the root
 beside-in : (h q k : ℕ) → q < 2 ^ h → k < h → 1 ≤ sibling ((2 ^ h + q) / 2 ^ k)
 beside-in h q k l lt =
     let j : ℕ = h - k - 1 in
@@ -16,7 +16,7 @@ beside-in h q k l lt =
     let here = node-in h q k j e l in
     omega (arith, (sibling-in j ((2 ^ h + q) / 2 ^ k) here.0 here.1).0, one-le-pow (suc j) 2 (omega arith))
 
--- and its digest is that of the path
+-- and its digest is the one in the path
 beside-is : (key : KeyOf) (q k : ℕ) (digest : List ℕ) → q < 2 ^ height_of key.kind → k < height_of key.kind → IsNode key (sibling ((2 ^ height_of key.kind + q) / 2 ^ k)) digest → digest ≡ path_node key.i key.seed (height_of key.kind) q k
 unfolding path_node
 beside-is key q k digest l lt n =

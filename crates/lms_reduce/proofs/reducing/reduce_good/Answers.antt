@@ -39,7 +39,7 @@ signed c =
     c.digits.ensures ∙ ap (λ (x : List ℕ). digits_of x q c.randomiser-own_c.result own) c.i-i.ensures
     ∙ ap (λ (x : List ℕ). digits_of key.i q x own) (c.randomiser-own_c.ensures ∙ ap (λ (x : List ℕ). randomiser_of x q c.seed.result) c.i-i.ensures ∙ ap (randomiser_of key.i q) c.seed.ensures)
 
--- a text that is hashed, in the terms of the key
+-- a hashed text, in terms of the key
 message_is : (i of_key : List ℕ) (q n : ℕ) (c of_slot text left : List ℕ) → i ≡ of_key → q ≡ n → c ≡ of_slot → left ≡ message_text i q c text → left ≡ message_text of_key n of_slot text
 message_is i of_key q n c of_slot text left ei eq ec is =
     is ∙ ap (λ (x : List ℕ). message_text x q c text) ei ∙ ap (λ x. message_text of_key x c text) eq ∙ ap (λ (x : List ℕ). message_text of_key n x text) ec

@@ -10,7 +10,7 @@ use Rattle.lms_reduce.proofs.WayLemmas.{raised-more, parent_text-same, IfNone-ma
 use Rattle.lms_reduce.proofs.ways.highest_meeting.Goals as goal
 use Rattle.lms_reduce.proofs.ways.highest_meeting.Goals.{then-is_collision, else-is_collision}
 
--- a level at which nothing collides changes nothing
+-- a level without a collision changes nothing
 still-highest : (hash : List ℕ → List ℕ) (i : List ℕ) (r : ℕ) (x x_path y y_path : List ℕ) (level : ℕ) (highest : Option TwoNodes) → ¬ AreCollision hash (text_above hash i r x x_path level) (text_above hash i r y y_path level)
     → IfSome highest (λ two. IsHighestMeeting hash i r x x_path y y_path level two.left two.right) → IfSome highest (λ two. IsHighestMeeting hash i r x x_path y y_path (level + 1) two.left two.right)
 still-highest hash i r x x_path y y_path level None none h = tt

@@ -5,7 +5,7 @@ use Rattle.mem_io.proofs.disk.pick_content.Goals as goal
 use Rattle.mem_io.proofs.disk.pick_content.Goals.{Start}
 
 module _ (c : Start) where
-  -- what was synced isn't longer
+  -- the synced content is not longer
   shorter : length c.args.synced.now ≤ length c.args.content.now.items
   shorter =
       let n = length c.args.entries.now in

@@ -4,7 +4,7 @@ use Rattle.merkle_cover.specs.Covers.{first_fault}
 use Rattle.merkle_cover.proofs.FoldLemmas.{first_fault-rising, rising-first_fault}
 use Rattle.merkle_cover.proofs.folds.are_rising.Goals as goal
 
--- the test tells whether there is none
+-- the test tells whether there is no fault
 none-tells : (o : Option ℕ) (b : Bool) → is_some o ≡ not b → (IsTrue b → o ≡ None) × (o ≡ None → IsTrue b)
 none-tells None true e = (λ t. refl, λ n. refl)
 none-tells None false e = absurd cc

@@ -6,7 +6,7 @@ use Rattle.merkle_cover.proofs.FoldLemmas.{sum_by-range-push}
 use Rattle.merkle_cover.proofs.RisingLemmas.{digit-next}
 use Rattle.merkle_cover.proofs.rising.digit_sum.Goals as goal
 
--- a sum of so many digits is small
+-- a sum of few digits is small
 small : (sum base digit digits : ℕ) → base ≤ 32 → digits ≤ 2097152 → digit ≤ digits → sum ≤ base * digit → sum ≤ 67108864
 small sum base digit digits b d l s = omega (arith, s, mul-le base digit 32 2097152 b (omega (arith, d, l)))
 

@@ -19,7 +19,7 @@ one-place p f leaf n e l =
     let one : f ^ 0 ≡ 1 = pow-zero f in
     (omega (arith, ap (λ x. p * x) one, e), omega (arith, ap (λ x. (p + 1) * x) one, e, l))
 
--- a slot is one of its level's
+-- a slot belongs to its level
 slot-fits : (k f s t size : ℕ) → s < f → k < t → size ≡ t * f → k * f + s < size
 slot-fits k f s t size within under long = omega (arith, long, within, mul-le (k + 1) f t f (omega (arith, under)) (le_refl f))
 

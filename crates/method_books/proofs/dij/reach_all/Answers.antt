@@ -1,6 +1,5 @@
-use Rattle.std.proofs.Common.{◌≡◌, ℕ, None, sym, refl, ◌∙◌, ap}
+use Rattle.std.proofs.Common.{None, sym, refl, ◌∙◌, ap}
 use Rattle.std.specs.Option.{option_map}
-use Rattle.road_map.specs.Walks.{distance}
 use Rattle.road_search.specs.declared.ball.Ball.{Ball}
 use Rattle.road_search.proofs.WholeMapLaws.{no_walk}
 use Rattle.method_books.proofs.dij.reach_all.Goals as goal

@@ -1,8 +1,9 @@
-use Rattle.std.proofs.Common.{subst, ◌∙◌}
+use Rattle.std.proofs.Common.{subst, sym, ◌∙◌}
 use Rattle.std.specs.List.{Contains}
 use Rattle.road_search.specs.Labelling.{length_at}
+use Rattle.proof_method.specs.Gathering.{Lists}
 use Rattle.method_books.specs.HypBooks.{IsWantedPlace}
-use Rattle.method_books.proofs.HypFound.{with_is, set_lists, rows_of}
+use Rattle.method_books.proofs.HypFound.{with_is, added_listed, rows_of}
 use Rattle.method_books.proofs.gathering.wanted_pairs.Goals as goal
 
 pub add_rows-requires-clause-near : goal.add_rows-requires-clause-near
@@ -13,5 +14,6 @@ add_rows-requires-clause-far c = λ b h. (with_is (length_at c.args.far.now) c.a
 
 pub returns : goal.returns
 returns c =
-    set_lists (IsWantedPlace c.args.pairs.now c.args.borders.now (length_at c.args.near.now) (length_at c.args.far.now) c.args.most) c.new-places.result c.add_rows.new.places c.from_vec.result c.new-places.ensures.empty (c.from_vec.ensures ∙ c.in_ok-in_order.ensures.keys) c.in_order.ensures.ordered
-    (rows_of c.args.pairs.now c.args.borders.now (length_at c.args.near.now) (length_at c.args.far.now) c.args.most c.as_slice.result.now c.as_slice-2.result.now c.new-places.result c.add_rows.new.places (c.as_slice.ensures.value ∙ c.in_ok-near.ensures) (c.as_slice-2.ensures.value ∙ c.in_ok-far.ensures) c.in_ok-add_rows.ensures)
+    subst (Lists (IsWantedPlace c.args.pairs.now c.args.borders.now (length_at c.args.near.now) (length_at c.args.far.now) c.args.most)) (sym (c.from_vec.ensures ∙ c.into_vec.ensures))
+    (added_listed (IsWantedPlace c.args.pairs.now c.args.borders.now (length_at c.args.near.now) (length_at c.args.far.now) c.args.most) c.new-places.result.items c.add_rows.new.places.items c.rising-places.result c.new-places.ensures.items c.rising-places.ensures
+    (rows_of c.args.pairs.now c.args.borders.now (length_at c.args.near.now) (length_at c.args.far.now) c.args.most c.as_slice.result.now c.as_slice-2.result.now c.new-places.result.items c.add_rows.new.places.items (c.as_slice.ensures.value ∙ c.in_ok-near.ensures) (c.as_slice-2.ensures.value ∙ c.in_ok-far.ensures) c.in_ok-add_rows.ensures))

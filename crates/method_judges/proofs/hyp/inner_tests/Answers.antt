@@ -18,7 +18,7 @@ Missing nodes len m = IsLeast (λ v. IsSome (len v) × ((inner_ways (item_at nod
 abbrev Lows : List NodeLeaf → (ℕ → Option ℕ) → Type 0
 Lows nodes len = (most : ℕ) → HasAtMost most (inner_ways (item_at nodes)) → (v d : ℕ) → len v ≡ Some d → d ≤ most * 4294967295
 
--- lengths over few items are low
+-- lengths over few items are small
 are_inner : (nodes : List NodeLeaf) (from : ℕ) (len : ℕ → Option ℕ) → length nodes ≤ 65536 → ((v : ℕ) → IsLeast (Leads (inner_ways (item_at nodes)) from v) (len v)) → Lows nodes len → AreInner nodes from len
 are_inner nodes from len few least low = record {
   least = least;

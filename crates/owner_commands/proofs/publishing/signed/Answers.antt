@@ -30,25 +30,25 @@ pub verified_publication-requires : goal.verified_publication-requires
 verified_publication-requires g c = rw c.publish.ensures.same.key c.in-Ok.ensures.published.signed.good
 
 pub returns-in-Ok-clause-signs : goal.returns-in-Ok-clause-signs
-returns-in-Ok-clause-signs g c = signs_after g.D.Disk c.args.disk.now c.open_desk.new.disk c.publish.new.disk c.args.parts c.args.settings.now c.in_ok-desk.ensures.stays c.in-Ok.ensures.moments
+returns-in-Ok-clause-signs g c = signs_after g.D.Disk c.args.disk.now c.open_desk.new.disk c.publish.new.disk c.args.parts c.args.settings.now c.in_ok-desk.ensures.stays (c.in-Ok.ensures.lowest_moments c.in_ok-desk.ensures.opened.counts)
 
 pub returns-in-Ok-clause-stands : goal.returns-in-Ok-clause-stands
 returns-in-Ok-clause-stands g c =
-    stands_after g.D.Disk c.args.disk.now c.open_desk.new.disk c.publish.new.disk c.args.parts c.args.settings.now (signs_after g.D.Disk c.args.disk.now c.open_desk.new.disk c.publish.new.disk c.args.parts c.args.settings.now c.in_ok-desk.ensures.stays c.in-Ok.ensures.moments)
+    stands_after g.D.Disk c.args.disk.now c.open_desk.new.disk c.publish.new.disk c.args.parts c.args.settings.now (signs_after g.D.Disk c.args.disk.now c.open_desk.new.disk c.publish.new.disk c.args.parts c.args.settings.now c.in_ok-desk.ensures.stays (c.in-Ok.ensures.lowest_moments c.in_ok-desk.ensures.opened.counts))
 
 pub returns-in-Err-Desk-KeysUsedUp-clause-signs : goal.returns-in-Err-Desk-KeysUsedUp-clause-signs
-returns-in-Err-Desk-KeysUsedUp-clause-signs g c = signs_after g.D.Disk c.args.disk.now c.open_desk.new.disk c.publish.new.disk c.args.parts c.args.settings.now c.in_ok-desk.ensures.stays (rw c.in-Err-Desk-KeysUsedUp.field-0-is at c.in-Err-Desk-KeysUsedUp.ensures.moments)
+returns-in-Err-Desk-KeysUsedUp-clause-signs g c = signs_after g.D.Disk c.args.disk.now c.open_desk.new.disk c.publish.new.disk c.args.parts c.args.settings.now c.in_ok-desk.ensures.stays ((rw c.in-Err-Desk-KeysUsedUp.field-0-is at c.in-Err-Desk-KeysUsedUp.ensures.lowest_moments) c.in_ok-desk.ensures.opened.counts)
 
 pub returns-in-Err-Desk-KeysUsedUp-clause-stands : goal.returns-in-Err-Desk-KeysUsedUp-clause-stands
 returns-in-Err-Desk-KeysUsedUp-clause-stands g c =
-    stands_after g.D.Disk c.args.disk.now c.open_desk.new.disk c.publish.new.disk c.args.parts c.args.settings.now (signs_after g.D.Disk c.args.disk.now c.open_desk.new.disk c.publish.new.disk c.args.parts c.args.settings.now c.in_ok-desk.ensures.stays (rw c.in-Err-Desk-KeysUsedUp.field-0-is at c.in-Err-Desk-KeysUsedUp.ensures.moments))
+    stands_after g.D.Disk c.args.disk.now c.open_desk.new.disk c.publish.new.disk c.args.parts c.args.settings.now (signs_after g.D.Disk c.args.disk.now c.open_desk.new.disk c.publish.new.disk c.args.parts c.args.settings.now c.in_ok-desk.ensures.stays ((rw c.in-Err-Desk-KeysUsedUp.field-0-is at c.in-Err-Desk-KeysUsedUp.ensures.lowest_moments) c.in_ok-desk.ensures.opened.counts))
 
 pub returns-in-Err-Desk-DiskFault-clause-signs : goal.returns-in-Err-Desk-DiskFault-clause-signs
-returns-in-Err-Desk-DiskFault-clause-signs g c = signs_after g.D.Disk c.args.disk.now c.open_desk.new.disk c.publish.new.disk c.args.parts c.args.settings.now c.in_ok-desk.ensures.stays (rw c.in-Err-Desk-DiskFault.field-0-is at c.in-Err-Desk-DiskFault.ensures.moments)
+returns-in-Err-Desk-DiskFault-clause-signs g c = signs_after g.D.Disk c.args.disk.now c.open_desk.new.disk c.publish.new.disk c.args.parts c.args.settings.now c.in_ok-desk.ensures.stays ((rw c.in-Err-Desk-DiskFault.field-0-is at c.in-Err-Desk-DiskFault.ensures.lowest_moments) c.in_ok-desk.ensures.opened.counts)
 
 pub returns-in-Err-Desk-DiskFault-clause-stands : goal.returns-in-Err-Desk-DiskFault-clause-stands
 returns-in-Err-Desk-DiskFault-clause-stands g c =
-    stands_after g.D.Disk c.args.disk.now c.open_desk.new.disk c.publish.new.disk c.args.parts c.args.settings.now (signs_after g.D.Disk c.args.disk.now c.open_desk.new.disk c.publish.new.disk c.args.parts c.args.settings.now c.in_ok-desk.ensures.stays (rw c.in-Err-Desk-DiskFault.field-0-is at c.in-Err-Desk-DiskFault.ensures.moments))
+    stands_after g.D.Disk c.args.disk.now c.open_desk.new.disk c.publish.new.disk c.args.parts c.args.settings.now (signs_after g.D.Disk c.args.disk.now c.open_desk.new.disk c.publish.new.disk c.args.parts c.args.settings.now c.in_ok-desk.ensures.stays ((rw c.in-Err-Desk-DiskFault.field-0-is at c.in-Err-Desk-DiskFault.ensures.lowest_moments) c.in_ok-desk.ensures.opened.counts))
 
 pub returns-in-Err-Build-clause-refused : goal.returns-in-Err-Build-clause-refused
 returns-in-Err-Build-clause-refused g c =
@@ -62,7 +62,7 @@ pub returns-in-Err-Desk-KeysUsedUp-clause-refused : goal.returns-in-Err-Desk-Key
 returns-in-Err-Desk-KeysUsedUp-clause-refused g c =
     let o = c.in_ok-desk.ensures.opened in
     let u = c.in-Err-Desk-KeysUsedUp.ensures.used_up (ap (λ x. Err x) (c.in-Err-Desk-KeysUsedUp.field-0-is ∙ ap Desk c.in-Err-Desk-KeysUsedUp.field-0-0-is)) in
-    let told = told_between g.D.Disk c.args.disk.now c.open_desk.new.disk c.publish.new.disk _ (g.met.D.Disk.reads_image c.publish.new.disk) (g.met.D.Disk.image_tells c.open_desk.new.disk) o.content (rw c.in-Err-Desk-KeysUsedUp.field-0-is at c.in-Err-Desk-KeysUsedUp.ensures.moments).each in
+    let told = told_between g.D.Disk c.args.disk.now c.open_desk.new.disk c.publish.new.disk _ (g.met.D.Disk.reads_image c.publish.new.disk) (g.met.D.Disk.image_tells c.open_desk.new.disk) o.content ((rw c.in-Err-Desk-KeysUsedUp.field-0-is at c.in-Err-Desk-KeysUsedUp.ensures.lowest_moments) c.in_ok-desk.ensures.opened.counts).each in
     used_up (still_told g.D.Disk c.args.disk.now c.publish.new.disk) _ _ u.header (λ x is. o.usable x (told x is))
     (all_spent g.D.Disk c.args.disk.now c.open_desk.new.disk c.publish.new.disk c.in_ok-desk.desk o.fits o.is_open o.counts u.none_free (g.met.D.Disk.reads_image c.open_desk.new.disk) told) u.has
 

@@ -1,7 +1,7 @@
 use Rattle.std.proofs.Common.{refl, ap, ◌∙◌}
 use Rattle.std.specs.declared.result.Result.TheVariants.{Err}
 use Rattle.desk_areas.specs.Keys.{key_from}
-use Rattle.owner_commands.proofs.SuccessionLemmas.{not_followed, next_line, next_on, links_kind, stays_followed}
+use Rattle.owner_commands.proofs.SuccessionLemmas.{not_followed, next_line, next_on, links_kind, raises_kind, stays_followed}
 use Rattle.owner_commands.proofs.StandingLemmas.{key_follows}
 use Rattle.owner_commands.proofs.succeeding.make_next.Goals as goal
 
@@ -35,3 +35,9 @@ pub returns-in-Err-clause-untouched : goal.returns-in-Err-clause-untouched
 returns-in-Err-clause-untouched g c =
     rw c.not_followed.ensures
     (stays_followed g.D.Disk c.args.disk.now c.succeed.new.disk c.in-Err.e (λ other. c.in-Err.ensures.untouched refl (λ is. other cc)))
+
+pub returns-in-Ok-clause-raises : goal.returns-in-Ok-clause-raises
+returns-in-Ok-clause-raises g c = raises_kind g.D.Disk c.args.disk.now c.succeed.new.disk _ _ _ c.number.ensures.is c.in-Ok.ensures.raises
+
+pub returns-in-Err-clause-raises : goal.returns-in-Err-clause-raises
+returns-in-Err-clause-raises g c = raises_kind g.D.Disk c.args.disk.now c.succeed.new.disk _ _ _ c.number.ensures.is c.in-Err.ensures.raises

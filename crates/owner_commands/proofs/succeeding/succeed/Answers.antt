@@ -39,7 +39,7 @@ returns-in_err-line-clause-adds g c =
     rw (p.1, p.2)
     (record {
       made = none_written (Rose (g.D.Disk.faults c.args.disk.now) (g.D.Disk.faults c.make_next.new.disk)) (EndsSuccession (still_told g.D.Disk c.args.disk.now c.make_next.new.disk) (type_of c.args.kind) c.in_ok-secret.secret) c.in_err-line.field-0.0 _ c.in_err-line.ensures.refused;
-      links = inr (links_file _ _ _ (still_told g.D.Disk c.args.disk.now c.make_next.new.disk) _ (Unit {0}) 0 0 0 0 c.in_ok-secret.ensures.loads.read (still_told g.D.Disk c.args.disk.now c.make_next.new.disk) g.D.Disk c.args.disk.now c.make_next.new.disk c.make_next.ensures.links);
+      links = inr (links_file _ _ _ (still_told g.D.Disk c.args.disk.now c.make_next.new.disk) _ (Unit {0}) 0 0 0 0 c.in_ok-secret.ensures.loads.read (still_told g.D.Disk c.args.disk.now c.make_next.new.disk) g.D.Disk c.args.disk.now c.make_next.new.disk c.make_next.ensures.links c.make_next.ensures.raises);
       keys = c.make_next.ensures.keys;
       follows = none_written (Rose (g.D.Disk.faults c.args.disk.now) (g.D.Disk.faults c.make_next.new.disk)) (EndsSuccession (still_told g.D.Disk c.args.disk.now c.make_next.new.disk) (type_of c.args.kind) c.in_ok-secret.secret) c.in_err-line.field-0.0 _ c.in_err-line.ensures.refused;
       untouched = c.in_err-line.ensures.untouched;
@@ -53,7 +53,7 @@ returns-clause-promised g c =
 pub returns-clause-adds : goal.returns-clause-adds
 returns-clause-adds g c = record {
   made = on_writing c.write_text.result _ (record { secret = c.in_ok-secret.secret; of_file = c.in_ok-secret.ensures.loads.read; unspent = c.in_ok-line.ensures.made });
-  links = inr (links_file _ _ _ (still_told g.D.Disk c.args.disk.now c.make_next.new.disk) _ (Unit {0}) 0 0 0 0 c.in_ok-secret.ensures.loads.read (still_told g.D.Disk c.args.disk.now c.make_next.new.disk) g.D.Disk c.args.disk.now c.make_next.new.disk c.make_next.ensures.links);
+  links = inr (links_file _ _ _ (still_told g.D.Disk c.args.disk.now c.make_next.new.disk) _ (Unit {0}) 0 0 0 0 c.in_ok-secret.ensures.loads.read (still_told g.D.Disk c.args.disk.now c.make_next.new.disk) g.D.Disk c.args.disk.now c.make_next.new.disk c.make_next.ensures.links c.make_next.ensures.raises);
   keys = c.make_next.ensures.keys;
   follows = on_writing c.write_text.result _ (record { secret = c.in_ok-secret.secret; of_file = c.in_ok-secret.ensures.loads.read; follows = c.in_ok-line.ensures.follows });
   untouched = written_stays g.D.Disk c.args.disk.now c.make_next.new.disk _ _ _ _ _ _ c.write_text.ensures.writes;

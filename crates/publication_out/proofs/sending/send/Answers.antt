@@ -8,7 +8,8 @@ loop-count-init g c = record {
   same_most = refl;
   kept = refl;
   later = omega arith;
-  way = begins _ _ _ _ _ _ _ _ _ _ _ _ _ c.pieces_of-pieces.ensures (search rules) c.next-count.ensures.count c.next-count.ensures.given c.next-count.ensures.left;
+  roomy = λ h. h;
+  way = begins _ _ _ _ _ _ _ _ _ _ _ _ _ _ _ _ c.pieces_of-pieces.ensures (search rules) c.next-count.ensures.count c.next-count.ensures.given c.next-count.ensures.left;
 }
 
 pub loop-count-preserved : goal.loop-count-preserved
@@ -17,17 +18,25 @@ loop-count-preserved g c = record {
   same_most = c.put.ensures.most ∙ c.loop-count.invariant.same_most;
   kept = c.in_ok-write_all.ensures.kept ∙ c.loop-count.invariant.kept;
   later = omega (arith, c.in_ok-write_all.ensures.cause.later, c.loop-count.invariant.later);
-  way = goes_on _ _ _ _ _ _ _ _ _ _ _ _ _ _ _ _ _ _ c.put.ensures.spread.0 _ (omega (arith, c.loop-count-test.true)) c.loop-count-test.array_long refl c.in_ok-write_all.ensures.ok c.put.ensures.spread.2
-      c.next-count-in-loop-count.ensures.count c.next-count-in-loop-count.ensures.given c.next-count-in-loop-count.ensures.left c.loop-count.invariant.way;
+  roomy = λ h. c.put.ensures.roomy (c.loop-count.invariant.roomy h);
+  way = goes_on _ _ _ _ _ _ _ _ _ _ _ _ _ _ _ _ _ _ _ _ c.put.ensures.spread.0 _ _ _ _ _ (omega (arith, c.loop-count-test.true)) c.loop-count-test.array_long refl c.in_ok-write_all.ensures.ok c.put.ensures.spread.2
+      c.next-count-in-loop-count.ensures.count c.next-count-in-loop-count.ensures.given c.next-count-in-loop-count.ensures.left (λ h. c.put.ensures.parted (c.loop-count.invariant.roomy h)) c.loop-count.invariant.way;
 }
 
 pub returns-in_err-write_all-clause-front : goal.returns-in_err-write_all-clause-front
 returns-in_err-write_all-clause-front g c =
-    on_err c.from_residual.result _ (front_sent _ _ _ _ _ _ _ _ _ _ _ _ _ _ _ refl c.in_err-write_all.ensures.err c.loop-count.invariant.way).0
+    on_err c.from_residual.result _ (front_sent _ _ _ _ _ _ _ _ _ _ _ _ _ _ _ _ _ _ _ refl c.in_err-write_all.ensures.err c.loop-count.invariant.way).0
 
 pub returns-in_err-write_all-clause-mirrored_front : goal.returns-in_err-write_all-clause-mirrored_front
 returns-in_err-write_all-clause-mirrored_front g c =
-    on_err c.from_residual.result _ (front_sent _ _ _ _ _ _ _ _ _ _ _ _ _ _ _ refl c.in_err-write_all.ensures.err c.loop-count.invariant.way).1
+    on_err c.from_residual.result _ (front_sent _ _ _ _ _ _ _ _ _ _ _ _ _ _ _ _ _ _ _ refl c.in_err-write_all.ensures.err c.loop-count.invariant.way).1
 
 pub returns-clause-mirrored : goal.returns-clause-mirrored
-returns-clause-mirrored g c = (all_sent _ _ _ _ _ _ _ _ _ _ _ _ _ (omega (arith, c.loop-count-test.false)) c.loop-count.invariant.way).1
+returns-clause-mirrored g c = (all_sent _ _ _ _ _ _ _ _ _ _ _ _ _ _ _ _ _ (omega (arith, c.loop-count-test.false)) c.loop-count.invariant.way).1
+
+pub returns-in_err-write_all-clause-parted_front : goal.returns-in_err-write_all-clause-parted_front
+returns-in_err-write_all-clause-parted_front g c =
+    on_err c.from_residual.result _ (front_sent _ _ _ _ _ _ _ _ _ _ _ _ _ _ _ _ _ _ _ refl c.in_err-write_all.ensures.err c.loop-count.invariant.way).2
+
+pub returns-clause-parted : goal.returns-clause-parted
+returns-clause-parted g c = (all_sent _ _ _ _ _ _ _ _ _ _ _ _ _ _ _ _ _ (omega (arith, c.loop-count-test.false)) c.loop-count.invariant.way).2

@@ -13,7 +13,7 @@ by_not false d n = refl
 not_word : (verb word : List ℕ) → verb ≢ word → bytes_eq verb word ≡ false
 not_word verb word other = by_not (bytes_eq verb word) (bytes_eq-Decides verb word) other
 
--- arguments whose first is none of the commands' names
+-- arguments whose first one is not a command's name
 no_command : (words : List (List ℕ)) (verb : List ℕ) → verb ≡ get_or words 0 [] → verb ≢ codes "route" → verb ≢ codes "root" → verb ≢ codes "dimacs" → verb ≢ codes "key" → verb ≢ codes "succeed" → verb ≢ codes "links" → verb ≢ codes "desk" → verb ≢ codes "publish" → verb ≢ codes "prove" → verb ≢ codes "serve" → verb ≢ codes "check" → verb ≢ codes "audit" → verb ≢ codes "survey" → verb ≢ codes "reach" → verb ≢ codes "check-reach" → verb ≢ codes "audit-reach" → verb ≢ codes "reduce"
     → None ≡ request_of words
 no_command [] verb is a b c d e f g h i j k l m n o p q = refl

@@ -4,7 +4,7 @@ use Rattle.road_map.specs.Chains.{EndsAt}
 use Rattle.road_map.specs.Rows.{row_at}
 use Rattle.road_map.proofs.chains.gather.Given as goal
 
--- the roads before the index are gathered, and that at the index ends at the position
+-- the roads before the index are gathered, and the road at the index ends at the position
 abbrev pub invariant-loop-index : goal.invariant-loop-index
 invariant-loop-index l = record {
   row : l.row.items ≡ row_at (take l.index l.roads) l.position;

@@ -16,7 +16,7 @@ returns-in_default-clause-none g c = λ d is.
     let map = c.args.map.now in
     absurd (let bad : None ≡ Some d = sym (no_end map.parts c.parts-parts.ensures.is_map (c.map_laws.ensures.distances map.parts c.parts-parts.ensures.is_map) c.args.from c.args.to (place_known map.parts map.order c.parts-parts.ensures.by_id c.args.to (λ p at. c.in_default.ensures.none p at.0 at.1 at.2))) ∙ is in cc)
 
--- an end to which no headed walk leads
+-- an end to which no goal-directed walk leads
 pub returns-in_default-at-clause-none : goal.returns-in_default-at-clause-none
 returns-in_default-at-clause-none g c = λ d is.
     let map = c.args.map.now in
@@ -24,7 +24,7 @@ returns-in_default-at-clause-none g c = λ d is.
     let f : ℕ → Option Mark = paged c.search_to.new.marks.pages in
     far_end map.parts map.order c.net-net.result.now c.parts-parts.ensures.is_map c.parts-parts.ensures.by_id c.net-net.ensures (c.map_laws.ensures.distances map.parts c.parts-parts.ensures.is_map) (g.B.Bound.bound c.args.bounds.now) c.args.to c.in-Some.end c.args.limit c.in-Some.ensures.found c.requires.low c.args.from c.place-start.result c.in_ok-_bound._bound d (length_in f c.in-Some.end) c.place-start.ensures.place c.requires.known found.least found.whole (ap (λ o. option_map (λ (l : Label). l.length) (option_map (λ (m : Mark). m.label) o)) (sym c.in_default-at.ensures)) (found.lengths c.in-Some.end) is
 
--- an end to which one leads
+-- an end to which a walk leads
 pub returns-clause-route : goal.returns-clause-route
 returns-clause-route g c =
     let map = c.args.map.now in

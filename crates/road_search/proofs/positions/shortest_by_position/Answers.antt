@@ -21,7 +21,7 @@ returns-in_default-at-clause-length c =
     ap (λ o. option_map (λ (l : Label). l.length) (option_map (λ (m : Mark). m.label) o)) c.in_default-at.ensures
     ∙ length_placed map.parts map.order c.net-net.result.now c.parts-parts.ensures.is_map c.parts-parts.ensures.by_id c.net-net.ensures (c.map_laws.ensures.distances map.parts c.parts-parts.ensures.is_map) (paged c.search_to.new.marks.pages) c.args.from c.args.to c.place-start.result c.in-Some.end c.in_ok-_bound._bound c.requires c.place-start.ensures.place c.in-Some.ensures.found found.least found.whole (found.lengths c.in-Some.end) found.end
 
--- an end to which one leads
+-- an end to which a walk leads
 pub returns-clause-length : goal.returns-clause-length
 returns-clause-length c =
     let map = c.args.map.now in

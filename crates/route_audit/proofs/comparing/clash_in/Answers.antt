@@ -26,7 +26,7 @@ clash-requires-clause-folds g c =
 some : (g : Over) (c : After-clash g) → 1 ≤ length c.args.places.now
 some g c = grind (arith, nat_tests)
 
--- the tree that is there
+-- the existing tree
 there : (g : Over) (c : After-clash g) → IsThere g.H.Hasher.hash c.args.held.now.settings.fan (texts_in c.args.held.now c.args.which) c.in-Some.tree.now c.in-Some-leaves.leaves.now
 there g c =
     is_there g.H.Hasher.hash c.args.held.now.settings.fan (texts_in c.args.held.now c.args.which) c.in-Some.tree.now c.in-Some-leaves.leaves.now (ap option_copied (sym c.in-Some-leaves.is) ∙ c.leaves.ensures) (ap option_copied (sym c.in-Some.is) ∙ c.tree.ensures)

@@ -3,7 +3,7 @@ use Rattle.octet_text.specs.Exact.{IsBytes}
 use Rattle.merkle_cover.specs.declared.clashes.TwoTexts.{TwoTexts}
 use Rattle.route_audit.proofs.comparing.clash_under.Goals as goal
 
--- what holds of one that is there
+-- a fact about a value that exists
 of_some : {A : Type 0} (P : A → Type 0) (o : Option A) (x : A) → o ≡ Some x → IfSome o P → P x
 of_some {A} P o x is p = subst (λ (y : Option A). IfSome y P) is p
 

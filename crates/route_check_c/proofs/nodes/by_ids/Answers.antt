@@ -8,7 +8,7 @@ use Rattle.proof_judge.specs.declared.refusal.Refusal.{Refusal}
 use Rattle.proof_judge.specs.declared.refusal.Refusal.TheVariants as refusals
 use Rattle.route_check_c.proofs.nodes.by_ids.Goals as goal
 
--- where no two leaves are of one node, nothing but memory is wanting
+-- if no two leaves belong to the same node, the only error is out of memory
 only_memory : (leaves : List NodeLeaf) (why : Refusal) → IsLeast (StandsTwice leaves) None
     → (why ≡ refusals.Memory no_memory) ⊎ ((id : ℕ) × (why ≡ refusals.RepeatedNode id) × IsLeast (StandsTwice leaves) (Some id)) → why ≡ refusals.Memory no_memory
 only_memory leaves why apart (inl memory) = memory

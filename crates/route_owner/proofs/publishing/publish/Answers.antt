@@ -1,7 +1,7 @@
 use Rattle.std.proofs.Common.{◌≡◌, ◌≢◌, ◌≤◌, ◌+◌, ◌<◌, ℕ, rules, List, length, ◌∙◌, ap, subst, sym, arith}
 use Rattle.lms_tree.specs.Signatures.{KeyOf, number_at}
 use Rattle.desk_areas.specs.Layout.{slots_of}
-use Rattle.route_owner.proofs.Sealing.{all_written, fits_with, no_link, signed_so, signs_header, sealed_so, published_so, seal_short}
+use Rattle.route_owner.proofs.Sealing.{all_written, fits_with, no_link, signed_so, signs_header, signs_lowest, sealed_so, published_so, seal_short}
 use Rattle.route_server.specs.declared.errors.BuildError.TheVariants as build_errors
 use Rattle.route_owner.proofs.Refusing.{no_reason, none_refused, desk_refused, book_refused}
 use Rattle.route_owner.proofs.publishing.publish.Goals as goal
@@ -27,11 +27,11 @@ returns-in-Ok-sign-clause-sealed g c =
 
 pub returns-in-Ok-sign-clause-moments : goal.returns-in-Ok-sign-clause-moments
 returns-in-Ok-sign-clause-moments g c =
-    signs_header _ _ _ _ _ _ c.in-Ok.signable.header _ c.args.desk.now c.in-Ok-sign.ensures.moments.0 c.in-Ok.ensures.signable.has c.write.ensures c.requires.areas c.in-Ok-sign.ensures.moments.2 c.in-Ok-sign.ensures.moments.3
+    signs_header _ _ _ _ _ _ c.in-Ok.signable.header _ c.args.desk.now c.in-Ok-sign.ensures.moments.0 c.in-Ok.ensures.signable.has c.write.ensures (c.length_laws.ensures.header _ c.in-Ok.ensures.signable.good_header) c.requires.areas c.in-Ok-sign.ensures.moments.2 c.in-Ok-sign.ensures.moments.3
 
 pub returns-in-Err-sign-clause-moments : goal.returns-in-Err-sign-clause-moments
 returns-in-Err-sign-clause-moments g c =
-    signs_header _ _ _ _ _ _ c.in-Ok.signable.header _ c.args.desk.now c.in-Err-sign.ensures.moments.0 c.in-Ok.ensures.signable.has c.write.ensures c.requires.areas c.in-Err-sign.ensures.moments.2 c.in-Err-sign.ensures.moments.3
+    signs_header _ _ _ _ _ _ c.in-Ok.signable.header _ c.args.desk.now c.in-Err-sign.ensures.moments.0 c.in-Ok.ensures.signable.has c.write.ensures (c.length_laws.ensures.header _ c.in-Ok.ensures.signable.good_header) c.requires.areas c.in-Err-sign.ensures.moments.2 c.in-Err-sign.ensures.moments.3
 
 pub returns-in-Ok-sign-clause-refused_else : goal.returns-in-Ok-sign-clause-refused_else
 returns-in-Ok-sign-clause-refused_else g c =
@@ -53,3 +53,11 @@ returns-in-Err-clause-succeeds g c can still =
 
 pub returns-in-Ok-sign-clause-lowest : goal.returns-in-Ok-sign-clause-lowest
 returns-in-Ok-sign-clause-lowest g c s before = c.in-Ok-sign.ensures.lowest s (subst (λ (n : ℕ). s < n) (ap (λ x. number_at x 0) (signature_is g c) ∙ c.in-Ok-sign.ensures.signature.number_is) before)
+
+pub returns-in-Ok-sign-clause-lowest_moments : goal.returns-in-Ok-sign-clause-lowest_moments
+returns-in-Ok-sign-clause-lowest_moments g c either =
+    signs_lowest _ _ _ _ _ _ c.in-Ok.signable.header _ c.args.desk.now c.in-Ok-sign.ensures.moments.0 c.in-Ok.ensures.signable.has c.write.ensures (c.length_laws.ensures.header _ c.in-Ok.ensures.signable.good_header) c.requires c.in-Ok-sign.ensures.moments.2 either c.in-Ok-sign.ensures.moments.3
+
+pub returns-in-Err-sign-clause-lowest_moments : goal.returns-in-Err-sign-clause-lowest_moments
+returns-in-Err-sign-clause-lowest_moments g c either =
+    signs_lowest _ _ _ _ _ _ c.in-Ok.signable.header _ c.args.desk.now c.in-Err-sign.ensures.moments.0 c.in-Ok.ensures.signable.has c.write.ensures (c.length_laws.ensures.header _ c.in-Ok.ensures.signable.good_header) c.requires c.in-Err-sign.ensures.moments.2 either c.in-Err-sign.ensures.moments.3

@@ -12,7 +12,7 @@ use Rattle.route_server.proofs.heading.header_over.Given.{Over}
 use Rattle.route_server.proofs.heading.header_over.Goals as goal
 use Rattle.route_server.proofs.heading.header_over.Goals.{In_ok-book}
 
--- the book that was planned, over the leaf order
+-- the planned book, over the leaf order
 planned : (g : Over) (c : In_ok-book g) → IsBookOf (kind_in c.in_ok-book.book) c.args.map.parts c.args.settings.now c.in_ok-order.order (shown_in c.in_ok-book.book)
 planned g c = over_order _ _ _ _ _ _ c.as_slice-ids.ensures c.in_ok-book.ensures.book
 

@@ -1,4 +1,4 @@
-use Rattle.std.proofs.Common.{◌≡◌, ◌<◌, ◌≤◌, List, ℕ, length, replicate, arith, ap, sym, ◌∙◌, subst, inl}
+use Rattle.std.proofs.Common.{◌≡◌, ◌<◌, ◌≤◌, List, ℕ, length, replicate, arith, ap, refl, sym, ◌∙◌, subst, inl}
 use Rattle.std.proofs.lemmas.Grind.{common_steps}
 use Rattle.road_io.proofs.MomentLaws.{nothing}
 use Rattle.lms_tree.specs.Signatures.{KeyOf}
@@ -9,6 +9,7 @@ use Rattle.desk_areas.specs.Keys.{key_from}
 use Rattle.key_desk.specs.Desk.{Fits}
 use Rattle.key_desk.specs.Succession.{next_desk}
 use Rattle.desk_areas.proofs.KeyLemmas.{some_slots}
+use Rattle.key_desk.proofs.Raises.{raises_next}
 use Rattle.key_desk.proofs.Successors.{long_on}
 use Rattle.key_desk.proofs.Unspent.{unspent_next}
 use Rattle.key_desk.proofs.desk.Desk.add_area.Goals as goal
@@ -74,3 +75,23 @@ pub returns-clause-unspent : goal.returns-clause-unspent
 returns-clause-unspent g c =
     let next : c.in_ok-next.next ≡ next_desk c.args.self (key_from c.args.kind c.args.secret.now) = c.in_ok-next.ensures.next ∙ ap (λ (k : KeyOf). next_desk c.args.self k) c.in-Ok.ensures.key in
     unspent_next g.D.Disk c.args.self (key_from c.args.kind c.args.secret.now) c.raise.new.disk c.in_ok-next.next _ _ next (sym c.base-base.ensures.base) (sym c.counts.ensures.sized) c.in_ok-raise.ensures.unspent
+
+pub returns-in-Err-Memory-clause-raises : goal.returns-in-Err-Memory-clause-raises
+returns-in-Err-Memory-clause-raises g c = nothing g.D.Disk c.args.disk.now _ (λ d now. inl refl)
+
+pub returns-in_err-zeros-clause-raises : goal.returns-in_err-zeros-clause-raises
+returns-in_err-zeros-clause-raises g c = nothing g.D.Disk c.args.disk.now _ (λ d now. inl refl)
+
+pub returns-in_err-counts-clause-raises : goal.returns-in_err-counts-clause-raises
+returns-in_err-counts-clause-raises g c = nothing g.D.Disk c.args.disk.now _ (λ d now. inl refl)
+
+pub returns-in_err-next-clause-raises : goal.returns-in_err-next-clause-raises
+returns-in_err-next-clause-raises g c = nothing g.D.Disk c.args.disk.now _ (λ d now. inl refl)
+
+pub returns-in_err-raise-clause-raises : goal.returns-in_err-raise-clause-raises
+returns-in_err-raise-clause-raises g c =
+    raises_next g.D.Disk c.args.self (key_from c.args.kind c.args.secret.now) c.args.disk.now c.raise.new.disk _ _ c.requires.fits c.requires.can (sym c.base-base.ensures.base) (sym c.counts.ensures.sized) c.raise.ensures.raises
+
+pub returns-clause-raises : goal.returns-clause-raises
+returns-clause-raises g c =
+    raises_next g.D.Disk c.args.self (key_from c.args.kind c.args.secret.now) c.args.disk.now c.raise.new.disk _ _ c.requires.fits c.requires.can (sym c.base-base.ensures.base) (sym c.counts.ensures.sized) c.raise.ensures.raises

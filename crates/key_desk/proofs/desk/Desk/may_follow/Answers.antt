@@ -16,7 +16,7 @@ returns-then-earlier-eq7-clause-refused c = ap length (sym c.earlier.ensures.are
 pub returns-then-is_last_spent-clause-refused : goal.returns-then-is_last_spent-clause-refused
 returns-then-is_last_spent-clause-refused c = (fewer _ _ c.earlier.ensures.areas c.earlier.ensures.few c.if-earlier-eq7.false, c.is_last_spent.ensures.0 c.if-is_last_spent.true)
 
--- a slot that was not found to be spent is not
+-- a slot that was not found to be spent is not spent
 unspent : (desk : Desk) (told : Bool) → (count_at desk (last_number desk) ≡ TheVariants.Spent → told ≡ true) → told ≡ false → count_at desk (last_number desk) ≢ TheVariants.Spent
 unspent desk told when isnt spent = let is = when spent in absurd (cc (is, isnt))
 

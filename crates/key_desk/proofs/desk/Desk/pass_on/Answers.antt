@@ -42,3 +42,6 @@ returns-in-Err-clause-keys g c = nothing g.D.Disk c.args.disk.now _ (λ d now. l
 
 pub returns-in-Ok-clause-free : goal.returns-in-Ok-clause-free
 returns-in-Ok-clause-free g c = on_ok c.add_area.result _ _ c.add_area.ensures.counted (λ counted. c.in-Ok.ensures.follows.free)
+
+pub returns-in-Err-clause-raises : goal.returns-in-Err-clause-raises
+returns-in-Err-clause-raises g c = nothing g.D.Disk c.args.disk.now _ (λ d now. inl refl)

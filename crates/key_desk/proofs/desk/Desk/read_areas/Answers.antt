@@ -89,7 +89,7 @@ returns-in-None-clause-content g c x told = c.loop-round.invariant.content x (c.
 pub returns-in-None-clause-faults : goal.returns-in-None-clause-faults
 returns-in-None-clause-faults g c = omega (arith, c.loop-round.invariant.faults, c.read_next.ensures.faults)
 
--- what was read, whatever the disk tells
+-- the values read, whatever the disk states
 whole_of : (area : AreaView) → (0 < slots_of area.key.kind) × (length area.counts ≡ slots_of area.key.kind) → length area.key.i ≡ 16 → IsEither area → IsWhole area
 whole_of area known named either = record { known = known.0; sized = known.1; named = named; either = either }
 

@@ -25,6 +25,7 @@ use Rattle.key_desk.proofs.Standing.{standing}
 use Rattle.key_desk.proofs.KeptKeys.{stays_keys, desk_keys}
 use Rattle.key_desk.proofs.Counts.{key_here}
 use Rattle.key_desk.proofs.Refusals.{called_on, to_image, from_image, start_called, start_called_else, start_fault, same_error}
+use Rattle.key_desk.proofs.Raises.{raises_later}
 use Rattle.key_desk.proofs.Successors.{last_on, one_more, key_before}
 use Rattle.key_desk.proofs.desk.Desk.succeed.Goals as goal
 use Rattle.octet_text.specs.Want.{no_memory}
@@ -36,7 +37,7 @@ started_as desk = Ok desk
 abbrev refused_by : SucceedError → Result Desk SucceedError
 refused_by e = Err e
 
--- what a reading and a succession do together at each moment
+-- the combined effect of a reading and a succession, at each moment
 linked : {D : Type 0} (g : Ghosts D) (desk : Desk) (old mid new : D) (text : List ℕ) → Fits g desk mid → AtEachMoment g old mid Stays → AtEachMoment g mid new (SignsAtMost (slot_here desk (last_number desk)) text)
     → AtEachMoment g old new (λ d i. (i ≡ d) ⊎ SignsLink text d i)
 linked g desk old mid new text fits read signed = continued g old mid new Stays _ (λ d i. (i ≡ d) ⊎ SignsLink text d i) read signed
@@ -49,7 +50,7 @@ linked g desk old mid new text fits read signed = continued g old mid new Stays 
       signs = subst (λ (s : SlotId). SignsAtMost s text e i) (sym (last_on desk e areas)) h;
     })))
 
--- such steps keep what stands
+-- such steps keep the signed pairs
 kept : {D : Type 0} (g : Ghosts D) (old new : D) (text : List ℕ) → AtEachMoment g old new (λ d i. (i ≡ d) ⊎ SignsLink text d i) → KeepsStanding g old new
 kept g old new text moments = standing g old new (λ d i. (i ≡ d) ⊎ SignsLink text d i) moments
     (λ d i h s t signed. elim h [ inl is ↦ subst (λ (x : List ℕ). IsSigned x s t) (sym is) signed | inr link ↦ link.signs.keeps s t signed ])
@@ -68,19 +69,19 @@ pub returns-in-Err-clause-stands : goal.returns-in-Err-clause-stands
 returns-in-Err-clause-stands g c = kept g.D.Disk c.args.disk.now c.reopen.new.disk (link_text (public_key (key_from c.args.kind c.args.secret.now)))
     (weaker g.D.Disk c.args.disk.now c.reopen.new.disk Stays _ c.reopen.ensures.moments (λ d i now is. inl is))
 
--- what holds of an error holds of what it means
+-- a fact about an error holds for the error that it becomes
 if_err : {X E : Type 0} (r : Result X E) (P Q : E → Type 0) → ((e : E) → P e → Q e) → IfErr r P → IfErr r Q
 if_err (Ok x) P Q each h = tt
 if_err (Err e) P Q each h = each e h
 
--- a disk on which a desk opened has keys that can be used
+-- if a desk was opened on a disk, the disk's keys can be used
 usable_on : {X : Type 0} (c : List ℕ) (desk : X) → IsOpen c → (IsOpen c → IsBadBlock c → (started_as desk ≡ Err start.BadBlock) ⊎ ((started_as desk ≡ Err start.DiskFault) ⊎ (started_as desk ≡ Err (start.Memory no_memory)))) → IsUsable c
 usable_on c desk is_open bad_else = record {
   open_gate = is_open;
   good_block = λ bad. elim (bad_else is_open bad) [ inl e ↦ cc | inr other ↦ elim other [ inl e ↦ cc | inr e ↦ cc ] ];
 }
 
--- a refusal leaves the disk
+-- a refusal leaves the disk unchanged
 called_after : {D : Type 0} (g : Ghosts D) (mid new : D) (name : List ℕ) (r : Result Desk SucceedError) → (IsErr r → r ≢ Err DiskFault → new ≡ mid) → IfErr r (IsCalledFor (g.content mid) name) → IfErr r (IsCalledFor (g.content new) name)
 called_after g mid new name (Ok v) stays h = tt
 called_after g mid new name (Err succeed.DiskFault) stays h = tt
@@ -158,7 +159,7 @@ pub returns-in-Ok-clause-untouched : goal.returns-in-Ok-clause-untouched
 returns-in-Ok-clause-untouched g c refused other =
     subst (λ d. AtEachMoment g.D.Disk c.args.disk.now d Stays) (sym (c.pass_on.ensures.untouched refused other)) c.reopen.ensures.moments
 
--- the keys of the areas that are open stay
+-- the keys of the open areas remain
 keys_stay : {D : Type 0} (g : Ghosts D) (desk : Desk) (old mid new : D) → Fits g desk mid → AtEachMoment g old mid Stays → AtEachMoment g mid new (λ d i. HasKeys desk i) → AtEachMoment g old new SameKeys
 keys_stay g desk old mid new fits read kept = continued g old mid new Stays _ SameKeys read kept
     (λ d i now is. stays_keys d i is)
@@ -170,7 +171,7 @@ returns-in-Ok-clause-keys g c = keys_stay g.D.Disk c.in-Ok.desk c.args.disk.now 
 pub returns-in-Err-clause-keys : goal.returns-in-Err-clause-keys
 returns-in-Err-clause-keys g c = weaker g.D.Disk c.args.disk.now c.reopen.new.disk Stays SameKeys c.reopen.ensures.moments (λ d i now is. stays_keys d i is)
 
--- the key that was added follows another
+-- the key that was added follows another key
 follows : (desk : Desk) (key : KeyOf) (r : Result Desk SucceedError) → IfOk r (λ v. v ≡ next_desk desk key) → IfOk r (λ v. 0 < length v.earlier)
 follows desk key (Ok v) is = omega (arith, ap (λ (w : Desk). length w.earlier) is, one_more desk key)
 follows desk key (Err e) is = tt
@@ -182,3 +183,9 @@ pub returns-in-Ok-clause-counted : goal.returns-in-Ok-clause-counted
 returns-in-Ok-clause-counted g c =
     succeeded c.in-Ok.desk (key_from c.args.kind c.args.secret.now) (g.D.Disk.calls c.args.disk.now) (g.D.Disk.calls c.reopen.new.disk) (g.D.Disk.calls c.pass_on.new.disk) c.pass_on.result c.in-Ok.ensures.fits.sound c.in-Ok.ensures.counted c.pass_on.ensures.next
     c.pass_on.ensures.free c.pass_on.ensures.counted
+
+pub returns-in-Ok-clause-raises : goal.returns-in-Ok-clause-raises
+returns-in-Ok-clause-raises g c = raises_later g.D.Disk (key_from c.args.kind c.args.secret.now) c.args.disk.now c.reopen.new.disk c.pass_on.new.disk c.reopen.ensures.moments c.pass_on.ensures.raises
+
+pub returns-in-Err-clause-raises : goal.returns-in-Err-clause-raises
+returns-in-Err-clause-raises g c = weaker g.D.Disk c.args.disk.now c.reopen.new.disk Stays _ c.reopen.ensures.moments (λ d i now is. inl is)

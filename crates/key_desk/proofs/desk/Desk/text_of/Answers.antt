@@ -3,7 +3,7 @@ use Rattle.key_desk.proofs.Steps.{fits_stays}
 use Rattle.key_desk.proofs.SlotTexts.{slot_within, spent_text, unspent}
 use Rattle.key_desk.proofs.desk.Desk.text_of.Goals as goal
 
--- what is both
+-- a value that satisfies both facts
 no_spent : (b : Bool) → b ≡ true → b ≡ false → ⊥
 no_spent b is isnt = cc
 

@@ -3,7 +3,7 @@ use Rattle.road_io.specs.Moments.{Image, AtEachMoment}
 use Rattle.road_io.proofs.MomentLaws.{at_end, nothing}
 use Rattle.lms_tree.specs.Links.{IsLink}
 use Rattle.desk_areas.specs.declared.area.Count.TheVariants
-use Rattle.desk_areas.specs.Layout.{place_in, place_of, gate_at, text_at, gate_of, text_of, slots_of, SameSigned, OutsideSlot, AgreesOutside}
+use Rattle.desk_areas.specs.Layout.{place_in, place_of, gate_at, text_at, gate_of, text_of, slots_of, SameSigned, OutsideSlot, PutsText, AgreesOutside}
 use Rattle.key_desk.specs.declared.desk.Desk.{Desk}
 use Rattle.key_desk.specs.Desk.{count_at, slot_here, Fits, KeepsKnown}
 use Rattle.desk_areas.proofs.Frame.{gate_apart}
@@ -11,6 +11,7 @@ use Rattle.desk_areas.proofs.Areas.{places}
 use Rattle.key_desk.proofs.Standing.{standing_write, standing_same}
 use Rattle.key_desk.proofs.Counts.{changed, count_here, counted_within, other_counts, this_count, own_here, signing_early, written_isnt_spent, other_than, out_isnt_spent, out_isnt_free}
 use Rattle.key_desk.proofs.Steps.{known_on, place_here, write_moments, fits_closed, fits_open, known_kept}
+use Rattle.key_desk.proofs.Puts.{text_within, write_puts, unchanged}
 use Rattle.key_desk.proofs.desk.Ticket.write.Given.{Over}
 use Rattle.key_desk.proofs.desk.Ticket.write.Goals as goal
 use Rattle.key_desk.proofs.desk.Ticket.write.Goals.{After-put_text}
@@ -25,8 +26,15 @@ module _ (g : Over) (c : After-put_text g) where
   is_open : c.args.desk.now.is_open ≡ true
   is_open = sym c.is_open-is_open.ensures ∙ c.if-not-is_open.false
 
+  narrow : AtEachMoment g.D.Disk c.args.disk.now c.put_text.new.disk (AgreesOutside (place_in c.args.desk.now.base c.args.self + 1) (place_in c.args.desk.now.base c.args.self + 2 + length c.args.text.now))
+  narrow = rw (c.place-place.ensures.place, c.into_slot-slot.ensures) at c.put_text.ensures.moments
+
   changes : AtEachMoment g.D.Disk c.args.disk.now c.put_text.new.disk (AgreesOutside (place_in c.args.desk.now.base c.args.self + 1) (place_in c.args.desk.now.base c.args.self + 128))
-  changes = rw (c.place-place.ensures.place, c.into_slot-slot.ensures) at c.put_text.ensures.moments
+  changes = text_within g.D.Disk c.args.disk.now c.put_text.new.disk (place_in c.args.desk.now.base c.args.self) (length c.args.text.now) c.requires.short narrow
+
+  -- only the length octet and the text
+  puts : AtEachMoment g.D.Disk c.args.disk.now c.put_text.new.disk (λ d i. PutsText (slot_here c.args.desk.now c.args.self) c.args.text.now d i × SameSigned d i)
+  puts = write_puts g.D.Disk c.args.desk.now c.args.disk.now c.put_text.new.disk c.args.self c.requires.fits early c.args.text.now c.requires.short is_open isnt narrow
 
   moments : AtEachMoment g.D.Disk c.args.disk.now c.put_text.new.disk (λ d i. OutsideSlot (slot_here c.args.desk.now c.args.self) d i × SameSigned d i)
   moments = write_moments g.D.Disk c.args.desk.now c.args.disk.now c.put_text.new.disk c.args.self c.requires.fits early is_open isnt changes
@@ -34,7 +42,7 @@ module _ (g : Over) (c : After-put_text g) where
   frame : (i : List ℕ) → Image g.D.Disk c.put_text.new.disk i → (d : List ℕ) × Image g.D.Disk c.args.disk.now d × OutsideSlot (slot_here c.args.desk.now c.args.self) d i
   frame i now = let e = at_end g.D.Disk c.args.disk.now c.put_text.new.disk _ moments i now in (e.0, e.1, e.2.0)
 
-  -- the slot's offset stays
+  -- the slot's offset is unchanged
   place_is : (i : List ℕ) → Image g.D.Disk c.put_text.new.disk i → place_of i (slot_here c.args.desk.now c.args.self) ≡ place_in c.args.desk.now.base c.args.self
   place_is i now =
       let f = frame i now in
@@ -79,7 +87,7 @@ pub place-place-requires : goal.place-place-requires
 place-place-requires g c = rw c.into_slot-slot.ensures (counted_within c.args.desk.now c.args.self c.requires.fits.sound (other_than _ TheVariants.Out TheVariants.Spent c.requires.out out_isnt_spent))
 
 pub returns-in-Err-clause-moments : goal.returns-in-Err-clause-moments
-returns-in-Err-clause-moments g c = moments g (goal.at.returns-in-Err-clause-moments g c).After-put_text
+returns-in-Err-clause-moments g c = puts g (goal.at.returns-in-Err-clause-moments g c).After-put_text
 
 pub returns-in-Err-clause-fits : goal.returns-in-Err-clause-fits
 returns-in-Err-clause-fits g c = subst (λ (v : Desk). Fits g.D.Disk v c.put_text.new.disk) (sym c.close.ensures) (fits_refused g (goal.at.returns-in-Err-clause-fits g c).After-put_text)
@@ -89,7 +97,7 @@ returns-in-Err-clause-others g c =
     subst (λ (v : Desk). KeepsKnown g.D.Disk (slot_here c.args.desk.now c.args.self) c.args.desk.now c.args.disk.now v c.put_text.new.disk) (sym c.close.ensures) (known_refused g (goal.at.returns-in-Err-clause-others g c).After-put_text)
 
 pub returns-in-Ok-clause-moments : goal.returns-in-Ok-clause-moments
-returns-in-Ok-clause-moments g c = moments g (goal.at.returns-in-Ok-clause-moments g c).After-put_text
+returns-in-Ok-clause-moments g c = puts g (goal.at.returns-in-Ok-clause-moments g c).After-put_text
 
 pub returns-in-Ok-clause-fits : goal.returns-in-Ok-clause-fits
 returns-in-Ok-clause-fits g c = subst (λ (v : Desk). Fits g.D.Disk v c.put_text.new.disk) (sym (counted c.args.desk.now c.count.new.self c.args.self c.into_slot-slot.result c.into_slot-slot.ensures c.count.ensures)) (fits_written g (goal.at.returns-in-Ok-clause-fits g c).After-put_text)
@@ -117,3 +125,6 @@ returns-in-Ok-clause-stands g c = standing_write g.D.Disk c.args.disk.now c.put_
 
 pub returns-then-not-is_open-clause-stands : goal.returns-then-not-is_open-clause-stands
 returns-then-not-is_open-clause-stands g c = standing_same g.D.Disk c.args.disk.now c.args.disk.now (nothing g.D.Disk c.args.disk.now _ (λ d now. refl))
+
+pub returns-then-not-is_open-clause-moments : goal.returns-then-not-is_open-clause-moments
+returns-then-not-is_open-clause-moments g c = nothing g.D.Disk c.args.disk.now _ (λ d now. (unchanged _ _ d, record { keeps = λ s t signed. signed; adds_none = λ s t signed. signed }))

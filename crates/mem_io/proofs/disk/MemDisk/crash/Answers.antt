@@ -7,7 +7,7 @@ use Rattle.mem_io.proofs.JournalSteps.{length-filled}
 use Rattle.mem_io.proofs.FillLaws.{filled_covered, filled_apart}
 use Rattle.mem_io.proofs.disk.MemDisk.crash.Goals as goal
 
--- the replay fills what was not synced
+-- the replay fills the offsets that were not synced
 fills : (octet : ℕ) (m : MemDisk) (base octets content : List ℕ) (entries : List Entry) → base ≡ m.base.items → octets ≡ m.octets.items → entries ≡ m.entries.items
     → content ≡ filled_at octet base entries octets (length entries) → FillsUnsynced octet m content
 fills octet m base octets content entries b o e is =

@@ -7,7 +7,7 @@ use Rattle.mem_io.specs.Journal.{content_at, last_sync}
 use Rattle.mem_io.proofs.JournalSteps.{content_new, content_same, placed_new, last_new, last_le, kept_new, each_new, left_same, write_left, torn_same, stays_put}
 use Rattle.mem_io.proofs.disk.MemDiskDisk.write_at.Goals as goal
 
--- the octets of the new entry, where the journal keeps them
+-- the place where the journal keeps the octets of the new entry
 new_octets : (old bytes new : List ℕ) (from : ℕ) → new ≡ old ++ bytes → from ≡ length old → take (length bytes) (drop from new) ≡ bytes
 new_octets old bytes new from is at =
     ap (λ (l : List ℕ). take (length bytes) (drop from l)) is

@@ -4,7 +4,7 @@ use Rattle.merkle_cover.specs.Rising.{Growth, Takes}
 use Rattle.merkle_cover.proofs.RisingLemmas.{takes-more}
 use Rattle.merkle_cover.proofs.rising.Rising.push.Goals as goal
 
--- from what is inside, in terms of what contracts see
+-- from the tree's fields to the contents that contracts see
 seen : (hash : List ℕ → List ℕ) (fan : ℕ) (places : List ℕ) (texts : List (List ℕ)) (text : List ℕ) (new inside old : Growth) → inside ≡ old → (Takes hash fan places texts inside → get_or texts inside.pushed [] ≡ text → Takes hash fan places texts new)
     → Takes hash fan places texts old → get_or texts old.pushed [] ≡ text → Takes hash fan places texts new
 seen hash fan places texts text new inside old e h =

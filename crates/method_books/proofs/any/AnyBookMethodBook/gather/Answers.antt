@@ -1,9 +1,9 @@
 use Rattle.std.proofs.Common.{◌≡◌, ℕ, Err, sym, subst}
-use Rattle.std.specs.Prelude.{IfErr}
-use Rattle.proof_method.specs.Gathering.{IsFirstUnknown, WhyNone}
+use Rattle.std.specs.Prelude.{IfOk, IfErr}
+use Rattle.proof_method.specs.Gathering.{IsFound, IsFirstUnknown, WhyNone}
 use Rattle.proof_method.specs.declared.found.GatherError.TheVariants.{UnknownNode}
 use Rattle.method_books.specs.declared.any.AnyBook.{AnyBook}
-use Rattle.method_books.specs.AnyBooks.{shown_in}
+use Rattle.method_books.specs.AnyBooks.{kind_in, shown_in}
 use Rattle.method_books.proofs.any.AnyBookMethodBook.gather.Goals as goal
 
 pub returns-in-Dij-clause-refused : goal.returns-in-Dij-clause-refused
@@ -29,3 +29,6 @@ returns-in-Ldm-clause-unknown c = subst (λ (b : AnyBook). (id : ℕ) → IsFirs
 
 pub returns-in-Hyp-clause-unknown : goal.returns-in-Hyp-clause-unknown
 returns-in-Hyp-clause-unknown c = subst (λ (b : AnyBook). (id : ℕ) → IsFirstUnknown (shown_in b).parts c.args.query id → c.gather-in-Hyp.result ≡ Err (UnknownNode id)) (sym c.in-Hyp.is) c.gather-in-Hyp.ensures.unknown
+
+pub returns-in-Hyp-clause-found : goal.returns-in-Hyp-clause-found
+returns-in-Hyp-clause-found c = subst (λ (b : AnyBook). IfOk c.gather-in-Hyp.result (λ found. (d : ℕ) × IsFound (kind_in b) (shown_in b) c.args.query d found)) (sym c.in-Hyp.is) c.gather-in-Hyp.ensures.found

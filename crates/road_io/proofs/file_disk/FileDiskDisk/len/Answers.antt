@@ -4,12 +4,12 @@ use Rattle.road_io.specs.Disk.{Stays}
 use Rattle.road_io.proofs.WorldLaws.{later_noted, past_noted, each_noted}
 use Rattle.road_io.proofs.file_disk.FileDiskDisk.len.Goals as goal
 
-pub returns-clause-moments : goal.returns-clause-moments
-returns-clause-moments g c =
+pub returns-in-Ok-clause-moments : goal.returns-in-Ok-clause-moments
+returns-in-Ok-clause-moments g c =
     let d = c.args.self.now in
-    let w = c.counted.new.self.world.events in
-    let h = c.note.new.self.events in
-    let call : Call = (0 ∷ c.in_ok-count.count ∷ [], []) in
+    let w = c.begin.new.self.world.events in
+    let h = c.len.new.history.events in
+    let call : Call = (0 ∷ c.in-Ok.count ∷ [], []) in
     let same : w ≡ d.world.events = search rules in
     let noted : h ≡ call ∷ d.history.events = search rules in
     record {

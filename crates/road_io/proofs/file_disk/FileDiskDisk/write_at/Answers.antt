@@ -17,11 +17,11 @@ returns-in_err-begin-clause-moments g c =
       each = each_kept d.world.events w d.history.events h same noted (Torn c.args.at (length c.args.octets.now)) (λ d. torn_same c.args.at (length c.args.octets.now) d);
     }
 
-pub returns-in_err-counted-clause-moments : goal.returns-in_err-counted-clause-moments
-returns-in_err-counted-clause-moments g c =
+pub returns-in-Err-clause-moments : goal.returns-in-Err-clause-moments
+returns-in-Err-clause-moments g c =
     let d = c.args.self.now in
-    let w = c.counted.new.self.world.events in
-    let h = c.counted.new.self.history.events in
+    let w = c.failed.new.self.world.events in
+    let h = c.failed.new.self.history.events in
     let same : w ≡ d.world.events = search rules in
     let noted : h ≡ d.history.events = search rules in
     record {

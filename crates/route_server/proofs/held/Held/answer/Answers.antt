@@ -55,11 +55,11 @@ pub returns-in-None-clause-short : goal.returns-in-None-clause-short
 returns-in-None-clause-short g c =
     IfOk-weaker c.unknown.result (λ v. v.items ≡ reply.spell replies.UnknownNode) (λ v. length v.items < 2 ^ 32 - 16) (λ v spelled. omega (arith, unknown_long, ap (λ (xs : List ℕ). length xs) spelled)) c.unknown.ensures.spelled
 
--- what was gathered, with its route or where no walk joins the ends
+-- the gathered items, with their route or for the case that no walk joins the ends
 brought_found : (g : Over) (c : In_ok-signature g) → Gathers (kind_in c.self.inside.book) (shown_in c.self.inside.book) c.args.query c.in-Some.found
 brought_found g c = subst (λ (o : Option Found). IfSome o (Gathers (kind_in c.self.inside.book) (shown_in c.self.inside.book) c.args.query)) c.in-Some.is c.in_ok-gathered.ensures.found
 
--- what was found, over the book that is held
+-- the items found, over the held book
 facts : (g : Over) (c : In_ok-signature g) → FoundFacts (charted_in c.self.inside.book).parts (shown_in c.self.inside.book) c.in-Some.found
 facts g c =
     let kind = (kind_in c.self.inside.book) in
@@ -92,7 +92,7 @@ pairs_brought-requires g c =
 abbrev leaves : (g : Over) (c : After-numbers_fit g) → List NodeLeaf
 leaves g c = leaves_of (shown_in c.self.inside.book) (ids_at c.self.inside.order.ids c.in_ok-nodes.nodes.places)
 
--- the answer, and as it is written, of the copy of the signature
+-- the answer, and the answer as it is written with the copy of the signature
 abbrev placed : (g : Over) (c : After-numbers_fit g) → List ℕ → PlacedAnswer
 placed g c signature = placed_of c.header-header.result signature c.in-Some.found c.in_ok-nodes.nodes c.in_ok-pairs.pairs
 
@@ -105,7 +105,7 @@ lists g c =
     let i = c.self.inside in
     (shown (kind_in i.book) (charted_in i.book) i.settings i.order.ids i.order.places.items (shown_in i.book) c.self.invariant.planned).lists
 
--- the indices of the nodes that were found are brought
+-- the indices of the nodes that were found are taken
 nodes_brought : (g : Over) (c : After-numbers_fit g) → AreBrought g.H.Hasher.hash (kept_as (charted_in c.self.inside.book) c.self.inside.settings c.self.inside.order.ids (shown_in c.self.inside.book) c.self.inside.signature) c.in-Some.found.nodes c.in_ok-nodes.nodes
 nodes_brought g c =
     subst (λ (k : Kept). AreBrought g.H.Hasher.hash k c.in-Some.found.nodes c.in_ok-nodes.nodes) (sym c.self.view_is)
@@ -141,7 +141,7 @@ brought g c pairs_rise =
           ∙ cover_either hash i.settings.fan (pair_texts b.pairs) c.in-Some.found.pairs (subst (λ n. IsRising n c.in-Some.found.pairs) (sym (length-map b.pairs pair_leaf.spell)) pairs_rise);
     }
 
--- the book that is held
+-- the held book
 served : (g : Over) (c : After-numbers_fit g) → IsServed g.H.Hasher.hash (kind_in c.self.inside.book) (charted_in c.self.inside.book).parts c.self.inside.settings c.self.inside.order.ids (shown_in c.self.inside.book)
 served g c =
     let i = c.self.invariant.planned in

@@ -34,7 +34,7 @@ spelled g c =
     let b = shown_in c.args.book in
     subst (λ (o : List ℕ). All (node_leaf (kind_of_leaves (kind_in c.args.book) b.numbers)).Fits (leaves_of b o)) c.as_slice.ensures c.in_ok-grown.ensures.nodes_fit
 
--- it is held with its trees
+-- the book is held with its trees
 held : (g : Over) (c : In_ok-grown g) → IsHeldBook (kind_in c.in_ok-grown.grown.book) (charted_in c.in_ok-grown.grown.book) c.args.settings.now c.args.order.ids c.args.order.places.items (shown_in c.in_ok-grown.grown.book) c.in_ok-grown.grown.nodes c.in_ok-grown.grown.pairs
 held g c =
     let b = shown_in c.args.book in

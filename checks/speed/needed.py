@@ -1,0 +1,84 @@
+"""How many compressions of SHA-256 a reply and its signature need, and how many a key. Nobody trusts it.
+
+The reference reads the reply and folds its leaves and covers, and each text that it hashes is counted: a text takes a
+compression for each 64 octets of itself, of one octet and of its length (FIPS 180-4, 5.1.1). Of the signature, the
+text, the steps that its chains have left, their ends, and the path are counted (RFC 8554, algorithms 4b and 6a).
+"""
+import sys
+from collections.abc import Sequence
+from pathlib import Path
+
+sys.path.append(str(Path(__file__).resolve().parents[2] / "reference"))
+
+from gogbetiku_reference import lms  # noqa: E402
+from gogbetiku_reference.hashing import sha256  # noqa: E402
+from gogbetiku_reference.headers import Header  # noqa: E402
+from gogbetiku_reference.octets import Reader  # noqa: E402
+from gogbetiku_reference.replies import NodeItem, PairItem, read_near_reply, read_reply  # noqa: E402
+from gogbetiku_reference.trees import fold  # noqa: E402
+
+# the octets of a text of LMS besides what it is about: `I`, a number, and a number or a mark
+PREFIX = 16 + 4 + 2
+
+
+def compressions(octets: int) -> int:
+    """How many compressions a text of so many octets takes."""
+    return (octets + 1 + 8 + 63) // 64
+
+
+class Counting:
+    """SHA-256, which counts its compressions."""
+
+    def __init__(self) -> None:
+        self.count = 0
+
+    def __call__(self, text: bytes) -> bytes:
+        self.count += compressions(len(text))
+        return sha256(text)
+
+
+def of_signature(public: bytes, text: bytes, octets: bytes) -> int:
+    signature = lms.Signature(lms.kind_of(public), octets)
+    digits = lms.digits_of(public[8:24], signature.slot, signature.randomiser, text)
+    return (
+        compressions(PREFIX + 32 + len(text))
+        + sum(lms.LAST_STEP - digit for digit in digits)
+        + compressions(PREFIX + 32 * lms.CHAINS)
+        + compressions(PREFIX + 32)
+        + compressions(PREFIX + 64) * len(signature.path)
+    )
+
+
+def of_cover(leaves: int, fan: int, items: Sequence[NodeItem | PairItem], cover: Sequence[bytes]) -> int:
+    hashed = Counting()
+    if items:
+        fold(leaves, fan, [item.place for item in items], [item.text for item in items], cover, hashed)
+    return hashed.count
+
+
+def of_answer(public: bytes, reply: bytes) -> int:
+    """What the reply to a query for a route needs."""
+    answer = read_reply(Reader(reply))
+    assert not isinstance(answer, int)
+    header: Header = answer.header
+    return (
+        of_signature(public, header.octets(), answer.signature)
+        + of_cover(header.nodes, header.fan, answer.nodes, answer.node_cover)
+        + of_cover(header.pairs, header.fan, answer.pairs, answer.pair_cover)
+    )
+
+
+def of_near(public: bytes, reply: bytes) -> int:
+    """What the reply to a query for a radius needs."""
+    near = read_near_reply(Reader(reply))
+    header: Header = near.header
+    return of_signature(public, header.octets(), near.signature) + of_cover(
+        header.nodes, header.fan, near.nodes, near.node_cover
+    )
+
+
+def of_key(height: int) -> int:
+    """What a key of so many levels needs: secrets, chains, their ends, leaves and the tree."""
+    chains = lms.CHAINS * (1 + lms.LAST_STEP)
+    leaf = chains + compressions(PREFIX + 32 * lms.CHAINS) + compressions(PREFIX + 32)
+    return (leaf << height) + ((1 << height) - 1) * compressions(PREFIX + 64)

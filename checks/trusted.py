@@ -1,0 +1,180 @@
+#!/usr/bin/env python3
+"""Lists the trusted bodies: checks/trusted.py [--list]
+
+The standard library promises little about the system's calls. So a body that makes one, or that notes an answer, is trusted:
+that it makes the call that it says, and notes what was answered. This script holds that
+
+- only the files of TRUSTED have such bodies, and each has as many statements in them as the table says. A statement is one
+  that ends with a semicolon, a value at the end of a block, a condition, and a case; signatures and clauses are none;
+- no other file of a crate names a part of the standard library that reaches the system: neither by `use` or a path, nor by a
+  method of a file or of the runtime, nor by a macro that prints; and none writes an object of its own that stands for a
+  file, a stream or the runtime. Crates of tests may, and the program's main crate, which reads the arguments and the clock
+  and writes messages.
+
+With --list it prints each of these bodies, how many statements it has, and the calls that it names. Nobody trusts this script.
+"""
+import glob
+import os
+import re
+import sys
+from collections.abc import Iterator
+
+TOP = os.path.dirname(os.path.dirname(os.path.abspath(__file__)))
+MAIN = "road_proof"
+# the files with trusted bodies, and how many statements these bodies have
+TRUSTED = {
+    "desk_disk/src/handle.rt": 17,
+    "desk_disk/src/look.rt": 6,
+    "desk_disk/src/state.rt": 51,
+    "desk_guard/src/folder.rt": 9,
+    "desk_guard/src/owner_mirror.rt": 25,
+    "desk_guard/src/secret_file.rt": 3,
+    "desk_guard/src/streams.rt": 4,
+    "desk_guard/src/user.rt": 7,
+    "guarded_run/src/owner_key.rt": 11,
+    "mirror_out/src/file_mirror.rt": 9,
+    "road_io/src/calls.rt": 23,
+    "road_io/src/file_disk.rt": 45,
+    "road_io/src/file_library.rt": 34,
+    "road_io/src/std_sink.rt": 10,
+    "road_io/src/std_source.rt": 1,
+}
+# what a crate may name of the parts of std that reach the system: types, and the bound of the runtime
+ALLOWED = {"std::io", "std::io::Error", "std::io::ErrorKind", "std::io::Result", "std::fs::File", "std::rt::Files"}
+REACHING = ("env", "fs", "io", "net", "os", "process", "rt", "thread", "time")
+# methods of files and of the runtime
+METHODS = (
+    "canonicalize chown create_dir hard_link lchown lock lock_shared metadata open_dir open_file println read_exact "
+    "read_line read_link read_to_end reader remove_dir remove_file rename seek set_len set_permissions set_times stderr stdin "
+    "stdout symlink symlink_metadata sync_all sync_data try_lock try_lock_shared unlock write_all write_some write_vectored"
+).split()
+# calls, and what a look at a file gives
+LOOKED = "dev ino mode nlink uid is_block_device is_fifo is_socket".split()
+CALL = re.compile(rf"\.(?:{'|'.join((*METHODS, *LOOKED))}|note|open|read)\(|\bfs::\w+")
+METHOD = re.compile(
+    rf"\.(?:{'|'.join(METHODS)})\(|\b(?:e?print(?:ln)?|dbg)!|\bFile::\w+|\bio::(?!Error\b|ErrorKind\b|Result\b)\w+"
+)
+OWN = re.compile(r"\bimpl\b[^{;]*\b(?:Read|BufRead|Write|Seek|OpenFile|Files|Print|Input)(?:<[^{}]*>)? for\b")
+TEXTS = re.compile(r'//[^\n]*|b?"(?:\\.|[^"\\])*"|b?\'(?:\\.|[^\'\\])\'')
+CLAUSE = re.compile(r"(?:requires|ensures|ghost)\b[^{]*$")
+GROUP, FIELDS = re.compile(r"\([^()]*\)|\[[^\[\]]*\]"), re.compile(
+    r"(^ *|let |(?<![=!<>])= )([A-Z]\w*) \{[^{}]*\}", re.M
+)
+USE = re.compile(r"^\s*(?:pub )?use (std\b[^;]*);", re.M)
+
+
+def bare(text: str) -> str:
+    """A source without comments and texts, line for line."""
+    return TEXTS.sub(lambda found: '""' if found[0][0] != "/" else "", text)
+
+
+def paths(use: str) -> Iterator[str]:
+    """The paths that a `use` of std names."""
+    found = re.fullmatch(r"\s*([\w:]+?)(?:::\{(.*)\})?(?: as \w+)?\s*", use, re.S)
+    if found is None:
+        yield use
+        return
+    if found[2] is None:
+        yield found[1]
+        return
+    depth, last = 0, ""
+    for sign in found[2] + ",":
+        depth += {"{": 1, "}": -1}.get(sign, 0)
+        if sign != "," or depth:
+            last += sign
+        else:
+            if last.strip():
+                yield from (re.sub(r"::self$", "", path) for path in paths(f"{found[1]}::{last.strip()}"))
+            last = ""
+
+
+def bodies(text: str) -> Iterator[tuple[str, int, str]]:
+    """The functions of a source: the name, the line and the body."""
+    for found in re.finditer(r"\bfn (\w+)", text):
+        at, depth, since = found.end(), 0, found.end()
+        while at < len(text):
+            depth += {"(": 1, "[": 1, ")": -1, "]": -1}.get(text[at], 0)
+            if text[at] == ";" and not depth:
+                break
+            if text[at] == "{" and not depth:
+                end = closing(text, at)
+                if CLAUSE.search(text[since:at]) is None:
+                    yield found[1], text.count("\n", 0, found.start()) + 1, text[at + 1 : end]
+                    break
+                at = since = end
+            at += 1
+
+
+def statements(body: str) -> int:
+    """How many statements a body has, as `rt fmt` lays it out: lines, where arguments and fields count as one line with what
+    they belong to."""
+    for _ in range(body.count("\n") + 1):
+        body = GROUP.sub("\0", body)
+    body = re.sub(r"\n\s*\.", ".", FIELDS.sub(r"\1\2", body))
+    return sum(1 for line in body.splitlines() if re.search(r"\w|\0", line) and line.strip() != "} else {")
+
+
+def closing(text: str, at: int) -> int:
+    """The place of the bracket that closes the one at this place."""
+    depth = 0
+    for place in range(at, len(text)):
+        depth += {"{": 1, "}": -1}.get(text[place], 0)
+        if not depth:
+            return place
+    return len(text) - 1
+
+
+def crates() -> list[str]:
+    """The crates that crates.txt lists, but for those of tests."""
+    with open(f"{TOP}/crates.txt", encoding="utf-8") as file:
+        names = [re.split(r"[ :]", line)[0] for line in file if line.strip() and not line.startswith("#")]
+    return [name for name in names if not name.endswith("_tests") and name != "test_maps"]
+
+
+def sources(crate: str) -> Iterator[tuple[str, str]]:
+    """The sources of a crate, without comments and texts."""
+    for name in sorted(glob.glob(f"{TOP}/crates/{crate}/src/**/*.rt", recursive=True)):
+        with open(name, encoding="utf-8") as file:
+            yield os.path.relpath(name, f"{TOP}/crates"), bare(file.read())
+
+
+def reaches(text: str) -> Iterator[str]:
+    """What a source names that reaches the system."""
+    for use in USE.findall(text):
+        for path in paths(use):
+            part = path.split("::")
+            if len(part) > 1 and part[1] in REACHING and path not in ALLOWED:
+                yield path
+    code = USE.sub("", text)
+    yield from (
+        found for found in re.findall(r"\bstd::(?:" + "|".join(REACHING) + r")\b[\w:]*", code) if found not in ALLOWED
+    )
+    yield from (found.strip() for found in METHOD.findall(code))
+    yield from (found.strip() for found in OWN.findall(code))
+
+
+def main() -> None:
+    faults: list[str] = []
+    rows: list[tuple[str, int, str, int, list[str]]] = []
+    for crate in crates():
+        for name, text in sources(crate) if crate != MAIN else []:
+            if name not in TRUSTED:
+                faults += [f"{name}: {found}" for found in reaches(text)]
+            for function, line, body in bodies(text):
+                called = sorted({found.strip(" .(") for found in CALL.findall(body)})
+                if called and name in TRUSTED:
+                    rows.append((name, line, function, statements(body), called))
+    if sys.argv[1:] == ["--list"]:
+        for name, line, function, number, called in rows:
+            print(f"{name}:{line}: {function}: {number}: {', '.join(called)}")
+    for name, wanted in TRUSTED.items():
+        found = sum(row[3] for row in rows if row[0] == name)
+        if found != wanted:
+            faults.append(f"{name} has {found} statements in trusted bodies, and not {wanted}")
+    print(f"{sum(row[3] for row in rows)} statements in {len(rows)} trusted bodies")
+    print("\n".join(faults) if faults else "0 faults")
+    sys.exit(1 if faults else 0)
+
+
+if __name__ == "__main__":
+    main()

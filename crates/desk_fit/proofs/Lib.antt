@@ -1,0 +1,3 @@
+mod FitSteps
+mod OneSight
+mod SignerSteps

@@ -1,0 +1,4 @@
+mod GuardSteps
+mod SignSteps
+mod CallLaws
+mod Fresh

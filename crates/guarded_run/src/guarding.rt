@@ -1,0 +1,210 @@
+//! The one call that does the look, the opening, the run and the sink in order.
+ghost use Rattle.std.specs.Prelude.{◌≡◌};
+ghost use Rattle.std.specs.declared.option.Option.TheVariants.{Some};
+ghost use Rattle.road_command.specs.Requests.{request_of};
+ghost use Rattle.road_io.specs.Noted.{noted};
+ghost use Rattle.signed_out.specs.Fronts.{GoesOut};
+ghost use Rattle.mirror_out.specs.Gone.{HasRoom};
+ghost use Rattle.guarded_run.specs.Guarding.{EndsBehind, IfRun, Processes, exit_of};
+ghost use Rattle.guarded_run.specs.Losing.{LosesBehind};
+ghost use Rattle.guarded_run.specs.Uses.{key_known};
+
+use crate::on_files::run_on_files;
+use crate::owner_key::{KeyFile, key_file};
+use crate::shipping::{Objects, shipped};
+use crate::uses::keys_used;
+use command_files::Ended;
+use desk_disk::DeskDisk;
+use desk_fit::{Looked, Told, fit_desk};
+use desk_sight::{Sight, Spending, Unfit};
+use mirror_out::{FileMirror, Mirror};
+use road_command::Words;
+use road_io::{
+    Disk, FileLibrary, KeptLibrary, KeptSink, Library, Sink, Source, StdSink, StdSource,
+};
+use signed_out::SignedSink;
+use std::alloc::Global;
+use std::fs::File;
+use std::io;
+use std::rt::Files;
+
+/// How a guarded run ended.
+#[derive(Clone, Copy)]
+pub enum End {
+    /// It did not begin.
+    Refused(Unfit),
+    /// The sink took nothing more, because its input was not signed by the expected key.
+    Unsigned(Ended),
+    /// It ran.
+    Ran(Ended),
+}
+
+/// The labels of mirrors that could not be synced after a run, each with the system's reason.
+pub type Unsynced = [Option<(u32, io::Error)>; 8];
+
+/// The results of a guarded run, and what it leaves.
+#[derive(Drop)]
+pub struct Guarded<L: Drop, S: Drop, K: Sink + Drop, D: Drop> {
+    /// How it ended.
+    pub end: End,
+    /// What the look at the desk spent.
+    pub spending: Spending,
+    /// What the desk held after it, if it has a key that can be told.
+    pub sight: Option<Sight>,
+    /// The key with which a map had to be signed.
+    pub signer: Option<[u8; 56]>,
+    /// The state of the file `owner.key`, if the command signs.
+    pub known: KeyFile,
+    /// The owner's first key, if that file holds it.
+    pub first: Option<[u8; 56]>,
+    /// The files.
+    pub library: L,
+    /// Standard input.
+    pub source: S,
+    /// Standard output, below the sink that expects a key.
+    pub sink: SignedSink<K>,
+    /// The desk.
+    pub disk: D,
+    /// The mirrors that were not lost.
+    pub mirrors: Vec<FileMirror>,
+    /// The mirrors that were lost.
+    pub gone: Vec<FileMirror>,
+    /// Whether each of these was synced.
+    pub is_synced: bool,
+    /// Those that were not.
+    pub unsynced: Unsynced,
+}
+
+impl<L: Drop, S: Drop, K: Sink + Drop, D: Drop> Guarded<L, S, K, D> {
+    /// Returns the status of the process.
+    pub fn status(&self) -> u8
+        ensures { result ≡ exit_of self.now.end self.now.is_synced }
+    {
+        match self.end {
+            End::Refused(Unfit::Disk) => 7,
+            End::Refused(Unfit::Memory(_)) => 9,
+            End::Refused(_) | End::Unsigned(_) => 12,
+            End::Ran(ended) if ended.status == 0 && !self.is_synced => 15,
+            End::Ran(ended) => ended.status,
+        }
+    }
+}
+
+/// Returns how a run with this end ended, from the sink that it wrote to and the key that the sink expected.
+fn end_of<K: Sink + Drop>(ended: Ended, sink: &SignedSink<K>, signer: &Option<[u8; 56]>) -> End
+    ensures ends { EndsBehind result ended (sink.now.awaited ≡ signer.now) sink.now.refusals }
+    ensures out { GoesOut sink.now.awaited (noted sink.now.history.events) }
+{
+    let has_refused = sink.has_refused();
+    if sink.awaits(signer) && !has_refused {
+        End::Ran(ended)
+    } else {
+        End::Unsigned(ended)
+    }
+}
+
+/// Syncs what mirrors have taken, and returns those that could not be synced.
+fn synced(mirrors: &[FileMirror]) -> Unsynced {
+    let mut unsynced: Unsynced = [None; 8];
+    for (place, mirror) in mirrors.iter().enumerate() {
+        if let Err(e) = mirror.sync() {
+            unsynced[place.min(7)] = Some((mirror.label(), e));
+        }
+    }
+    unsynced
+}
+
+/// Does everything that the program does, after a look at the owner's desk.
+///
+/// The disk inspects the desk's file after it is opened and before it is written. Then, for a command that uses the
+/// desk's keys, it looks at what the desk holds. The file `owner.key` may hold the first key. If the desk is strange,
+/// or has a key other than that one, nothing runs and nothing changes. Otherwise it spends what waits in the desk and
+/// runs, with a sink that lets a map through only if the desk's current key signed it. Afterwards it syncs what the
+/// mirrors took. It keeps this many octets of each file that is loaded. It appends the mirrors that are lost to
+/// `gone`, which has room for all.
+pub fn guarded_run<R: Files<File = File> + Print + Input + Drop + Copy>(
+    rt: R,
+    alloc: Global,
+    words: &Words,
+    most: usize,
+    mirrors: Vec<FileMirror>,
+    gone: Vec<FileMirror>,
+) -> Guarded<KeptLibrary<FileLibrary<R>>, StdSource<R>, KeptSink<StdSink<R>>, DeskDisk<R>>
+    requires room { HasRoom gone mirrors }
+    ensures guards { Processes ⟦<KeptLibrary<FileLibrary<R>> as Library>⟧ ⟦<StdSource<R> as Source>⟧
+        ⟦<KeptSink<StdSink<R>> as Sink>⟧ ⟦<SignedSink<KeptSink<StdSink<R>>> as Sink>⟧
+        (λ sink. sink.awaited) ⟦<DeskDisk<R> as Disk>⟧ ⟦<FileMirror as Mirror>⟧ (request_of words.now)
+        result.first result.sight result.signer result.spending result.end result.library result.source
+        result.sink result.disk mirrors.items result.mirrors.items }
+    ensures first { result.first ≡ key_known result.known }
+    ensures below { ⟦<KeptSink<StdSink<R>> as Sink>⟧.taken result.sink.inner ≡
+        Some (noted result.sink.history.events) }
+    ensures out { GoesOut result.sink.awaited (noted result.sink.history.events) }
+    ensures gone { IfRun result.end (λ ended. LosesBehind
+        ⟦<FileMirror as Mirror>⟧ ⟦<DeskDisk<R> as Disk>⟧ (request_of words.now) result.disk
+        (⟦<SignedSink<KeptSink<StdSink<R>>> as Sink>⟧.taken result.sink) mirrors.items
+        result.mirrors.items gone.items result.gone.items ended) }
+    ensures unsigned { IfRun result.end (λ ended.
+        EndsBehind result.end ended (result.sink.awaited ≡ result.signer) result.sink.refusals) }
+{
+    let Objects {
+        mut library,
+        mut source,
+        sink,
+        mut disk,
+    } = shipped(rt, alloc, words, most);
+    let mut mirrors = mirrors;
+    let mut gone = gone;
+    let known = key_file(rt, alloc, words);
+    let first = known.key();
+    let Looked { spending, told } = fit_desk(alloc, keys_used(words), first, &mut disk);
+    let Told { sight, signer } = match told {
+        Ok(told) => told,
+        Err(why) => {
+            return Guarded {
+                end: End::Refused(why),
+                spending,
+                sight: None,
+                signer: None,
+                known,
+                first,
+                library,
+                source,
+                sink: SignedSink::new(sink, None),
+                disk,
+                mirrors,
+                gone,
+                is_synced: true,
+                unsynced: [None; 8],
+            };
+        }
+    };
+    let mut sink = SignedSink::new(sink, signer);
+    let ended = run_on_files(
+        alloc,
+        words,
+        &mut library,
+        &mut source,
+        &mut sink,
+        &mut disk,
+        &mut mirrors,
+        &mut gone,
+    );
+    let unsynced = synced(&mirrors);
+    Guarded {
+        end: end_of(ended, &sink, &signer),
+        spending,
+        sight,
+        signer,
+        known,
+        first,
+        library,
+        source,
+        sink,
+        disk,
+        mirrors,
+        gone,
+        is_synced: unsynced.iter().all(|lost| lost.is_none()),
+        unsynced,
+    }
+}

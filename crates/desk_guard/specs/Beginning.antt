@@ -6,7 +6,7 @@ use Rattle.std.specs.declared.io.ErrorKind.{ErrorKind}
 use Rattle.std.specs.declared.io.ErrorKind.TheVariants as kinds
 use Rattle.road_command.specs.Requests.{Request, Publish, Links, Prove, Serve, ServeSigned, Reach}
 use Rattle.desk_guard.specs.declared.beginning.Unbegun.{Unbegun}
-use Rattle.desk_guard.specs.declared.beginning.Unbegun.TheVariants.{Memory, NotText}
+use Rattle.desk_guard.specs.declared.beginning.Unbegun.TheVariants.{Memory, NotGiven, NotText}
 use Rattle.desk_guard.specs.declared.streams.Clash.{Clash}
 use Rattle.desk_guard.specs.declared.streams.Clash.TheVariants.{ErrorIsDesk, OutputIsDesk, OutputIsTerminal, OutputIsInput}
 
@@ -14,12 +14,13 @@ use Rattle.desk_guard.specs.declared.streams.Clash.TheVariants.{ErrorIsDesk, Out
 
 -- why there are none, from the system's error
 abbrev pub unbegun_by : ErrorKind → Unbegun
-unbegun_by kinds.OutOfMemory = Memory
+unbegun_by kinds.OutOfMemory = NotGiven
 unbegun_by kind = NotText
 
 -- the status
 abbrev pub unbegun_exit : Unbegun → ℕ
-unbegun_exit Memory = 9
+unbegun_exit (Memory none) = 9
+unbegun_exit NotGiven = 9
 unbegun_exit NotText = 2
 
 -- ---- standard streams

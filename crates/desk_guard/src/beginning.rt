@@ -2,13 +2,16 @@
 ghost use Rattle.std.specs.Prelude.{◌≡◌};
 ghost use Rattle.desk_guard.specs.Beginning.{answer_exit, unbegun_exit, unbegun_by};
 
+use octet_text::NoMemory;
 use std::io::ErrorKind;
 
 /// Why a run cannot have its arguments.
 #[derive(Clone, Copy, Debug, PartialEq, Eq)]
 pub enum Unbegun {
     /// Out of memory.
-    Memory,
+    Memory(NoMemory),
+    /// The system has no memory to give the arguments, or there are more than a list holds.
+    NotGiven,
     /// An argument is not UTF-8 text.
     NotText,
 }
@@ -19,7 +22,7 @@ impl Unbegun {
         ensures { result ≡ unbegun_by kind }
     {
         match kind {
-            ErrorKind::OutOfMemory => Unbegun::Memory,
+            ErrorKind::OutOfMemory => Unbegun::NotGiven,
             _ => Unbegun::NotText,
         }
     }
@@ -29,7 +32,7 @@ impl Unbegun {
         ensures { result ≡ unbegun_exit self }
     {
         match self {
-            Unbegun::Memory => 9,
+            Unbegun::Memory(_) | Unbegun::NotGiven => 9,
             Unbegun::NotText => 2,
         }
     }

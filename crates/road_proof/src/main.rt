@@ -17,6 +17,7 @@ use desk_sight::Unfit;
 use guarded_run::{End, Guarded, guarded_run, left_after, room_for_lost};
 use long_work::tell_long_work;
 use mirror_files::{labels_of, tell_lost, tell_unsynced, told_mirrors};
+use octet_text::NoMemory;
 use owner_words::{
     tell_desk, tell_folder, tell_key_file, tell_opening, tell_places, tell_secret, tell_signing,
     tell_spending,
@@ -41,9 +42,10 @@ fn words_of(rt: HostRuntime, alloc: Global) -> Result<Words, Unbegun> {
         Err(e) => return Err(Unbegun::of(e.kind())),
     };
     for word in arguments.skip(1) {
-        if words.count() > MOST_WORDS || words.push(word.as_str()).is_err() {
-            return Err(Unbegun::Memory);
+        if words.count() > MOST_WORDS {
+            return Err(Unbegun::NotGiven);
         }
+        words.push(word.as_str()).map_err(Unbegun::Memory)?;
     }
     Ok(words)
 }
@@ -51,7 +53,9 @@ fn words_of(rt: HostRuntime, alloc: Global) -> Result<Words, Unbegun> {
 /// Reports why a run could not begin, and returns its status.
 fn not_begun(rt: HostRuntime, why: Unbegun) -> ExitCode {
     let _ = match why {
-        Unbegun::Memory => eprintln!(rt; "road_proof: memory: Out of memory."),
+        Unbegun::Memory(_) | Unbegun::NotGiven => eprintln!(rt;
+            "road_proof: memory: Out of memory."
+        ),
         Unbegun::NotText => eprintln!(rt;
             "road_proof: arguments: One of them is no text in UTF-8."
         ),
@@ -199,21 +203,20 @@ fn tell_unfit(rt: HostRuntime, words: &Words, unfit: Unfit, disk: &DeskDisk<Host
 }
 
 /// Does what the arguments ask for over the real files and streams, and reports how it ended.
-fn run_words(rt: HostRuntime, alloc: Global, words: &Words, begun: Option<Instant>) -> ExitCode {
+fn run_words(
+    rt: HostRuntime,
+    alloc: Global,
+    words: &Words,
+    begun: Option<Instant>,
+) -> Result<ExitCode, NoMemory> {
     if let Some(clash) = output_clash(&rt, words, rt.stdout().is_terminal()) {
-        return tell_clash(rt, clash);
+        return Ok(tell_clash(rt, clash));
     }
     tell_places(rt, words);
     tell_long_work(rt, words);
-    let Ok(mirrors) = told_mirrors(rt, alloc, words) else {
-        return not_begun(rt, Unbegun::Memory);
-    };
-    let Ok(labels) = labels_of(alloc, &mirrors) else {
-        return not_begun(rt, Unbegun::Memory);
-    };
-    let Ok(gone) = room_for_lost(alloc, &mirrors) else {
-        return not_begun(rt, Unbegun::Memory);
-    };
+    let mirrors = told_mirrors(rt, alloc, words)?;
+    let labels = labels_of(alloc, &mirrors)?;
+    let gone = room_for_lost(alloc, &mirrors)?;
     let mut done = guarded_run(rt, alloc, words, most_kept(words), mirrors, gone);
     tell_key_file(rt, done.known);
     tell_opening(rt, &done.disk);
@@ -229,7 +232,7 @@ fn run_words(rt: HostRuntime, alloc: Global, words: &Words, begun: Option<Instan
             tell_of_serve(rt, words, ended.status, begun);
         }
     }
-    ExitCode::from(done.status())
+    Ok(ExitCode::from(done.status()))
 }
 
 fn main(rt: HostRuntime) -> ExitCode {
@@ -245,5 +248,8 @@ fn main(rt: HostRuntime) -> ExitCode {
     if let Some(asked) = asked_of(&words) {
         return tell(rt, asked);
     }
-    run_words(rt, alloc, &words, begun)
+    match run_words(rt, alloc, &words, begun) {
+        Ok(code) => code,
+        Err(none) => not_begun(rt, Unbegun::Memory(none)),
+    }
 }

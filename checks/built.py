@@ -107,7 +107,7 @@ class Tree:
         return done.returncode, out, said
 
     def until_called(self, name: str) -> None:
-        for _ in range(300):
+        for _ in range(1200):
             if any(it.startswith(f"{name} ") for it in self.called()):
                 return
             time.sleep(0.05)

@@ -200,7 +200,7 @@ def of_times(tree: Tree) -> None:
     words = [line.split() for line in ran.stdout.splitlines()]
     holds(
         "times of a build",
-        ran.stdout.startswith("5 crates, 2.5 processor minutes in 1.6 of a clock, largest process 5.0 GB\n"),
+        ran.stdout.startswith("5 crates, 2.5 CPU minutes in 1.6 elapsed minutes, largest process 5.0 GB\n"),
         ran.stdout + ran.stderr,
     )
     holds(
@@ -294,7 +294,7 @@ def of_failures(tree: Tree) -> None:
         "a crate that is refused",
         status == 1
         and "fn left::f: not proved" in said
-        and "build: left: not proved; out/build.log has all that rt wrote" in said,
+        and "build: left: not proved; out/build.log has the output of rt" in said,
         said,
     )
     holds(

@@ -1,11 +1,12 @@
 #!/usr/bin/env python3
-"""Lists each list that a statement says exists, with what ties it: checks/existing_lists.py [--check] [CRATE..]
+"""Finds each list whose existence a statement claims, with the fields that constrain it: checks/existing_lists.py
+[--check] [CRATE..]
 
-No client trusts this: it reads the definitions, and proves nothing. A clause that says "there are texts, of which this
-holds" is met by any lists, so each must be tied to octets that a file, a sink, the disk or a result holds. One line for
-each, in the order of the crates: the file and the line, the record or the definition, the name of the list, and the
-other fields that speak of it. A record counts where a field of it is a statement; plain data does not. The status is 1
-where nothing at all speaks of a list; with --check only these are listed.
+A clause such as "texts exist for which this holds" is met by any lists. So each such list must be tied to the octets of
+a file, a sink, the disk or a result. For each list, in the order of the crates, the script prints the file and the
+line, the record or the definition, the name of the list, and the other fields that mention it. A record counts if one
+of its fields is a statement; plain data does not count. Ends with status 1 if nothing mentions a list; with --check it
+prints only these lists. It reads the definitions and proves nothing. No client trusts it.
 """
 import glob
 import os
@@ -28,7 +29,7 @@ Field = tuple[int, list[str], str]
 
 
 def paragraph(lines: list[str], at: int) -> Iterator[tuple[int, str]]:
-    """The lines from a place up to the next empty one, without comments."""
+    """The lines from a place to the next empty line, without comments."""
     for number in range(at, len(lines)):
         if not lines[number].strip():
             return
@@ -37,7 +38,7 @@ def paragraph(lines: list[str], at: int) -> Iterator[tuple[int, str]]:
 
 
 def fields_of(lines: list[str], at: int) -> list[Field]:
-    """The fields of the record whose head ends before a line: each its line, its names and its type."""
+    """The fields of the record whose head ends before a line: line, names and type of each."""
     fields: list[Field] = []
     for number, line in paragraph(lines, at):
         field = FIELD.match(line)
@@ -50,13 +51,13 @@ def fields_of(lines: list[str], at: int) -> list[Field]:
 
 
 def ties_of(name: str, fields: list[Field]) -> list[str]:
-    """What the fields of a record say of one of them."""
+    """The fields of a record that mention one of them."""
     word = re.compile(r"\b" + name + r"\b")
     return [f"{' '.join(names)} : {kind}" for _, names, kind in fields if word.search(kind)]
 
 
 def lists_of_record(lines: list[str], at: int) -> Iterator[tuple[int, str, list[str]]]:
-    """The lists of the record whose head begins at a line, where a field of it is a statement."""
+    """The lists of the record whose head begins at a line, if one of its fields is a statement."""
     head = at
     while not lines[head].rstrip().endswith("where") and head + 1 < len(lines):
         head += 1
@@ -78,7 +79,7 @@ def equation(lines: list[str], at: int, where: str) -> Iterator[str]:
 
 
 def lists_of_line(lines: list[str], at: int, where: str) -> Iterator[tuple[int, str, list[str]]]:
-    """The lists that a line of a definition says exist."""
+    """The lists whose existence a line of a definition claims."""
     for found in EXISTS.finditer(lines[at]):
         rest = " ".join(equation(lines, at, where))
         rest = rest[rest.index(found[0]) + len(found[0]) :].strip()
@@ -87,7 +88,7 @@ def lists_of_line(lines: list[str], at: int, where: str) -> Iterator[tuple[int, 
 
 
 def lists_in(path: str) -> Iterator[tuple[int, str, str, list[str]]]:
-    """The lists that exist by a file's statements: each its line, where it stands, its name and its ties."""
+    """The lists whose existence a file's statements claim: line, place, name and ties of each."""
     with open(path, encoding="utf-8") as file:
         lines = file.read().splitlines()
     where = ""

@@ -1,11 +1,11 @@
 #!/usr/bin/env python3
 """Plays the vectors in the form that libraries import: checks/imported.py
 
-vectors/lms_verify.json is played by the reference, and by Bouncy Castle where javac and Debian's libbcprov-java are there.
-Bouncy Castle reads no further than a signature's or a key's end, so a test whose octets go on is left out of what it is
-asked; and it takes a signature of another type than the key's, which two tests show. Of vectors/client_verify.json the results are those of vectors/client.json and client_radius.json. Each test has a
-number of its own, each flag a note. Nothing here is proved, and no client trusts it. Ends with status 1 if anything
-differs.
+The reference plays vectors/lms_verify.json, and so does Bouncy Castle if the machine has javac and Debian's
+libbcprov-java. Bouncy Castle ignores octets after a signature or a key, so tests with such octets are left out. It also
+accepts a signature of another type than the key's, as two tests show. The results in vectors/client_verify.json must be
+those of vectors/client.json and client_radius.json. Each test must have its own number, and each flag a note. Nothing
+here is proved, and no client trusts it. Ends with status 1 if anything differs.
 """
 import json
 import pathlib
@@ -25,12 +25,12 @@ from gogbetiku_vectors.files import read_family  # noqa: E402
 
 VECTORS, JAR = TOP / "vectors", pathlib.Path("/usr/share/java/bcprov.jar")
 Fields = dict[str, Any]
-# Bouncy Castle 1.72 does not compare the type of the key with that of the signature, as RFC 8554, Algorithm 6a, step 2, asks
+# Bouncy Castle 1.72 does not compare the types of key and signature, as RFC 8554, Algorithm 6a, step 2, requires
 TAKEN_BY_BOUNCY_CASTLE = {"a key of type 7", "a key of the other height"}
 
 
 def tests_of(name: str) -> list[tuple[Fields, Fields]]:
-    """The tests of a file, each with its group, and whether numbers and flags are as they must be."""
+    """The tests of a file, each with its group, and whether numbers and flags are right."""
     file = json.loads((VECTORS / name).read_text(encoding="ascii"))
     found = [(group, test) for group in file["testGroups"] for test in group["tests"]]
     numbers, flags = [test["tcId"] for _, test in found], {flag for _, test in found for flag in test["flags"]}
@@ -73,7 +73,7 @@ def by_bouncy_castle(tests: list[tuple[Fields, Fields]]) -> Iterator[str]:
 
 
 def of_the_client(tests: list[tuple[Fields, Fields]]) -> Iterator[str]:
-    """Each case of a client stands in the file, with its line."""
+    """Tests that the file has each case of a client, with its line."""
     cases = [case for family in (CLIENT, CLIENT_RADIUS) for case in read_family(VECTORS, family)]
     wanted = sorted(
         (case["given"]["reply"], case["given"]["public"], case["given"]["chain"], case["why"], case["result"]["line"])

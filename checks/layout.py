@@ -1,20 +1,20 @@
 #!/usr/bin/env python3
-"""Holds each offset and width of headers and desks to docs/SPEC.md: checks/layout.py
+"""Compares each offset and width of headers and desks with docs/SPEC.md: checks/layout.py
 
-SPEC's table of a header (6.1), its words on publications and replies (6.2 to 6.4), and those on an area and its slots
-(4.3) are the statement. They must agree with one another. Held to them are
+The rules are SPEC's table of a header (6.1), its text on publications and replies (6.2 to 6.4), and its text on areas
+and slots (4.3). These must agree with one another. The following must agree with them:
 
-- the constants, by their names: those of reference/gogbetiku_reference/layout.py, which the Python of reference/, checks/,
-  bindings/ and of the page's plays imports; and in one file each those of tools/, of the gateway, of the modules for
-  Python and JavaScript, and of the Rust in checks/speed;
-- the readers and writers that go field by field: those of the crates with their definition, of the reference, of the page,
-  and of tools/show.py;
-- the crates' numbers: IN_CRATES has the meaning of each.
+- the constants, by name: those of reference/gogbetiku_reference/layout.py, which the Python of reference/, checks/,
+  bindings/ and of the page's plays imports; and one file each of tools/, the gateway, the modules for Python and
+  JavaScript, and the Rust in checks/speed;
+- the readers and writers of single fields: those of the crates with their definition, the reference, the page, and
+  tools/show.py;
+- the numbers in the crates: IN_CRATES gives the meaning of each.
 
-In all other Python, JavaScript, C, Go, Rust and Java no telling number stands bare, and no slice of the Python is just a
-field. Comments and texts may say these numbers. Scripts of the shell are not looked at. OTHERS has the numbers that are no
-offset of a header. checks/layout_tests.py plants the faults. Nobody trusts this script. Ends with status 1 if something
-differs.
+All other Python, JavaScript, C, Go, Rust and Java must not have such a number without a name, and no slice in Python
+may be exactly one field. Comments and texts may have these numbers. Shell scripts are not examined. OTHERS lists the
+numbers that are not offsets of a header. checks/layout_tests.py plants the faults. Nobody trusts this script. Ends with
+status 1 if anything differs.
 """
 import ast
 import re
@@ -43,7 +43,7 @@ NAMES = {
     "first number": "FIRST",
     "second number": "SECOND",
 }
-# the words of SPEC outside that table: their section, and the names of the numbers in them
+# the texts of SPEC outside that table: the section, and the names of the numbers in the text
 SAID = [
     ("6.1", r"A header has (\d+) octets", ["HEADER"]),
     ("6.2", r"\| header, at offset (\d+) \|", ["IN_PUBLICATION"]),
@@ -76,7 +76,7 @@ CONSTANTS = [
     *("HEADER", "SIGNATURE", "IN_PUBLICATION", "IN_RANGE_REPLY", "IN_ANSWER", "SETTINGS"),
     *("KIND", "NAME", "SEED", "SPARE", "BLOCK", "SLOT", "LENGTH", "TEXT", "MOST_TEXT"),
 ]
-# the sums that are looked for: their numbers are rare enough to tell an offset
+# the sums to search for: these numbers are rare enough to identify an offset
 TELLING = [
     ("HEADER",),
     ("SIGNATURE",),
@@ -86,7 +86,7 @@ TELLING = [
     ("IN_PUBLICATION", "SIGNATURE"),
     ("MOST_TEXT",),
 ]
-# the meanings of the telling numbers in src/ and specs/ of each crate
+# the meanings of such numbers in src/ and specs/ of each crate
 IN_CRATES: dict[str, list[tuple[str, ...]]] = {
     "audit_commands": [("MOST_TEXT",)],
     "audit_tests": [("HEADER",), ("IN_ANSWER", "HEADER")],
@@ -121,14 +121,14 @@ OTHERS = {
     ("format_tests", "110"): "octets of a reply that are turned, and of one that is spliced",
     ("line_tests", "105"): "octets that are no header",
 }
-# comments and texts, which may say numbers
+# comments and texts, which may have such numbers
 COMMENTS = re.compile(r"//[^\n]*|/\*.*?\*/|'(?:\\.|[^'\\\n])'|\"(?:\\.|[^\"\\])*\"", re.S)
 REMARKS = re.compile(r"--[^\n]*")
 Layout = dict[str, int]
 
 
 class Field(NamedTuple):
-    """A field of the header: its constant's name, its offset, and how many octets it has."""
+    """A field of the header: the name of its constant, its offset, and its width in octets."""
 
     name: str
     at: int
@@ -136,7 +136,7 @@ class Field(NamedTuple):
 
 
 class Sequence(NamedTuple):
-    """A reader or writer that goes field by field: its file, its first and last words there, and the octets of each word."""
+    """A reader or writer of single fields: its file, its first and last words there, and the width of each word in octets."""
 
     file: str
     begins: str
@@ -172,7 +172,7 @@ SEQUENCES = [
     ),
     Sequence("tools/show.py", "it.skip(METHOD)", '")', {r"skip\(METHOD\)": 4, "B": 1, "I": 4, "Q": 8, "32s": 32}),
 ]
-# the crates' writers to offsets: the file, the first and last words there, and the names of the offsets
+# the functions in crates that write to offsets: the file, the first and last words there, and the names of the offsets
 WRITTEN: list[tuple[str, str, str, list[tuple[str, ...]]]] = [
     (
         "crates/proof_octets/src/header.rt",
@@ -206,7 +206,7 @@ def fields_of(spec: str) -> list[Field]:
 
 
 def layout_of(spec: str) -> tuple[Layout, list[str]]:
-    """Each number by its name, and the words that SPEC lacks."""
+    """Each number by its name, and the texts that SPEC lacks."""
     found, faults = {it.name: it.at for it in fields_of(spec)}, []
     for section, words, names in SAID:
         said = re.search(words, sections(spec).get(section, ""))
@@ -217,13 +217,13 @@ def layout_of(spec: str) -> tuple[Layout, list[str]]:
                 faults.append(f"docs/SPEC.md, {section}: {name} is {found[name]}, and also {number}")
     if "| seed u64, three parameters u64 |" not in sections(spec).get("6.2", ""):
         faults.append("docs/SPEC.md, 6.2: no seed and three parameters follow the signature")
-    # four numbers of eight octets; a gate, and a length behind it; a length of two octets behind the header
+    # four numbers of eight octets; a gate followed by a length; a length of two octets after the header
     found |= {"SETTINGS": 4 * 8, "LENGTH": 1, "TEXT": 2, "SIGNATURE": found.get("HEADER", 0) + 2}
     return found, faults + [f"docs/SPEC.md: it does not say {name}" for name in CONSTANTS if name not in found]
 
 
 def disagreements(spec: str, it: Layout) -> Iterator[str]:
-    """The numbers that SPEC says in two ways that differ."""
+    """The numbers that SPEC states in two places with different values."""
     fields = fields_of(spec)
     ends = [0, *(one.at + one.octets for one in fields)]
     for one, begins in zip(fields, ends):
@@ -260,7 +260,7 @@ def disagreements(spec: str, it: Layout) -> Iterator[str]:
 
 
 def assigned(node: ast.stmt) -> dict[str, int]:
-    """The numbers that a statement of Python gives names."""
+    """The numbers to which a Python statement gives names."""
     if not isinstance(node, ast.Assign) or len(node.targets) != 1:
         return {}
     targets, values = (it.elts if isinstance(it, ast.Tuple) else [it] for it in (node.targets[0], node.value))
@@ -272,7 +272,7 @@ def assigned(node: ast.stmt) -> dict[str, int]:
 
 
 def constants_in(name: str, text: str) -> dict[str, int]:
-    """The constants of a file that have names of the layout."""
+    """The constants of a file whose names belong to the layout."""
     found: dict[str, int] = {}
     if name.endswith(".py"):
         for node in ast.parse(text).body:
@@ -292,7 +292,7 @@ def faults_of_home(name: str, text: str, it: Layout, has_all: bool) -> Iterator[
 
 
 def piece_of(text: str, begins: str, ends: str) -> str:
-    """The part of a text between these words, with them."""
+    """The part of a text from the first of these words to the last."""
     at = text.find(begins)
     end = text.find(ends, at + len(begins))
     return text[at : end + len(ends)] if at >= 0 and end >= 0 else ""
@@ -314,7 +314,7 @@ def faults_of_written(name: str, text: str, wanted: Iterable[int]) -> Iterator[s
 
 
 def faults_of_reference(fields: Iterable[Field]) -> Iterator[str]:
-    """Compares the offsets of a header that the reference writes with SPEC's, and has it read back."""
+    """Compares the offsets of a header that the reference writes with SPEC's, and reads the header back."""
     sys.path.insert(0, str(TOP / "reference"))
     from gogbetiku_reference.headers import FULL, Header, read_header
     from gogbetiku_reference.octets import Reader
@@ -348,7 +348,7 @@ def telling(it: Layout) -> set[int]:
 
 
 def slices_of(fields: Iterable[Field], it: Layout) -> set[tuple[int, int]]:
-    """The spans of the header, its version, roots and numbers, behind each front, and of an area's secret."""
+    """The spans of the header, its version, roots and numbers, after each possible front, and of an area's secret."""
     spans = [(0, it["HEADER"]), *((one.at, one.at + one.octets) for one in fields if one.octets >= 8)]
     starts = (0, it["IN_ANSWER"], it["IN_PUBLICATION"])
     return {(base + begin, base + end) for base in starts for begin, end in spans} | {
@@ -358,7 +358,7 @@ def slices_of(fields: Iterable[Field], it: Layout) -> set[tuple[int, int]]:
 
 
 def bare_in_python(text: str, numbers: set[int], slices: set[tuple[int, int]]) -> Iterator[str]:
-    """The numbers, and the slices of them, that stand in Python outside a constant of the layout."""
+    """The numbers, and the slices with them, that Python has outside the constants of the layout."""
     tree = ast.parse(text)
     named = {id(node) for one in tree.body if set(assigned(one)) & set(CONSTANTS) for node in ast.walk(one)}
     for node in ast.walk(tree):
@@ -396,7 +396,7 @@ def owner_of(name: str) -> str:
 
 
 def faults_of_numbers(texts: Mapping[str, str], it: Layout, fields: list[Field]) -> Iterator[str]:
-    """The telling numbers in the sources: each has a meaning here, and each meaning stands there."""
+    """Compares such numbers in the sources with their meanings here, in both directions."""
     seen: Counter[tuple[str, str]] = Counter()
     for name, text in texts.items():
         seen.update((owner_of(name), one) for one in bare_in(name, text, it, fields))
@@ -413,7 +413,7 @@ def faults_of_numbers(texts: Mapping[str, str], it: Layout, fields: list[Field])
 
 
 def faults_of_bases(texts: Mapping[str, str], it: Layout) -> Iterator[str]:
-    """The crates' numbers behind the offset at which an area begins."""
+    """The numbers that crates add to the offset of an area."""
     known = {it["NAME"], it["SPARE"], it["BLOCK"], *range(it["KIND"], it["NAME"])}
     for name, text in texts.items():
         if name.startswith("crates/"):
@@ -426,7 +426,7 @@ def faults_of_bases(texts: Mapping[str, str], it: Layout) -> Iterator[str]:
 
 
 def sources() -> dict[str, str]:
-    """The sources that are looked at, as Git has them and as they will be."""
+    """The examined sources, as Git has them and as they will be."""
     listed = subprocess.run(
         ["git", "ls-files", "-co", "--exclude-standard"], cwd=TOP, stdout=subprocess.PIPE, text=True, check=True
     )

@@ -1,7 +1,7 @@
 #!/usr/bin/env python3
-"""Tests of checks/layout.py, which must tell each planted fault and nothing else: checks/layout_tests.py
+"""Tests checks/layout.py, which must report each planted fault and nothing else: checks/layout_tests.py
 
-The numbers here are written down by hand, from docs/SPEC.md. Nobody trusts this script.
+The numbers here are written by hand from docs/SPEC.md. Nobody trusts this script.
 """
 import sys
 import unittest
@@ -29,7 +29,7 @@ GIVEN = {
         "MOST_TEXT": 126,
     },
 }
-# words of SPEC, and others in their place
+# texts of SPEC, and their replacements
 CHANGED = [
     ("A header has 104 octets", "A header has 105 octets"),
     ("| 16 | 4 | count of nodes |", "| 17 | 4 | count of nodes |"),
@@ -62,7 +62,7 @@ WRITE = "write_array(&mut text, 0, m);\nwrite_u8(&mut text, 4, 1);\n"
 
 
 def told(spec: str) -> list[str]:
-    """What is told of a SPEC."""
+    """The reports about a SPEC."""
     found, faults = layout.layout_of(spec)
     return faults or list(layout.disagreements(spec, found))
 

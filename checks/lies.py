@@ -1,8 +1,8 @@
-"""Semantic lies: replies whose octets can be read and whose covers mostly fit, and that say what the signed map does not.
+"""Draws semantic lies: replies that can be read, whose covers mostly fit, and that contradict the signed map.
 
-Leaves of another map that the same key has signed, items left out, doubled and moved, covers recomputed or of another
-reply, routes that are other walks, kinds and queries exchanged, chains in other orders. checks/cross.py draws them. Nothing
-here is proved, and no client trusts it.
+It takes leaves of another map under the same key, leaves out, doubles and moves items, and recomputes covers or takes
+them from another reply. It takes other walks as routes, exchanges kinds and queries, and reorders chains.
+checks/cross.py draws these lies. Nothing here is proved, and no client trusts it.
 """
 import random
 from collections.abc import Callable, Sequence
@@ -22,7 +22,7 @@ Reply = Answer | NearReply
 
 @dataclass(frozen=True)
 class Asked:
-    """A reply with what is asked of it: ends or a start and a radius, a minimum version, a chain."""
+    """A reply with its query: the ends, or a start and a radius; a minimum version; and a chain."""
 
     octets: bytes
     start: int
@@ -44,7 +44,7 @@ def covered(held: Held, reply: Reply) -> Reply:
 
 
 class Liar:
-    """Draws lies over publications of one key, of one map and of others."""
+    """Draws lies over publications under one key, of one map and of others."""
 
     def __init__(self, rng: random.Random, held: Sequence[Held], chain: tuple[Link, ...]):
         self.rng, self.held, self.chain = rng, list(held), chain
@@ -93,7 +93,7 @@ class Liar:
         return servers.shows(held, ROUTE, route, servers.gathered(held.book, start, end, route, length))
 
     def noise(self, octets: bytes) -> bytes:
-        """Rarely an octet is another, or the end is."""
+        """Rarely changes an octet or the end."""
         if self.rng.random() > 0.04:
             return octets
         at = self.rng.randrange(len(octets))
@@ -133,7 +133,7 @@ class Liar:
         return NodeItem(place, held.book.nodes[place], held.book.node_texts[place])
 
     def with_an_item_twice(self, held: Held, reply: Reply) -> Reply:
-        """An item's leaf at another place too, or at its own."""
+        """Copies an item's leaf to another place, or to its own."""
         if not reply.nodes:
             return reply
         item = self.rng.choice(reply.nodes)
@@ -141,7 +141,7 @@ class Liar:
         return replace(reply, nodes=tuple(sorted((*reply.nodes, more), key=attrgetter("place"))))
 
     def of_another_map(self, held: Held, reply: Reply) -> Reply:
-        """Some leaves, or all, are those of another publication at the same places."""
+        """Replaces some or all leaves by those of another publication at the same places."""
         other, share = self.other(held), self.rng.choice((0.2, 1))
         count = len(other.book.nodes)
         changed = [

@@ -1,10 +1,11 @@
 #!/usr/bin/python3
-"""The reference beside programs of others: checks/outside.py [--lms]
+"""Compares the reference with other programs: checks/outside.py [--lms]
 
-Distances, shortest routes and the nodes within radii over twenty made maps are those of networkx (Debian's
-python3-networkx, which /usr/bin/python3 alone sees). With --lms, public keys and whole signatures of both heights are those
-that Bouncy Castle makes from the same I and SEED, by checks/lms/run (Debian's default-jdk-headless and libbcprov-java); the
-greater height takes a minute. Nothing here is proved, and no client trusts it. Ends with status 1 if anything differs.
+Over twenty random maps, the distances, shortest routes and nodes within radii must be those of networkx (Debian's
+python3-networkx, which only /usr/bin/python3 finds). With --lms, the public keys and whole signatures of both heights
+must be those that Bouncy Castle makes from the same I and SEED, by checks/lms/run (Debian's default-jdk-headless and
+libbcprov-java); the greater height takes a minute. Nothing here is proved, and no client trusts it. Ends with status 1
+if anything differs.
 """
 import hashlib
 import pathlib
@@ -32,7 +33,7 @@ def graph_of(chart: Map) -> networkx.Graph:
 
 
 def compare_map(chart: Map, radius: int) -> int:
-    """How many distances, routes and radii of a map differ."""
+    """The number of distances, routes and radii of a map that differ."""
     graph, wrong = graph_of(chart), 0
     for start in chart.places:
         distances = networkx.single_source_dijkstra_path_length(graph, start)
@@ -62,7 +63,7 @@ def compare_maps(rng: random.Random, count: int) -> int:
 
 
 def compare_signatures() -> int:
-    """How many keys and signatures differ from Bouncy Castle's."""
+    """The number of keys and signatures that differ from Bouncy Castle's."""
     said = subprocess.run([TOP / "checks/lms/run"], capture_output=True, check=True, text=True).stdout
     wrong = 0
     for part in re.split(r"^(?=H)", said, flags=re.M)[1:]:

@@ -1,5 +1,5 @@
-# What .ci/run and checks/shown share: where what is proved and built lies, and how a check is played. Sourced by both, from
-# the top. What is left out, since a package is missing, is kept in the file SAID, for the last line.
+# Shared by .ci/run and checks/shown, which source it from the top: the paths of proved and built files, and functions that
+# play checks. The file SAID gets the parts that are skipped because a package is missing, for the last line.
 program=crates/road_proof/out/road_proof
 library=crates/route_check_c/out/libgogbetiku.so.0
 archive=crates/route_check_c/out/libroute_check_c.a
@@ -9,13 +9,13 @@ if [ -z "${SAID:-}" ]; then
     trap 'rm -f "$SAID"' EXIT
 fi
 
-# plays a command, and keeps what it says
+# plays a command, and keeps its messages
 play() {
     "$@" 2>&1 | tee -a "$SAID"
     return "${PIPESTATUS[0]}"
 }
 
-# whether this machine has a program, or what is skipped without it
+# whether this machine has a program; if not, prints the skipped part
 has() {
     command -v "$1" > /dev/null && return
     echo "skipped: $2, since this machine has no $1" >> "$SAID"
@@ -31,7 +31,7 @@ python_with() {
     fi
 }
 
-# a file has the octets that SUMS says, where the toolchain is the one that SUMS names
+# tests that a file has the octets in SUMS, if the toolchain is the one that SUMS names
 of_the_sums() {
     if [ "$(head -n 1 SUMS)" = "# $(rt version)" ]; then
         play sha256sum --quiet -c <(grep "  $1\$" SUMS)
@@ -40,7 +40,7 @@ of_the_sums() {
     fi
 }
 
-# the library's archive has the octets that SUMS says, once SUMS has a line for it
+# tests that the library's archive has the octets in SUMS, if SUMS has a line for it
 of_the_archive() {
     if grep -q "  $archive\$" SUMS; then
         of_the_sums $archive
@@ -49,7 +49,7 @@ of_the_archive() {
     fi
 }
 
-# what was left out, in one line
+# the skipped parts, in one line
 left_out() {
     grep -h "skipped" "$SAID" | sort -u | paste -sd ';' -
 }

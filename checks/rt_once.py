@@ -1,10 +1,10 @@
 #!/usr/bin/env python3
-"""Runs the kit's rt so that it sums up each crate once: checks/rt_once.py WORD..
+"""Runs the kit's rt so that it computes the sum of each crate only once: checks/rt_once.py WORD..
 
-rt tells by a sum over a crate's files, and over the sums of those below it, whether its library is built. It takes that sum anew for
-each path through crates.txt, 12,000 times for the crate of the program, which takes it minutes. Here each sum is taken once a run, so
-nothing may change while it runs: ./build, whose rooms nobody else writes to, proves by it. Where the kit's rt is of another
-make, it is run as it is.
+rt decides whether a crate's library is built by a sum over its files and over the sums of the crates below it. It
+computes that sum anew for each path through crates.txt: 12,000 times for the program's crate, which takes minutes. This
+script computes each sum once in a run, so no file may change during the run. ./build uses it, because nobody else
+writes to its folders. If the kit's rt has another form, it runs unchanged.
 """
 import importlib.machinery
 import importlib.util
@@ -23,7 +23,7 @@ def read(path: str) -> str:
 
 
 def loaded(path: str) -> Any:
-    """The script rt as a module, or none where it is not the one that this file knows."""
+    """The script rt as a module, or None if it is not the one that this file knows."""
     library = f"{os.path.dirname(path)}/rtlib.py"
     if (
         "def main(words):" not in read(path)

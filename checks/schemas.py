@@ -1,8 +1,9 @@
 #!/usr/bin/python3
-"""Looks at the vectors by their JSON Schemas: checks/schemas.py
+"""Validates the vectors with their JSON Schemas: checks/schemas.py
 
-Each file of vectors/ is valid under the schema that it names, and each schema is one. It needs Debian's python3-jsonschema,
-which /usr/bin/python3 alone sees. Nothing here is proved, and no client trusts it. Ends with status 1 if a file differs.
+Each file of vectors/ must be valid under the schema that it names, and each schema must be a valid schema. It needs
+Debian's python3-jsonschema, which only /usr/bin/python3 finds. Nothing here is proved, and no client trusts it. Ends
+with status 1 if a file is invalid.
 """
 import json
 import pathlib

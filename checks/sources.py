@@ -1,8 +1,8 @@
 #!/usr/bin/env python3
-"""Compares octets that stand in the tests of the crates with the reference: checks/sources.py
+"""Compares octets in the tests of the crates with the reference: checks/sources.py [NAME]
 
-Signed answers and replies on radii, digests of replies, keys, what forgeries come down to, and the line of a survey: each
-stands in a test as what another program says, and that program is reference/gogbetiku_reference. With a NAME behind it,
+The tests contain signed answers and range replies, digests of replies, keys, the results of forgeries, and the line of
+a survey. In the tests these are results of another program. That program is reference/gogbetiku_reference. With NAME it
 prints that array in hex. Nothing here is proved, and no client trusts it. Ends with status 1 if anything differs.
 """
 import hashlib
@@ -38,7 +38,7 @@ from gogbetiku_vectors.scenes import (
 
 GREATEST = 2**64 - 1
 ORDERS = ("id", "breadth", "depth", "hilbert", "kd", "shuffled")
-# what stands before the route of an answer, and before the items of a reply on a radius
+# the octets before the route of an answer, and before the items of a range reply
 ROUTE, FRONT = IN_ANSWER + SIGNATURE + 1292, IN_RANGE_REPLY + SIGNATURE + 1292
 
 faults: list[str] = []
@@ -50,7 +50,7 @@ def same(what: str, seen: object, wanted: object) -> None:
 
 
 def answers() -> dict[str, bytes]:
-    """The arrays of audit_tests, each header signed by a slot of its own."""
+    """The arrays of audit_tests. Each header is signed with its own slot."""
     dij = published(STREETS, settings_of("dij"), 0)
     hyp = published(STREETS, settings_of("hyp"), 1)
     full = published(STREETS, settings_of("full"), 2)
@@ -85,7 +85,7 @@ def answers() -> dict[str, bytes]:
 
 
 def near_answers() -> dict[str, bytes]:
-    """The arrays of line_tests: the front of a reply on a radius, and what stands behind it."""
+    """The arrays of line_tests: the front of a range reply, and the octets after it."""
     held = published(STREETS, settings_of("dij"), 0)
     nothing = near_reply(held, [])
     arrays = {
@@ -158,7 +158,7 @@ def compare_digests() -> None:
 
 
 def compare_reductions() -> None:
-    """What forgeries show: the rows of the tests of reductions, under the key of the octets 0 to 47."""
+    """The results of forgeries: the rows of the tests of reductions, under the key of the octets 0 to 47."""
     tests = (TOP / "crates/seal_tests/src/reducing.rt").read_text(encoding="utf-8")
     key = key_of(5, bytes(range(48)))
     rows = [

@@ -1,10 +1,11 @@
 #!/usr/bin/env python3
-"""What docs/SPEC.md says and no vector shows: checks/spec_shown.py
+"""Finds rules of docs/SPEC.md that no vector shows: checks/spec_shown.py
 
-Each fault that SPEC names is the result of a vector. Each number in SPEC that bounds something, and each order of tests,
-has a way to be wrong in reference/gogbetiku_wrong that moves it, and a vector that catches that way (caught.json, which
-checks/switched_off.py holds to the vectors). A bound that is not in the list here is told, and so is one that is no longer
-in SPEC. Nothing here is proved, and no client trusts it. Ends with status 1 if something has no vector and no reason.
+Each error that SPEC names must be the result of a vector. For each number in SPEC that is a bound, and for each order
+of tests, reference/gogbetiku_wrong must have a way to be wrong that changes it, and a vector must catch that way.
+caught.json names this vector, and checks/switched_off.py compares it with the vectors. The script reports a bound that
+is missing from its list, and one that is no longer in SPEC. Nothing here is proved, and no client trusts it. Ends with
+status 1 if a rule has no vector and no reason.
 """
 import json
 import pathlib
@@ -21,7 +22,7 @@ BOUND = re.compile(
 )
 LOWER = re.compile(r"\b([1-9][\d,]*) to [\d,]+")
 
-# for each section and number that bounds something: the ways that move it, or why it has no vector in words that begin with -
+# for each section and bound: the ways that change it, or, after `- `, the reason why it has no vector
 LIMITS: dict[tuple[str, str], list[str]] = {
     ("2.1", "1"): ["lines are counted without those that are skipped"],
     ("2.2", "1"): ["an id of 0 is taken"],
@@ -86,7 +87,7 @@ LIMITS: dict[tuple[str, str], list[str]] = {
     ("10.1", "2"): ["- a parameter of the survey, whose lines show it"],
     ("10.2", "268,435,456"): ["- a vector would have 256 MB; checks/files/hostile.py plays long files"],
 }
-# orders of tests, by words of SPEC, and the ways that exchange two
+# orders of tests, by texts of SPEC, and the ways that exchange two tests
 ORDERS: list[tuple[str, str, list[str]]] = [
     (
         "2.1",
@@ -194,7 +195,7 @@ def sections() -> dict[str, str]:
 
 
 def defined_names() -> set[str]:
-    """What the specs and the structs of the crates are named: SPEC names these in brackets."""
+    """The names of the definitions and structs of the crates, which SPEC gives in brackets."""
     found: set[str] = set()
     for path in (TOP / "crates").glob("*/specs/**/*.antt"):
         found.update(re.findall(r"pub (?:record |data )?(\w+)", path.read_text(encoding="utf-8")))

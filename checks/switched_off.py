@@ -1,13 +1,14 @@
 #!/usr/bin/env python3
-"""Makes the reference wrong in each way that is listed, and finds the vector that catches it: checks/switched_off.py [WORD] [--write] [--long]
+"""Makes the reference wrong in each listed way, and finds the vector that catches it: checks/switched_off.py [WORD]
+[--write] [--long]
 
-The ways are those of reference/gogbetiku_wrong: the client's, the server's, the owner's and the auditor's, each a text of
-the reference that another takes the place of. Beside them each test of each module is left out, and with --long each
-bound is moved by one: a test is a `raise`, or a range or a wanted text of a field that is read. The vectors are played by
-what is wrong: at least one must come out otherwise. reference/gogbetiku_wrong/caught.json has for each way the vector that
-caught it last, which is played first; --write writes it anew. With WORD, only the ways whose name has it. Ways that no
-octets can show are listed with the reason, and no vector may catch them. Runs four processes of low priority. Ends with
-status 1 if a way passes all vectors. Nothing here is proved, and no client trusts it.
+The ways are those of reference/gogbetiku_wrong: the client's, the server's, the owner's and the auditor's. Each
+replaces a text of the reference. In addition, each test of each module is left out, and with --long each bound is moved
+by one. A test is a `raise`, or a range or a required value of a field that is read. The wrong reference plays the
+vectors, and at least one result must differ. reference/gogbetiku_wrong/caught.json names for each way the vector that
+caught it last, which is played first; --write writes this file anew. With WORD, only the ways with it in their name are
+tried. Ways that no octets can show are listed with the reason, and no vector may catch them. It runs four processes of
+low priority. Ends with status 1 if a way passes all vectors. Nothing here is proved, and no client trusts it.
 """
 import ast
 import json
@@ -31,11 +32,11 @@ from gogbetiku_wrong import PACKAGE, WRONG, loaded, source_of, switched  # noqa:
 
 CAUGHT = TOP / "reference/gogbetiku_wrong/caught.json"
 PROCESSES, SECONDS = 4, 15
-# these modules say what Python and this package need, and no rule
+# these modules have what Python and this package need, and no rules
 OTHERS = {"__init__", "__main__", "faults", "hashing", "commands", "codes"}
 MOVED = {ast.Lt: ast.LtE, ast.LtE: ast.Lt, ast.Gt: ast.GtE, ast.GtE: ast.Gt}
 READ_BEFORE = "words of commands and fields of headers have their ranges tested when they are read"
-# where no vector can show that a test is left out
+# the tests whose omission no vector can show
 UNSEEN = {
     **{f'left out, books.py: raise Fault("Settings", {number})': READ_BEFORE for number in range(3)},
     'left out, maps.py: raise Fault("TooMany")': "each reader of a file refuses as many parts before they make a map",
@@ -61,7 +62,7 @@ class Way:
 
 
 def is_test(node: ast.AST, bounds: bool) -> bool:
-    """Whether a node refuses something: a `raise`, or a field whose values are limited; with `bounds`, a comparison."""
+    """Whether a node of the syntax tree refuses something: a `raise`, or a field with limited values; with `bounds`, a comparison."""
     if bounds:
         return isinstance(node, ast.Compare) and type(node.ops[0]) in MOVED
     is_field = (
@@ -127,7 +128,7 @@ def ways() -> list[Way]:
     return [way for way in found if all(word in way.name for word in words)]
 
 
-# what is played, the families of a client first; turned bits say nothing that the others don't
+# the played families, a client's first; flipped bits show nothing that the others do not show
 LAST = {"turned", "turned_signatures", "great_keys"}
 
 
@@ -143,7 +144,7 @@ CASES = all_cases()
 RUNS = {family.name: family.run for family in files.FAMILIES}
 BY_ID: dict[str, tuple[str, Fields]] = {case["id"]: (name, case) for name, cases in CASES for case in cases}
 HINTS: dict[str, str] = json.loads(CAUGHT.read_text()) if CAUGHT.exists() else {}
-# which families show most of a module
+# the families that show most faults of a module
 FIRST: dict[str, list[str]] = {
     "octets": ["leaves", "headers", "chain_files", "client"],
     "leaves": ["leaves", "client"],
@@ -169,7 +170,7 @@ FIRST: dict[str, list[str]] = {
     "cells": ["publications"],
 }
 
-# no client stands on these
+# no client depends on these
 NO_CLIENT = {
     *("servers", "frames", "books", "orders", "cells", "desks", "audits", "reductions", "publications"),
     *("road_files", "dimacs", "maps", "draws", "surveys"),
@@ -177,7 +178,7 @@ NO_CLIENT = {
 
 
 def in_order(way: Way) -> Iterator[tuple[str, Fields]]:
-    """The vector that caught the way last, then those of the families that show most of its module, then all."""
+    """The vector that caught the way last, then those of the families that show most faults of its module, then all."""
     if HINTS.get(way.name) in BY_ID and "--write" not in sys.argv:
         yield BY_ID[HINTS[way.name]]
     first = FIRST.get(way.module, ["client", "client_radius"])
@@ -187,7 +188,7 @@ def in_order(way: Way) -> Iterator[tuple[str, Fields]]:
 
 
 def is_long(case: Fields) -> bool:
-    """Whether a case takes a second; such ones are played only where their family shows most of a module."""
+    """Whether a case takes a second. Such cases are played only if their family shows most faults of a module."""
     return "again" in case["given"] or len(case["given"].get("roads", "")) > 20_000
 
 
@@ -206,14 +207,14 @@ def is_same(run: Callable[[Fields], Fields], case: Fields) -> bool:
 
 
 def caught_by(way: Way) -> str | None:
-    """The first vector that comes out otherwise, or nothing."""
+    """The first vector with a different result, or None."""
     forget()
     with switched(way.module, way.code()):
         return next((case["id"] for name, case in in_order(way) if not is_same(RUNS[name], case)), None)
 
 
 def forget() -> None:
-    """What calls keep, but for keys and signatures, which no other module makes otherwise."""
+    """Caches of calls, except for keys and signatures, which no other module changes."""
     for module in loaded():
         for value in vars(module).values():
             if hasattr(value, "cache_clear") and value not in (whole_lms.why_not, whole_lms.key_of):

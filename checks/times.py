@@ -1,17 +1,19 @@
 #!/usr/bin/env python3
-"""Where the time of proofs goes: checks/times.py [FILE | --crate NAME | --kept FOLDER]
+"""Prints the time that proofs take: checks/times.py [FILE | --crate NAME | --kept FOLDER]
 
-    checks/times.py               each crate of the last ./build by processor seconds, largest first, and the chain of crates
-                                  that decided the clock (out/build.times)
-    checks/times.py FILE          the same of another such file
-    checks/times.py --table FILE  the rows of checks/times.txt, by which ./build says how much time is left
-    checks/times.py --crate NAME  checks one crate from nothing, one job, and lists its functions and its files of lemmas and
-                                  definitions by processor seconds; the libraries below it must be built (./build)
-    checks/times.py --kept FOLDER the dearest functions and files of all crates of a tree, by what its builds kept: seconds of a
-                                  clock, and as exact as the machine was idle and each crate had one job
+    checks/times.py               each crate of the last ./build by CPU seconds, largest first, and the chain of crates
+                                  that decided the elapsed time (out/build.times)
+    checks/times.py FILE          the same for another such file
+    checks/times.py --table FILE  the rows of checks/times.txt, from which ./build estimates the remaining time
+    checks/times.py --crate NAME  checks one crate from scratch, with one job, and lists its functions and its files of
+                                  lemmas and definitions by CPU seconds; the libraries below it must be built (./build)
+    checks/times.py --kept FOLDER the most expensive functions and files of all crates of a tree, from files that its
+                                  builds kept, in elapsed seconds; exact only if the machine was idle and each crate had
+                                  one job
 
-By hand, best on an idle machine. The seconds of a function are those that the prover's processes took between the file that
-it keeps of one module and the next, by the times of these files. Nothing is proved here, and no client trusts it.
+Run it by hand, best on an idle machine. The time of a function is the CPU time of the prover's processes between two
+files that the prover keeps for successive modules, by the times of these files. Nothing is proved here, and no client
+trusts it.
 """
 import importlib.machinery
 import importlib.util
@@ -27,9 +29,9 @@ from typing import Any, NoReturn
 
 TOP = os.path.dirname(os.path.dirname(os.path.abspath(__file__)))
 TICKS = os.sysconf("SC_CLK_TCK")
-# what a line of a list shows of a function's dearest parts, and how many lines a list has
+# the number of a function's most expensive parts in a line, and the number of lines of a list
 PARTS, LINES, KINDS = 3, 40, 12
-# seconds, by a function or a file and by its parts
+# seconds by function or file, and by part
 Spent = dict[str, dict[str, float]]
 
 
@@ -38,7 +40,7 @@ def stop(text: str) -> NoReturn:
 
 
 def build_script() -> Any:
-    """./build, whose reading of crates.txt this shares."""
+    """./build as a module, whose reading of crates.txt this script uses."""
     loader = importlib.machinery.SourceFileLoader("build", f"{TOP}/build")
     spec = importlib.util.spec_from_loader("build", loader)
     assert spec
@@ -52,14 +54,14 @@ def build_script() -> Any:
 
 
 class Row:
-    """What one crate took: from when to when in seconds of a clock, processor seconds, and megabytes of its largest process."""
+    """The cost of one crate: its start and end in elapsed seconds, CPU seconds, and megabytes of its largest process."""
 
     def __init__(self, name: str, began: float, ended: float, took: float, memory: float) -> None:
         self.name, self.began, self.ended, self.took, self.memory = name, began, ended, took, memory
 
 
 def rows_of(path: str) -> dict[str, Row]:
-    """The rows of out/build.times; of a crate that was tried more than once the last, with the processor seconds of all."""
+    """The rows of out/build.times. For a crate with several attempts: the last one, with the CPU seconds of all."""
     rows: dict[str, Row] = {}
     try:
         with open(path, encoding="utf-8") as file:
@@ -81,7 +83,7 @@ def rows_of(path: str) -> dict[str, Row]:
 
 
 def chain_of(rows: dict[str, Row], uses: dict[str, list[str]]) -> list[Row]:
-    """The crates that decided the clock: the one that ended last, of those below it the one that ended last, and so on."""
+    """The crates that decided the elapsed time: the one that ended last, of those below it the one that ended last, and so on."""
     last = max(rows.values(), key=lambda it: it.ended)
     chain = [last]
     while True:
@@ -97,14 +99,14 @@ def show_crates(path: str) -> None:
     whole = sum(it.took for it in rows.values())
     clock = max(it.ended for it in rows.values()) - min(it.began for it in rows.values())
     print(
-        f"{len(rows)} crates, {whole / 60:.1f} processor minutes in {clock / 60:.1f} of a clock, largest process {max(it.memory for it in rows.values()) / 1000:.1f} GB\n"
+        f"{len(rows)} crates, {whole / 60:.1f} CPU minutes in {clock / 60:.1f} elapsed minutes, largest process {max(it.memory for it in rows.values()) / 1000:.1f} GB\n"
     )
-    print("processor seconds, seconds of a clock, MB of the largest process, crate")
+    print("CPU seconds, elapsed seconds, MB of the largest process, crate")
     for it in sorted(rows.values(), key=lambda it: -it.took):
         print(f"{it.took:8.0f} {it.ended - it.began:6.0f} {it.memory:6.0f}  {it.name}")
     chain = chain_of(rows, uses)
     print(
-        f"\nthe chain that decided the clock, {len(chain)} crates: seconds that each waited for a processor, and took"
+        f"\nthe chain that decided the elapsed time, {len(chain)} crates: seconds of waiting for a processor, and of proving"
     )
     before = min(it.began for it in rows.values())
     for it in chain:
@@ -121,7 +123,7 @@ def show_table(path: str) -> None:
 
 
 class Watch:
-    """The processor seconds of all processes in a folder, as they were at each moment of a run."""
+    """The CPU seconds of all processes in a folder at each moment of a run."""
 
     def __init__(self, room: str) -> None:
         self.room = room
@@ -141,7 +143,7 @@ class Watch:
         self.moments.append((time.time(), max(before, total / TICKS)))
 
     def at(self, moment: float) -> float:
-        """The processor seconds until a moment, in proportion between two looks."""
+        """The CPU seconds until a moment, interpolated between two measurements."""
         before = self.moments[0]
         for it in self.moments:
             if it[0] >= moment:
@@ -152,7 +154,7 @@ class Watch:
 
 
 def room_for(build: Any, crate: Any, room: str) -> None:
-    """A repository of one crate with the built libraries below it."""
+    """A repository with one crate and the built libraries below it."""
     shutil.copy(f"{TOP}/HANDLES", room)
     with open(f"{room}/crates.txt", "w", encoding="utf-8") as file:
         file.writelines(f"{it.line}\n" for it in [*crate.below, crate])
@@ -167,7 +169,7 @@ def room_for(build: Any, crate: Any, room: str) -> None:
 
 
 def file_of(crate: Any, folder: str, path: str) -> str | None:
-    """The file of which a module is made, or of whose parts."""
+    """The file from which a module, or a part of it, is made."""
     while path:
         name = f"{folder}/{path.replace('.', '/')}.antt"
         if os.path.exists(f"{crate.folder}/{name}"):
@@ -177,7 +179,7 @@ def file_of(crate: Any, folder: str, path: str) -> str | None:
 
 
 def part_of(module: str, crate: Any, functions: list[str]) -> tuple[str, str]:
-    """To what a module of the prover's belongs, and which part of that it is."""
+    """The function or file to which a module of the prover belongs, and its part."""
     library, _, path = module.partition(".")
     plain = path.replace(".fn.", ".") if ".fn." in path else path
     if library == f"Rattle-{crate.name}-proofs":
@@ -193,17 +195,17 @@ def part_of(module: str, crate: Any, functions: list[str]) -> tuple[str, str]:
         if file:
             return file, "itself"
         return "contracts and declared types", path.split(".")[0]
-    return "what the crate hands on", library
+    return "exports of the crate", library
 
 
 def modules_in(folder: str) -> list[tuple[float, str]]:
-    """The modules that a check kept in a folder, each with when it was written, in that order."""
+    """The modules that a check kept in a folder, each with its time, in that order."""
     files = [f"{at}/{name}" for at, _, names in os.walk(folder) for name in names if name.endswith(".oantt")]
     return sorted((os.stat(it).st_mtime, os.path.basename(it)[:-6]) for it in files)
 
 
 def spent_in(crate: Any, kept: list[tuple[float, str]], at: Callable[[float], float]) -> Spent:
-    """What each function and file took of the time between two modules, by its parts."""
+    """The share of each function and file in the time between two modules, by part."""
     # (each function has a module for its statement; a closure counts for the function around it)
     paths = {
         path
@@ -250,9 +252,9 @@ def show_functions(name: str) -> None:
         kept = modules_in(f"{at}/out/incremental")
     first, last = watch.at(kept[0][0]), watch.moments[-1][1]
     spent = spent_in(crate, kept, watch.at)
-    spent["before the first module"], spent["behind the last module"] = {"": first}, {"": last - watch.at(kept[-1][0])}
+    spent["before the first module"], spent["after the last module"] = {"": first}, {"": last - watch.at(kept[-1][0])}
     print(
-        f"{name}: {last:.1f} processor seconds in {watch.moments[-1][0] - began:.0f} of a clock, {len(kept)} modules\n"
+        f"{name}: {last:.1f} CPU seconds in {watch.moments[-1][0] - began:.0f} elapsed seconds, {len(kept)} modules\n"
     )
     show_spent(spent)
 

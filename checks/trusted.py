@@ -1,17 +1,18 @@
 #!/usr/bin/env python3
 """Lists the trusted bodies: checks/trusted.py [--list]
 
-The standard library promises little about the system's calls. So a body that makes one, or that notes an answer, is trusted:
-that it makes the call that it says, and notes what was answered. This script holds that
+The standard library promises little about the system's calls. So a body that makes such a call or records an answer is
+trusted to make the call that it claims, and to record the true answer. This script tests that
 
-- only the files of TRUSTED have such bodies, and each has as many statements in them as the table says. A statement is one
-  that ends with a semicolon, a value at the end of a block, a condition, and a case; signatures and clauses are none;
-- no other file of a crate names a part of the standard library that reaches the system: neither by `use` or a path, nor by a
-  method of a file or of the runtime, nor by a macro that prints; and none writes an object of its own that stands for a
-  file, a stream or the runtime. Crates of tests may, and the program's main crate, which reads the arguments and the clock
-  and writes messages.
+- only the files of TRUSTED have such bodies, with the number of statements in the table. A statement is one that ends
+  with a semicolon, a value at the end of a block, a condition, or a case; signatures and clauses do not count;
+- no other file of a crate names a part of the standard library that reaches the system: by `use` or a path, by a method
+  of a file or of the runtime, or by a macro that prints; and none defines its own object for a file, a stream or the
+  runtime. Crates of tests may do so. So may the program's main crate, which reads the arguments and the clock and writes
+  messages.
 
-With --list it prints each of these bodies, how many statements it has, and the calls that it names. Nobody trusts this script.
+With --list it prints each of these bodies, its number of statements, and the calls that it names. Nobody trusts this
+script.
 """
 import glob
 import os
@@ -21,7 +22,7 @@ from collections.abc import Iterator
 
 TOP = os.path.dirname(os.path.dirname(os.path.abspath(__file__)))
 MAIN = "road_proof"
-# the files with trusted bodies, and how many statements these bodies have
+# the files with trusted bodies, and the number of statements in these bodies
 TRUSTED = {
     "desk_disk/src/handle.rt": 17,
     "desk_disk/src/look.rt": 6,
@@ -39,7 +40,7 @@ TRUSTED = {
     "road_io/src/std_sink.rt": 10,
     "road_io/src/std_source.rt": 1,
 }
-# what a crate may name of the parts of std that reach the system: types, and the bound of the runtime
+# names that a crate may use from the parts of std that reach the system: types, and the bound of the runtime
 ALLOWED = {"std::io", "std::io::Error", "std::io::ErrorKind", "std::io::Result", "std::fs::File", "std::rt::Files"}
 REACHING = ("env", "fs", "io", "net", "os", "process", "rt", "thread", "time")
 # methods of files and of the runtime
@@ -48,7 +49,7 @@ METHODS = (
     "read_line read_link read_to_end reader remove_dir remove_file rename seek set_len set_permissions set_times stderr stdin "
     "stdout symlink symlink_metadata sync_all sync_data try_lock try_lock_shared unlock write_all write_some write_vectored"
 ).split()
-# calls, and what a look at a file gives
+# calls, and the fields of a file's metadata
 LOOKED = "dev ino mode nlink uid is_block_device is_fifo is_socket".split()
 CALL = re.compile(rf"\.(?:{'|'.join((*METHODS, *LOOKED))}|note|open|read)\(|\bfs::\w+")
 METHOD = re.compile(
@@ -106,8 +107,8 @@ def bodies(text: str) -> Iterator[tuple[str, int, str]]:
 
 
 def statements(body: str) -> int:
-    """How many statements a body has, as `rt fmt` lays it out: lines, where arguments and fields count as one line with what
-    they belong to."""
+    """The number of statements in a body, in the layout of `rt fmt`: its lines, but arguments and fields count together with
+    the line that they belong to."""
     for _ in range(body.count("\n") + 1):
         body = GROUP.sub("\0", body)
     body = re.sub(r"\n\s*\.", ".", FIELDS.sub(r"\1\2", body))
@@ -115,7 +116,7 @@ def statements(body: str) -> int:
 
 
 def closing(text: str, at: int) -> int:
-    """The place of the bracket that closes the one at this place."""
+    """The place of the bracket that matches the one at this place."""
     depth = 0
     for place in range(at, len(text)):
         depth += {"{": 1, "}": -1}.get(text[place], 0)
@@ -125,7 +126,7 @@ def closing(text: str, at: int) -> int:
 
 
 def crates() -> list[str]:
-    """The crates that crates.txt lists, but for those of tests."""
+    """The crates of crates.txt, except those of tests."""
     with open(f"{TOP}/crates.txt", encoding="utf-8") as file:
         names = [re.split(r"[ :]", line)[0] for line in file if line.strip() and not line.startswith("#")]
     return [name for name in names if not name.endswith("_tests") and name != "test_maps"]
@@ -139,7 +140,7 @@ def sources(crate: str) -> Iterator[tuple[str, str]]:
 
 
 def reaches(text: str) -> Iterator[str]:
-    """What a source names that reaches the system."""
+    """The names in a source that reach the system."""
     for use in USE.findall(text):
         for path in paths(use):
             part = path.split("::")

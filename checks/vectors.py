@@ -1,12 +1,12 @@
 #!/usr/bin/env python3
-"""Plays the vectors by the reference, by the program and by the library: checks/vectors.py [PROGRAM [LIBRARY]] [--all]
+"""Plays the vectors in the reference, the program and the library: checks/vectors.py [PROGRAM [LIBRARY]] [--all]
 
-Each case of vectors/ is given to reference/gogbetiku_reference, with PROGRAM behind it only where --all stands too,
-since the reference made them; to PROGRAM by the command that has a use for it, in a fresh folder; and, where it is one
-of a client, to LIBRARY (libgogbetiku.so.0, which bindings/build makes) through bindings/python. What no command
-takes alone is wrapped: a leaf or a header stands in a reply, a fold in a signed reply. Ranges of bits and of lengths
-are played at some of their places, with --all at each, and with it the case whose key takes a minute. Nothing here is
-proved, and no client trusts it. Ends with status 1 if anything comes out otherwise.
+The reference in reference/gogbetiku_reference plays each case of vectors/; with PROGRAM it does so only with --all,
+since it made the vectors. PROGRAM plays a case by the command that can use it, in a new folder. LIBRARY
+(libgogbetiku.so.0, from bindings/build) plays the cases of clients through bindings/python. Items that no command takes
+alone are wrapped: a leaf or a header in a reply, a fold in a signed reply. Ranges of bits and of lengths are played at
+some of their places; with --all they are played at each place, and so is the case whose key takes a minute. Nothing
+here is proved, and no client trusts it. Ends with status 1 if a result differs.
 """
 import hashlib
 import multiprocessing
@@ -34,18 +34,18 @@ from gogbetiku_vectors.asking import turned  # noqa: E402
 from gogbetiku_vectors.families import Family, Fields, octets, octets_again  # noqa: E402
 from gogbetiku_vectors.scenes import ZEROS, owner  # noqa: E402
 
-# ranges are played at each of so many places
+# ranges are played at this many places
 BITS, LENGTHS, SIGNED_BITS = 97, 89, 997
 PROCESSES = 4
-# where it stands, the program's syncs of its disk take no time
+# in this folder, the program's syncs of its disk take no time
 IN_MEMORY = "/dev/shm" if pathlib.Path("/dev/shm").is_dir() else None
 FAULTY, REFUSED, NO_NODE, USED_WRONG, TOO_MANY_FRAMES = 3, 1, 11, 12, 13
-# what a message of the program says of a fault that has numbers: the numbers, in their order
+# the messages of the program about faults with numbers: the numbers, in order
 NUMBERLESS = {"Settings", "RepeatedNode", "UnknownEnd", "SelfRoad", "Crowded", "Count", "TooMany", "NoProblem"}
 
 
 class Differs(Exception):
-    """A case came out otherwise."""
+    """A case has a different result."""
 
 
 def same(what: str, seen: object, wanted: object) -> None:
@@ -54,7 +54,7 @@ def same(what: str, seen: object, wanted: object) -> None:
 
 
 class Program:
-    """The program in a folder, with the files that a command is given."""
+    """The program in a folder with the files of a command."""
 
     def __init__(self, path: str, folder: pathlib.Path):
         self.path, self.folder, self.runs = str(pathlib.Path(path).resolve()), folder, 0
@@ -62,7 +62,7 @@ class Program:
     def run(
         self, *words: object, source: bytes = b"", disk: bytes | None = None, **given: bytes
     ) -> tuple[int, bytes, str]:
-        """A command's status, output and message, over these files and this disk."""
+        """Returns a command's status, output and message, over these files and this disk."""
         for name, text in given.items():
             (self.folder / name).write_bytes(text)
         desk = self.folder / "owner.desk"
@@ -82,7 +82,7 @@ class Program:
 
 
 def is_guarded(program: Program, ended: tuple[int, bytes, str], image: bytes) -> bool:
-    """Whether a command that signs was kept from a desk that no run and no crash leaves, which stays as it was."""
+    """Whether a command that signs refused a desk that no run and no crash leaves, without changing it."""
     if "No run and no crash leaves that" not in ended[2]:
         return False
     same("a desk that no run leaves", (ended[:2], program.disk()), ((USED_WRONG, b""), image))
@@ -90,7 +90,7 @@ def is_guarded(program: Program, ended: tuple[int, bytes, str], image: bytes) ->
 
 
 def faulty(what: str, ended: tuple[int, bytes, str], fault: str, status: int = FAULTY) -> None:
-    """A command that ended with a fault, whose numbers its message has."""
+    """Tests that a command ended with a fault, and that its message has the fault's numbers."""
     same(f"{what}: status", ended[:2], (status, b""))
     name, *numbers = fault.split()
     if name not in NUMBERLESS:
@@ -130,12 +130,12 @@ def dimacs_file(program: Program, given: Fields, result: Fields) -> None:
 
 
 def bare_reply(header: Header, rest: bytes) -> bytes:
-    """A reply with no signature, whose first fault behind its form is the signature."""
+    """A reply without a signature. Its first fault after its form is the signature."""
     return u8(0) + header.octets() + u16(0) + u32(1) + u32(1) + rest
 
 
 PLAIN_HEADER = Header(1, 0, 2, 3, 5, bytes(32), 0, bytes(32), 0, 0)
-# where these begin in a publication
+# the places where these begin in a publication
 HEADER_AT, ROOT_AT = layout.IN_PUBLICATION, layout.IN_PUBLICATION + layout.NODE_ROOT
 UNSIGNED = "refused BadSignature BadForm\n"
 LEAF_AT = layout.IN_ANSWER + layout.SIGNATURE + 8 + 4 + 6
@@ -199,7 +199,7 @@ def key(program: Program, given: Fields, result: Fields) -> None:
 
 
 def reduced_verdict(program: Program, given: Fields) -> str:
-    """What `reduce` says of a signature, over a disk of the key that has signed nothing."""
+    """The result of `reduce` for a signature, over a disk of the key that has signed nothing."""
     _, output, _ = program.run(
         "reduce",
         "key",
@@ -229,7 +229,7 @@ def turned_signature(program: Program, given: Fields, result: Fields) -> None:
 
 
 def tree(program: Program, given: Fields, result: Fields) -> None:
-    """By `root`: the leaves are those of the nodes of a line."""
+    """Plays by `root`: the leaves are those of the nodes of a line."""
     count = len(given["leaves"])
     parts = Parts(
         tuple((node, node, 0) for node in range(1, count + 1)), tuple((node, node + 1, 5) for node in range(1, count))
@@ -239,7 +239,7 @@ def tree(program: Program, given: Fields, result: Fields) -> None:
 
 
 def fold(program: Program, given: Fields, result: Fields) -> None:
-    """By `check`: the items and the cover of a signed reply, whose root is the one that must come."""
+    """Plays by `check`: the items and the cover of a signed reply with the expected root."""
     if any(place <= before for before, place in zip(given["places"], given["places"][1:])):
         return
     signed = Header(1, 0, given["fan"], 3, given["count"], octets(result.get("root", "00" * 32)), 0, bytes(32), 0, 0)
@@ -255,7 +255,7 @@ def fold(program: Program, given: Fields, result: Fields) -> None:
 
 
 def order(program: Program, given: Fields, result: Fields) -> None:
-    """By `publish`, whose header has the root of the leaves in the order."""
+    """Plays by `publish`, whose header has the root of the ordered leaves."""
     parts = Parts(tuple((a, x, y) for a, x, y in given["nodes"]), tuple((a, b, c) for a, b, c in given["roads"]))
     chart = map_of(parts)
     root = root_of([NodeLeaf(node, *chart.places[node], chart.arcs[node]).text() for node in result["ids"]], 2)
@@ -377,7 +377,7 @@ def cut(program: Program, given: Fields, result: Fields) -> None:
 
 
 def place_by(program: Program, sort: str, text: bytes) -> int | None:
-    """Where the program says that octets can't be read."""
+    """The offset at which the program says that octets cannot be read."""
     public = owner().public.hex().encode()
     if sort == "publication":
         return placed(program.run("prove", "pub", 1, 3, pub=text))
@@ -512,7 +512,7 @@ PLAYS: dict[str, Callable[[Program, Fields, Fields], None]] = {
 
 
 def by_library(library: str) -> Callable[[Fields], Fields]:
-    """What the library says of what a client is given."""
+    """The library's verdict on a client's case."""
     import gogbetiku
 
     def run(given: Fields) -> Fields:
@@ -543,7 +543,7 @@ def told(line: str, code: int, first: int, second: int, version: int) -> Fields:
 def library_plays(
     run: Callable[[Fields], Fields], name: str, given: Fields, result: Fields, strides: tuple[int, int]
 ) -> int:
-    """Plays a case by the library, where it is one of a client; how many checks that took."""
+    """Plays a case in the library, if it is a client's. Returns the number of checks."""
     if name in ("client", "client_radius"):
         same("library", run(given), result)
         return 1
@@ -602,7 +602,7 @@ class Player:
         self.everything = everything
 
     def play(self, family: Family, case: Fields) -> tuple[Counter[str], str | None]:
-        """How many runs and checks a case took, and what differs."""
+        """The number of runs and checks of a case, and the differences."""
         counts, before = Counter[str](cases=1), self.program.runs if self.program else 0
         try:
             if self.program is None or self.everything:
@@ -619,7 +619,7 @@ class Player:
         return counts, None
 
 
-# what a process has: who plays, and all cases
+# the state of a process: its players, and all cases
 PLAYERS: list[Player] = []
 CASES: list[tuple[Family, Fields]] = []
 

@@ -1,11 +1,12 @@
 #!/usr/bin/env python3
-"""Tries wrong bodies that the prover must refuse, beside those that the gate tries: checks/edits/try.py [CRATE..]
+"""Tries wrong bodies that the prover must refuse, in addition to those of the gate: checks/edits/try.py [--apply]
+[CRATE..]
 
-Those of crates/CRATE/must-fail are the gate's; those of crates/CRATE/more-edits, of the same form, are tried here: on a
-copy of the repository that has no other edits, by `rt ci CRATE..`, which takes what earlier runs on this machine have
-proved; with no names, the edits of all crates. With --apply nothing is tried: it says which edits of both folders can't
-be applied, since a text of theirs does not stand exactly once, and which name stands in both. Ends with status 1 if an
-edit is not refused or can't be applied.
+The gate tries the edits of crates/CRATE/must-fail. This script tries those of crates/CRATE/more-edits, which have the
+same form: on a copy of the repository without other edits, by `rt ci CRATE..`, which uses the proofs of earlier runs on
+this machine. Without names it tries the edits of all crates. With --apply it tries nothing: it names the edits of both
+folders that cannot be applied, because an old text is not in its file exactly once, and the names that are in both
+folders. Ends with status 1 if an edit is not refused or cannot be applied.
 """
 import glob
 import os
@@ -20,7 +21,7 @@ GATE, MORE = "must-fail", "more-edits"
 
 
 def steps_of(edit: str) -> Iterator[tuple[str, str, str]]:
-    """The steps of an edit: a file, the text that goes, and the text that comes."""
+    """The steps of an edit: a file, its old text, and the new text."""
     path = old = ""
     with open(edit, encoding="utf-8") as file:
         for line in file.read().splitlines():
@@ -35,7 +36,7 @@ def steps_of(edit: str) -> Iterator[tuple[str, str, str]]:
 
 
 def faults_of(edit: str, crate: str) -> Iterator[str]:
-    """Why an edit of a crate can't be applied."""
+    """The reason why an edit of a crate cannot be applied."""
     texts: dict[str, str] = {}
     for path, old, new in steps_of(edit):
         name = os.path.join(TOP, "crates", crate, path)
@@ -53,18 +54,18 @@ def faults_of(edit: str, crate: str) -> Iterator[str]:
 
 
 def edits_in(folder: str, crate: str = "*") -> list[str]:
-    """The edits of a crate's folder of edits, or of every crate's, in their order."""
+    """The edits in this folder of a crate, or of every crate, in order."""
     return sorted(glob.glob(f"{TOP}/crates/{crate}/{folder}/*.edit"))
 
 
 def faults_of_names(crate: str) -> list[str]:
-    """The names that stand in both folders of a crate."""
+    """The names that are in both folders of a crate."""
     names = [{os.path.basename(edit) for edit in edits_in(folder, crate)} for folder in (GATE, MORE)]
     return [f"{name}: it stands in {GATE} and in {MORE}" for name in sorted(names[0] & names[1])]
 
 
 def apply_all() -> int:
-    """Says which edits can't be applied, and answers how many faults there are."""
+    """Prints the edits that cannot be applied. Returns the number of faults."""
     gate, more = edits_in(GATE), edits_in(MORE)
     faults: list[str] = []
     for edit in gate + more:
@@ -77,7 +78,7 @@ def apply_all() -> int:
 
 
 def try_all(crates: list[str]) -> int:
-    """Tries the edits of crates on a copy, and answers the status of the run."""
+    """Tries the edits of crates on a copy. Returns the status of the run."""
     names = subprocess.check_output(["git", "ls-files", "crates", "crates.txt", "HANDLES"], cwd=TOP, text=True)
     with tempfile.TemporaryDirectory() as copy:
         for name in names.splitlines():

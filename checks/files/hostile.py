@@ -1,20 +1,18 @@
 #!/usr/bin/env python3
-"""Hostile files, and what they cost: checks/files/hostile.py PROGRAM [MEGABYTES]
+"""Runs each command over hostile files and limits its cost: checks/files/hostile.py PROGRAM [MEGABYTES]
 
-Road files of MEGABYTES MB (64 if not given) of one line, of one number, of empty lines, of comments, of
-words, of nodes that are too many, and with NUL octets; the same as files of the DIMACS challenge, secrets,
-keys, chains, signatures, publications, replies and frames; and publications, replies, frames and graphs
-whose counts say more than is there, up to the greatest number of their width. Each run must end with the
-status that docs/SPEC.md and docs/COMMANDS.md give it, within a second of processor time and 0.15 s more for
-each MB of its files, and with at most 64 MB of memory and four times the octets of its files. A line a run
-says what it took: processor seconds, the most memory, and the octets that it read. Memory below some 10 MB
-is that of the process that starts the runs.
+The road files have MEGABYTES MB (64 if not given): one line, one number, empty lines, comments, words, too many nodes,
+or NUL octets. There are files of the same kinds in the form of the DIMACS challenge, and as secrets, keys, chains,
+signatures, publications, replies and frames. In other publications, replies, frames and graphs the counts exceed the
+items, up to the greatest number of their width. Each run must end with the status that docs/SPEC.md and
+docs/COMMANDS.md give, within one CPU second and 0.15 s more for each MB of its files. It may use at most 64 MB of
+memory and four times the octets of its files. For each run the script prints CPU seconds, peak memory and the octets
+that the run read. Memory below some 10 MB is that of the process that starts the runs. Ends with status 1 if anything
+differs.
 
-Ends with status 1 if anything differs.
-
-2026-11-28: 91 runs, none differs; the slowest 1.2 s (serve of 64 MB of empty frames, status 13), the largest 257
-MB (a road file of 268,435,457 octets, status 3); files of 64 MB took 0.8 s and 129 MB at most, a graph of 64 MB
-with arcs that are too many 161 MB; a minute and a half.
+2026-11-28: 91 runs, none differs. The slowest took 1.2 s (`serve` over 64 MB of empty frames, status 13), the largest
+257 MB (a road file of 268,435,457 octets, status 3). Files of 64 MB took at most 0.8 s and 129 MB, except for a graph
+with too many arcs: 161 MB. All of it took a minute and a half.
 """
 import json
 import os
@@ -52,7 +50,7 @@ ROADS = THREE.encode()
 
 
 class Play:
-    """Runs the program, from a process that is small, since a child's memory counts from its parent's."""
+    """Runs the program from a small process, because a child's peak memory begins with its parent's."""
 
     def __init__(self, program: str, folder: str) -> None:
         self.program, self.folder = os.path.abspath(program), folder
@@ -72,7 +70,7 @@ class Play:
             file.write(octets)
 
     def run(self, words: Sequence[str], octets: bytes = b"") -> tuple[int, float, int]:
-        """The status, the processor seconds and the most memory of a run."""
+        """The status, the CPU seconds and the peak memory of a run."""
         self.write("input", octets)
         self.words.write(json.dumps([self.program, *words]) + "\n")
         self.words.flush()
@@ -88,7 +86,7 @@ class Play:
         return octets
 
     def play(self, what: str, line: str, status: int, octets: bytes = b"") -> None:
-        """Runs a command line, and compares its status and what it took with what it may take."""
+        """Runs a command line, and compares its status and cost with the limits."""
         words = line.split()
         size = len(octets) + sum(
             os.path.getsize(os.path.join(self.folder, word))
@@ -108,7 +106,7 @@ class Play:
 
 
 def long_files(size: int) -> Iterator[tuple[str, bytes]]:
-    """What each file holds, and the file, one at a time."""
+    """Each file with a description of its content, one at a time."""
     node = b"node 1234567 -1000000 1000000\n"
     yield "one word", b"a" * size
     yield "a title and one word", b"roads 1\n" + b"a" * size
@@ -125,7 +123,7 @@ def long_files(size: int) -> Iterator[tuple[str, bytes]]:
     yield "roads between unknown nodes", b"roads 1\nnode 1 0 0\n" + b"road 1 2 3\n" * (size // 11)
 
 
-# How `route long 1 3` ends over the files that hold a map; the others are no road files, or their parts no map.
+# the end of `route long 1 3` over the files that hold a map; the others are not road files, or not valid maps
 ENDS = {
     "one number of many digits": 11,
     "a map behind empty lines": 0,
@@ -163,7 +161,7 @@ def patched(octets: bytes, place: int, count: int) -> bytes:
 
 
 def lying_counts(play: Play, publication: bytes, reply: bytes, near: bytes) -> None:
-    """Counts that say more than is there."""
+    """Files whose counts exceed their items."""
     behind = layout.behind(publication, layout.IN_PUBLICATION) + layout.SETTINGS
     route = layout.behind(reply, layout.IN_ANSWER)
     (ids,) = struct.unpack_from(">I", reply, route)
@@ -190,7 +188,7 @@ def lying_counts(play: Play, publication: bytes, reply: bytes, near: bytes) -> N
 
 
 def at_the_limits(play: Play) -> None:
-    """Files with as much as a map may have, and files that are one octet too long."""
+    """Files with the largest allowed map, and files that are one octet too long."""
     nodes = b"".join(b"node %d %d %d\n" % (k, k % 256, k // 256) for k in range(65_536))
     roads = b"".join(b"road %d %d 1\n" % (k % 65_536, (k + 1 + k // 65_536) % 65_536) for k in range(262_144))
     play.write("long", b"roads 1\n" + nodes + roads)

@@ -1,17 +1,17 @@
 #!/usr/bin/env python3
-"""Long replies, and what a client takes to refuse them: checks/files/long_replies.py PROGRAM [MEGABYTES]
+"""Measures what a client needs to refuse or accept long replies: checks/files/long_replies.py PROGRAM [MEGABYTES]
 
-Seven replies of MEGABYTES MB (75 if not given) behind the signed front of a true answer: node items without
-arcs, with 255 arcs each, and with a code each; pair items; a cover of the node tree; a cover of the pair
-tree; and node items behind which one octet is too many. `check` must refuse each with status 1, within 3 s of
-processor time, and with at most 0.3 GB of memory for 75 MB. A line a reply says what it took.
+Seven replies of MEGABYTES MB (75 if not given) begin with the signed front of a true answer. They continue with node
+items without arcs, with 255 arcs each, or with a code each; with pair items; with a cover of the node tree or of the
+pair tree; or with node items and one octet too many. `check` must refuse each with status 1, within three CPU seconds,
+and with at most 0.3 GB of memory for 75 MB. The script prints the cost for each reply.
 
-Then true answers from one end of a map to the other, under each method, and to the widest radius, over lines, nets
-and hubs, and ids without gaps, with gaps and in clusters: `check` and `check-reach` take at most three octets of
-memory for each octet of the reply, beside what a reply of two nodes takes, each the least of five runs, or of up to
-25 as long as it is more. GNU time measures it; without it that is left out.
+Then come true answers from one end of a map to the other, under each method, and for the greatest radius. The maps are
+lines, nets and hubs; their ids have no gaps, have gaps, or form clusters. `check` and `check-reach` may use at most
+three octets of memory for each octet of the reply, in addition to the memory for a reply of two nodes. Each figure is
+the least of five runs, or of up to 25 runs while it is too high. Without GNU time this part is skipped.
 
-Ends with status 1 if anything differs. No client rests on it.
+Ends with status 1 if anything differs. No client trusts it.
 """
 import os
 import struct
@@ -28,16 +28,16 @@ from hostile import MB, ROADS, Play  # noqa: E402
 from measure import GNU_TIME, memory_of, run  # noqa: E402
 
 NODES, ACROSS = 65536, 256
-# as many as FULL takes, and to how many nodes behind it each of them has a road
+# the most nodes that FULL takes, and the number of following nodes to which each has a road
 FEW, ROADS_OF_EACH = 1024, 127
-# where the system puts a program's pages differs from run to run
+# the system places a program's pages differently in each run
 RUNS = 5
 # two nodes and a length
 Road = tuple[int, int, int]
 
 
 def front_of(reply: bytes) -> bytes:
-    """The front of a reply that brings a route: its kind, header, signature and route."""
+    """The front of a reply with a route: kind, header, signature and route."""
     behind = layout.behind(reply, layout.IN_ANSWER)
     return reply[: behind + 4 + 4 * struct.unpack_from(">I", reply, behind)[0]]
 
@@ -47,7 +47,7 @@ def counted(rows: Sequence[bytes]) -> bytes:
 
 
 def node_items(size: int, degree: int = 0, extra: bytes = b"") -> list[bytes]:
-    """Node items of so many octets together, at rising places."""
+    """Node items with this many octets in total, at rising places."""
     arcs = b"".join(struct.pack(">II", 1 + to, 7) for to in range(degree))
     back = struct.pack(">ii", 1, 2) + struct.pack(">H", degree) + arcs + extra
     length = 5 + len(back)
@@ -59,7 +59,7 @@ def pair_items(size: int) -> list[bytes]:
 
 
 def replies(fronts: dict[str, bytes], size: int) -> Iterator[tuple[str, bytes]]:
-    """What each reply is, and the reply, one at a time."""
+    """Each reply with a description, one at a time."""
     plain, none = fronts["dij"], counted([])
     yield "node items without arcs", plain + counted(node_items(size)) + 3 * none
     yield "node items with 255 arcs", plain + counted(node_items(size, 255)) + 3 * none
@@ -72,7 +72,7 @@ def replies(fronts: dict[str, bytes], size: int) -> Iterator[tuple[str, bytes]]:
 
 
 class Atlas(NamedTuple):
-    """A map of so many nodes in rows of 256, its roads as pairs of nodes with a length, and the id of each node."""
+    """A map with this many nodes in rows of 256: its roads as pairs of nodes with a length, and the id of each node."""
 
     roads: Callable[[], Iterable[Road]]
     nodes: int = NODES
@@ -92,14 +92,14 @@ def with_gaps(node: int) -> int:
 
 
 def in_clusters(node: int) -> int:
-    """Ids of which five stand in each fifth of as many spans of one width as there are nodes: each is parted again."""
+    """Clustered ids: with as many spans of one width as nodes, every fifth span has five ids and must be divided again."""
     return node // 5 * 5 * 8192 + node % 5 * 1000 + 1
 
 
 def steps(
     *widths: int, nodes: int = NODES, length: Callable[[int], int] = lambda step: 6 + step
 ) -> Callable[[], Iterator[Road]]:
-    """Roads from each node to those so many behind it."""
+    """Roads from each node to the nodes that follow it at these distances."""
     return lambda: ((node, node + step, length(step)) for step in widths for node in range(1, nodes + 1 - step))
 
 
@@ -113,11 +113,11 @@ def hubs() -> Iterator[Road]:
 LINE, NET = Atlas(steps(1)), Atlas(steps(1, ACROSS - 1, ACROSS, ACROSS + 1))
 APART = Atlas(steps(1), id_of=with_gaps)
 HUBS = Atlas(hubs, 1 + 255 * 255, in_clusters)
-# of a street as long as it has nodes, and of roads that no route takes
+# the length of a street, one for each node, and the length of roads that no route takes
 DENSE = Atlas(steps(*range(1, ROADS_OF_EACH + 1), nodes=FEW, length=lambda step: 7 if step == 1 else 9_000_000), FEW)
-# the most octets of memory for each of a reply
+# the most octets of memory for each octet of a reply
 MOST = 3
-# what is asked, the map, and the method and its plan
+# the query, the map, and the method with its settings
 ASKED = (
     ("a route over a line", LINE, "dij 1 id 0 2 0 0 0"),
     ("a route over a line of ids with gaps", APART, "dij 1 id 0 2 0 0 0"),
@@ -139,14 +139,14 @@ ASKED = (
 
 
 def memory_for(program: str, ask: Sequence[str], reply: str) -> float:
-    """The memory, in octets, of one check of a reply, which the words after the publication ask for."""
+    """The memory, in octets, of one check of the reply to the query in the words after the publication."""
     command = "check-reach" if ask[0] == "reach" else "check"
     return (memory_of([program, command, "owner.key", reply, *ask[1:], "0"], "verdict") or 0) * MB
 
 
 def octets_for_each(program: str, asks: Sequence[Sequence[str]], size: int) -> float:
-    """What the second reply takes beside the first, for each of its own octets: of both the least of RUNS runs, and of
-    up to five times as many as long as it is too much."""
+    """The memory that the second reply needs beyond the first, for each of its octets. Each figure is the least of RUNS
+    runs, or of up to five times as many while it is too high."""
     least = [float("inf")] * 2
     for run_number in range(5 * RUNS):
         if run_number >= RUNS and least[1] - least[0] <= MOST * size:
@@ -156,7 +156,7 @@ def octets_for_each(program: str, asks: Sequence[Sequence[str]], size: int) -> f
 
 
 def true_answers(program: str) -> int:
-    """What each true answer takes, in octets of memory for each of its own; how many take too much."""
+    """Prints the octets of memory for each octet of each true answer. Returns the number of answers that need too many."""
     wrong = 0
     run([program, "key", "secret", "h5"], "owner.key", silent=True)
     with open("owner.desk", "rb") as file:

@@ -1,21 +1,20 @@
 #!/usr/bin/env python3
-"""Times the commands over ids 1 to n and over ids that whoever draws a map may choose.
+"""Compares the time of each command over ordinary ids with its time over hostile ids.
 
     checks/ids/commands.py PROGRAM [WIDTH]
 
-PROGRAM is the built program (crates/road_proof/out/road_proof after `rt run`). A grid of WIDTH by
-WIDTH crossings is written five times: with ids 1 to n by rows; with ids that would start a probe of
-the standard library's hash map in the same few places (its hasher has no key, so a loop of ten lines
-finds them); with odd ids and one far behind them, so that no parting of all ids by equal widths
-helps; with such a row and its far id in each of many places, so that no second parting helps either;
-and with the first ids shuffled. Width 256, which is the default, has 65,536 nodes, the most that are
-signed; the gate takes 96, which needs some ten seconds.
+PROGRAM is the built program (crates/road_proof/out/road_proof after `rt run`). A grid of WIDTH by WIDTH crossings is
+written five times: with the ids 1 to n by rows; with ids that share a few initial places in the standard library's hash
+map, whose hasher has no key, so that a loop of ten lines finds them; with odd ids and one distant id, so that dividing
+all ids by equal widths does not help; with many such groups, so that a second division does not help either; and with
+the first ids shuffled. The default width of 256 gives 65,536 nodes, the limit of a map. The gate takes a width of 96,
+for some ten seconds.
 
-Each command runs three times over each map in turn, and again, up to 36 times, as long as one is too slow, since
-others on the machine make the same work take twice the time for a while. The least processor times are
-printed in seconds; `serve` answers queries from corner to corner, and 200 between neighbours, and installs the
-map once more. It exits with 1 if shuffled ids take more than 2.5 times the time of ids 1 to n, or
-others more than 1.5 times, with 0.03 s beside, and at the first failure of the program. No client rests on it.
+Each command runs three times over each map in turn. While one is too slow, it runs again, up to 36 times, because other
+programs on the machine can double the time of the same work. The script prints the least CPU seconds. `serve` answers
+queries from corner to corner, and 200 queries between neighbours, and installs the map once more. Ends with status 1 if
+shuffled ids take more than 2.5 times the time of the ids 1 to n, or others more than 1.5 times, plus 0.03 s, or at the
+first failure of the program. No client trusts it.
 """
 import os
 import random
@@ -32,12 +31,12 @@ from common.runs import least_in_turn, processor_seconds  # noqa: E402
 from common.served import framed, install  # noqa: E402
 
 MOST = {"meet": 1.5, "far": 1.5, "rows": 1.5, "shuffled": 2.5}
-# what a busy machine adds to any time
+# the seconds that a busy machine can add to any time
 SLACK = 0.03
 
 
 def meeting(count: int) -> list[int]:
-    """Rising ids whose hashes begin in a 128th of the places that a table of COUNT entries has."""
+    """Rising ids whose hashes begin in one 128th of the places of a table of COUNT entries."""
     places = 1
     while 9 * places < count:
         places *= 2
@@ -53,7 +52,7 @@ def meeting(count: int) -> list[int]:
 
 
 def rows(count: int) -> list[int]:
-    """Rising ids: in each of many spans of one width 127 odd ones at the front, and one at the end."""
+    """Rising ids: each of many spans of one width has 127 odd ids at its beginning and one at its end."""
     ids: list[int] = []
     width = 2**32 // -(-count // 128)
     while len(ids) < count:
@@ -63,7 +62,7 @@ def rows(count: int) -> list[int]:
 
 
 def write(path: str, width: int, ids: list[int]) -> None:
-    """The grid as a road file; the lengths of its roads are drawn from a fixed seed."""
+    """The grid as a road file, with random lengths from a fixed seed."""
     draw = random.Random(5)
     with open(path, "w") as roads:
         roads.write("roads 1\n")
@@ -85,7 +84,7 @@ def frame(kind: int, session: int, *numbers: int) -> bytes:
 
 
 def runs(folder: str, width: int, ids: list[int]) -> Iterator[tuple[str, list[str], str, str]]:
-    """What is timed over the map in a folder: a name, the words, and the files that are read and written."""
+    """The timed commands over the map in a folder: name, words, and the files that are read and written."""
     start, end = str(ids[0]), str(ids[-1])
     yield "route", ["route", "m.roads", start, end], os.devnull, os.devnull
     plans = {"dij": ("0", "0", "0"), "ldm": ("8", "8", "0")}
@@ -120,7 +119,7 @@ def prepare(program: str, folder: str, width: int, ids: list[int]) -> None:
 
 
 def too_slow(seconds: dict[str, float]) -> list[str]:
-    """The kinds of ids that take more than they may, beside ids 1 to n."""
+    """The kinds of ids that take too long, compared with the ids 1 to n."""
     return [kind for kind, most in MOST.items() if seconds[kind] > most * seconds["plain"] + SLACK]
 
 

@@ -1,18 +1,16 @@
 #!/usr/bin/env python3
-"""Times `dimacs` over arcs in order and over the same arcs under shuffled ids and in shuffled order.
+"""Compares the time of `dimacs` over ordered arcs with its time over shuffled ids and arcs.
 
     checks/ids/graphs.py PROGRAM [WIDTH]
 
-PROGRAM is the built program (crates/road_proof/out/road_proof after `rt run`). A grid of WIDTH by
-WIDTH crossings with diagonals is made, an arc in each direction, and written twice: with ids by rows
-and the arcs by rising ends, and with ids and arcs shuffled, as whoever draws the map may choose. At
-width 256, which is the default, a graph has 521,220 arcs.
+PROGRAM is the built program (crates/road_proof/out/road_proof after `rt run`). The graph is a grid of WIDTH by WIDTH
+crossings with diagonals and an arc in each direction. It is written twice: with ids by rows and arcs by rising ends,
+and with ids and arcs shuffled, as the author of a map could do. With the default width of 256 it has 521,220 arcs.
 
-Each graph is turned three times, and again, up to 36 times, as long as the shuffled one takes more than
-twice the time of the other, since others on the machine make the same work take longer for a while. The least
-processor times are printed. It exits with 1 if the shuffled one stays too slow, and at the first failure of
-the program.
-No client rests on it.
+Each graph is converted three times. While the shuffled one takes more than twice the time of the other, both are
+converted again, up to 36 times, because other programs can slow the machine for a while. The script prints the least
+CPU seconds. Ends with status 1 if the shuffled graph stays too slow, or at the first failure of the program. No client
+trusts it.
 """
 import os
 import random
@@ -29,7 +27,7 @@ Arc = tuple[int, int, int]
 
 
 def arcs_of(width: int, ids: list[int]) -> list[Arc]:
-    """Both arcs of each street of the grid, whose lengths are drawn from a fixed seed."""
+    """Both arcs of each street of the grid, with random lengths from a fixed seed."""
     draw = random.Random(5)
     arcs: list[Arc] = []
     for row in range(width):

@@ -1,10 +1,10 @@
 #!/usr/bin/env python3
 """Starts eight `publish` at once in one folder: checks/key/eight.py PROGRAM [TIMES]
 
-Each time a fresh folder gets a random secret, a key and a map of five nodes. Then eight processes
-publish the map at once, each under a version of its own. Each ends with 0 and a publication, or with
-7, without output, and says that another process is at work. No two publications are signed with one
-slot, and `owner.desk` has as many spent slots as there are publications, each with the header of one.
+Each time a new folder gets a random secret, a key and a map of five nodes. Then eight processes publish the map at
+once, each with its own version. Each must end with status 0 and a publication, or with status 7 and no output, and say
+that another process is using the desk. No two publications may use the same slot. `owner.desk` must have as many spent
+slots as there are publications, each with the header of one of them.
 """
 import os
 import subprocess
@@ -21,7 +21,7 @@ PROCESSES = 8
 
 
 def publish_all(program: str, folder: str) -> list[tuple[tuple[bytes, bytes], int]]:
-    """Eight `publish` started before the first is waited for: what each wrote, and how it ended."""
+    """Starts all eight `publish` before waiting for the first. Returns the output and the end of each."""
     started = [
         subprocess.Popen(
             [program, "publish", "map.roads", "dij", str(version), "id", "0", "2", "0", "0", "0"],

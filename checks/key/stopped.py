@@ -1,10 +1,10 @@
 #!/usr/bin/env python3
-"""Stops `key` at random moments, and looks at what it left: checks/key/stopped.py PROGRAM [TIMES]
+"""Kills `key` at random moments, and examines the file that it left: checks/key/stopped.py PROGRAM [TIMES]
 
-Each time a fresh folder gets a random secret, `key` is started and killed after a random delay.
-Then `owner.desk` is read by the format in docs/SPEC.md: its gate is closed, or its block is that
-of the secret and no slot is spent. Last, `key` is run again: it makes the key where the gate was
-closed, and refuses with status 12 where it was open, and then it leaves the file as it was.
+Each time a new folder gets a random secret, and `key` is killed after a random delay. Then `owner.desk`, read by the
+format in docs/SPEC.md, must have a closed gate, or the block of the secret and no spent slot. Finally `key` runs again.
+If the gate was closed, it must make the key. If it was open, it must refuse with status 12 and leave the file
+unchanged.
 """
 import os
 import random
@@ -28,7 +28,7 @@ def is_open(image: bytes) -> bool:
 
 
 def is_whole(image: bytes, secret: bytes, kind: str) -> bool:
-    """The block is the secret's, each slot lies within the file, and none is spent."""
+    """Tests that the block is the secret's, that the file has all slots, and that none is spent."""
     block = TYPES[kind].to_bytes(4, "big") + secret
     return (
         len(image) == slot_at(SLOTS[kind])

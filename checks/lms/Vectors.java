@@ -7,8 +7,8 @@ import org.bouncycastle.pqc.crypto.lms.LMSSigner;
 import org.bouncycastle.pqc.crypto.lms.LMSigParameters;
 
 /**
- * Makes LMS keys (RFC 8554) from an I and a SEED with Bouncy Castle, and prints each public key and,
- * of signatures at several slots, the length, the SHA-256 of the whole and whether they verify.
+ * Makes LMS keys (RFC 8554) from an I and a SEED with Bouncy Castle. Prints each public key, and for signatures
+ * at several slots the length, the SHA-256 of the whole, and whether they verify.
  *
  * Bouncy Castle makes the randomiser C of a slot from the seed as this repository does, so that
  * whole signatures are equal.

@@ -3,7 +3,7 @@ import java.io.InputStreamReader;
 import org.bouncycastle.pqc.crypto.lms.LMSPublicKeyParameters;
 import org.bouncycastle.pqc.crypto.lms.LMSSigner;
 
-/** Reads lines of a public key, a message and a signature in hex, and says of each whether Bouncy Castle takes it. */
+/** Reads lines with a public key, a message and a signature in hex. Prints for each whether Bouncy Castle accepts it. */
 public final class Verify {
     public static void main(String[] arguments) throws Exception {
         BufferedReader lines = new BufferedReader(new InputStreamReader(System.in));

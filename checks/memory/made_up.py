@@ -1,11 +1,12 @@
 #!/usr/bin/env python3
-"""Sees that want of memory can't be made up: checks/memory/made_up.py [--quick]
+"""Tests that no code can pretend to be out of memory: checks/memory/made_up.py [--quick]
 
-`octet_text::NoMemory` says that the system refused room. Its field is private, it has no conversion, and octet_text makes it in
-src/growing.rt, src/hex_text.rt and src/printing.rt alone, where a growth was refused. This looks at all crates of the program: none
-but octet_text makes one, and each `Memory` variant of an enum carries one. Then, without --quick, it begins twelve calls, on a copy,
-with bodies that do nothing but say that memory is short, and sees that the compiler refuses each of five ways to make that up: two
-print a value whose own `Display` fails. Ends with status 1 if something is let through.
+`octet_text::NoMemory` means that the system refused memory. Its field is private and it has no conversion. Only
+src/growing.rt, src/hex_text.rt and src/printing.rt of octet_text make one, where a growth was refused. This script
+tests in all crates of the program that only octet_text makes one, and that each `Memory` variant of an enum carries
+one. Without --quick it also gives twelve calls, on a copy, bodies that only claim to be out of memory. The compiler
+must refuse each of five ways to make the claim up; two of these print a value whose `Display` fails. Ends with status 1
+if anything is accepted.
 """
 import glob
 import os
@@ -18,10 +19,10 @@ from collections.abc import Iterator, Sequence
 
 TOP = os.path.dirname(os.path.dirname(os.path.dirname(os.path.abspath(__file__))))
 MAKERS = tuple(f"crates/octet_text/src/{name}.rt" for name in ("errors", "growing", "hex_text", "printing"))
-# What only says so on a made disk, library or sink, for tests, and hands on what the system's allocator says.
+# exceptions: disks, libraries and sinks in memory, for tests, which pass on the answer of the system's allocator
 MADE = ("mem_io", "mirror_out")
 
-# A call: a file, the head of the function, and what its body would answer.
+# a call: the file, the head of the function, and the result of the wrong body
 Call = tuple[str, str, str]
 CALLS: tuple[Call, ...] = (
     ("route_client/src/checking.rt", "pub fn check<", "CheckError::Memory"),
@@ -38,13 +39,13 @@ CALLS: tuple[Call, ...] = (
     ("road_search/src/path.rt", "pub fn shortest(", ""),
 )
 
-# A value that prints nothing, and fails.
+# a value whose `Display` prints nothing and fails
 NEVER = (
     "struct Never; impl std::fmt::Display for Never { "
     "fn fmt<W: std::fmt::Write>(&self, _: &mut std::fmt::Formatter<W>) -> std::fmt::Result { Err(std::fmt::Error) } }"
 )
 
-# What makes want of memory up, each as the value that an `Err` carries: by its name, and by a value that fails to print.
+# the ways to make up the claim, each as the value in an `Err`: by its name, or by a value that fails to print
 WAYS = (
     (
         "octet_text::NoMemory { refused: () }",
@@ -59,7 +60,7 @@ WAYS = (
 
 
 def code_of(path: str) -> str:
-    """A source without its comments and its texts."""
+    """A source without comments and texts."""
     with open(path, encoding="utf-8") as file:
         text = file.read()
     text = re.sub(r"//[^\n]*", "", text)
@@ -71,7 +72,7 @@ def is_of_the_program(crate: str) -> bool:
 
 
 def faults_of(path: str) -> Iterator[str]:
-    """What a source says that would make want of memory up."""
+    """The parts of a source that would make up a lack of memory."""
     crate = path.split(os.sep)[1]
     code = code_of(os.path.join(TOP, path))
     if path not in MAKERS:
@@ -87,12 +88,12 @@ def faults_of(path: str) -> Iterator[str]:
 
 
 def lines_of(text: str, made: Sequence[str]) -> list[tuple[int, str]]:
-    """The lines of a text that hold one of these bodies, each with its number."""
+    """The lines of a text with one of these bodies, each with its number."""
     return [(number, line) for number, line in enumerate(text.split("\n"), 1) if any(it in line for it in made)]
 
 
 def with_bodies(text: str, calls: Sequence[Call], ways: Sequence[str]) -> str:
-    """A source whose calls begin with bodies that make want of memory up, one line for each of these ways."""
+    """A source whose calls begin with such bodies, one line for each of these ways."""
     for _, head, answer in calls:
         at = text.index(head)
         opening = re.compile(r"^( *)\{$", re.M).search(text, at)
@@ -105,7 +106,7 @@ def with_bodies(text: str, calls: Sequence[Call], ways: Sequence[str]) -> str:
 def let_through(
     copy: str, crate: str, calls: Sequence[Call], ways: Sequence[str]
 ) -> tuple[list[tuple[str, int, str]], str]:
-    """The bodies of a crate's calls, by these ways, that the compiler doesn't refuse, and what it says."""
+    """The bodies of a crate's calls that the compiler does not refuse, and its output."""
     wanted: list[tuple[str, int, str]] = []
     for file in dict.fromkeys(file for file, _, _ in calls):
         with open(os.path.join(TOP, "crates", file), encoding="utf-8") as it:

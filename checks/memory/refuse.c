@@ -15,7 +15,7 @@ extern void *__libc_memalign(size_t, size_t);
 static unsigned long calls;
 static long refused = -1;
 
-/* Counts a call, and tells whether it is the one that is refused. */
+/* Counts a call. Tells whether this call is to be refused. */
 static int is_refused(void) {
     if (refused < 0) {
         const char *number = getenv("REFUSE");

@@ -1,20 +1,20 @@
 #!/usr/bin/env python3
-"""Refuses one allocation a run, number by number: checks/memory/refused.py PROGRAM [FIRST] [MORE] [WORD]
+"""Makes each allocation of each command fail, one in each run: checks/memory/refused.py PROGRAM [FIRST] [MORE] [WORD]
 
-Each command is run once to count its allocations, and then again and again, each time with one of them
-refused (refuse.c, loaded before the C library): the first FIRST of them (1,000 if not given, which are all), and
-MORE others (60) in even strides up to the last. Each run must end as the first one did, or with status 9 and
-a front of the same output. With status 9 `owner.desk` must hold the octets that it held, so that no one-time key
-was spent, and each mirror must hold what it held. With WORD only the commands that begin with it are run.
+Each command runs once, which counts its allocations. Then it runs once for each of the first FIRST allocations (1,000
+if not given, which are all of them), and for MORE others (60) in even steps up to the last. In each run that allocation
+fails: refuse.c, loaded before the C library, refuses it. The run must end as the first one did, or with status 9 and a
+prefix of the same output. With status 9 `owner.desk` must be unchanged, so that no one-time key was spent, and each
+mirror must be unchanged. With WORD only the commands that begin with it run.
 
-Ends with status 1 if anything differs. A line a command says how many allocations it makes, how many were
-refused, and how many of these runs ended with 9 and how many as the first.
+For each command the script prints the number of allocations, of failed ones, of runs that ended with status 9, and of
+runs that ended as the first. Ends with status 1 if anything differs.
 
-2026-11-28: 31 commands, 4,623 allocations, all refused: 4,512 runs with 9, 111 as the first, none differs; a
-quarter of an hour of a busy machine. `survey`, `reach`, `check-reach` and `audit-reach` were played over a
-program of the same commands without the messages on standard error: 682 allocations, none differs.
-2026-11-29: `prove` and `check` without a route, under each method: 1,268 allocations, all refused: 1,243 runs with
-9, 25 as the first, none differs.
+2026-11-28: 31 commands, 4,623 allocations, all of them failed once: 4,512 runs ended with status 9, 111 as the first,
+none differs. That took a quarter of an hour on a busy machine. `survey`, `reach`, `check-reach` and `audit-reach` ran
+in a program with the same commands and without the messages on standard error: 682 allocations, none differs.
+2026-11-29: `prove` and `check` without a route, under each method: 1,268 allocations, all of them failed once: 1,243
+runs ended with status 9, 25 as the first, none differs.
 """
 import os
 import subprocess
@@ -45,7 +45,7 @@ def road_file(width: int = 4) -> bytes:
 
 
 class Folder:
-    """A folder with the program's files, in which it runs under the shim."""
+    """A folder with the program's files, in which it runs with refuse.c loaded."""
 
     def __init__(self, program: str, path: str) -> None:
         self.program, self.path = os.path.abspath(program), path
@@ -64,7 +64,7 @@ class Folder:
             return None
 
     def octets(self, name: str) -> bytes:
-        """The octets of a file that is there."""
+        """The octets of a file, if it exists."""
         return Path(self.path, name).read_bytes()
 
     def write(self, name: str, octets: bytes | None) -> None:
@@ -76,7 +76,7 @@ class Folder:
             file.write(octets)
 
     def run(self, line: str, refused: int = 0, octets: bytes = b"") -> tuple[int, bytes, int]:
-        """The status, the output and the count of allocations of a command line. Status 9 must say "Out of memory."."""
+        """The status, the output and the number of allocations of a command line. With status 9 it must say "Out of memory."."""
         more = {"LD_PRELOAD": self.shim, "REFUSE": str(refused), "COUNTED": self.name("counted")}
         ended = subprocess.run(
             [self.program, *line.split()],
@@ -119,7 +119,7 @@ def prepared(folder: Folder) -> None:
 
 
 def commands(folder: Folder) -> list[tuple[str, bytes, bool]]:
-    """Command lines with what stands on standard input, and whether the desk is empty before them."""
+    """The command lines with their standard input, and whether the desk is empty before."""
     rows = [
         ("route map.roads 1 16", b"", False),
         ("route map.roads 1 99", b"", False),
@@ -164,14 +164,14 @@ def commands(folder: Folder) -> list[tuple[str, bytes, bool]]:
 
 
 def numbers_of(count: int, first: int, more: int) -> list[int]:
-    """The first numbers, and so many others in even strides, the last one among them."""
+    """The first numbers, and this many others in even steps, including the last."""
     rest = range(first + 1, count + 1)
     strides = {rest[at * (len(rest) - 1) // max(more - 1, 1)] for at in range(more)} if rest else set()
     return sorted(set(range(1, min(first, count) + 1)) | strides)
 
 
 def play(folder: Folder, line: str, octets: bytes, first: int, more: int) -> int:
-    """Runs a command with each number refused, and counts what came. Answers how much differs."""
+    """Runs a command once for each of these allocations, and counts the results. Returns the number of differences."""
     entry = {name: folder.read(name) for name in KEPT}
     status, output, count = folder.run(line, 0, octets)
     numbers, same, nine, wrong = numbers_of(count, first, more), 0, 0, 0

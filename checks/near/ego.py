@@ -1,14 +1,13 @@
 #!/usr/bin/env python3
 """Compares the nodes within radii with networkx's ego graphs: checks/near/ego.py PROGRAM [COUNT [SEED]]
 
-PROGRAM is the built program (crates/road_proof/out/road_proof after `rt run`). The map is the
-street-like one of checks/speed/streets.py, of about COUNT nodes (5,000), published under DIJ along
-Hilbert's curve. From five nodes, for each of some radii, `reach` answers, `check-reach` must accept
-exactly the nodes of the ego graph, and `audit-reach` must find the first of them right. Without
-networkx a plain search stands in for it. Prints for each radius how many nodes lie within, the
-octets of a reply, and the seconds of processor time of `reach` and of `check-reach`, all of them the
-mean of the five; radius 0 shows what reading the publication and building its book costs. Exits
-with 1 if anything differs.
+PROGRAM is the built program (crates/road_proof/out/road_proof after `rt run`). The map is the street-like one of
+checks/speed/streets.py with about COUNT nodes (5,000), published under DIJ in Hilbert order. The script takes five
+starts and several radii. For each, `check-reach` must accept the reply of `reach` with exactly the nodes of the ego
+graph, and `audit-reach` must find the first of them right. Without networkx it uses a plain search instead. For each
+radius it prints the number of nodes within it, the octets of a reply, and the CPU seconds of `reach` and of
+`check-reach`, as means over the five starts. Radius 0 shows the cost of reading the publication and building its book.
+Ends with status 1 if anything differs.
 """
 import heapq
 import os
@@ -29,7 +28,7 @@ from common.maps import least_lengths, made, read_roads  # noqa: E402
 GREATEST = 2**64 - 1
 RADII = (0, 200, 1000, 4000, GREATEST)
 STARTS = 5
-# the least length between two nodes, both ways, and the nodes within a radius of one, rising
+# the least length between two nodes, both ways, and the nodes within a radius of one, ascending
 Lengths = dict[tuple[int, int], int]
 Within = Callable[[int, int], list[int]]
 
@@ -71,7 +70,7 @@ def reference(ids: list[int], lengths: Lengths) -> tuple[Within, str]:
 
 
 def run(folder: str, *words: str) -> tuple[bytes, float]:
-    """What a command writes, and its seconds of processor time."""
+    """The output of a command, and its CPU seconds."""
     before = resource.getrusage(resource.RUSAGE_CHILDREN)
     done = subprocess.run(words, cwd=folder, capture_output=True, check=True)
     now = resource.getrusage(resource.RUSAGE_CHILDREN)
@@ -84,7 +83,7 @@ def keep(folder: str, name: str, octets: bytes) -> None:
 
 
 def ask(program: str, folder: str, start: int, radius: int, nodes: list[int]) -> tuple[bool, int, float, float]:
-    """Whether one reply is accepted with these nodes, its octets, and the seconds of server and client."""
+    """Whether one reply is accepted with these nodes, its number of octets, and the CPU seconds of server and client."""
     query = [str(start), str(radius)]
     reply, served = run(folder, program, "reach", "map.pub", *query)
     keep(folder, "reply", reply)

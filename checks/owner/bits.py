@@ -1,12 +1,14 @@
 #!/usr/bin/env python3
-"""Turns single bits of an owner's desk, and lets the program loose on it: checks/owner/bits.py PROGRAM [--bits N] [--seed N]
+"""Flips single bits of an owner's desk, and runs the commands over it: checks/owner/bits.py PROGRAM [--bits N] [--seed
+N]
 
-Desks of one key, and of two behind a link, of which the second has signed or has not, have signed a few maps. One bit of
-one is turned, and each of `key` (with the first key's own secret, and `publish` behind it), `publish`, `succeed` (with a
-new secret, and `links` behind it, where a spent slot has another text then) and `links` runs over a copy of it. No one-time key makes a signature on another text than it had signed before. A signature
-shows its one-time key by its randomiser, which is made of identifier, seed and number alone. What is refused writes
-nothing and leaves the desk as it was. The bits of each gate, length and key block that count most are always taken, the
-others are drawn. Each bit that fails is told. Nobody trusts this script.
+The desks have one key, or two keys with a link, the second with or without signatures. They have signed a few maps. One
+bit is flipped. Then each of these runs over a copy of the desk: `key` with the first key's secret, and `publish` after
+it; `publish`; `succeed` with a new secret, and `links` after it, with another text in a spent slot; and `links`. No
+one-time key may sign another text than the one it has signed before. The randomiser of a signature identifies its
+one-time key, because it depends only on identifier, seed and number. A refused command must write nothing and leave the
+desk unchanged. The most important bits of gates, lengths and key blocks are always taken, others at random. The script
+prints each bit that fails. Nobody trusts it.
 """
 import argparse
 import hashlib
@@ -29,9 +31,9 @@ from common.maps import THREE  # noqa: E402
 SECRETS = [bytes(range(first, first + 48)) for first in (0, 50, 100)]
 PUBLISH, SECONDS, PROCESSORS = "publish map.roads dij {} id 0 2 0 0 0", 600, 4
 KEY, SUCCEED = "key secret-0 h5", "succeed secret-2 h5"
-# an octet of a desk, a bit of it, and whether the file owner.key lies beside the desk
+# an octet of a desk, a bit of it, and whether the folder has the file owner.key
 Bit = tuple[int, int, bool]
-# each command over the turned desk, and what runs behind it where it was done
+# each command over the changed desk, and the commands that run after it if it succeeded
 RUNS = ((KEY, PUBLISH.format(99)), (PUBLISH.format(99),), (SUCCEED, "links"), ("links",))
 
 
@@ -54,12 +56,12 @@ class Owner(Desk):
 
 
 def randomiser(secret: bytes, slot: int) -> bytes:
-    """What shows that a signature is by this one-time key."""
+    """The randomiser, which identifies the one-time key of a signature."""
     return hashlib.sha256(secret[:16] + slot.to_bytes(4, "big") + b"\xff\xfd\xff" + secret[16:]).digest()
 
 
 def texts_of(image: bytes) -> dict[bytes, bytes]:
-    """What the spent slots of a desk have signed, by their randomisers."""
+    """The texts that the spent slots of a desk have signed, by their randomisers."""
     found: dict[bytes, bytes] = {}
     for area in range(-(-len(image) // AREA)):
         secret = image[AREA * area + layout.NAME : AREA * area + layout.SPARE]
@@ -80,7 +82,7 @@ def signed_in(told: bytes) -> Iterator[tuple[bytes, bytes]]:
 def faults_of(
     owner: Owner, image: bytes, public: bytes | None, known: dict[bytes, bytes], words: tuple[str, ...]
 ) -> Iterator[str]:
-    """What is wrong about commands that run over a turned desk, each behind the one before it where that was done."""
+    """The faults of commands that run over a changed desk, each after the one before if that succeeded."""
     owner.put(image, public)
     signed = dict(known)
     for command in words:
@@ -98,7 +100,7 @@ def faults_of(
         ):
             return
         if status != 0:
-            # what is signed under another key than owner.key's is found behind the signing
+            # a signature under another key than owner.key's is found after the signing
             is_signed = public is not None and command.startswith("publish") and "not signed by the key" in said
             if told or (owner.image() != before and not is_signed):
                 yield f"{command}: status {status}, and it has written"
@@ -106,7 +108,7 @@ def faults_of(
 
 
 def telling(image: bytes) -> Iterator[Bit]:
-    """The bits that count most: of each octet 0 and type, and of each slot's gate and length, that is spent, first free or last."""
+    """The most important bits: of each octet 0 and type, and of the gate and length of each spent, first free or last slot."""
     for at in range(0, len(image), AREA):
         gates = [slot for slot in range(SLOTS) if image[at + BLOCK + SLOT * slot]]
         free = next(slot for slot in range(SLOTS) if slot not in gates)
@@ -116,8 +118,8 @@ def telling(image: bytes) -> Iterator[Bit]:
 
 
 def drawn(image: bytes, count: int, rng: random.Random) -> list[Bit]:
-    """So many bits: those that count most, a third of the others in blocks and slots' fronts, and the rest anywhere. The
-    file owner.key lies beside every other desk of these."""
+    """This many bits: the most important ones, a third of the others in blocks and fronts of slots, and the rest anywhere.
+    The folder of every second desk has the file owner.key."""
     bits = list(telling(image))
     fronts = [place for place in range(len(image)) if place % AREA < BLOCK or (place % AREA - BLOCK) % SLOT < 8]
     while len(bits) < count:
@@ -127,7 +129,7 @@ def drawn(image: bytes, count: int, rng: random.Random) -> list[Bit]:
 
 
 def desks(owner: Owner) -> tuple[dict[str, bytes], bytes]:
-    """A desk of one key, and two of two behind a link, whose keys have signed maps or not, and the first public key."""
+    """A desk with one key, two desks with two keys and a link, with and without signed maps, and the first public key."""
     public = owner.done(KEY)
     for version in (1, 2, 3):
         owner.done(PUBLISH.format(version))
@@ -140,7 +142,7 @@ def desks(owner: Owner) -> tuple[dict[str, bytes], bytes]:
 
 
 def look(program: str, name: str, image: bytes, public: bytes, bits: list[Bit]) -> list[str]:
-    """What fails of these bits of a desk."""
+    """The bits of a desk that fail."""
     found: list[str] = []
     known = texts_of(image)
     with tempfile.TemporaryDirectory() as folder:
@@ -168,7 +170,7 @@ def main() -> int:
         images, public = desks(Owner(program, folder))
     parts: list[tuple[str, str, bytes, bytes, list[Bit]]] = []
     for name, image in images.items():
-        # half of them in the desk of one key
+        # half of them in the desk with one key
         bits = drawn(image, given.bits // 2 if name == "one key" else given.bits // 4, rng)
         parts += [(program, name, image, public, bits[part :: 2 * PROCESSORS]) for part in range(2 * PROCESSORS)]
     with ThreadPoolExecutor(PROCESSORS) as pool:

@@ -1,14 +1,16 @@
 #!/usr/bin/env python3
-"""Plays what is said and done around an owner's files: checks/owner/files.py PROGRAM [--long]
+"""Plays the commands over an owner's files in good and bad states: checks/owner/files.py PROGRAM [--long]
 
-Help and version; a bad number, `-` and a pipe; a desk that is a link, has two names or is open to others; an owner.key that
-is lost or is none; standard output that is a file in use; mirrors that are a FIFO, a folder, a link to nothing, to the desk,
-to a full device or to a file, and all eight at once; a desk that another process has locked; secrets that are none; versions
-that do not rise; and gates of spent one-time keys that were closed by a turned bit, behind which no slot signs two texts.
-Where this machine has strace, a refused check opens each file once, a link that is put into the place of the desk or of a
-mirror between the look at it and its opening is not followed, each file is opened, locked and synced as it has to be, and a
-call that the system refuses is taken for what it is: an opening, and a sync of the folder, the desk or a mirror. With --long
-each bit of the block and of the slots' fronts is turned. Nobody trusts this script.
+The cases: help and version; a bad number, `-` and a pipe; a desk that is a link, has two names, is open to others or is
+locked by another process; a lost or false owner.key; standard output that is a file in use; mirrors that are a FIFO, a
+folder, or a link to nothing, to the desk, to a full device or to a file, and all eight at once; weak secrets; versions
+that do not rise; and gates of spent one-time keys that a flipped bit has closed, after which no slot may sign two
+texts.
+
+If the machine has strace, further cases are played. A refused check opens each file once. A link that replaces the desk
+or a mirror between inspection and opening is not followed. Each file is opened, locked and synced as required. A call
+that the system refuses is reported as what it is: an opening, or a sync of the folder, the desk or a mirror. With
+--long each bit of the block and of the slots' fronts is flipped. Nobody trusts this script.
 """
 import fcntl
 import os
@@ -191,7 +193,7 @@ def of_desk_file(owner: Owner) -> None:
     os.rename("real.desk", "owner.desk")
     if os.geteuid():
         os.chmod(".", 0o300)
-        says("a folder that can't be listed", owner.publish(2**34), 7, "Its folder can't be listed or synced: ")
+        says("a folder that cannot be listed", owner.publish(2**34), 7, "Its folder can't be listed or synced: ")
         same("the desk beside it", desk(), before)
     os.chmod(".", 0o777)
     says("an open folder", owner.run("desk"), 0, "Others may write to its folder")
@@ -199,7 +201,7 @@ def of_desk_file(owner: Owner) -> None:
 
 
 def of_open_desk(owner: Owner) -> None:
-    """A desk that others may only read is closed by a command that writes to it, and left by one that reads it."""
+    """A command that writes to a desk closes it to others; one that only reads it leaves its mode."""
     for mode, words in (
         (0o644, f"publish five.roads {PLAIN.format(2**34)}"),
         (0o640, "key secret.hex h5"),
@@ -247,7 +249,7 @@ def of_streams(owner: Owner) -> None:
 
 
 def of_lost_key(owner: Owner) -> None:
-    """What is said where owner.key was emptied, or is no key, and what is awaited behind a link."""
+    """The messages if owner.key is empty or not a key, and the awaited key after a link."""
     before, public = desk(), pathlib.Path("owner.key").read_bytes()
     says(
         "a key again",
@@ -281,7 +283,7 @@ def of_lost_key(owner: Owner) -> None:
 
 
 def swapped(owner: Owner, folder: str, words: str, name: str, target: str) -> Ended:
-    """How a command ended in whose time a link to TARGET took the place of a file, behind the look at it and before its opening."""
+    """The end of a command during which a link to TARGET replaces a file, after its inspection and before its opening."""
     trace, held = pathlib.Path(f"{folder}/swap"), "open,openat"
     trace.unlink(missing_ok=True)
     how = [
@@ -311,7 +313,7 @@ def swapped(owner: Owner, folder: str, words: str, name: str, target: str) -> En
 
 
 def of_swaps(owner: Owner, folder: str) -> None:
-    """A link that takes the place of the desk or of a mirror behind the look at it is not followed."""
+    """A link that replaces the desk or a mirror after its inspection is not followed."""
     if shutil.which("strace") is None:
         print("skipped: a link put under a name that was looked at, since this machine has no strace")
         return
@@ -368,7 +370,7 @@ def of_mirrors(owner: Owner) -> None:
 
 
 def of_all_mirrors(owner: Owner) -> None:
-    """Each of the eight mirrors takes the publication behind what it held. A ninth is no mirror."""
+    """Each of the eight mirrors appends the publication to its content. A ninth file is not a mirror."""
     names = [f"mirror-{label}" for label in range(1, 10)]
     for name in names:
         write(name, "old")
@@ -397,13 +399,13 @@ def of_locks(owner: Owner) -> None:
 
 
 def failing(owner: Owner, call: str, error: str, name: str, words: str) -> Ended:
-    """How a command ends where the system refuses each call of this kind on a file, for this reason."""
+    """The end of a command if the system refuses each call of this kind on a file, for this reason."""
     how = ["strace", "-f", "-o", os.devnull, "-P", name, "-e", f"trace={call}", "-e", f"inject={call}:error={error}"]
     return outcome([*how, owner.program, *words.split()], seconds=SECONDS)
 
 
 def of_refused_calls(owner: Owner) -> None:
-    """A call that the system refuses is taken for what it is."""
+    """A call that the system refuses is reported as what it is."""
     if shutil.which("strace") is None:
         print("skipped: calls that the system refuses, since this machine has no strace")
         return
@@ -431,8 +433,8 @@ CALL = re.compile(r"^\d+ +(\w+)\((?:AT_FDCWD[^,]*, \"([^\"]*)\"|\d+<([^>]*)>)(?:
 
 
 def calls_of(owner: Owner, words: str, names: tuple[str, ...]) -> list[str]:
-    """The openings, locks and syncs of these files in a command that ends with status 0, each with how it is asked for. What
-    the system refuses is left out, and a call that is made again at once."""
+    """The openings, locks and syncs of these files, with their flags, in a command that ends with status 0. Refused calls
+    and immediate repetitions are left out."""
     trace, found = pathlib.Path("trace"), [""]
     how = ["strace", "-f", "-y", "-o", str(trace), "-e", "trace=openat,flock,fsync,fchmod"]
     same(words, outcome([*how, owner.program, *words.split()], seconds=SECONDS)[0], 0)
@@ -446,7 +448,7 @@ def calls_of(owner: Owner, words: str, names: tuple[str, ...]) -> list[str]:
 
 
 def of_calls(owner: Owner) -> None:
-    """How files are opened, locked, closed to others and synced: nothing is cut, and nothing that is there is made."""
+    """The way files are opened, locked, closed to others and synced: none is truncated, and no existing one is created."""
     if shutil.which("strace") is None:
         print("skipped: how files are opened, since this machine has no strace")
         return
@@ -471,7 +473,7 @@ def of_calls(owner: Owner) -> None:
 
 
 def at_terminal(owner: Owner, words: str, is_output: bool) -> tuple[int, str]:
-    """The status of a command at whose standard output or error is a terminal, and what stood there."""
+    """The status of a command whose standard output or error is a terminal, and the text on the terminal."""
     ours, theirs = pty.openpty()
     told, said = (theirs, subprocess.DEVNULL) if is_output else (subprocess.DEVNULL, theirs)
     done = subprocess.run(
@@ -509,7 +511,7 @@ def of_terminals(owner: Owner) -> None:
 
 
 def of_bits(owner: Owner) -> None:
-    """Gates of spent slots that were closed by a turned bit: no slot signs two texts."""
+    """Gates of spent slots that a flipped bit has closed: no slot signs two texts."""
     for version in range(1, 6):
         same("a signing", owner.publish(version)[0], 0)
     whole = desk()
@@ -550,7 +552,7 @@ def of_bits(owner: Owner) -> None:
 
 
 def of_each_bit(owner: Owner) -> None:
-    """By hand: each bit of the block and of the front of each slot turned. No one-time key signs two texts."""
+    """By hand: flips each bit of the block and of the front of each slot. No one-time key signs two texts."""
     whole, public = desk(), pathlib.Path("owner.key").read_bytes()
     signed = texts_of(whole, EARLY)
     os.remove("owner.key")

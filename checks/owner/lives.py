@@ -1,11 +1,11 @@
 #!/usr/bin/env python3
-"""Lives of a desk under crashes: checks/owner/lives.py PROGRAM [--lives N] [--seed N]
+"""Plays lives of a desk with crashes: checks/owner/lives.py PROGRAM [--lives N] [--seed N]
 
-A life is forty commands of an owner, `publish`, `desk`, `links` and now and then `succeed`, by the built program under
-strace. Many are killed behind a drawn call of the program or have a drawn call fail. Behind a kill the file `owner.desk`
-becomes what the stated model of crashes allows: since the last sync that succeeded any octets may stand in each range
-that was written, and any length between. Of all publications whose signature was written: no one-time key has signed two
-headers, and each stands in its slot of the desk. Nobody trusts this script.
+A life is forty commands of an owner under strace: `publish`, `desk`, `links` and sometimes `succeed`. Many are killed
+after a random call, or have a random call fail. After a kill the file `owner.desk` gets a content that the stated crash
+model allows: each range that was written since the last successful sync may have any octets, and the length may be any
+between. Then the script tests all publications whose signature was written: no one-time key has signed two headers, and
+each header is in its slot of the desk. Nobody trusts this script.
 """
 import argparse
 import os
@@ -30,7 +30,7 @@ LINE = re.compile(r"^\d+ +(\w+)\((\d+)<([^>]*)>(?:, (.*))?\) += (-?\d+)")
 
 
 class Disk:
-    """What is stable of the file, and what was written since."""
+    """The stable content of the file, and the writes since."""
 
     def __init__(self, folder: pathlib.Path) -> None:
         self.path = folder / "owner.desk"
@@ -67,7 +67,7 @@ class Disk:
         self.places[fd] = at + count
 
     def crash(self, rng: random.Random) -> None:
-        """Leaves in the file what a crash may leave."""
+        """Gives the file a content that a crash may leave."""
         end = max([len(self.stable), *(at + count for at, count in self.written)])
         image = bytearray(self.stable.ljust(end, b"\0"))
         for at, count in self.written:
@@ -84,7 +84,7 @@ class Disk:
 
 
 class Life:
-    """One desk, and what was let out of it."""
+    """One desk, and the publications that left it."""
 
     def __init__(self, program: str, folder: pathlib.Path, rng: random.Random) -> None:
         self.program, self.folder, self.rng = program, folder, rng
@@ -93,7 +93,7 @@ class Life:
         (folder / "map.roads").write_text(THREE, encoding="ascii")
 
     def run(self, words: list[str]) -> subprocess.CompletedProcess[bytes]:
-        """A command, killed or failed at a drawn call, or left alone."""
+        """Runs a command: to its end, or with a kill or a failure at a random call."""
         self.disk.begin()
         how = self.rng.choice(["whole", "killed", "killed", "failed"])
         call, number = self.rng.choice(CALLS[2:] if how != "whole" else CALLS), self.rng.randint(1, 12)
@@ -132,7 +132,7 @@ class Life:
             self.take(done.stdout)
 
     def take(self, publication: bytes) -> None:
-        """A publication is let out: its one-time key has signed nothing else, and its header stands in the slot."""
+        """Takes a publication: its one-time key has signed nothing else, and its header is in the slot."""
         header, slot = publication[HEADER], key_number(publication)
         known = self.released.setdefault((self.keys(), slot), header)
         if known != header:
@@ -140,7 +140,7 @@ class Life:
         self.counts["let out"] += 1
 
     def keys(self) -> int:
-        """How many keys the desk has."""
+        """The number of keys that the desk has."""
         image, base = self.disk.path.read_bytes(), 0
         number = 1
         while len(image) >= base + AREA:
@@ -152,7 +152,7 @@ class Life:
         return number
 
     def look(self) -> None:
-        """Each header that was let out stands in its slot."""
+        """Tests that each published header is in its slot."""
         image = self.disk.path.read_bytes()
         for (number, slot), header in self.released.items():
             at = slot_at(slot, number - 1)
@@ -179,7 +179,7 @@ class Life:
 
 
 def unhexed(trace: str) -> str:
-    """A trace whose paths are plain, where strace has written them in hex."""
+    """A trace with plain paths, also if strace wrote them in hex."""
 
     def plain(found: re.Match[str]) -> str:
         return "<" + bytes.fromhex(found[1].replace("\\x", "")).decode("utf-8", "replace") + ">"

@@ -1,11 +1,12 @@
 #!/usr/bin/env python3
-"""Counts the pairs of bits of an owner's desk that make a one-time key sign twice, by hand: checks/owner/pairs.py PROGRAM
-[--tries N] [--seed N]
+"""Counts, by hand, the pairs of bits of an owner's desk that make a one-time key sign twice: checks/owner/pairs.py
+PROGRAM [--tries N] [--seed N]
 
-Over the desks of checks/owner/bits.py. The look at a desk and what the commands then sign is written down here once more,
-over octets alone, and asked of every pair of bits of which one closes a gate: octet 0, a spent slot's, or a link's. No
-other pair can: what counts as spent stays spent, which is tried on pairs that are drawn. N pairs of each outcome are then
-turned before the program, which must agree. It tells the count, and its share of all pairs. Nobody trusts this script.
+It uses the desks of checks/owner/bits.py. It has its own version of the look at a desk and of the texts that commands
+then sign, over octets alone. It applies this to every pair of bits of which one closes a gate: octet 0, or the gate of
+a spent slot or of a link. No other pair can make a key sign twice, because a spent slot stays spent; random other pairs
+are tried too. Then N pairs of each outcome are flipped before the program runs, which must agree. The script prints the
+count and its share of all pairs. Nobody trusts it.
 """
 import argparse
 import itertools
@@ -45,25 +46,25 @@ def has_header(text: bytes) -> bool:
 
 @lru_cache(maxsize=1 << 18)
 def early(slot: bytes) -> tuple[bool, bool, bool]:
-    """Of a slot for maps: whether it is spent, whether it is empty, and whether a whole header stands in it."""
+    """For a slot for maps: whether it is spent, whether it is empty, and whether it has a whole header."""
     text = slot[TEXT : TEXT + HEADER]
     return slot[0] != 0, not any(slot[LENGTH : TEXT + HEADER]), slot[LENGTH] == HEADER and has_header(text)
 
 
 @lru_cache(maxsize=1 << 10)
 def public_of(kind: int, secret: bytes) -> bytes:
-    """The public key of a secret that a desk here holds; none of these has it where a bit of it is turned."""
+    """The public key of a secret of these desks. With a flipped bit, no desk has it."""
     return key_of(kind, secret).public if secret in SECRETS else b""
 
 
 def block(image: bytes, at: int) -> bytes | None:
-    """Identifier and seed of a key at a place, where its type is known and all of it is there."""
+    """Identifier and seed of the key at a place, if its type is known and it is complete."""
     kind = int.from_bytes(image[at + KIND : at + NAME], "big")
     return image[at + NAME : at + SPARE] if kind == H5 and len(image) >= at + AREA else None
 
 
 def free_slot(image: bytes, at: int) -> int | None:
-    """The slot that signs the next map, or None where an area is refused."""
+    """The slot that signs the next map, or None if an area is refused."""
     spent, waits = 0, False
     for slot in range(EARLY):
         place = at + BLOCK + SLOT * slot
@@ -83,7 +84,7 @@ def free_slot(image: bytes, at: int) -> int | None:
 
 
 def is_shut(image: bytes) -> bool:
-    """Whether a desk stands behind a first gate that is closed."""
+    """Whether a desk follows a closed first gate."""
 
     def stands(at: int) -> bool:
         secret = block(image, at) if len(image) >= at + AREA else None
@@ -93,13 +94,13 @@ def is_shut(image: bytes) -> bool:
 
 
 def link_at(image: bytes, at: int) -> bytes | None:
-    """The key that a whole link text names in the last slot of an area."""
+    """The key that a whole link text in the last slot of an area names."""
     slot = image[at + AREA - SLOT : at + AREA]
     return slot[TEXT + 4 : TEXT + LINK] if slot[LENGTH] == LINK and slot[TEXT : TEXT + 4] == b"RPK1" else None
 
 
 def signs(image: bytes, what: int) -> Signs:
-    """The one-time key that a command signs another text by, if it comes to that."""
+    """The one-time key with which a command signs a second text, if any."""
     if image[0] == 0:
         return (SECRETS[0], 0) if what == KEY and not is_shut(image) else None
     if what == KEY:
@@ -137,7 +138,7 @@ def turned(image: bytes, pair: Iterable[int]) -> bytes:
 
 
 def is_twice(image: bytes, pair: tuple[int, int], known: dict[bytes, bytes]) -> bool:
-    """Whether a command signs twice by a one-time key, where this pair of bits is turned."""
+    """Whether a command makes a one-time key sign twice if this pair of bits is flipped."""
     octets = turned(image, pair)
     return any(
         by is not None and randomiser(*by) in known for by in (signs(octets, what) for what in (KEY, PUBLISH, SUCCEED))
@@ -160,7 +161,7 @@ def closing(image: bytes) -> Iterator[tuple[int, int]]:
 
 
 def disagree(program: str, image: bytes, public: bytes, pairs: list[tuple[int, int]], wanted: bool) -> list[str]:
-    """The pairs of bits behind which the program does not do what is said here."""
+    """The pairs of bits after which the program differs from this script."""
     known, found = texts_of(image), []
     with tempfile.TemporaryDirectory() as folder:
         owner = Owner(program, folder)
@@ -172,7 +173,8 @@ def disagree(program: str, image: bytes, public: bytes, pairs: list[tuple[int, i
 
 
 def measure(program: str, name: str, image: bytes, public: bytes, tries: int, rng: random.Random) -> int:
-    """Counts the pairs of a desk, tries some, and tells what came. It gives how many the program disagrees about."""
+    """Counts the pairs of a desk, tries some, and prints the results. Returns the number of pairs about which the program
+    disagrees."""
     known, bits = texts_of(image), 8 * len(image)
     twice: list[tuple[int, int]] = []
     once: list[tuple[int, int]] = []

@@ -1,9 +1,10 @@
 #!/usr/bin/env python3
 """Runs a tool and kills it at a counted step: checks/owner/stop_at.py NUMBER TOOL WORD..
 
-A step is a line of a function of the tool, or of a file beside it, that is about to run. With NUMBER 0 the tool runs to its
-end, and the file `steps` of the working folder gets the numbers of the steps before which the folder's files have changed
-since the step before: a kill at any other step leaves the files as one at one of these. Used by checks/owner/tools.py.
+A step is a line of a function of the tool, or of a file in its folder, that is about to run. With NUMBER 0 the tool
+runs to its end. The file `steps` of the working folder then gets the numbers of the steps before which the folder's
+files have changed since the previous step. A kill at any other step leaves the same files as a kill at one of these.
+checks/owner/tools.py uses it.
 """
 import os
 import pathlib

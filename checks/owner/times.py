@@ -1,10 +1,11 @@
 #!/usr/bin/env python3
-"""Times an owner's commands beside an earlier program, by hand: checks/owner/times.py PROGRAM BEFORE [--pairs N]
+"""Compares the times of an owner's commands with an earlier program, by hand: checks/owner/times.py PROGRAM BEFORE
+[--pairs N]
 
-`key h5`, `key h10` and `publish` over the grid of 64 by 64 nodes by an h10 key, run by both programs in turn: the median of
-the ratios of N pairs, which is to be 1.1 at most. Then `check` by PROGRAM of a reply over the grid of 256 by 256 nodes, as
-it is and with one octet of its last digest changed: the refused one is to take 1.1 of the accepted one at most. It ends
-with status 1 if a ratio is above that. Times are of a quiet machine. Nobody trusts this script.
+Both programs run `key h5`, `key h10`, and `publish` over the grid of 64 by 64 nodes with an h10 key, in turn. The
+median of the ratios of N pairs must be at most 1.1. Then PROGRAM runs `check` on a reply over the grid of 256 by 256
+nodes, as it is and with one octet of its last digest changed. The refused one may take at most 1.1 times the accepted
+one. Ends with status 1 if a ratio is too high. Run it on a quiet machine. Nobody trusts this script.
 """
 import argparse
 import os
@@ -35,7 +36,7 @@ def ratio(what: str, first: Seconds, second: Seconds, pairs: int) -> bool:
 
 
 def commands(program: str, before: str, pairs: int) -> bool:
-    """The owner's commands by both programs, each in a folder of its own."""
+    """Runs the owner's commands in both programs, each in its own folder."""
 
     def key(it: tuple[str, str], kind: str) -> Seconds:
         def run() -> float:

@@ -1,13 +1,15 @@
 #!/usr/bin/env python3
 """Plays tools/publish, tools/release and tools/monitor.py: checks/owner/tools.py PROGRAM
 
-An owner signs versions 1 to 3. Then the desk of behind version 1 is put back, as a backup would, and signs version 9 by a
-one-time key that has signed version 2. `release` lets out the first three and destroys the fourth; it takes no log that is
-torn, no key that is none, nothing that is not signed, and destroys nothing that it can't judge; behind `succeed` it lets
-out what the next key signs. `monitor.py` tells that the key is broken, that a version fell, that a version has two
-headers, that a slot is not the owner's, and what is not signed, also of files with line ends in their names. `publish`
-refuses versions, places, keys and desks; it is killed at each step that changes a file, within the program's output, and
-while the program goes on, and is then run again: nothing is lost. Nobody trusts this script.
+An owner signs versions 1 to 3. Then the desk from the time after version 1 is restored, as a backup would, and signs
+version 9 with a one-time key that has already signed version 2.
+
+`release` releases the first three and destroys the fourth. It refuses a torn log, a false key and an unsigned file, and
+does not destroy a file that it cannot judge. After `succeed` it releases the publications of the next key. `monitor.py`
+reports that the key is broken, a version that fell, a version with two headers, a slot that is not the owner's, and
+unsigned files, also for names with line ends. `publish` refuses false versions, places, keys and desks. It is killed at
+each step that changes a file, during the program's output, and while the program continues, and then runs again:
+nothing is lost. Nobody trusts this script.
 """
 import os
 import pathlib
@@ -67,7 +69,7 @@ def key(program: str) -> None:
 
 
 def prepare(program: str) -> None:
-    """Publications by slots 0, 1, 2, slot 1 again behind a desk that was put back, by the next key and again by the first."""
+    """Publications from slots 0, 1 and 2, from slot 1 again after a restored desk, from the next key, and from the first again."""
     key(program)
     signed(program, 1, "one.pub.new")
     shutil.copyfile("owner.desk", "backup")
@@ -89,7 +91,7 @@ def released(program: str, name: str, *more: str, log: str = "log", key_name: st
 
 
 def left(what: str, ended: Ended, name: str, *parts: str) -> None:
-    """A publication was neither let out nor destroyed, nor the log changed."""
+    """Tests that a publication was neither released nor destroyed, and the log not changed."""
     says(what, ended, 1, *parts)
     same(
         f"{what}: what is left",
@@ -99,7 +101,7 @@ def left(what: str, ended: Ended, name: str, *parts: str) -> None:
 
 
 def of_doubt(program: str) -> None:
-    """What can't be judged is left as it is."""
+    """A file that cannot be judged is left unchanged."""
     shutil.copyfile("two.pub.new", "copy")
     whole = octets("log")
     torn, other = whole[:-60], whole.replace(b" 0 1 ", b" 0 one ")
@@ -175,7 +177,7 @@ def of_release(program: str) -> None:
 
 
 def of_succession(program: str) -> None:
-    """What the next key signs goes out along the chain, and the first key signs no more behind it."""
+    """A publication of the next key is released along the chain; after it, none of the first key is."""
     shutil.copyfile("ten.pub.new", "copy")
     left("the next key's without a chain", released(program, "ten"), "ten", "After `succeed` name the chain file too")
     same("the next key's along the chain", released(program, "ten", "owner.chain"), (0, b"", ""))
@@ -248,7 +250,7 @@ def day(program: str, version: object, out: str = "m.pub", *more: str) -> Ended:
 
 
 def spent() -> int:
-    """How many one-time keys of the desk's first key are used for maps."""
+    """The number of one-time keys of the desk's first key that have signed maps."""
     return sum(octets("owner.desk")[slot_at(slot)] != 0 for slot in range(LAST))
 
 
@@ -258,14 +260,14 @@ def version_in(name: str) -> int | None:
 
 
 def refused(what: str, ended: Ended, *parts: str) -> None:
-    """A day was refused before anything was signed."""
+    """Tests that a day was refused before anything was signed."""
     before = octets("before")
     says(what, ended, 1, *parts)
     same(f"{what}: desk and place", (octets("owner.desk"), there("m.pub.new"), version_in("m.pub")), (before, [], 7))
 
 
 def of_days(program: str) -> None:
-    """Days that go well, and what is refused before anything is signed."""
+    """Days that succeed, and cases that are refused before anything is signed."""
     says("a first day", day(program, 7), 0, "m.pub: Version 7 is in its place. One-time keys left: 30.")
     same("what is there", (version_in("m.pub"), there("m.pub.new"), octets("released.log").count(b"\n")), (7, [], 1))
     shutil.copyfile("owner.desk", "before")
@@ -319,7 +321,7 @@ def of_days(program: str) -> None:
 
 
 class Folder:
-    """A folder like one that was prepared."""
+    """A copy of a prepared folder."""
 
     def __init__(self, base: str):
         self.base = base
@@ -335,7 +337,7 @@ class Folder:
 
 
 def stood(what: str) -> None:
-    """Behind a stop the old publication stands whole, or the new one."""
+    """After a stop, the whole old publication or the whole new one is in its place."""
     same(
         f"{what}: what stands",
         (version_in("m.pub"), len(octets("m.pub"))),
@@ -344,7 +346,7 @@ def stood(what: str) -> None:
 
 
 def of_syncs(program: str, base: str) -> None:
-    """What is written is stable before what rests on it: the publication before the log, the log before the move."""
+    """Each file is stable before the next step relies on it: the publication before the log, the log before the move."""
     if shutil.which("strace") is None:
         print("skipped: what tools/publish syncs, since this machine has no strace")
         return
@@ -399,7 +401,7 @@ def of_syncs(program: str, base: str) -> None:
 
 
 def of_kills(program: str, base: str) -> int:
-    """Kills at each step that changes a file. Run again, version 8 is in its place, and one one-time key is used for it."""
+    """Kills at each step that changes a file. After another run, version 8 is in its place and has used one one-time key."""
     words = [TOOLS / "publish", program, "five.roads", "dij", 8, "id", 0, 2, 0, 0, 0, "m.pub"]
     with Folder(base):
         says("an uninterrupted day", run(sys.executable, STOP_AT, 0, *words), 0)
@@ -426,14 +428,14 @@ def of_kills(program: str, base: str) -> int:
 
 
 def stand_in(text: str, program: str) -> str:
-    """A program that does what a script says where it is to publish."""
+    """A program that runs a script in place of publishing."""
     write("stand-in", f'#!/bin/sh\ncase $1 in publish) {text};; esac\nexec {program} "$@"\n')
     os.chmod("stand-in", 0o755)
     return "./stand-in"
 
 
 def of_stopped_programs(program: str, base: str) -> None:
-    """The program is stopped, alone or with the tool, before it signs, within its output, and goes on behind a stopped tool."""
+    """The program is stopped, alone or with the tool, before it signs or during its output, or continues after the tool stops."""
     for count in (0, 3, SIGNED_AT, 700, SIGNED, SIGNED + 8):
         with Folder(base):
             stopped = stand_in(f'{program} "$@" | head -c {count}; kill -9 $PPID; exit 9', program)
@@ -507,7 +509,7 @@ def of_stopped_programs(program: str, base: str) -> None:
 
 
 def of_left(program: str, base: str) -> None:
-    """What is found under the name OUT.new and can't be judged is left as it is, and nothing is signed."""
+    """A file OUT.new that cannot be judged is left unchanged, and nothing is signed."""
     with Folder(base):
         before = octets("owner.desk")
         signed(program, 8, "m.pub.new")
@@ -533,13 +535,13 @@ CLOCK = "import runpy, sys, time; now = float(sys.argv[1]); time.time = lambda: 
 
 
 def dated(program: str, now: int, *more: str) -> Ended:
-    """One dated day, at this second."""
+    """Publishes one dated version, at this second."""
     words = ["--dated", program, "five.roads", "dij", "id", 0, 2, 0, 0, 0, "m.pub", *more]
     return run(sys.executable, "-c", CLOCK.format(folder=str(TOOLS)), now, TOOLS / "publish", *words)
 
 
 def of_dates(program: str, base: str) -> None:
-    """Dated versions: clocks at the edges, the same map each day, no way back to counts, and how long the keys last."""
+    """Dated versions: clocks at the limits, the same map each day, no return to counted versions, and how long the keys last."""
     first, last, a_day = 1_577_836_800, 2**34 - 1, 86_400
     with Folder(base):
         says("a clock before 2020", dated(program, first - 1), 1, "is not between the years 2020")
@@ -566,7 +568,7 @@ def of_dates(program: str, base: str) -> None:
         says("the last second, anyway", dated(program, last, "--version-anyway"), 0)
     for days, wanted in ((7, "they last 126 days.\n"), (5, "they last 90 days. Make the next key in time")):
         with Folder(base):
-            # two an hour apart come before: the pace is that of the last ten
+            # two versions an hour apart come first: the pace is that of the last ten
             ended = [
                 dated(program, at)
                 for at in (first, first + 3_600, *(first + days * a_day * number for number in range(1, 11)))

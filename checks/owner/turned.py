@@ -1,10 +1,10 @@
 #!/usr/bin/env python3
-"""Turns bits of the memory of an owner's command while it signs: checks/owner/turned.py PROGRAM
+"""Flips bits in the memory of a command while it signs: checks/owner/turned.py PROGRAM
 
-`publish`, `succeed` and `links` are stopped under strace at the last call before they sign, one bit of each copy of the
-key's seed in their memory is turned, and they go on. What they sign then is no signature of the key on its text, which is
-what helps a forger. Each must end with status 12, say so, and write nothing; and each works when it is run again. Nobody
-trusts this script.
+`publish`, `succeed` and `links` are stopped under strace at the last call before they sign. One bit of each copy of the
+key's seed in their memory is flipped, and they continue. Such a signature would not be valid, and would help a forger.
+Each command must end with status 12, say so, and write nothing; each must succeed when it runs again. Nobody trusts
+this script.
 """
 import os
 import pathlib
@@ -36,7 +36,7 @@ def traced(program: str, words: str, more: list[str]) -> list[str]:
 
 
 def last_call(program: str, words: str) -> tuple[str, int]:
-    """The last of these calls in a run, and how many of its kind there are. The desk is put back."""
+    """The last of these calls in a run, and the number of calls of its kind. Restores the desk."""
     desk = pathlib.Path("owner.desk").read_bytes()
     subprocess.run(traced(program, words, []), capture_output=True, check=False, timeout=SECONDS)
     pathlib.Path("owner.desk").write_bytes(desk)
@@ -58,7 +58,7 @@ def stopped(tracer: int) -> int:
 
 
 def turn(pid: int) -> int:
-    """Turns a bit of each copy of the seed in the memory of a process, and counts them."""
+    """Flips a bit of each copy of the seed in the memory of a process. Returns the number of copies."""
     count = 0
     with open(f"/proc/{pid}/mem", "r+b", buffering=0) as memory:
         for line in pathlib.Path(f"/proc/{pid}/maps").read_text(encoding="utf-8").splitlines():
@@ -78,7 +78,7 @@ def turn(pid: int) -> int:
 
 
 def turned(program: str, words: str) -> Ended:
-    """How a command ends whose seed has turned in memory before it signs."""
+    """The end of a command whose seed was changed in memory before it signs."""
     call, number = last_call(program, words)
     pathlib.Path("trace").write_bytes(b"")
     more = ["-e", f"inject={call}:signal=SIGSTOP:when={number}"]

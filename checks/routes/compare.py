@@ -3,11 +3,10 @@
 
     checks/routes/compare.py PROGRAM [SEED]
 
-PROGRAM is the built program (crates/road_proof/out/road_proof after `rt run`). The map is a grid of
-20 by 20 crossings with some streets left out, some doubled with another length, and a few diagonals.
-Each of 50 pairs is asked for, and three things are compared: the length, that the printed ids are a
-path of that length, and that no route is found exactly where networkx finds none.
-It needs networkx (Debian: python3-networkx) and exits with 1 at the first difference.
+PROGRAM is the built program (crates/road_proof/out/road_proof after `rt run`). The map is a grid of 20 by 20 crossings
+with some streets left out, some doubled with another length, and a few diagonals. For each of 50 pairs of nodes the
+length must be networkx's, and the printed ids must be a path of that length. The program must find no route exactly if
+networkx finds none. It needs networkx (Debian: python3-networkx). Ends with status 1 at the first difference.
 """
 import random
 import sys

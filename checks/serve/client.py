@@ -1,17 +1,16 @@
 #!/usr/bin/env python3
 """Plays clients of `serve` over a pipe: checks/serve/client.py PROGRAM [parties | speed | memory | frames]
 
-parties  Three parties hold sessions over two publications under two methods, interleaved frame by
-         frame, with the install of a newer publication between them. No octet of a frame is written
-         before the reply to the last one came. Each reply is the one that docs/SPEC.md says, and
-         each answer is checked with `check`, over the least version that its party was told, and
-         compared with what `prove` writes over the publication that the session began with.
-speed    Asks a second over grids of 10,000 and of 65,536 nodes, of near and of far ends, beside
-         `prove` as a command.
-memory   The memory of `serve` while its 16 sessions are pinned to 16 publications of 65,536 nodes.
-frames   1,000,000 empty frames, and one octet more.
+parties  Three parties hold sessions over two publications under two methods. Their frames alternate, with the install
+         of a newer publication between them. No octet of a frame is written before the previous reply has come. Each
+         reply must be the one that docs/SPEC.md requires. Each answer is checked with `check` under its party's minimum
+         version, and compared with the reply of `prove` over the publication that the session began with.
+speed    Measures the answers of `serve` in a second over grids of 10,000 and of 65,536 nodes, for near and for distant
+         ends, and the command `prove`.
+memory   Measures the memory of `serve` while its 16 sessions are pinned to 16 publications of 65,536 nodes.
+frames   Sends 1,000,000 empty frames, and one octet more.
 
-Without a word behind PROGRAM it does all four. Ends with status 1 if anything differs.
+Without such an argument it does all four. Ends with status 1 if anything differs.
 """
 import os
 import struct
@@ -32,12 +31,12 @@ from common.served import Served, ask, begin, finish, install  # noqa: E402
 
 PROGRAM = os.path.abspath(sys.argv[1])
 OVER = "the two replies differ"
-# how many seconds a reply may take
+# the limit of seconds for a reply
 LONGEST = 60
 
 
 def run(*words: object, wanted: int = 0, given: bytes | None = None) -> bytes:
-    """What a command writes, whose status must be this."""
+    """The output of a command, which must end with this status."""
     return written([PROGRAM, *words], status=wanted, given=given)
 
 
@@ -67,13 +66,13 @@ def installing(name: str) -> bytes:
 
 
 class Server(Served):
-    """`serve` over a publication, which must answer in time and end as it should."""
+    """`serve` over a publication, which must answer in time and end with the right status."""
 
     def __init__(self, publication: str) -> None:
         super().__init__(PROGRAM, publication)
 
     def told(self, body: bytes) -> bytes:
-        """The reply to a body, which comes while the server has no octet of another frame."""
+        """The reply to a body; it must come before the server has an octet of another frame."""
         self.send(body)
         watch = threading.Timer(LONGEST, self.child.kill)
         watch.start()
@@ -105,7 +104,7 @@ def wants(what: str, got: bytes, wanted: bytes) -> None:
 
 
 class Party:
-    """A client with a session: what it was told, and what it checks."""
+    """A client with a session: its minimum version, and its checks."""
 
     def __init__(self, server: Server, session: int) -> None:
         self.server, self.session, self.publication = server, session, ""
@@ -179,7 +178,7 @@ def parties() -> None:
 
 
 def asked(server: Server, queries: list[tuple[int, int]]) -> tuple[float, float]:
-    """Asks a second, where frames and replies go both ways at once, and the octets of the replies."""
+    """The answers in a second, with frames and replies in both directions at once, and the octets of the replies."""
     begun = time.monotonic()
     sender = threading.Thread(target=lambda: server.send(*(ask(0, *query) for query in queries)))
     sender.start()

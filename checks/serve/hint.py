@@ -1,10 +1,9 @@
 #!/usr/bin/env python3
-"""Plays the hint of a slow `prove` that `serve` keeps its book: checks/serve/hint.py PROGRAM
+"""Tests the message of a slow `prove` that recommends `serve`: checks/serve/hint.py PROGRAM
 
-Publishes a grid of 128 by 128 nodes in four by four cells under HYP, whose book takes more than a
-second to make, and the five nodes under DIJ. At a terminal, which is a pseudo-terminal here, `prove` over the grid names
-`serve` on standard error; through a pipe it says nothing, and over the five nodes neither. Nobody
-trusts this script.
+Publishes a grid of 128 by 128 nodes in four by four cells under HYP, whose book takes more than a second to prepare,
+and a map of five nodes under DIJ. At a pseudo-terminal, `prove` over the grid must name `serve` on standard error.
+Through a pipe it must say nothing, and neither over the five nodes. Nobody trusts this script.
 """
 import os
 import pty
@@ -21,7 +20,7 @@ from common.maps import FIVE, made  # noqa: E402
 
 
 def drained(end: int) -> bytes:
-    """All that was written to a pseudo-terminal whose other end is closed."""
+    """All output to a pseudo-terminal whose other end is closed."""
     said = b""
     while True:
         try:
@@ -34,7 +33,7 @@ def drained(end: int) -> bytes:
 
 
 def at_terminal(words: list[str]) -> tuple[str, float]:
-    """Runs a program with a pseudo-terminal as its standard error. Returns what it said, and the seconds it took."""
+    """Runs a program with a pseudo-terminal as its standard error. Returns its messages, and the seconds it took."""
     ours, theirs = pty.openpty()
     begun = time.monotonic()
     child = subprocess.Popen(words, stdout=subprocess.DEVNULL, stderr=theirs)

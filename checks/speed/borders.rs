@@ -1,4 +1,4 @@
-//! The table of border distances of the method HYP, in plain Rust with std alone, to measure against.
+//! The table of border distances of the method HYP, in plain Rust with only std, for comparison.
 //!
 //!     rustc -O -o /tmp/borders checks/speed/borders.rs && /tmp/borders FILE COLUMNS ROWS
 //!

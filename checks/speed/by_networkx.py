@@ -1,5 +1,5 @@
 #!/usr/bin/python3
-"""The same work as `route`, by networkx: checks/speed/by_networkx.py FILE FROM TO. Nobody trusts it."""
+"""The work of `route`, done by networkx: checks/speed/by_networkx.py FILE FROM TO. Nobody trusts it."""
 import sys
 
 import networkx

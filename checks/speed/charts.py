@@ -4,7 +4,7 @@ from typing import NamedTuple, Sequence
 from xml.sax.saxutils import escape
 
 WIDTH, PANEL, EDGE, LEFT, TOP, BOTTOM = 760, 150, 12, 46, 40, 44
-# how far the first and the last place along x stand from the ends of the axis, and a letter's width
+# the distance of the first and last place along x from the ends of the axis, and the width of a letter
 INSET, LETTER = 14, 6.2
 # colour in light, colour in dark, shape of the points
 METHODS = ["DIJ", "LDM", "HYP", "FULL"]
@@ -21,9 +21,9 @@ STYLE = """text{font:11px sans-serif;fill:#222}.paper{fill:#fff}.axis{stroke:#66
 
 
 class Panel(NamedTuple):
-    """What stands over the panel, the names of its axes with their units, its lines by name, and whether an axis goes by powers.
+    """The title of a panel, the names of its axes with their units, its lines by name, and whether an axis is logarithmic.
 
-    The places along x are numbers, or words that stand one beside the other.
+    The places along x are numbers, or words side by side.
     """
 
     title: str
@@ -35,14 +35,14 @@ class Panel(NamedTuple):
 
 
 def short(value: float) -> str:
-    """A number beside an axis."""
+    """A number at an axis."""
     if value >= 1_000_000:
         return f"{value / 1_000_000:g}M"
     return f"{value / 1000:.3g}k" if value >= 10_000 else f"{value:g}"
 
 
 class Axis:
-    """Where values stand between two ends of a panel."""
+    """The positions of values between two ends of a panel."""
 
     def __init__(self, values: Sequence[float], is_log: bool, start: float, end: float):
         self.is_log, self.start, self.end = is_log, start, end
@@ -78,7 +78,7 @@ class Axis:
 
 
 class Given:
-    """Where the values stand that were tried, each with its own tick: numbers by powers or evenly, or words."""
+    """The positions of the measured values, each with its own tick: numbers on a logarithmic or linear axis, or words."""
 
     def __init__(self, values: Sequence[float | str], is_log: bool, start: float, end: float):
         self.ticks, self.start, self.end = list(dict.fromkeys(values)), start + INSET, end - INSET
@@ -148,7 +148,7 @@ def wrapped(text: str, most: int) -> list[str]:
 
 
 def chart(caption: str, panels: list[Panel], columns: int) -> str:
-    """A picture of panels in so many columns, with a legend over and a caption under them."""
+    """A picture of panels in this many columns, with a legend above and a caption below."""
     named = {name for panel in panels for name in panel.lines}
     names = METHODS if named <= set(METHODS) else list(dict.fromkeys(name for panel in panels for name in panel.lines))
     width, rows, told = WIDTH / columns, math.ceil(len(panels) / columns), wrapped(caption, 130)

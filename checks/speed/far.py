@@ -1,16 +1,17 @@
 #!/usr/bin/env python3
-"""What answers and checks cost beside what they cannot do without: checks/speed/far.py [--program FILE] [--pairs N] [--runs N] [--small | --grid] [--counted] [--hold] [--write]
+"""Compares answers and checks with their least possible costs: checks/speed/far.py [--program FILE] [--pairs N] [--runs
+N] [--small | --grid] [--counted] [--hold] [--write]
 
-Over street-like maps it draws pairs of places so far apart (a street has 100). `serve` answers queries for routes between
-them under each method, and for the nodes within such a radius. Beside an answer stands a plain program in Rust that
-searches for the same pairs (floor.rs, built by rustc -O): by Dijkstra's search, for LDM by A* over landmarks' codes.
-Beside a check stand the compressions of SHA-256 that the replies and their signatures need (needed.py), at the cost of
-one in `key h5`; a check's cost is that of `check` less that of `check` of an empty reply. Where this machine has no rustc
-the searches are left out.
+Over street-like maps it draws pairs of places at given distances (a street has length 100). `serve` answers queries for
+routes between them under each method, and for the nodes within such a radius. An answer is compared with a plain
+program in Rust that searches for the same pairs (floor.rs, built by rustc -O): by Dijkstra's search, or for LDM by A*
+over codes of landmarks. A check is compared with the compressions of SHA-256 that the replies and their signatures need
+(needed.py), at their cost in `key h5`. The cost of a check is that of `check` less that of `check` on an empty reply.
+Without rustc the searches are left out.
 
-Costs are processor time on one processor, the least of the runs, or, with --counted, instructions under valgrind, which
-are the same on a busy machine. --small takes 1,024 nodes, --grid only a grid of 65,536, from corner to corner. --hold ends
-with status 1 if a ratio is above its limit, --write puts the table into docs/BENCHMARKS.md. No client trusts it.
+Costs are the least CPU time of the runs on one processor. With --counted they are instructions under valgrind, which do
+not depend on other work. --small takes 1,024 nodes, --grid only a grid of 65,536 nodes, from corner to corner. --hold
+ends with status 1 if a ratio is above its limit. --write puts the table into docs/BENCHMARKS.md. No client trusts it.
 """
 import argparse
 import math
@@ -37,13 +38,13 @@ SETTINGS = {
 }
 RANGES = [100, 500, 4000]
 MOST_OF_FULL = 1024
-# how many of the replies of a range are checked
+# the number of replies of a range that are checked
 CHECKED = 5
 RADIUS = "radius"
-# the most plain searches that an answer costs at 4,000 apart: by processor time, with room for a busy machine, and counted
+# the limit of an answer at distance 4,000, in plain searches: by CPU time, with room for a busy machine, and counted
 MOST = {"DIJ": (6.0, 4.5), "LDM": (14.0, 9.0), "HYP": (9.0, 6.0), "FULL": (2.0, 2.0), RADIUS: (6.0, 4.5)}
-# how many times what it hashes a check costs at most, at every length: only counted, since it is too short to be timed
-# beside other work
+# the limit of a check at every length, as a multiple of its hashing: only counted, since it is too short for timing
+# while other programs run
 MOST_HASHED = (math.inf, 1.5)
 HEADING = "What each method costs"
 
@@ -51,7 +52,7 @@ Pairs = list[tuple[int, int]]
 
 
 class Cell(NamedTuple):
-    """What answers and checks of a range cost, and their ratios with their limits."""
+    """The costs of answers and checks of a range, and their ratios with the limits."""
 
     shown: str
     ratios: list[tuple[str, float, float]]
@@ -64,7 +65,7 @@ def places_of(roads: str) -> dict[int, tuple[int, int]]:
 
 
 def drawn(places: dict[int, tuple[int, int]], apart: int, count: int) -> Pairs:
-    """Pairs of places about so far apart, always the same ones."""
+    """Pairs of places at about this distance, always the same ones."""
     drawing, ids = random.Random(5), sorted(places)
     found: Pairs = []
     while len(found) < count:
@@ -79,7 +80,7 @@ def drawn(places: dict[int, tuple[int, int]], apart: int, count: int) -> Pairs:
 
 
 def floor_of(folder: str) -> str | None:
-    """The plain program, where it can be built."""
+    """The plain program, if it can be built."""
     if shutil.which("rustc") is None:
         return None
     subprocess.run(["rustc", "-O", "--edition", "2021", "-o", f"{folder}/floor", f"{HERE}/floor.rs"], check=True)
@@ -87,7 +88,7 @@ def floor_of(folder: str) -> str | None:
 
 
 def searched(meter: Meter, floor: str | None, roads: str, pairs: Pairs, kind: str) -> float | None:
-    """What a plain search costs for a pair."""
+    """The cost of a plain search for a pair."""
     if floor is None:
         return None
     with open("pairs.txt", "w", encoding="ascii") as file:
@@ -96,13 +97,13 @@ def searched(meter: Meter, floor: str | None, roads: str, pairs: Pairs, kind: st
 
 
 class Bench(NamedTuple):
-    """What is measured, by what, beside what."""
+    """The measured program, the meter, and the program to compare with."""
 
     program: str
     floor: str | None
     meter: Meter
     pairs: int
-    # what a compression costs, and a check of an empty reply
+    # the costs of a compression and of a check of an empty reply
     hashed: float
     begun: float
 
@@ -110,7 +111,7 @@ class Bench(NamedTuple):
         return self.meter.command([self.program, command, "owner.key", name, str(start), str(end), "1"]) - self.begun
 
     def checks(self, command: str, pairs: Pairs, replies: list[bytes]) -> tuple[float, float]:
-        """What checks of replies cost, and what they need to hash, both for one."""
+        """The cost of a check of a reply, and of the hashing that it needs."""
         key = bytes.fromhex(open("owner.key", encoding="ascii").read().split()[0])
         of_reply = needed.of_near if command == "check-reach" else needed.of_answer
         costs, counts = 0.0, 0
@@ -135,7 +136,7 @@ def bench_of(asked: argparse.Namespace, folder: str) -> Bench:
 def asked_of(
     bench: Bench, publication: str, body: Callable[[int, int, int], bytes], ranges: dict[str, Pairs]
 ) -> Iterator[tuple[str, float, list[bytes]]]:
-    """What an answer costs, and the replies, for each range: the least of the runs."""
+    """The cost of an answer, and the replies, for each range: the least of the runs."""
     server = bench.meter.serve(bench.program, publication, "owner.key")
     for name, pairs in ranges.items():
         costs, replies = [], []
@@ -150,7 +151,7 @@ def asked_of(
 def cell_of(
     bench: Bench, what: str, method: str, pairs: Pairs, floor: float | None, cost: float, replies: list[bytes]
 ) -> Cell:
-    """What answers cost beside a plain search, and a few checks beside what they hash."""
+    """The costs of answers compared with a plain search, and of a few checks compared with their hashing."""
     told, which, step = bench.meter.told, int(isinstance(bench.meter, Counted)), -(-len(replies) // CHECKED)
     command = "check-reach" if method == RADIUS else "check"
     check, count = bench.checks(command, pairs[::step], replies[::step])
@@ -166,7 +167,7 @@ def cell_of(
 
 
 def row_of(bench: Bench, roads: str, method: str, ranges: dict[str, Pairs]) -> tuple[str, list[Cell]]:
-    """What `publish` takes, and a cell for each range."""
+    """The time of `publish`, and a cell for each range."""
     within, nodes = method == RADIUS, len(places_of(roads))
     note(f"{nodes} nodes, {method}")
     kind = {"LDM": "codes", RADIUS: "within"}.get(method, "plain")

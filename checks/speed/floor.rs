@@ -1,9 +1,9 @@
-//! What an answer cannot be cheaper than: plain searches for the pairs of a file, ROADS PAIRS KIND RUNS. `checks/speed/far.py`
-//! builds it.
+//! The least possible cost of an answer: plain searches for the pairs of a file. Usage: ROADS PAIRS KIND RUNS.
+//! `checks/speed/far.py` builds it.
 //!
-//! KIND is `plain` for Dijkstra's search, stopped at the end, `codes` for A* over the codes of 16 landmarks of 12 bits, and
-//! `within` for a search as far as a radius, which takes the place of the end. It prints the nanoseconds of a query, the least
-//! of the runs. Without runs it searches once for each pair, in the function `searched`, whose instructions are counted.
+//! KIND is `plain` for Dijkstra's search, which stops at the end; `codes` for A* over the codes of 16 landmarks of 12 bits;
+//! or `within` for a search up to a radius, given in place of the end. It prints the nanoseconds of a query, the least of
+//! the runs. Without RUNS it searches once for each pair, in the function `searched`, whose instructions are counted.
 
 mod plain;
 
@@ -81,7 +81,7 @@ impl Room {
     }
 }
 
-/// Landmarks, each the node that is farthest from those before it, and the codes of each node: lengths in steps.
+/// Landmarks, each the node farthest from the previous ones, and the codes of each node: lengths in steps.
 fn codes_of(graph: &Graph, room: &mut Room) -> (Vec<u16>, u64) {
     let count = room.lengths.len();
     let (mut rows, mut nearest, mut next) = (vec![], vec![FAR; count], 0);
@@ -98,13 +98,13 @@ fn codes_of(graph: &Graph, room: &mut Room) -> (Vec<u16>, u64) {
     ((0..count).flat_map(|node| rows.iter().map(move |row| code(row[node]))).collect(), step)
 }
 
-/// Nanoseconds that this process was on a processor.
+/// The CPU time of this process in nanoseconds.
 fn spent() -> u64 {
     let told = std::fs::read_to_string("/proc/self/schedstat").unwrap();
     told.split(' ').next().unwrap().parse().unwrap()
 }
 
-/// What is searched, and how.
+/// A search: its pairs and its kind.
 struct Floor {
     graph: Graph,
     codes: Vec<u16>,
@@ -123,7 +123,7 @@ impl Floor {
     }
 }
 
-/// Searches once for each pair, and adds the lengths up.
+/// Searches once for each pair. Returns the sum of the lengths.
 #[no_mangle]
 #[inline(never)]
 extern "C" fn searched(floor: &Floor, room: &mut Room) -> u64 {
@@ -141,7 +141,7 @@ extern "C" fn searched(floor: &Floor, room: &mut Room) -> u64 {
     floor.pairs.iter().map(one).sum()
 }
 
-/// The nanoseconds of a query, the least of some runs of a tenth of a second.
+/// The nanoseconds of a query: the least of several runs of a tenth of a second.
 fn timed(floor: &Floor, room: &mut Room, runs: usize) -> u64 {
     let least = (0..runs).map(|_| {
         let (begun, mut rounds) = (spent(), 0);

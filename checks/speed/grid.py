@@ -1,9 +1,9 @@
 #!/usr/bin/env python3
 """Writes the road file of a grid of WIDTH by WIDTH nodes: checks/speed/grid.py WIDTH [halves] > FILE
 
-Node ids go by rows from 1. Each node has a road to its right and to its lower neighbour, of lengths
-1 to 1000 from the linear congruential generator of the C standard's example. With `halves` the roads
-between the two middle columns are left out, so that no walk joins the left half and the right one.
+Node ids start at 1 and go by rows. Each node has a road to its right and to its lower neighbour, with lengths from 1 to
+1000 from the linear congruential generator in the C standard's example. With `halves` the roads between the two middle
+columns are left out, so that no walk joins the left and the right half.
 """
 import sys
 

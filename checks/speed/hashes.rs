@@ -1,8 +1,8 @@
 //! The hashes of `key` and of `check`, by RustCrypto's sha2. `checks/speed/all` builds it, over Debian's crates.
 //!
 //!     hashes key SECRET h5|h10    the public key of LMS (RFC 8554) from I and SEED, as `key` writes it
-//!     hashes reply FILE FAN       each leaf of a reply hashed, and as many inner positions as its trees have above
-//!                                 the leaves and the digests that it brings; prints how many of each
+//!     hashes reply FILE FAN       hashes each leaf of a reply, and as many inner nodes as its trees have above the
+//!                                 leaves and digests of the reply; prints the number of each
 
 use sha2::{Digest, Sha256};
 
@@ -23,7 +23,7 @@ fn octets_of(hex: &str) -> Vec<u8> {
     (0..hex.len() / 2).map(|at| u8::from_str_radix(&hex[2 * at..2 * at + 2], 16).unwrap()).collect()
 }
 
-/// The public value of the one-time key of a number: the ends of its chains, hashed.
+/// The public value of the one-time key with a number: the hash of the ends of its chains.
 fn one_time(id: &[u8], seed: &[u8], number: u32) -> [u8; 32] {
     let place = number.to_be_bytes();
     let mut ends = Vec::new();
@@ -55,7 +55,7 @@ fn key(secret: &str, kind: &str) -> String {
     public.iter().map(|octet| format!("{octet:02x}")).collect()
 }
 
-/// What is left of a reply.
+/// The unread rest of a reply.
 struct Rest<'a>(&'a [u8]);
 
 impl<'a> Rest<'a> {
@@ -70,7 +70,7 @@ impl<'a> Rest<'a> {
     }
 }
 
-/// Hashes as many inner positions as fold so many digests to one, and answers how many these are.
+/// Hashes as many inner nodes as reduce this many digests to one. Returns the number of nodes.
 fn fold(digests: usize, fan: usize) -> usize {
     let children = vec![0; 32 * fan];
     let inner = digests.saturating_sub(1).div_ceil(fan - 1);

@@ -1,8 +1,8 @@
-"""What the scripts beside this file share: what a command costs, a `serve` that is asked, and made maps. Nobody trusts it.
+"""Shared by the scripts in this folder: the cost of a command, a `serve` that answers queries, and made-up maps.
 
-All runs on one processor, one command behind the other. A command's seconds are the least processor time of several
-runs; its memory is the most that it held in a run of its own under GNU time, since a child of a large process is said
-to have held what that process did.
+All runs use one processor, one command after the other. The time of a command is the least CPU time of several runs.
+Its memory is the peak of a separate run under GNU time, because a child's peak begins with the memory of a large
+parent. Nobody trusts this module.
 """
 import os
 import re
@@ -25,7 +25,7 @@ GNU_TIME = "/usr/bin/time"
 
 
 class Cost(NamedTuple):
-    """Seconds of processor time, megabytes at most (None where they were not measured), octets of standard output."""
+    """CPU seconds, peak memory in megabytes (None if not measured), and octets of standard output."""
 
     seconds: float
     memory: float | None
@@ -33,7 +33,7 @@ class Cost(NamedTuple):
 
 
 def pin() -> None:
-    """Keeps this process, and all that it starts from here on, to one processor."""
+    """Restricts this process, and all processes that it starts from now on, to one processor."""
     os.sched_setaffinity(0, {max(os.sched_getaffinity(0))})
 
 
@@ -42,7 +42,7 @@ def note(*words: object) -> None:
 
 
 def run(words: Sequence[str], output: str, silent: bool = False) -> float:
-    """Runs a program with its output in a file, and ends all where its status is not 0. Seconds of processor time."""
+    """Runs a program with its output in a file. Returns the CPU seconds. The script ends if the status is not 0."""
     return processor_seconds(words, output=output, silent=silent)
 
 
@@ -56,13 +56,13 @@ def memory_of(words: Sequence[str], output: str, silent: bool = False) -> float 
 
 
 def cost(words: Sequence[str], output: str, runs: int) -> Cost:
-    """What a command costs: one run for its memory, then so many for its time."""
+    """The cost of a command: one run for its memory, then RUNS runs for its time."""
     memory = memory_of(words, output)
     return Cost(min(run(words, output) for _ in range(runs)), memory, os.path.getsize(output))
 
 
 def costs(commands: Sequence[Sequence[str]], output: str, runs: int) -> list[Cost]:
-    """What several commands cost that are compared: they take turns."""
+    """The costs of several compared commands, which take turns."""
     memories = [memory_of(words, output, silent=True) for words in commands]
     rounds = [[run(words, output, silent=True) for words in commands] for _ in range(runs)]
     return [Cost(min(seconds), memory, 0) for seconds, memory in zip(zip(*rounds), memories)]
@@ -80,7 +80,7 @@ class Server(Served):
         return self.told(ask(0, start, end))[2:]
 
     def seconds_for(self, start: int, end: int, asks: int, runs: int) -> float:
-        """The least processor time of an answer, over runs of so many asks."""
+        """The least CPU time of an answer, over runs of this many queries."""
 
         def once() -> float:
             before = self.seconds()
@@ -92,7 +92,7 @@ class Server(Served):
 
 
 def owner(program: str, folder: str) -> None:
-    """A new desk of 31 publications in a folder, as owner.desk and owner.key, and its secret. From here on one works there."""
+    """Makes a desk for 31 publications in a folder, as owner.desk and owner.key, with its secret. Changes to this folder."""
     os.chdir(folder)
     if os.path.exists("owner.desk"):
         os.remove("owner.desk")
@@ -106,13 +106,13 @@ def publishing(program: str, roads: str, settings: str) -> list[str]:
 
 
 def pairs_of(publication: str) -> int:
-    """How many pairs have a leaf."""
+    """The number of pairs with a leaf."""
     with open(publication, "rb") as file:
         return int.from_bytes(file.read(layout.IN_PUBLICATION + layout.PAIR_ROOT)[-4:], "big")
 
 
 def made(name: str, *words: str) -> str:
-    """A road file of the generator of this name, in the working folder."""
+    """Writes a road file into the working folder, by the generator with this name."""
     path = os.path.abspath("-".join([name, *words]) + ".roads")
     if not os.path.exists(path):
         octets = maps.made(name, *words)
@@ -132,13 +132,13 @@ def line_of(count: int) -> str:
 
 
 def ids_of(roads: str) -> list[int]:
-    """The ids of a road file, rising."""
+    """The ids of a road file, ascending."""
     with open(roads, encoding="ascii") as file:
         return sorted(int(line.split()[1]) for line in file if line.startswith("node"))
 
 
 def processor() -> str:
-    """The processor's name, and those of its features that SHA-256 can use."""
+    """The name of the processor, and its features that SHA-256 can use."""
     with open("/proc/cpuinfo", encoding="ascii") as file:
         said = file.read()
     name = re.search(r"model name\s*: (.*)", said)
@@ -148,7 +148,7 @@ def processor() -> str:
 
 
 def put_tables(heading: str, tables: list[list[str]]) -> None:
-    """Puts tables in place of those that stand below a heading of docs/BENCHMARKS.md, as many and in their order."""
+    """Replaces the tables below a heading of docs/BENCHMARKS.md, in order, by the same number of new ones."""
     with open(DOCUMENT, encoding="utf-8") as file:
         text = file.read()
     start = text.index(f"\n## {heading}\n")
@@ -163,7 +163,7 @@ def put_tables(heading: str, tables: list[list[str]]) -> None:
 
 
 def is_busy() -> bool:
-    """Whether other programs take part of the machine now."""
+    """Whether other programs are using the machine now."""
     return os.getloadavg()[0] > 1.5
 
 
@@ -173,7 +173,7 @@ def table(head: Sequence[str], rows: Iterable[Sequence[str]]) -> list[str]:
 
 
 def seconds(value: float) -> str:
-    """Seconds to two digits, in the unit that suits them."""
+    """Seconds with two digits, in a suitable unit."""
     for unit, size in (("s", 1), ("ms", 1e-3), ("µs", 1e-6)):
         if value >= size or unit == "µs":
             shown = value / size

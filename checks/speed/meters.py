@@ -1,7 +1,7 @@
-"""What a `serve`, a command and a plain search cost, by processor time or by instructions. Nobody trusts it.
+"""Measures the costs of a `serve`, a command and a plain search, by CPU time or by instructions.
 
-Processor time is the least of several runs. Instructions are counted by valgrind's callgrind, in the program alone and not
-in the system: other work on the machine changes nothing, so one run is enough.
+CPU time is the least of several runs. Instructions are counted by valgrind's callgrind, in the program and not in the
+system. Other work on the machine does not change them, so one run is enough. Nobody trusts this module.
 """
 import glob
 import os
@@ -20,7 +20,7 @@ CALLGRIND = ["valgrind", "--tool=callgrind"]
 
 
 def nothing() -> None:
-    """What precedes a run that needs nothing."""
+    """Does nothing before a run."""
 
 
 class Timed:
@@ -52,7 +52,7 @@ class Timed:
 
 
 class TimedServer(Server):
-    """A `serve`, whose costs are processor time."""
+    """A `serve` whose cost is CPU time."""
 
     def spent(self) -> float:
         return self.seconds()
@@ -98,7 +98,7 @@ class Counted:
 
 
 class CountedServer(Server):
-    """A `serve` under callgrind, which begins to count once it is ready."""
+    """A `serve` under callgrind, which begins to count when `serve` is ready."""
 
     def __init__(self, program: str, publication: str, *more: str) -> None:
         quiet = ["-q", "--instr-atstart=no", "--callgrind-out-file=counted.%p"]
@@ -112,7 +112,7 @@ class CountedServer(Server):
         subprocess.run(words, stdout=subprocess.DEVNULL, stderr=subprocess.DEVNULL, check=True)
 
     def spent(self) -> float:
-        """The instructions so far. Each look takes a part of a second."""
+        """The instructions so far. Each call takes a fraction of a second."""
         self.control("-d")
         for name in glob.glob(f"counted.{self.child.pid}.*"):
             with open(name, encoding="ascii") as file:
@@ -127,7 +127,7 @@ Meter = Timed | Counted
 
 
 def compression(meter: Meter, program: str) -> float:
-    """What a compression of the program's own SHA-256 costs: `key h5` makes so many of them, and little else."""
+    """The cost of a compression of the program's SHA-256, from `key h5`, which does little else."""
 
     def empty() -> None:
         if os.path.exists("owner.desk"):

@@ -1,9 +1,10 @@
 #!/usr/bin/env python3
-"""Times the four parties' commands under one method: checks/speed/methods.py PROGRAM ROADS "METHOD ORDER FAN P1 P2 P3" S T [S T ..]
+"""Measures the commands of all four parties under one method: checks/speed/methods.py PROGRAM ROADS "METHOD ORDER FAN
+P1 P2 P3" S T [S T ..]
 
-Makes a key in a fresh folder, publishes the road file's map, and proves, checks and audits each query. Prints a line
-for each command: the least processor time of three runs, the most memory, and the octets that it wrote. Each command's
-status is wanted to be 0. No client trusts it.
+Makes a key in a new folder, publishes the road file's map, and proves, checks and audits each query. Prints for each
+command the least CPU time of three runs, the peak memory, and the octets that it wrote. Each command must end with
+status 0. No client trusts it.
 """
 import os
 import sys
@@ -16,7 +17,7 @@ RUNS = 3
 
 
 class Asked(NamedTuple):
-    """What a query costs, and what the client's line says."""
+    """The cost of a query, and the client's line."""
 
     prove: Cost
     check: Cost
@@ -25,7 +26,7 @@ class Asked(NamedTuple):
 
 
 def published(program: str, roads: str, settings: str, runs: int) -> Cost:
-    """What it costs to publish a map, as map.pub in the working folder, which has an owner."""
+    """The cost of publishing a map as map.pub in the working folder of an owner."""
     return cost(publishing(program, roads, settings), "map.pub", runs)
 
 

@@ -1,8 +1,9 @@
-"""How many compressions of SHA-256 a reply and its signature need, and how many a key. Nobody trusts it.
+"""Counts the compressions of SHA-256 that a reply and its signature need, and those that a key needs.
 
-The reference reads the reply and folds its leaves and covers, and each text that it hashes is counted: a text takes a
-compression for each 64 octets of itself, of one octet and of its length (FIPS 180-4, 5.1.1). Of the signature, the
-text, the steps that its chains have left, their ends, and the path are counted (RFC 8554, algorithms 4b and 6a).
+The reference reads the reply, folds its leaves and covers, and counts each text that it hashes. A text takes one
+compression for each 64 octets of the text with one octet and its length appended (FIPS 180-4, 5.1.1). Of the signature,
+the text, the remaining steps of its chains, their ends and the path are counted (RFC 8554, algorithms 4b and 6a).
+Nobody trusts this module.
 """
 import sys
 from collections.abc import Sequence
@@ -17,17 +18,17 @@ from gogbetiku_reference.octets import Reader  # noqa: E402
 from gogbetiku_reference.replies import NodeItem, PairItem, read_near_reply, read_reply  # noqa: E402
 from gogbetiku_reference.trees import fold  # noqa: E402
 
-# the octets of a text of LMS besides what it is about: `I`, a number, and a number or a mark
+# the fixed octets of a text of LMS: `I`, a number, and a number or a mark
 PREFIX = 16 + 4 + 2
 
 
 def compressions(octets: int) -> int:
-    """How many compressions a text of so many octets takes."""
+    """The number of compressions for a text of this many octets."""
     return (octets + 1 + 8 + 63) // 64
 
 
 class Counting:
-    """SHA-256, which counts its compressions."""
+    """SHA-256 that counts its compressions."""
 
     def __init__(self) -> None:
         self.count = 0
@@ -57,7 +58,7 @@ def of_cover(leaves: int, fan: int, items: Sequence[NodeItem | PairItem], cover:
 
 
 def of_answer(public: bytes, reply: bytes) -> int:
-    """What the reply to a query for a route needs."""
+    """The compressions for the reply to a query for a route."""
     answer = read_reply(Reader(reply))
     assert not isinstance(answer, int)
     header: Header = answer.header
@@ -69,7 +70,7 @@ def of_answer(public: bytes, reply: bytes) -> int:
 
 
 def of_near(public: bytes, reply: bytes) -> int:
-    """What the reply to a query for a radius needs."""
+    """The compressions for the reply to a range query."""
     near = read_near_reply(Reader(reply))
     header: Header = near.header
     return of_signature(public, header.octets(), near.signature) + of_cover(
@@ -78,7 +79,7 @@ def of_near(public: bytes, reply: bytes) -> int:
 
 
 def of_key(height: int) -> int:
-    """What a key of so many levels needs: secrets, chains, their ends, leaves and the tree."""
+    """The compressions for a key with this many levels: secrets, chains, their ends, leaves and the tree."""
     chains = lms.CHAINS * (1 + lms.LAST_STEP)
     leaf = chains + compressions(PREFIX + 32 * lms.CHAINS) + compressions(PREFIX + 32)
     return (leaf << height) + ((1 << height) - 1) * compressions(PREFIX + 64)

@@ -1,7 +1,9 @@
-"""The programs that the proved one is measured beside, made in a folder; one that can't be made is skipped by name.
+"""Builds the programs with which the proved one is compared, in a folder. A program that cannot be built is skipped by
+name.
 
-Plain Rust needs rustc; petgraph and RustCrypto's sha2 need cargo and Debian's librust-petgraph-dev and librust-sha2-dev,
-from whose crates they are built without a network; networkx needs Debian's python3-networkx. Nobody trusts it.
+Plain Rust needs rustc. petgraph and RustCrypto's sha2 need cargo and Debian's librust-petgraph-dev and
+librust-sha2-dev, from which they are built without a network. networkx needs Debian's python3-networkx. Nobody trusts
+this module.
 """
 import glob
 import os
@@ -31,7 +33,7 @@ def said(*words: str) -> str:
 
 
 class Peers:
-    """Their commands by name, their versions, and what was skipped."""
+    """The commands by name, their versions, and the skipped programs."""
 
     def __init__(self, folder: str, none: bool):
         self.folder = folder

@@ -1,7 +1,7 @@
-//! The same work as `route`, by petgraph: FILE FROM TO. `checks/speed/all` builds it, over Debian's crates.
+//! The work of `route`, done by petgraph: FILE FROM TO. `checks/speed/all` builds it from Debian's crates.
 //!
-//! It reads the road file as the plain program beside it does, builds an undirected graph with an index of its ids,
-//! lets petgraph search as far as the end, goes back along the lengths that it found, and prints the line.
+//! It reads the road file like the plain program in this folder, and builds an undirected graph with an index of its ids.
+//! Petgraph searches up to the end. The program then goes back along the found lengths, and prints the line.
 
 mod plain;
 

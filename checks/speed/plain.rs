@@ -1,11 +1,11 @@
-//! What the plain programs beside this file share: a road file, its arcs by position, and a search, with std alone.
+//! Shared by the plain programs in this folder: a road file, its arcs by position, and a search, with only std.
 
 #![allow(dead_code)]
 
 use std::cmp::Reverse;
 use std::collections::BinaryHeap;
 
-/// The nodes by rising id, each with its place, and the roads.
+/// The nodes by ascending id, each with its place, and the roads.
 pub struct Roads {
     pub nodes: Vec<(u32, i64, i64)>,
     pub roads: Vec<(u32, u32, u32)>,
@@ -55,8 +55,8 @@ fn number(word: Option<&[u8]>) -> i64 {
 
 pub type Rows = Vec<Vec<(u32, u32)>>;
 
-/// The room of a search: how far each position is from the start, `u64::MAX` where no walk leads, the position before
-/// it on such a walk, and a heap with stale entries.
+/// The state of a search: the distance of each position from the start (`u64::MAX` if no walk is known), the previous
+/// position on such a walk, and a heap, which may have stale entries.
 pub struct Search {
     pub labels: Vec<(u64, u32)>,
     heap: BinaryHeap<Reverse<(u64, u32)>>,

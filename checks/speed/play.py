@@ -1,9 +1,9 @@
 #!/usr/bin/env python3
 """Plays `all` and `figures` over small maps: checks/speed/play.py PROGRAM
 
-Looks that each table has its rows, each with a time that is a number, that each picture is well-formed and has its
-axes, units and caption, and that the data drawn again gives the same pictures. It says nothing of how long anything takes. Nobody
-trusts it. Ends with status 1 if something is missing.
+Each table must have its rows, each with a number as time. Each picture must be well-formed, with axes, units and
+caption. The data, drawn again, must give the same pictures. The times themselves are not tested. Nobody trusts this
+script. Ends with status 1 if anything is missing.
 """
 import os
 import re
@@ -16,7 +16,7 @@ from collections.abc import Iterator
 HERE = os.path.dirname(os.path.abspath(__file__))
 CHARTS = ["range", "nodes", "landmarks", "cells", "trees"]
 SVG = "{http://www.w3.org/2000/svg}"
-# how many rows `all` tells: beside others without peers, then maps and methods
+# the number of rows that `all` prints: comparisons without other programs, then maps and methods
 ROWS = [2, 5, 9]
 
 
@@ -27,7 +27,7 @@ def said(*words: str) -> str:
 
 
 def tables_of(text: str) -> list[list[str]]:
-    """The rows of each table, without its head."""
+    """The rows of each table, without its header."""
     return [found.strip().split("\n")[2:] for found in re.findall(r"(?m)(?:^\|.*\n)+", text)]
 
 

@@ -1,8 +1,8 @@
-//! The same work as `route`, in plain Rust with std alone, to measure against.
+//! The work of `route` in plain Rust with only std, for comparison.
 //!
 //!     rustc -O -o /tmp/route checks/speed/route.rs && /tmp/route FILE FROM TO [SEARCHES]
 //!
-//! It reads the road file, builds each node's least arcs, searches so many times (once), and prints the line.
+//! It reads the road file, builds each node's least arcs, searches SEARCHES times (once), and prints the line.
 
 mod plain;
 

@@ -1,9 +1,9 @@
 #!/usr/bin/env python3
 """Writes the road file of a street-like map of about COUNT nodes: checks/speed/streets.py COUNT [SEED] > FILE
 
-Crossings lie about 100 apart with some shaken out of place, one street in seven is missing, a few
-diagonals cross, and a street is as long as it is on the plane, one in ten of them up to half as long
-again. Only the piece that hangs together with the first crossing is written.
+Crossings are about 100 apart, and some are moved a little. One street in seven is missing, and there are a few
+diagonals. The length of a street is its length on the plane; one in ten is up to half as long again. Only the part that
+is connected with the first crossing is written.
 """
 import math
 import random

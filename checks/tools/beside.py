@@ -1,14 +1,16 @@
 #!/usr/bin/python3
 """Compares the tools with other programs, by hand: checks/tools/beside.py [EXTRACT.osm[.bz2]]
 
-Lengths of 1,000 drawn ways anywhere on earth beside geographiclib's (Karney's algorithm) and PROJ's; distances between
-200 pairs of the made town's nodes beside networkx over a graph of this script's own, of every point of the extract,
-beside osmnx's graph of the same extract, and beside routino. Each agrees within what rounding up to decimetres, and
-routino's to metres, can come to. With EXTRACT 300 pairs of its nodes take the place of the town's, and routino is also
-asked by its own table of tags, which only tells how many ways it finds shorter or longer. Routino's search misses some
-shortest ways in one direction alone, so each pair is asked for both ways, and the shorter answer counts. What a machine
-lacks is skipped by name (Debian: python3-geographiclib, python3-pyproj, python3-networkx, python3-osmnx, routino). Ends
-with status 1 if anything differs. No client trusts this file.
+It compares the lengths of 1,000 random ways anywhere on earth with geographiclib (Karney's algorithm) and PROJ. It
+compares the distances between 200 pairs of the made-up town's nodes with networkx over the script's own graph of every
+point of the extract, with osmnx's graph of the same extract, and with routino. Differences must be within the possible
+rounding: up to decimetres, and for routino to metres.
+
+With EXTRACT it uses 300 pairs of its nodes instead. Routino then also searches by its own table of tags; the script
+only prints the number of shorter and longer routes. Routino's search misses some shortest routes in one direction, so
+each pair is searched both ways, and the shorter answer counts. Programs that the machine lacks are skipped by name
+(Debian: python3-geographiclib, python3-pyproj, python3-networkx, python3-osmnx, routino). Ends with status 1 if
+anything differs. No client trusts this file.
 """
 import bz2
 import importlib
@@ -32,7 +34,7 @@ import profiles  # noqa: E402
 import roads  # noqa: E402
 
 PAIRS, EXTRACT_PAIRS = 200, 300
-# routino measures on a ball, some thousandths longer or shorter, and rounds each segment down to a metre
+# routino measures on a sphere, some thousandths longer or shorter, and rounds each segment down to a metre
 BALL = 0.004
 faults = 0
 
@@ -89,7 +91,7 @@ def compare_lengths(name: str, of: list[float], other: list[float]) -> None:
     )
 
 
-# of pairs of nodes the metres between them and how many roads these are; none where nothing joins them
+# for each pair of nodes the metres between them and the number of roads; None if nothing joins them
 Distances = dict[tuple[int, int], tuple[float, int] | None]
 Place = tuple[float, float]
 
@@ -99,7 +101,7 @@ def tags_of(element: ElementTree.Element) -> dict[str, str]:
 
 
 class Town:
-    """The made town, or an extract that somebody gives: its road file for walkers, and drawn pairs of its nodes."""
+    """The made-up town, or the given extract: its road file for walkers, and random pairs of its nodes."""
 
     def __init__(self, folder: pathlib.Path, extract: str | None):
         self.osm, self.name, self.is_made = (
@@ -121,14 +123,14 @@ class Town:
         times = Counter(self.osm_of.values())
         single = [node for node, osm in self.osm_of.items() if times[osm] == 1]
         draw = random.Random(2)
-        # of each pair the points that the way passes, once somebody counted them
+        # for each pair the number of points on the way, if counted
         self.steps: dict[tuple[int, int], int] = {}
         self.pairs = [
             (draw.choice(single), draw.choice(single)) for _ in range(PAIRS if self.is_made else EXTRACT_PAIRS)
         ]
 
     def metres(self, networkx: Any) -> Distances:
-        """The distance by the road file, and the number of its roads, for each pair; None where there is none."""
+        """The distance by the road file and the number of roads, for each pair; None without a route."""
         graph = networkx.Graph()
         graph.add_nodes_from(self.chart.nodes)
         for a, b, length in sorted(self.chart.roads, key=lambda road: -road[2]):
@@ -149,7 +151,7 @@ def octets_of(extract: str) -> bytes:
 
 
 def is_taken(town: Town, tags: dict[str, str]) -> bool:
-    """Whether walkers take a way: over the town by rules of this script's own, over an extract by the tools' table."""
+    """Whether walkers take a way: in the town by this script's rules, in an extract by the tools' table."""
     walk = profiles.PROFILES["walk"]
     if not town.is_made:
         return "highway" in tags and not profiles.refused(walk, tags)
@@ -169,7 +171,7 @@ def is_closed(town: Town, tags: dict[str, str]) -> bool:
 
 
 def whole_graph(town: Town, networkx: Any, length: Callable[[Place, Place], float]) -> Any:
-    """Every point of the extract's ways for walkers is a node of this graph, and nobody passes a closed one."""
+    """The graph of every point on the extract's ways for walkers. Closed points end the ways."""
     root = ElementTree.parse(town.osm).getroot()
     tags = {element: tags_of(element) for element in root}
     places: dict[int, Place] = {}
@@ -237,7 +239,7 @@ def beside_networkx(town: Town, networkx: Any, by_roads: Distances) -> None:
 
 
 def for_walkers(town: Town) -> tuple[pathlib.Path, set[int]]:
-    """The extract with the ways alone that walkers take, each open to them by its tags; and the nodes that are closed."""
+    """The extract with only the ways that walkers take, each tagged as open to them; and the closed nodes."""
     tree = ElementTree.parse(town.osm)
     root, walk = tree.getroot(), profiles.PROFILES["walk"]
     for way in root.findall("way"):
@@ -255,7 +257,7 @@ def for_walkers(town: Town) -> tuple[pathlib.Path, set[int]]:
 
 
 def beside_osmnx(town: Town, networkx: Any, by_roads: Distances) -> None:
-    """osmnx takes every way with a highway tag, passes every barrier, and measures on a ball: its edges are measured anew."""
+    """osmnx takes every way with a highway tag, passes every barrier, and measures on a sphere. So its edges are measured anew."""
     osmnx, karney = module("osmnx"), module("geographiclib.geodesic")
     if not osmnx or not karney:
         return
@@ -315,7 +317,7 @@ class Routino:
         return min(far, default=None)
 
     def directed(self, a: int, b: int) -> tuple[float, int] | None:
-        """The metres of its way from one point to another, and the number of the way's points."""
+        """The metres of its way from one point to another, and the number of points on it."""
         ends = [
             f"--{name}{number}={self.place[node][axis] / roads.DEGREE:.7f}"
             for number, node in ((1, a), (2, b))
@@ -351,7 +353,7 @@ def beside_routino(town: Town, by_roads: Distances) -> None:
 
 
 def by_its_table(town: Town, by_roads: Distances) -> None:
-    """How far the ways are by routino's own table of tags: told, and not judged."""
+    """Prints the lengths of the ways by routino's own table of tags, without a judgement."""
     own, counts = Routino(town, town.osm), Counter[str]()
     for (a, b), ours in by_roads.items():
         theirs = own.distance(town.osm_of[a], town.osm_of[b])

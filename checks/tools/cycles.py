@@ -1,12 +1,12 @@
 #!/usr/bin/python3
 """Compares routes for cycles with the whole extract, by hand: checks/tools/cycles.py EXTRACT.osm[.bz2]
 
-A road file has no directions, so tools/osm_roads.py leaves one-way streets out where it can. Of 300 pairs of nodes that
-its road file for cycles has, this script compares the distances with networkx's over every point of the extract: once
-with one-way streets used both ways, and once in their direction alone. No pair that the extract joins both ways may
-lose its route. It tells how much longer the routes are, how many by over 5 percent, and how many pass a piece that is
-pushed along. Ends with status 1 if a route is lost, or if one is shorter than over streets used both ways. Needs
-Debian's python3-networkx and python3-geographiclib. No client trusts this file.
+A road file has no directions, so tools/osm_roads.py leaves one-way streets out where possible. For 300 pairs of nodes
+of its road file for cycles, this script compares the distances with networkx's over every point of the extract: first
+with one-way streets in both directions, then only in their direction. No pair that the extract joins both ways may lose
+its route. It prints how much longer the routes are, how many are longer by over 5 percent, and how many pass a piece on
+which a cycle is pushed. Ends with status 1 if a route is lost, or if one is shorter than over streets in both
+directions. Needs Debian's python3-networkx and python3-geographiclib. No client trusts this file.
 """
 import pathlib
 import random
@@ -37,7 +37,7 @@ ON = {"yes", "true", "1", "reversible"}
 
 
 class Chart:
-    """The road file for cycles of an extract, the pieces that are pushed along, and drawn pairs of its nodes."""
+    """The road file for cycles of an extract, the pieces on which a cycle is pushed, and random pairs of its nodes."""
 
     def __init__(self, folder: pathlib.Path, extract: str) -> None:
         self.osm = folder / "whole.osm"
@@ -61,7 +61,7 @@ class Chart:
         return f"{len(self.pushed)} pieces to be pushed along, {metres:,.0f} m together"
 
     def route(self, a: int, b: int) -> tuple[float, bool] | None:
-        """The metres of a route, and whether it passes a piece that is pushed along."""
+        """The metres of a route, and whether it passes a piece on which a cycle is pushed."""
         if not networkx.has_path(self.graph, a, b):
             return None
         path = networkx.dijkstra_path(self.graph, a, b)
@@ -70,7 +70,7 @@ class Chart:
 
 
 def directions(tags: dict[str, str]) -> tuple[bool, bool]:
-    """Whether bicycles may go along a way, and against it."""
+    """Whether bicycles may use a way in its direction, and against it."""
     against = tags.get("oneway:bicycle") == "no" or any(
         value.startswith("opposite") for key, value in tags.items() if key.startswith("cycleway")
     )
@@ -107,7 +107,7 @@ def whole(osm: pathlib.Path) -> tuple[Any, Any]:
 
 
 def compare(name: str, chart: Chart, graph: Any) -> int:
-    """Tells how much longer the routes are than over a graph. Returns how many are lost or too short."""
+    """Prints how much longer the routes are than over a graph. Returns the number of lost or too short ones."""
     more: list[tuple[float, float]] = []
     lost = short = pushed = apart = 0
     for a, b in chart.pairs:

@@ -1,9 +1,9 @@
 #!/usr/bin/env python3
 """Measures tools/osm_roads.py over a large extract, by hand: checks/tools/large.py [NODES]
 
-Makes an extract of that many nodes (1,000,000), the form of a country's: a tenth of the nodes is on streets, 40
-nodes apart as bends are, and the rest outlines of buildings; cuts a piece out of it by --around, and says the
-seconds of a processor and the most memory that it took. No client trusts it.
+Makes an extract with this many nodes (1,000,000), like that of a country: a tenth of the nodes is on streets, with
+bends every 40 nodes, and the rest is outlines of buildings. Cuts a piece out of it by --around, and prints the CPU
+seconds and the peak memory. No client trusts it.
 """
 import os
 import pathlib

@@ -1,9 +1,10 @@
 #!/usr/bin/env python3
-"""Plays what maps are made of, in one process: checks/tools/maps.py
+"""Plays the tools that make maps, in one process: checks/tools/maps.py
 
-Extracts of a few nodes on the equator, and a made town of one-way streets, whose roads, reasons and refusals stand here
-by hand or come from a plain search of this script. What needs a package that this machine lacks is skipped by name.
-checks/tools/play.py plays the tools as programs. Ends with status 1 if anything differs. No client trusts this file.
+The inputs are extracts of a few nodes on the equator, and a made-up town of one-way streets. The expected roads,
+reasons and refusals are written by hand, or come from a plain search in this script. Parts whose package is missing are
+skipped by name. checks/tools/play.py plays the tools as programs. Ends with status 1 if anything differs. No client
+trusts this file.
 """
 import argparse
 import contextlib
@@ -45,7 +46,7 @@ same = LOOKS.same
 
 
 def run(tool: object, *words: object) -> tuple[int, str, str]:
-    """A tool's status, and what it says on standard output and standard error."""
+    """A tool's status, and its standard output and standard error."""
     out, err, status = io.TextIOWrapper(io.BytesIO(), encoding="utf-8"), io.StringIO(), 0
     with mock.patch.object(sys, "argv", ["tool", *map(str, words)]), contextlib.redirect_stdout(
         out
@@ -60,7 +61,7 @@ def run(tool: object, *words: object) -> tuple[int, str, str]:
 
 
 def roads_of(at: pathlib.Path, nodes: Nodes, ways: Ways, *words: object) -> tuple[list[str], list[str]]:
-    """The roads of an extract, and what is told, without the counts of nodes and parts."""
+    """The roads of an extract, and the messages without the counts of nodes and parts."""
     (at / "made.osm").write_text(extract(nodes, ways))
     status, wrote, told = run(osm_roads, at / "made.osm", *words)
     same(f"status of {words}", status, 0)
@@ -108,7 +109,7 @@ def play_cycles(at: pathlib.Path) -> None:
 
 
 def play_pairs(at: pathlib.Path, words: Sequence[object]) -> None:
-    """Of a town with half its streets one-way, no pair loses its route, and no piece is pushed that two ways join."""
+    """In a town with half its streets one-way, no pair loses its route, and no piece is pushed if other ways join its ends."""
     draw, side = random.Random(7), 14
     nodes: Nodes = {1 + x + side * y: (x + draw.random() / 4) for y in range(side) for x in range(side)}
     ends = [
@@ -145,7 +146,7 @@ def play_pairs(at: pathlib.Path, words: Sequence[object]) -> None:
 
 
 def reached(pairs: Iterable[tuple[int, int]]) -> dict[int, int]:
-    """The least node that each node reaches."""
+    """For each node the least node that it reaches."""
     beside: dict[int, set[int]] = {}
     for a, b in pairs:
         beside.setdefault(a, set()).add(b)
@@ -161,7 +162,7 @@ def reached(pairs: Iterable[tuple[int, int]]) -> dict[int, int]:
     return found
 
 
-# of an extract with a street and one other way or node: profile and flags, the tags, whether it is taken, and what is told
+# extracts with a street and one other way or node: profile and flags, the tags, whether it is taken, and the message
 FERRY = {"route": "ferry", "foot": "yes"}
 TAGS = {
     "a ferry": (("walk",), FERRY, False, "ways dropped, route=ferry, since --ferries is not asked: 1 (first way 2)"),
@@ -235,7 +236,7 @@ ZIGZAG = [(0, 0), (1, 2), (2, 0), (3, 0.00005), (4, 0)]
 
 
 def zigzag(at: pathlib.Path) -> None:
-    """A street of five points: the second lies 222 metres aside, the fourth half a centimetre."""
+    """A street of five points: the second is 222 metres off the line, the fourth half a centimetre."""
     points = "".join(
         f"<node id='{number}' lat='{y / 1000:.8f}' lon='{x / 1000}'/>" for number, (x, y) in enumerate(ZIGZAG, 1)
     )
@@ -281,7 +282,7 @@ def play_bends(at: pathlib.Path) -> None:
 
 
 def play_drawn(at: pathlib.Path, line: list[list[int]], length: int) -> None:
-    """What GeoJSON draws of a road that the client accepted."""
+    """The GeoJSON of a road that the client accepted."""
 
     def drawn(places: dict[int, tuple[int, int]], length: int, *words: str) -> tuple[list[Any], dict[str, Any]]:
         found = Accepted(ROUTE, [1, 2], places, 1, length)
@@ -385,7 +386,7 @@ def play_limits(at: pathlib.Path) -> None:
 
 
 def refusal(tool: object, path: pathlib.Path, text: str, *words: object) -> str:
-    """What is said of a file, which takes less than ten seconds."""
+    """The message about a file, which must come within ten seconds."""
     path.write_text(text)
     begun = time.process_time()
     status, wrote, told = run(tool, path, *words)
@@ -466,7 +467,7 @@ roads.end_of("osm_roads.py", osm_roads.main)
 
 
 def play_osmium(at: pathlib.Path) -> None:
-    """Another reader of XML makes the same road file."""
+    """Compares with the road file from another reader of XML."""
     python = "/usr/bin/python3"
     if (
         not pathlib.Path(python).exists()
@@ -531,7 +532,7 @@ def play_costs(at: pathlib.Path) -> None:
 
 
 def play_ogr(at: pathlib.Path) -> None:
-    """The line of docs/MAPS.md, over a GeoPackage and a Shapefile in another projection."""
+    """The command line of docs/MAPS.md, over a GeoPackage and a Shapefile in another projection."""
     if not shutil.which("ogr2ogr"):
         print("skipped: GeoPackage and Shapefile, since this machine has no ogr2ogr (Debian: gdal-bin)")
         return

@@ -1,10 +1,10 @@
 #!/usr/bin/env python3
-"""Plays tools/draw.py over maps that somebody changed: checks/tools/pictures.py PROGRAM
+"""Plays tools/draw.py over changed maps: checks/tools/pictures.py PROGRAM
 
-PROGRAM publishes the made town and answers over it. Then a publication is changed that the picture takes its grey
-from: a leaf's place, road or length elsewhere is refused, and what no leaf says changes no line that is drawn as
-proved. Bends between nodes are drawn where they fit, and said to be not proved. Ends with status 1 if anything
-differs. No client trusts this file.
+PROGRAM publishes the made-up town and answers queries. Then the publication, from which the picture takes its grey
+parts, is changed. A changed place, road or length of a leaf in the reply must be refused. A change outside these leaves
+must not change a line that is drawn as proved. Bends between nodes must be drawn if they fit, with a note that they are
+not proved. Ends with status 1 if anything differs. No client trusts this file.
 """
 from __future__ import annotations
 
@@ -44,7 +44,7 @@ def _three(form: str, octets: bytes, at: int) -> tuple[int, int, int]:
 
 
 def changed(octets: bytes, change: Change) -> bytes:
-    """A publication with other nodes and roads behind the same header and signature."""
+    """A publication with other nodes and roads after the same header and signature."""
     at = layout.behind(octets, layout.IN_PUBLICATION) + layout.SETTINGS
     count = int.from_bytes(octets[at : at + 4], "big")
     nodes: list[Node] = [_three(">Iii", octets, at + 4 + 12 * row) for row in range(count)]
@@ -102,7 +102,7 @@ class Scene:
 
 
 def played_changes(scene: Scene) -> None:
-    """What a changed publication makes of an accepted reply."""
+    """The picture of an accepted reply with a changed publication."""
     leaf, far = scene.route.route[len(scene.route.route) // 2], next(
         node for node in sorted(scene.chart.nodes) if node not in scene.route.places
     )
@@ -161,7 +161,7 @@ def played_changes(scene: Scene) -> None:
 
 
 def played_bends(scene: Scene) -> None:
-    """A shape is drawn where it fits, and else the straight line."""
+    """A shape is drawn if it fits; otherwise the straight line is drawn."""
     a, b = sorted(scene.route.route[3:5])
     (x, y), (u, v) = scene.chart.nodes[a], scene.chart.nodes[b]
     straight = scene.paths("town.pub")[DARK]
@@ -197,7 +197,7 @@ def played_bends(scene: Scene) -> None:
 
 
 def played_push(scene: Scene) -> None:
-    """One-way streets of the file, in either direction of the route, are hollow, and told with their length."""
+    """One-way streets of the file are hollow in both directions of the route, and listed with their length."""
     route = scene.route.route
     hops = [(route[1], route[2]), (route[4], route[5])]
     names = [f"{min(hop)} {max(hop)}" for hop in hops]

@@ -1,10 +1,10 @@
 #!/usr/bin/python3
-"""Plays what planners ask, over a gateway: checks/tools/planners.py PROGRAM [--bars]
+"""Plays the tools for planners over a gateway: checks/tools/planners.py PROGRAM [--bars]
 
-PROGRAM publishes the made town under each method, and a gateway serves it. Tables, stations, bands and covers are held
-to networkx, over all sources; gateways that lie, that have other publications, that ask to wait and that send too much, to
-what must be said of them. With --bars, by hand: a street map of 65,536 nodes, as `bars` says. What needs a package that
-this machine lacks is skipped by name. Ends with status 1 if anything differs. No client trusts this file.
+PROGRAM publishes the made-up town under each method, and a gateway serves it. Tables, stations, bands and covers must
+agree with networkx over all sources. The tools must report gateways that lie, that have other publications, that ask to
+wait, or that send too much. With --bars, by hand, it measures a street map of 65,536 nodes, as `bars` describes. Parts
+whose package is missing are skipped by name. Ends with status 1 if anything differs. No client trusts this file.
 """
 from __future__ import annotations
 
@@ -44,7 +44,7 @@ same, holds = LOOKS.same, LOOKS.holds
 
 
 class Map:
-    """A road file as networkx has it."""
+    """A road file as a graph of networkx."""
 
     def __init__(self, text: str) -> None:
         import networkx
@@ -93,7 +93,7 @@ class Map:
 
 
 class Place:
-    """A folder with lists of nodes, in which tools ask a gateway."""
+    """A folder with lists of nodes, in which the tools query a gateway."""
 
     def __init__(self, owner: Any, at: pathlib.Path) -> None:
         self.owner, self.at = owner, at
@@ -103,7 +103,7 @@ class Place:
         return name
 
     def run(self, tool: str, gateway: str, *words: object) -> tuple[int, str, str]:
-        """How a tool ends, what it writes, and what it says."""
+        """A tool's status, output and messages."""
         done = subprocess.run(
             [sys.executable, TOOLS / tool, gateway, self.owner.path("owner.key"), *map(str, words)],
             cwd=self.at,
@@ -125,7 +125,7 @@ def features_of(text: str) -> list[dict[str, Any]]:
 
 
 def play_tables(it: Place, town: Map, gateways: dict[str, Any]) -> None:
-    """Every cell is networkx's, under each method; a stopped table goes on."""
+    """Every cell is networkx's, under each method. A stopped table continues."""
     sources, targets = [*range(5, 491, 41), ISLAND, NOBODY], [*range(3, 491, 12), ISLAND, NOBODY]
     it.keep("sources", [f"{node} a name, and more" for node in sources])
     it.keep("targets", ["# remarks", "", *map(str, targets)])
@@ -152,8 +152,7 @@ def play_tables(it: Place, town: Map, gateways: dict[str, Any]) -> None:
 
 
 def play_choice(it: Place, town: Map, gateway: Any) -> None:
-    """Few far targets are asked for by route, and all nodes by the whole map, under a method whose replies on routes
-    are short."""
+    """Under a method with short route replies, a few far targets are asked for by routes, and all nodes by the whole map."""
     from front import Front
 
     lengths = town.lengths(START)
@@ -176,7 +175,7 @@ def play_choice(it: Place, town: Map, gateway: Any) -> None:
 
 
 def play_stopped(it: Place, gateway: Any, whole: str) -> None:
-    """What was written is not asked again; a cut line, and what was refused, is."""
+    """Written cells are not asked for again; a truncated line and refused cells are."""
     from front import Front
 
     front = Front(gateway.address)
@@ -221,7 +220,7 @@ def play_stopped(it: Place, gateway: Any, whole: str) -> None:
 
 
 def play_interrupted(it: Place, front: Any, whole: str) -> None:
-    """A table that a person stops ends at once, and goes on from its file."""
+    """A table that a person stops ends at once, and continues from its file."""
     front.seen.clear()
     front.wrong = lambda path, *_: time.sleep(0.05) if "from=" in path else None
     words = [sys.executable, TOOLS / "table.py", front.origin, it.owner.path("owner.key"), "sources", "targets"]
@@ -247,7 +246,7 @@ def play_interrupted(it: Place, front: Any, whole: str) -> None:
 
 
 def play_late_version(it: Place, front: Any) -> None:
-    """Each line has the version, also of rows that come before the first accepted reply."""
+    """Each line has the version, also the rows before the first accepted reply."""
     it.keep("late", [NOBODY, 5, 46])
     status, wrote, _ = it.run("table.py", front.origin, "late", "targets")
     versions = {row["version"] for row in csv.DictReader(wrote.splitlines())}
@@ -257,7 +256,7 @@ def play_late_version(it: Place, front: Any) -> None:
 
 
 def play_terminal(it: Place, gateway: Any) -> None:
-    """A bar on a terminal, and nowhere else."""
+    """A progress bar on a terminal, and nowhere else."""
     import pty
 
     outer, inner = pty.openpty()
@@ -274,7 +273,7 @@ def play_terminal(it: Place, gateway: Any) -> None:
 
 
 def changed(octets: bytes) -> bytes:
-    """A reply whose last digest is another one."""
+    """A reply with a changed last digest."""
     return octets[:-1] + bytes([octets[-1] ^ 1])
 
 
@@ -355,7 +354,7 @@ def play_lies(it: Place, town: Map, gateway: Any) -> None:
 
 
 def play_guides(it: Place, front: Any, wanted: dict[tuple[int, int], str]) -> None:
-    """A publication that is not one, or that has false places, changes what is asked, and no cell."""
+    """A false publication, or one with false places, changes the queries but no cell."""
     from front import turned_about
 
     lies: list[Callable[[bytes], bytes]] = [lambda octets: octets[:9], lambda octets: octets[:200], turned_about]
@@ -372,7 +371,7 @@ def play_guides(it: Place, front: Any, wanted: dict[tuple[int, int], str]) -> No
 
 
 def of_another(gateway: Any) -> Callable[..., Any]:
-    """The answers of another gateway, over its newest publication."""
+    """Passes on the answers of another gateway over its newest publication."""
 
     def wrong(path: str, *_: Any) -> Any:
         if "from=" not in path:
@@ -384,7 +383,7 @@ def of_another(gateway: Any) -> Callable[..., Any]:
 
 
 def play_others(it: Place, gateway: Any, another: Any) -> None:
-    """Replies that are proved, of another publication of the owner: none of them is a cell."""
+    """Valid replies of another publication of the owner: none of them becomes a cell."""
     from front import Front
 
     front = Front(gateway.address)
@@ -398,7 +397,7 @@ def play_others(it: Place, gateway: Any, another: Any) -> None:
 
 @contextlib.contextmanager
 def endless(front: Any) -> Iterator[str]:
-    """A gateway that does not say how long an answer is, and never ends it."""
+    """A gateway that does not state the length of an answer, and never ends it."""
 
     class Answer(http.server.BaseHTTPRequestHandler):
         def do_GET(self) -> None:
@@ -423,7 +422,7 @@ def endless(front: Any) -> Iterator[str]:
 
 
 def play_alone(it: Place, town: Map, front: Any) -> None:
-    """A lie about a target alone costs no cell: that no route leads there is asked for itself."""
+    """A lie about a target alone costs no cell: the tool asks separately whether no route leads there."""
     it.keep("islands", [*range(301, 341), ISLAND])
     front.wrong = (
         lambda path, headers, status, more, octets: (status, more, changed(octets))
@@ -444,7 +443,7 @@ def play_alone(it: Place, town: Map, front: Any) -> None:
 
 
 def play_gone(it: Place, front: Any) -> None:
-    """A publication that goes, an owner of another key, too much, and a server that asks to wait."""
+    """A publication that is withdrawn, an owner with another key, too long answers, and a server that asks to wait."""
     gone = json.dumps({"detail": "This publication is no longer served."}).encode()
     count = [0]
 
@@ -576,12 +575,12 @@ def long(line: list[Any], narrow: float) -> float:
 
 
 def covered(costs: dict[int, int], a: int, b: int, length: int, limit: int) -> float:
-    """How much of a road costs no more than a limit."""
+    """The part of a road whose cost is within a limit."""
     return min(length, sum(max(0, limit - costs[end]) for end in (a, b) if end in costs))
 
 
 def wanted_long(town: Map, costs: dict[int, int], limit: int, narrow: float) -> float:
-    """How long the drawing of all that costs no more is, in degrees."""
+    """The length, in degrees, of the drawing of all parts within a limit."""
     return sum(
         flat(town.places[a], town.places[b], narrow)
         / 1e7
@@ -668,7 +667,7 @@ def play_bands(it: Place, town: Map, gateway: Any) -> None:
 
 
 def each_piece(town: Map, costs: dict[int, int], found: list[dict[str, Any]], bounds: tuple[int, ...]) -> None:
-    """Each cut lies where its road costs the band's end."""
+    """Each cut is at the point where the cost of its road reaches the end of the band."""
     places = {place: node for node, place in town.places.items()}
     wrong = 0
     for at, bound in enumerate(bounds):
@@ -768,7 +767,7 @@ def play_cover(it: Place, town: Map, gateway: Any, program: str) -> None:
 
 
 def play_limits(it: Place, gateway: Any) -> None:
-    """What is held at once, and by a gateway that limits an address's asks and octets."""
+    """The open requests of a tool, also with a gateway that limits the requests and octets of an address."""
     from gogbetiku.gateway import Room
 
     room, held, most, lock = Room(1000), [0], [0], threading.Lock()
@@ -803,7 +802,7 @@ def play_limits(it: Place, gateway: Any) -> None:
 
 
 def play_words(it: Place) -> None:
-    """What every document and tool of planners says of directions."""
+    """The statement on directions in each document and tool for planners."""
     for name in ("README.md", "docs/MAPS.md", "docs/WALKTHROUGH.md", "docs/LIBRARY.md", "web/page/index.html"):
         text = re.sub(r"\s+", " ", (TOP / name).read_text(encoding="utf-8"))
         holds(f"{name}: directions", re.search("both ways alike[;:] no one-way streets, no turns", text))

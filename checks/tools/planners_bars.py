@@ -1,8 +1,8 @@
-"""The bars of tables, for checks/tools/planners.py --bars: a street map of 65,536 nodes, one gateway.
+"""Measures tables for checks/tools/planners.py --bars: a street map of 65,536 nodes, one gateway.
 
-Every length is networkx's. It prints how long tables took, the processor time of all that ran (machines have other
-work), and the octets beside those of the exact radii. The priority of this script's session goes to all that it starts.
-No client trusts this file.
+Every length must be networkx's. The script prints the time of each table, the CPU time of all processes (the machine
+may have other work), and the octets compared with those of the exact radii. All started processes get the priority of
+this script's session. No client trusts this file.
 """
 from __future__ import annotations
 
@@ -17,12 +17,12 @@ import time
 from typing import Any
 
 TOP = pathlib.Path(__file__).resolve().parents[2]
-# the seconds that the whole table may take, and how many times the octets of the exact radii the near one may take
+# the limits: the seconds of the whole table, and the octets of the near one as a multiple of those of the exact radii
 SECONDS, TIMES = 20.0, 4
 
 
 def spent(pids: list[int]) -> float:
-    """Processor seconds of ended children, and of those that run, with theirs."""
+    """The CPU seconds of ended and running children, with their children."""
     ticks = os.sysconf("SC_CLK_TCK")
     ended = resource.getrusage(resource.RUSAGE_CHILDREN)
     total = ended.ru_utime + ended.ru_stime

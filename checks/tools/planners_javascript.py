@@ -1,5 +1,8 @@
-"""Tables in JavaScript, for checks/tools/planners.py: every cell is networkx's; wrong lists, a gateway that lies, and
-one that goes, that sends too much or that never ends. No client trusts this file."""
+"""Plays tables in JavaScript for checks/tools/planners.py.
+
+Every cell must be networkx's. It also plays wrong lists, and gateways that lie, are withdrawn, send too much or never
+end an answer. No client trusts this file.
+"""
 from __future__ import annotations
 
 import json
@@ -27,7 +30,7 @@ const rowsOf = async (over, sources, targets) => {{
 
 
 def ended(it: Any, script: str) -> Any:
-    """What a script writes."""
+    """The output of a script."""
     from planners import same
 
     key = it.owner.path("owner.key").read_text().strip()
@@ -50,7 +53,7 @@ def lacks() -> bool:
 
 
 def play_javascript(it: Any, town: Any, gateways: dict[str, Any]) -> None:
-    """The same table by JavaScript."""
+    """The same table in JavaScript."""
     from planners import ISLAND, NOBODY, same
 
     if lacks():

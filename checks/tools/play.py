@@ -1,12 +1,12 @@
 #!/usr/bin/env python3
 """Plays the tools around the proved program: checks/tools/play.py PROGRAM
 
-Extracts of a few nodes lie on the equator, where a thousandth of a degree is a known length; what a tool must make of
-each odd case, and say of each bad input, stands here by hand. Over the made town, the element order, packing and
-format of an extract change no octet; PROGRAM publishes it, and routes, radii and an island without a route come out of
-GeoJSON, GPX and pictures as a search of this script has them, each checked by the proved library. What needs a package
-that this machine lacks is skipped by name. Ends with status 1 if anything differs. checks/tools/beside.py compares
-with other programs, by hand. No client trusts this file.
+Small extracts are on the equator, where a thousandth of a degree has a known length. The expected road file of each
+unusual case and the expected message for each bad input are written by hand. For the made-up town, the order of
+elements, the packing and the format of an extract must not change an octet. PROGRAM publishes it. Routes, radii and an
+island without a route, as GeoJSON, GPX and pictures, must agree with a search in this script; the proved library checks
+each reply. Parts whose package is missing are skipped by name. Ends with status 1 if anything differs.
+checks/tools/beside.py compares the tools with other programs, by hand. No client trusts this file.
 """
 import bz2
 import gzip
@@ -35,7 +35,7 @@ from common.looks import Looks  # noqa: E402
 
 LICENCE = roads.OSM_LICENCE
 LIBRARY = TOP / "crates/route_check_c/out/libgogbetiku.so.0"
-# metres of a thousandth of a degree on the equator, which is a circle of 6,378,137 metres
+# metres of a thousandth of a degree on the equator, a circle with a radius of 6,378,137 metres
 STEP = 6_378_137 * math.pi / 180_000
 LOOKS = Looks()
 same = LOOKS.same
@@ -55,14 +55,14 @@ def made(text: str) -> tuple[list[str], list[str]]:
 
 
 Tags = dict[str, str]
-# each node so many thousandths of a degree east, with its tags where it has some
+# each node this many thousandths of a degree east, with its tags if it has any
 Nodes = Mapping[int, float | tuple[float, Tags]]
 # the nodes of each way, and its tags
 Ways = Mapping[int, tuple[list[int], Tags]]
 
 
 def extract(nodes: Nodes, ways: Ways) -> str:
-    """An extract of nodes on the equator: each so many thousandths of a degree east, and its tags where it has some."""
+    """An extract of nodes on the equator: each this many thousandths of a degree east, with its tags if it has any."""
     parts = ["<osm version='0.6'>"]
     for node, said in nodes.items():
         east, tags = said if isinstance(said, tuple) else (said, {})
@@ -80,13 +80,13 @@ def extract(nodes: Nodes, ways: Ways) -> str:
 
 
 def dm(*steps: float) -> int:
-    """Decimetres of so many thousandths of a degree, rounded up once."""
+    """The decimetres of this many thousandths of a degree, rounded up once."""
     return math.ceil(STEP * 10 * sum(steps))
 
 
 STREET = {"highway": "residential"}
 LINE: dict[int, float | tuple[float, Tags]] = {1: 0, 2: 1, 3: 2, 4: 3, 5: 4}
-# what a road file has of a few nodes and ways: (profile, nodes, ways, roads, a reason that is told)
+# the roads of a few nodes and ways: (profile, nodes, ways, roads, a reason in the messages)
 ODD: dict[str, tuple[str, Nodes, Ways, list[str], str | None]] = {
     "bends are no nodes": ("walk", LINE, {1: ([1, 2, 3], STREET)}, [f"1 2 {dm(2)}"], None),
     "ways meet at a bend": (
@@ -265,7 +265,7 @@ ODD: dict[str, tuple[str, Nodes, Ways, list[str], str | None]] = {
 HEAD, TAIL = "<osm version='0.6'>", "</osm>"
 WAY = "<way id='7'><nd ref='1'/><nd ref='2'/><tag k='highway' v='path'/></way>"
 NODE_1, NODE_2 = "<node id='1' lat='0' lon='0'/>", "<node id='2' lat='0' lon='1'/>"
-# what is said of an extract that is none
+# the messages about invalid extracts
 BAD = {
     "broken": (f"{HEAD}{NODE_1}<node id='2' lat=", "bad.osm: line 1, node 1: not complete XML: unclosed token"),
     "cut": (f"{HEAD}\n{NODE_1}", "bad.osm: line 2, node 1: not complete XML: no element found"),
@@ -388,7 +388,7 @@ def play_lengths() -> None:
 
 
 def play_order(at: pathlib.Path) -> None:
-    """The town's road file is the same from each form of its extract."""
+    """Tests that the town's road file is the same from each form of its extract."""
     status, text, _ = run("town.py", at=at)
     (at / "town.osm").write_text(text)
     wanted = run("osm_roads.py", "town.osm", "--ids", "town.ids", at=at)
@@ -414,7 +414,7 @@ def play_order(at: pathlib.Path) -> None:
 
 
 def play_pbf(at: pathlib.Path, wanted: tuple[int, str, str]) -> None:
-    """By the Python that sees Debian's packages, where there is one."""
+    """Runs the Python that finds Debian's packages, if the machine has it."""
     python = "/usr/bin/python3" if pathlib.Path("/usr/bin/python3").exists() else sys.executable
 
     def read(name: str) -> tuple[int, str, str]:
@@ -478,7 +478,7 @@ def play_cuts(at: pathlib.Path) -> None:
 
 
 def play_survey(at: pathlib.Path) -> None:
-    """GeoJSON: measured, and with lengths that are told."""
+    """GeoJSON: with measured lengths, and with given lengths."""
 
     def feature(told: float, *east: float) -> dict[str, Any]:
         return {
@@ -518,7 +518,7 @@ def play_survey(at: pathlib.Path) -> None:
 
 
 def play_challenge(program: str, at: pathlib.Path) -> None:
-    """A piece of a challenge's graph is one that `dimacs` takes."""
+    """Tests that `dimacs` takes a piece of a challenge's graph."""
     graph = "c made\np sp 5 8\n" + "".join(
         f"a {a} {b} {a + b}\na {b} {a} {a + b}\n" for a, b in ((1, 2), (2, 3), (2, 4), (4, 5))
     )
@@ -605,7 +605,7 @@ METHODS = {"dij": "0 0 0", "full": "0 0 0", "ldm": "4 10 0", "hyp": "4 4 0"}
 
 
 class Town:
-    """The town, published by the program under each method, and what its tools make of the replies."""
+    """The town, published by the program under each method, and the tools' outputs for its replies."""
 
     def __init__(self, program: str, at: pathlib.Path):
         self.program, self.at = program, at
@@ -702,7 +702,7 @@ def play_shown(town: Town, method: str, version: int) -> None:
 
 
 def play_refused(town: Town) -> None:
-    """What gives no geometry, and what the wrong units say."""
+    """Replies without a geometry, and the messages about wrong units."""
     ask = ("route.reply", town.start, town.end, 4)
     same("a stale reply", town.tool(*ask[:3], 5), (1, "", "geojson.py: route.reply: refused Stale 4\n"))
     same("a plane", town.tool(*ask, "--unit", "plane")[:2], (1, ""))
@@ -716,7 +716,7 @@ def play_refused(town: Town) -> None:
 
 
 def play_pictures(town: Town) -> None:
-    """What a picture draws of each kind of reply."""
+    """The picture of each kind of reply."""
     tick = "{http://www.w3.org/2000/svg}"
     asked = ["--check", "owner.key", town.start, town.end, 4, "--library", LIBRARY]
     rows: tuple[tuple[str, list[object], set[str]], ...] = (

@@ -1,10 +1,10 @@
 #!/usr/bin/env python3
 """Plays tools/show.py over publications and replies of the reference: checks/tools/shown.py
 
-What a line must say stands here by hand: of a map of five nodes, of the codes of one landmark, of cells in three columns and
-of distances between their borders. The header and the signature that it writes are those that docs/SPEC.md, 6, places in the
-file. A file that ends anywhere, or of which an octet is changed, ends in one sentence or is shown, and never in anything else. Ends
-with status 1 if one differs. No client trusts it.
+The expected lines are written by hand: for a map of five nodes, for the codes of one landmark, for cells in three
+columns and for distances between their border nodes. The header and the signature that it prints must be those at the
+places of docs/SPEC.md, 6. For a file that is truncated anywhere or has a changed octet, the tool must print one
+sentence or the file's content. Ends with status 1 if anything differs. No client trusts it.
 """
 import os
 import pathlib
@@ -41,7 +41,7 @@ ONE, TWO, THREE, FOUR = (
     "node 3 at 20 0, roads to 2 length 5, to 4 length 7",
     "node 4 at 10 10, roads to 1 length 3, to 3 length 7",
 )
-# the landmark is node 1; the lengths from it are 4, 9 and 3, the step is 9 / 3 + 1, and node 5 is not reached
+# the landmark is node 1; the lengths from it are 4, 9 and 3; the step is 9 / 3 + 1; no walk leads to node 5
 LDM = [
     f"leaf 0: {ONE}, codes 0",
     f"leaf 1: {FOUR}, codes of node 1, error 0",
@@ -80,7 +80,7 @@ def front(method: str, order: str, fan: int, version: int) -> list[str]:
 
 
 def files(at: pathlib.Path) -> dict[str, list[str]]:
-    """Publications and replies, and of each the lines that it must have."""
+    """Publications and replies, each with its expected lines."""
     shutil.copy(TOP / "crates/road_proof/data/m1.roads", at)
     (at / "zeros.hex").write_text("0" * 96)
     reference(at, "key", "zeros.hex", "h5")

@@ -2,11 +2,11 @@
 """Compares the table of tags with routino's: checks/tools/tags.py
 
 Makes an extract with one way or one node for each kind of way, value of an access tag, barrier and ferry that either
-table knows, and some that neither knows. Routino's `planetsplitter` reads it, and `filedumper` says which ways and
+table knows, and some that neither knows. Routino's `planetsplitter` reads it, and `filedumper` prints which ways and
 nodes are open to people on foot and to bicycles; its profiles have speed 0 on kinds that they never use. Each
-difference from tools/profiles.py must be one of DECIDED, whose words stand in docs/MAPS.md, and each of these must
-occur. Skipped by name where routino is missing (Debian: routino). Ends with status 1 if anything differs. No client
-trusts this file.
+difference from tools/profiles.py must be one of DECIDED, whose words are in docs/MAPS.md, and each of these must occur.
+Without routino (Debian: routino) it is skipped by name. Ends with status 1 if anything differs. No client trusts this
+file.
 """
 import argparse
 import pathlib
@@ -29,7 +29,7 @@ Tags = dict[str, str]
 ROUTINO = pathlib.Path("/usr/share/routino")
 MODES = {"walk": "foot", "cycle": "bicycle"}
 ACCESS = ("foot", "bicycle", "vehicle", "motor_vehicle", "access")
-# words of routino's rules that are no values of tags, but stand for several
+# words of routino's rules that stand for several values of tags
 CLASSES = {"foot_only", "not_wheeled", "no_horse", "no_motorised", "not_2plus_wheels"}
 FREE: Tags = {}
 UNKNOWN_KINDS = {"platform", "elevator", "via_ferrata", "raceway"}
@@ -76,7 +76,7 @@ class Difference:
         return profiles.is_ferry(self.case.tags)
 
 
-# what docs/MAPS.md says of each difference, and which those are
+# the words of docs/MAPS.md on each kind of difference, and the differences of that kind
 DECIDED: dict[str, Callable[[Difference], bool]] = {
     "closes `destination`, `customers`": lambda it: it.is_ours and bool(it.values & {"destination", "customers"}),
     "`discouraged`, `dismount`, `unknown`": lambda it: it.is_ours
@@ -138,7 +138,7 @@ def cases() -> Iterator[Case]:
 
 
 def extract_of(all_cases: list[Case]) -> str:
-    """Each case lies at a latitude of its own, a hundredth of a degree from the next."""
+    """Each case is at its own latitude, a hundredth of a degree from the next."""
     nodes, ways = "", ""
     for number, case in enumerate(all_cases, 1):
         tags = "".join(f"<tag k='{key}' v='{value}'/>" for key, value in case.tags.items())
@@ -155,7 +155,7 @@ def tags_of(element: ElementTree.Element) -> Tags:
 
 
 class Routino:
-    """What routino makes of an extract: the tags of its ways and nodes, by the number of the case."""
+    """Routino's result for an extract: the tags of its ways and nodes, by the number of the case."""
 
     def __init__(self, extract: str) -> None:
         with tempfile.TemporaryDirectory() as folder:

@@ -1,14 +1,19 @@
 #!/usr/bin/python3
-"""Rolls a map a day over replicas whose clients take none older than two days: checks/web/ages.py PROGRAM [--days 5]
+"""Rolls a new map each day over replicas whose clients refuse maps older than two days: checks/web/ages.py PROGRAM
+[--days 5]
 
-An owner signs the same map each day, by dates, and each roll goes over three replicas behind nginx, with haproxy and without.
-Eight clients, which are the module for Python over the proved library, ask and check all the while, by a clock that this script sets,
-hour after hour. Nobody is refused while it rolls. Then the owner stops: a minute before two days are over all are still served, a second
-behind all are refused, by status 503 of a problem that says so, and by the client where a cache or a server answers all the same.
-What is refused counts against no replica: none is taken for dead, and who asks for any map is answered. /v1/info and /metrics tell the age. The sample of
-alarms, web/replicas/alarms.yml, is played by promtool.
+An owner signs the same map each day, with a date as version. Each roll goes over three replicas behind nginx, with and
+without haproxy. Eight clients (the module for Python over the proved library) ask and check hour after hour, by a clock
+that this script sets. During the rolls no client may be refused.
 
-What a missing program or the library keeps it from is `skipped`. Ends with status 1 if anything differs. No client trusts this."""
+Then the owner stops. One minute before the two days are over, all clients must still be served. One second after, all
+must be refused: by status 503 with a problem that says so, or by the client if a cache or a server still answers. Such
+refusals must not count against a replica: none is taken for dead, and a client that asks for any map is answered.
+/v1/info and /metrics must state the age. promtool plays the sample of alarms, web/replicas/alarms.yml.
+
+Parts whose program or library is missing are `skipped`. Ends with status 1 if anything differs. No client trusts this
+script.
+"""
 
 from __future__ import annotations
 
@@ -41,7 +46,7 @@ same, faults = LOOKS.same, LOOKS.faults
 
 
 class Asker:
-    """A client of two days, with a floor of its own, by the script's clock."""
+    """A client with a limit of two days and its own minimum version, by the script's clock."""
 
     def __init__(self, day: Day, number: int) -> None:
         self.day, self.number, self.place = day, number, Place(day.many.address)
@@ -55,7 +60,7 @@ class Asker:
         )
 
     def once(self) -> str:
-        """How an ask ends: `accepted`, the class of a refusal, or a status."""
+        """The end of a query: `accepted`, the class of a refusal, or a status."""
         start, end = self.day.owner.ids[self.number], self.day.owner.ids[-1 - self.number]
         for again in (False, True):
             self.day.clock_read()
@@ -96,19 +101,19 @@ class Day:
         self.reads += 1
 
     def asking(self, asker: Asker) -> None:
-        """Asks until it is told to stop."""
+        """Sends queries until it is told to stop."""
         while not self.stopped:
             self.ended[asker.once()] += 1
 
     def announced(self, version: int) -> bool:
-        """Whether each replica announces it."""
+        """Whether each replica announces the publication."""
         return all(
             f'"version": "{version}"' in Place(it).ask("/v1/info")[2].decode().partition('"coming"')[0]
             for it in self.many.gateways
         )
 
     def rolls(self) -> None:
-        """A day after the other: the roll begins with the day, and the hours go on meanwhile."""
+        """One day after the other: the roll begins with the day, and the hours continue during it."""
         for date in self.dates[1:]:
             octets = self.owner.path(f"dij-{date}.pub").read_bytes()
             self.clock = float(date)
@@ -144,9 +149,9 @@ class Day:
         self.replicas()
 
     def stops(self, askers: list[Asker]) -> None:
-        """The owner signs no more."""
+        """The owner stops signing."""
         last = self.dates[-1]
-        # the age is asked for in whole minutes, up
+        # the requested age is in whole minutes, rounded up
         self.clock = float(last + 2 * DAY - 60)
         same(f"{self.title}: a minute before", {asker.once() for asker in askers}, {"accepted"})
         self.clock = float(last + 2 * DAY + 1)
@@ -161,7 +166,7 @@ class Day:
             same(f"{self.title}: and again", askers[0].once(), "NoneYoung")
 
     def replicas(self) -> None:
-        """No replica is worse off, and each tells the age."""
+        """No replica is taken for dead, and each states the age."""
         same(
             f"{self.title}: who takes any map",
             Place(self.many.address).ask(f"/v1/route?from={self.owner.ids[0]}&to={self.owner.ids[1]}")[0],
@@ -182,7 +187,7 @@ class Day:
 
 
 def counts(owner: Owner) -> None:
-    """A map of counts has no age."""
+    """A map with a counted version has no age."""
     many = Many(owner, owner.publish(7), "--replicas", 1)
     place = Place(many.gateways[0])
     same("the age of a count in /v1/info", '"age": null' in place.ask("/v1/info")[2].decode(), True)
@@ -224,7 +229,7 @@ tests:
 
 
 def alarms() -> None:
-    """The sample's rules are rules, of what /metrics has, and each sounds when it should."""
+    """The rules of the sample are valid, use metrics of /metrics, and each fires when it should."""
     sample = TOP / "web/replicas/alarms.yml"
     from gateway_parts.counts import HELP
 

@@ -1,18 +1,21 @@
 #!/usr/bin/python3
-"""Holds the gateway and the shipped samples to their bars: checks/web/bars.py PROGRAM [WHAT ..] [--short] [--room FACTOR]
+"""Measures the gateway and the sample configurations against their limits: checks/web/bars.py PROGRAM [WHAT ..]
+[--short] [--room FACTOR]
 
-speed     wrk over a town of 4,000 nodes, LDM, drawn pairs, 18 connections: uncached, and cached with gzip and without
-deaf      one connection sends 135 asks for the publication and never reads; twenty addresses hold half requests
+speed     wrk over a town of 4,000 nodes, LDM, random pairs, 18 connections: uncached, and cached with and without gzip
+deaf      one connection requests the publication 135 times and never reads; twenty addresses hold half requests
 busy      300 busy connections, from 300 addresses and from one, through three replicas by each sample
-least     twice a second asks for a version and for an ID that nobody has, beside honest ones, by each sample
+least     two requests a second for a version and an ID that nobody has, among honest ones, by each sample
 rolls     ten rolls over three replicas under load, by each sample
 kills     twenty kill -9 of gateways and of `serve` under load, by each sample
-smuggled  requests that two readers could part differently, through nginx and haproxy
+smuggled  requests that two readers could split differently, through nginx and haproxy
 hour      deaf, busy, rolls and kills together, by nginx with haproxy (--minutes 60)
 
-Without WHAT: all but speed and hour. --short takes seconds of each, for the gate. --room lets times be so many times longer,
-for a busy machine. The priority of this script's session goes to all that it starts. Traffic goes to 127.0.0.0/8 alone. It ends no process but those that it starts. Ends with status 1
-where a bar does not hold. No client trusts this file."""
+Without WHAT: all except speed and hour. --short takes seconds for each, for the gate. --room multiplies the limits of
+times, for a busy machine. All started processes get the priority of this script's session. Traffic goes only to
+127.0.0.0/8. The script ends only processes that it started. Ends with status 1 if a limit is exceeded. No client trusts
+this file.
+"""
 
 import argparse
 import asyncio
@@ -56,7 +59,7 @@ faults: list[str] = []
 
 
 def holds(what: str, value: float, most: float, room: float = 1) -> None:
-    """A bar: a value is at most so much."""
+    """Tests that a value is within a limit."""
     is_met = value <= most * room
     print(f"  {what}: {value:.4g}, at most {most:.4g}{'' if is_met else '  DIFFERS'}", flush=True)
     if not is_met:
@@ -68,14 +71,14 @@ def holds(what: str, value: float, most: float, room: float = 1) -> None:
 
 @dataclasses.dataclass
 class Seen:
-    """What came of asks."""
+    """The results of requests."""
 
     times: list[float] = dataclasses.field(default_factory=list)
     statuses: collections.Counter[int] = dataclasses.field(default_factory=collections.Counter)
     failed: list[str] = dataclasses.field(default_factory=list)
 
     def late(self) -> float:
-        """The 99th of a hundred, in seconds."""
+        """The 99th percentile, in seconds."""
         return sorted(self.times)[len(self.times) * 99 // 100] if self.times else float("inf")
 
     def bad(self) -> int:
@@ -88,7 +91,7 @@ class Seen:
 
 
 class Wire:
-    """One connection from one address, opened anew where it is gone."""
+    """One connection from one address, opened again if it was closed."""
 
     def __init__(self, address: str, source: str) -> None:
         parts = urllib.parse.urlsplit(address)
@@ -96,7 +99,7 @@ class Wire:
         self.pipes: tuple[asyncio.StreamReader, asyncio.StreamWriter] | None = None
 
     async def ask(self, target: str, *headers: str) -> tuple[int, dict[str, str], bytes]:
-        """Status, headers, octets."""
+        """Returns status, headers and octets."""
         if self.pipes is None:
             self.pipes = await asyncio.open_connection(self.host, self.port, local_addr=(self.source, 0), limit=1 << 24)
         reader, writer = self.pipes
@@ -121,7 +124,7 @@ class Wire:
 
 
 async def answer_of(wire: Wire, ends: str, least: int, repeats: int) -> tuple[int, str]:
-    """The last status of an ask over the newest publication, with so many repeats, and what failed."""
+    """The last status of a query over the newest publication, with this many repeats, and the failures."""
     said = ""
     for trial in range(repeats + 1):
         try:
@@ -154,7 +157,7 @@ async def load(
     seed: int = 0,
     seen: Seen | None = None,
 ) -> Seen:
-    """So many connections that ask for routes between drawn ends, one after the other, until something holds."""
+    """This many connections that ask for routes between random ends, one after the other, until a condition holds."""
     found = seen or Seen()
 
     async def one(number: int) -> None:
@@ -193,7 +196,7 @@ def same(_: int) -> str:
 
 @contextlib.contextmanager
 def deaf_one(address: str, name: str) -> Iterator[socket.socket]:
-    """Sends 135 asks for a publication, and reads nothing."""
+    """Sends 135 requests for a publication, and reads nothing."""
     parts = urllib.parse.urlsplit(address)
     with socket.socket() as one:
         one.setsockopt(socket.SOL_SOCKET, socket.SO_RCVBUF, 4096)
@@ -229,7 +232,7 @@ def half_requests(address: str, addresses: int, each_holds: int) -> Iterator[Non
 
 
 class Bench:
-    """A program, an owner with a made town, and how long to look."""
+    """A program, an owner with a made-up town, and the duration of a measurement."""
 
     def __init__(self, program: str, given: argparse.Namespace) -> None:
         self.given, self.room = given, given.room
@@ -237,7 +240,7 @@ class Bench:
         self.name = self.owner.publish(3, "ldm")
         self.ids = self.owner.ids
         self.version = 3
-        # what was started by each sample, for all bars
+        # the processes of each sample, for all limits
         self.started: dict[str, Many] = {}
 
     def end(self) -> None:
@@ -286,7 +289,7 @@ async def deaf(bench: Bench) -> None:
 
 
 def downs(many: Many) -> int:
-    """How often a balancer took a gateway for dead."""
+    """The number of times that a balancer took a gateway for dead."""
     words = [(many.folder / "haproxy.log", " is DOWN"), (many.folder / "nginx/nginx.log", "no live upstreams")]
     return sum(file.read_text(errors="replace").count(word) for file, word in words if file.exists())
 
@@ -310,7 +313,7 @@ async def busy(bench: Bench) -> None:
             if sources is each:
                 holds("other than 2xx", seen.bad(), 0)
                 holds("99th of a hundred, seconds", seen.late(), 1, bench.room)
-                # what so many of the 300 get as may be in progress for one address (--asks-by-address)
+                # the answers to as many of the 300 as may be in progress for one address (--asks-by-address)
                 share = seen.statuses[200] * SHARE // 300
             else:
                 holds("failed, or neither 2xx nor 429", seen.bad() - seen.statuses[429], 0)
@@ -371,7 +374,7 @@ def all_ready(many: Many) -> bool:
 
 
 async def beside(work: Awaitable[None], asks: Callable[[Callable[[], bool]], Awaitable[Seen]]) -> Seen:
-    """What asks meet while something else goes on."""
+    """The results of queries during another action."""
     task = asyncio.ensure_future(work)
     seen = await asks(task.done)
     await task
@@ -441,7 +444,7 @@ SMUGGLED = [
 
 
 async def smuggled(bench: Bench) -> None:
-    """What stands behind a request's head never becomes a request of somebody else's."""
+    """Octets after a request's head never become a request of another client."""
     for title, many in by_each_sample(bench):
         places = {title: many.address, "the gateway": many.gateways[0]}
         if "haproxy" in title:
@@ -456,7 +459,7 @@ async def smuggled(bench: Bench) -> None:
 
 
 async def smuggle(who: str, address: str, method: bytes, headers: bytes, bench: Bench) -> None:
-    """The hidden request leads to /v1/chain under a name of its own, which no honest one has."""
+    """The hidden request asks for /v1/chain under a name that no honest request has."""
     parts = urllib.parse.urlsplit(address)
     reader, writer = await asyncio.open_connection(parts.hostname, parts.port)
     hidden = b"GET /v1/hidden-one HTTP/1.1\r\nHost: a\r\n\r\n".ljust(60, b"x")
@@ -467,7 +470,7 @@ async def smuggle(who: str, address: str, method: bytes, headers: bytes, bench: 
         while piece := await asyncio.wait_for(reader.read(1 << 16), 0.5):
             got += piece
     writer.transport.abort()
-    # one connection may be told of its own second request; another client must never get it
+    # a connection may get the answer to its own second request; another client must never get it
     wire = Wire(address, "127.7.7.7")
     for _ in range(2):
         status, _, octets = await wire.ask("/v1/info")
@@ -510,7 +513,7 @@ async def hour(bench: Bench) -> None:
 
 
 def spent(numbers: list[int]) -> float:
-    """Seconds of processor time that processes have taken."""
+    """The CPU seconds that processes have used."""
     total = 0.0
     for number in numbers:
         with contextlib.suppress(OSError):
@@ -522,7 +525,7 @@ def spent(numbers: list[int]) -> float:
 def wrk(
     bench: Bench, address: str, name: str, packed: bool, pairs: int, seconds: float
 ) -> tuple[float, float, float, int]:
-    """Answers a second, the median and the 99th of a hundred in milliseconds, and how many were none."""
+    """Answers a second, the median and the 99th percentile in milliseconds, and the number of failures."""
     script = bench.owner.path("drawn.lua")
     script.write_text(LUA)
     words = {"GATEWAY_ID": name, "PACKED": str(int(packed)), "PAIRS": str(pairs), "IDS": " ".join(map(str, bench.ids))}

@@ -1,9 +1,12 @@
 #!/usr/bin/python3
-"""Draws asks from web/openapi.json and holds each answer of a gateway to it: checks/web/drawn.py PROGRAM [--count 1500] [--seed N]
+"""Sends random requests from web/openapi.json and compares each answer with it: checks/web/drawn.py PROGRAM [--count
+1500] [--seed N]
 
-Path, method, parameters good and bad, and headers are drawn. The status must be one that the document lists for the path
-and the method, the headers must fit what it says of them, and octets their type and schema. Schemas are checked by Debian's
-python3-jsonschema, and skipped by name without it. Ends with status 1 if an answer is not described. No client trusts this."""
+Path, method, good and bad parameters, and headers are random. The status must be one that the document lists for the
+path and the method. The headers must fit their descriptions, and the octets their type and schema. Debian's
+python3-jsonschema checks the schemas; without it they are skipped by name. Ends with status 1 if an answer is not
+described. No client trusts this file.
+"""
 
 import argparse
 import collections
@@ -30,7 +33,7 @@ Fields = dict[str, Any]
 
 
 class Tagged(Place):
-    """An address, and the tag of its last answer that had one."""
+    """An address, and the last tag in its answers."""
 
     tag = '"x"'
 
@@ -43,7 +46,7 @@ class Document:
         self.paths = self.page["paths"]
 
     def found(self, it: Fields) -> Fields:
-        """What a reference leads to."""
+        """The target of a reference."""
         while "$ref" in it:
             part = self.page
             for word in it["$ref"].removeprefix("#/").split("/"):
@@ -52,7 +55,7 @@ class Document:
         return it
 
     def schema_fits(self, schema: Fields, value: object) -> str:
-        """Why a value does not fit, or nothing."""
+        """The reason why a value does not fit, or an empty text."""
         if jsonschema is None:
             return ""
         whole = {**schema, "components": self.page["components"]}
@@ -61,7 +64,7 @@ class Document:
 
 
 def number(draw: random.Random, pattern: str, near: Sequence[int]) -> str:
-    """A number that fits a parameter's pattern, or nearly."""
+    """A number that fits a parameter's pattern, or almost fits."""
     turn = draw.randrange(12)
     if turn < 8:
         return str(draw.choice(near))
@@ -80,7 +83,7 @@ def number(draw: random.Random, pattern: str, near: Sequence[int]) -> str:
 def query_of(
     document: Document, operation: Fields, draw: random.Random, near: Sequence[int], versions: Sequence[int]
 ) -> str:
-    """The words of a query, mostly in their one spelling."""
+    """The parameters of a query, mostly in their only valid spelling."""
     words = []
     for reference in operation.get("parameters", []):
         it = document.found(reference)
@@ -101,7 +104,7 @@ def query_of(
 def ask(
     document: Document, place: Tagged, draw: random.Random, ids: list[str], near: Sequence[int], versions: Sequence[int]
 ) -> tuple[str, str]:
-    """One drawn ask: what is wrong with its answer, and which path and status it was."""
+    """One random request: the faults of its answer, its path and its status."""
     path, item = draw.choice(list(document.paths.items()))
     method = draw.choice(METHODS)
     operation = item.get(method.lower(), item["get"])
@@ -156,7 +159,7 @@ def main(words: list[str]) -> int:
         owner.publish(version)
     faults: list[str] = []
     seen = collections.Counter[str]()
-    # one gateway as it is, and one that lets each address ask little
+    # one gateway with its defaults, and one with a low limit for each address
     samples: tuple[list[str], ...] = ([], ["--asks-per-second", "3", "--burst", "5"])
     for more in samples:
         gateway = Gateway(owner, "dij-3.pub", "--keep", "1", *more)
@@ -181,7 +184,7 @@ def main(words: list[str]) -> int:
         for status in item["get"]["responses"]
         if status != "405"
     }
-    # what the document lists is met, but for 503: whether one is met rests on when a child is asked
+    # each listed status must occur, except 503, which depends on the moment when a child is asked
     rare = {name for name in listed if name.endswith(" 503")}
     missing = sorted(listed - rare - set(seen))
     for fault in faults[:20]:

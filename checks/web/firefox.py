@@ -1,9 +1,11 @@
 #!/usr/bin/python3
 """Plays the owner's page in Firefox, by hand: checks/web/firefox.py PROGRAM [PICTURE]
 
-Debian has no driver for Firefox, so this speaks its Marionette protocol. A route under each of the four methods and each
-lie about it, an island, a radius, the picture saved as PICTURE, and a changed module and a changed import that the page
-does not take. What is expected of a verdict is what web/page/play.py expects. No client trusts this file."""
+Debian has no driver for Firefox, so this script uses its Marionette protocol. It plays a route under each of the four
+methods with each lie about it, an island, a radius, the saving of the picture as PICTURE, and a changed module and a
+changed import that the page must refuse. The expected verdicts are those of web/page/play.py. No client trusts this
+file.
+"""
 
 import base64
 import json
@@ -35,7 +37,7 @@ SAID = "const it = document.getElementById('verdict'); return [it.getAttribute('
 
 
 class Firefox:
-    """A Firefox without a window."""
+    """Firefox without a window."""
 
     def __init__(self, folder: pathlib.Path) -> None:
         port = free_port()
@@ -67,7 +69,7 @@ class Firefox:
         return json.loads(self.file.read(int(length[:-1])))
 
     def told(self, command: str, **words: Any) -> Any:
-        """What a command answers."""
+        """The answer to a command."""
         self.count += 1
         text = json.dumps([0, self.count, command, words]).encode()
         self.line.sendall(b"%d:%b" % (len(text), text))
@@ -100,7 +102,7 @@ class Firefox:
 
 
 def played(firefox: Firefox, scene: Scene, picture: pathlib.Path | None) -> int:
-    """How many verdicts were not as expected."""
+    """The number of unexpected verdicts."""
     far, place, faults = Town(scene.owner).distances(START), scene.page.place, 0
 
     def same(what: str, seen: object, wanted: object) -> None:

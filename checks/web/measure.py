@@ -1,19 +1,20 @@
 #!/usr/bin/python3
-"""Measures the gateway and its replicas, by hand: checks/web/measure.py PROGRAM speed | killed | old | roll | lies | install | full | alone
+"""Measures the gateway and its replicas, by hand: checks/web/measure.py PROGRAM speed | killed | old | roll | lies |
+install | full | alone
 
-speed    answers a second, the median and the 99th of a hundred: through the cache beside past it, with 1, 2 and 3
-         replicas, over streets of 5,000 nodes and the grid of 65,536, under a skewed mix of asks
-killed   10,000 asks of 50 clients, while a gateway, a `serve` and nginx are killed twenty times each
-old      a replica is left at an older publication
-roll     a publication is rolled through three replicas under load: all take it in before one announces it
+speed    answers a second, the median and the 99th percentile: through the cache and past it, with 1, 2 and 3 replicas,
+         over streets of 5,000 nodes and the grid of 65,536, under a skewed mix of queries
+killed   10,000 queries of 50 clients, while a gateway, a `serve` and nginx are killed twenty times each
+old      a replica keeps an older publication
+roll     a publication is rolled through three replicas under load: all install it before one announces it
 lies     one replica of three lies in one answer of ten, which the cache then keeps
-install  the longest wait of an ask while a publication under HYP over the grid of 65,536 is installed
-full     one gateway whose log lies on a disk without room
+install  the longest wait of a query while a publication under HYP over the grid of 65,536 is installed
+full     one gateway whose log is on a full disk
 alone    one gateway: slow and hostile clients for an hour (--minutes), with its memory and its open files
 
-Each reply is compared octet for octet with those of `prove` and `reach`. The priority of this script's session goes to all
-that it starts. Prints lines for docs/BENCHMARKS.md, and ends with
-status 1 if anything is wrong. It ends no process but those that it starts. No client trusts this file.
+Each reply is compared octet for octet with the replies of `prove` and `reach`. All started processes get the priority
+of this script's session. Prints lines for docs/BENCHMARKS.md. Ends with status 1 if anything is wrong. The script ends
+only processes that it started. No client trusts this file.
 """
 
 import argparse
@@ -49,12 +50,12 @@ METHOD = "ldm"
 
 
 def mix(count: int, draw: random.Random) -> list[int]:
-    """Places of asks, of which the first are asked most: the k-th as often as 1/k."""
+    """The indices of queries: the k-th is asked with frequency proportional to 1/k."""
     return draw.choices(range(count), [1 / (place + 1) for place in range(count)], k=100_000)
 
 
 def pairs(owner: Owner, count: int, draw: random.Random, near: int | None = None) -> list[Ends]:
-    """Queries, and the replies of `prove` to them."""
+    """Queries with the replies of `prove`."""
     found: list[Ends] = []
     known = set(owner.ids)
     while len(found) < count:
@@ -66,7 +67,7 @@ def pairs(owner: Owner, count: int, draw: random.Random, near: int | None = None
 
 
 class Wire:
-    """An address over one kept connection, read by hand, so that who asks costs little beside what is asked."""
+    """An address over one kept connection, read by hand, so that the client costs little compared with the server."""
 
     LENGTH = re.compile(rb"\r\ncontent-length: (\d+)", re.I)
 
@@ -76,7 +77,7 @@ class Wire:
         self.socket: socket.socket | None = None
 
     def ask(self, request: bytes) -> tuple[int, bytes]:
-        """The status and the octets; a connection that is gone is opened anew, once."""
+        """Returns the status and the octets. Opens a closed connection again, once."""
         for trial in (1, 2):
             try:
                 self.socket = self.socket or socket.create_connection(self.room, 30)
@@ -118,13 +119,13 @@ def ask_all(
     seconds: float,
     results: Any,
 ) -> None:
-    """Asks as browsers do over so many connections, and puts the times and the count of what is wrong."""
+    """Sends queries as browsers do over this many connections. Puts the times and the number of errors into the queue."""
     times: list[float] = []
     wrong: list[int] = []
     lock, end = threading.Lock(), time.monotonic() + seconds
     line = "GET /v1/p/{}/route?from={}&to={} HTTP/1.1\r\nHost: a\r\nAccept-Encoding: gzip\r\n\r\n"
     requests = [line.format(name, *ends).encode() for ends in asked]
-    # what came of each ask and was right, so that equal octets are unpacked once
+    # the right answers by query, so that equal octets are unpacked only once
     known: list[bytes | None] = [None] * len(asked)
 
     def one(number: int) -> None:
@@ -156,7 +157,7 @@ def ask_all(
 def loaded(
     addresses: list[str], name: str, asked: list[Ends], wanted: list[bytes], seconds: float, seed: int
 ) -> tuple[float, float, float, int]:
-    """Answers a second, the median and the 99th of a hundred in milliseconds, and how many were wrong."""
+    """Answers a second, the median and the 99th percentile in milliseconds, and the number of wrong ones."""
     results: Any = multiprocessing.Queue()
     loaders: list[multiprocessing.Process] = []
     for number in range(LOADERS):
@@ -227,7 +228,7 @@ def asks_of_clients(
     clients: int,
     stop: Callable[[dict[str, int]], bool],
 ) -> dict[str, int]:
-    """What clients meet, each asking in turn: how many were wrong, lost, and asked again."""
+    """The results of clients, each with one query at a time: the numbers of wrong, lost and repeated ones."""
     counts, lock = {"asks": 0, "wrong": 0, "lost": 0}, threading.Lock()
 
     def one(number: int) -> None:
@@ -251,7 +252,7 @@ def asks_of_clients(
 
 
 def patient(client: Client, words: str) -> bytes:
-    """A reply, where nothing listens for up to five seconds."""
+    """A reply, with a wait of up to five seconds while nothing listens."""
     end = time.monotonic() + 5
     while True:
         try:
@@ -273,7 +274,7 @@ def killed(program: str, given: argparse.Namespace) -> int:
     def kill() -> None:
         for turn in range(20):
             for what in ("gateway", "serve", "nginx"):
-                # the gateway whose `serve` is killed is not the one that was killed just before
+                # the gateway whose `serve` is killed is not the one that was killed last
                 gateway = turn % 3 if what == "gateway" else (turn + 1) % 3
                 number = started.number_of("nginx" if what == "nginx" else f"gateway-{gateway}")
                 try:

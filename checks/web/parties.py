@@ -1,4 +1,4 @@
-"""An owner, gateways and clients, for the scripts beside this one. Nothing here is proved, and no client trusts it."""
+"""An owner, gateways and clients, for the scripts in this folder. Nothing here is proved, and no client trusts it."""
 
 import contextlib
 import http.client
@@ -51,7 +51,7 @@ class Owner:
         return self.folder / name
 
     def run(self, words: str, wanted: int = 0) -> bytes:
-        """What a command writes."""
+        """The output of a command."""
         status, octets = self.ended(words)
         if status != wanted:
             sys.exit(f"{words}: status {status}")
@@ -84,7 +84,7 @@ class Owner:
         return self.ended(f"reach {name} {start} {radius}")[1]
 
     def verdict(self, reply: bytes, start: int, end: int, least: int, chain: bool = True) -> str:
-        """What the command line says of a reply on a route."""
+        """The command line's verdict on a reply with a route."""
         name = f"{os.getpid()}-{time.monotonic_ns()}.reply"
         self.keep(name, reply)
         words = f"check owner.key {name} {start} {end} {least}" + (" owner.chain" if chain else "")
@@ -98,29 +98,29 @@ def roads(script: pathlib.Path, size: int) -> bytes:
 
 
 def replace(file: pathlib.Path, octets: bytes) -> None:
-    """A file in another's place, at once."""
+    """Replaces a file atomically."""
     fresh = pathlib.Path(f"{file}.fresh")
     fresh.write_bytes(octets)
     fresh.rename(file)
 
 
 def priority_of(process: int | str) -> int | None:
-    """The priority of a process's session, where the system groups processes by sessions."""
+    """The priority of a process's session, if the system groups processes by sessions."""
     found = re.search(rb" nice (-?\d+)", read(f"/proc/{process}/autogroup"))
     return int(found[1]) if found else None
 
 
 def descendants(process: int) -> list[int]:
-    """The processes that this one has started, and those that they have started."""
+    """The processes that this one has started, with their descendants."""
     found: list[int] = []
-    with contextlib.suppress(OSError):  # it may end meanwhile
+    with contextlib.suppress(OSError):  # it may end in the meantime
         for task in os.listdir(f"/proc/{process}/task"):
             found += map(int, read(f"/proc/{process}/task/{task}/children").split())
     return found + [below for one in found for below in descendants(one)]
 
 
 def pass_priority_on() -> None:
-    """Gives the priority of this script's session to all that it starts. Gateways, `serve` and balancers have sessions
+    """Gives the priority of this script's session to all processes that it starts. Gateways, `serve` and balancers have sessions
     of their own, which would begin with no priority: a busy machine would then measure itself."""
     wanted = priority_of("self")
 
@@ -143,7 +143,7 @@ def free_port() -> int:
 
 
 class Place:
-    """An address of HTTP, asked over one connection."""
+    """An HTTP address over one connection."""
 
     def __init__(self, address: str, seconds: float = 30, headers: dict[str, str] | None = None) -> None:
         parts = urllib.parse.urlsplit(address)
@@ -151,7 +151,7 @@ class Place:
         self.connection: http.client.HTTPConnection | None = None
 
     def ask(self, path: str, method: str = "GET", **headers: str) -> tuple[int, Message, bytes]:
-        """Status, headers and octets. A connection that is gone is opened anew, and an answer that ends early asked once more."""
+        """Returns status, headers and octets. Opens a closed connection again, and repeats a request once if its answer ends early."""
         for trial in (1, 2):
             if self.connection is None:
                 self.connection = http.client.HTTPConnection(self.host, self.port, timeout=self.seconds)
@@ -176,7 +176,7 @@ class Place:
 
 
 class Client:
-    """A client as it should be: it carries its least version, checks each reply, and asks past caches where one is refused."""
+    """An honest client: it sends its minimum version, checks each reply, and asks past caches if a reply is refused."""
 
     def __init__(self, owner: Owner, address: str, least: int = 0, checks: bool = True) -> None:
         self.owner, self.place, self.least, self.checks = owner, Place(address), least, checks
@@ -195,7 +195,7 @@ class Client:
         return "servers disagree"
 
     def reply(self, words: str, past_caches: bool = False, kind: str = "route") -> bytes:
-        """The octets over the newest publication, which is no older than the least version."""
+        """The octets over the newest publication, which has at least the minimum version."""
         more = {"Cache_Control": "no-cache"} if past_caches else {}
         for _ in range(20):
             self.asked += 1
@@ -211,7 +211,7 @@ class Client:
 
 
 class Started:
-    """A process that is ended with the script."""
+    """A process that ends with the script."""
 
     def __init__(self, words: list[Any], cwd: pathlib.Path, log: pathlib.Path | str) -> None:
         with open(log, "ab") as it:
@@ -230,7 +230,7 @@ class Started:
 
 
 class Gateway(Started):
-    """A gateway over files of its own in an owner's folder."""
+    """A gateway with its own files in an owner's folder."""
 
     def __init__(
         self,
@@ -265,7 +265,7 @@ class Gateway(Started):
             self.wait()
 
     def wait(self, seconds: float = 60) -> None:
-        """Until it is ready."""
+        """Waits until it is ready."""
         until = time.monotonic() + seconds
         while time.monotonic() < until:
             try:
@@ -290,7 +290,7 @@ class Gateway(Started):
         return serves_of(self.process.pid)
 
     def memory(self) -> tuple[float, int]:
-        """Its memory in MB, and how many files it has open."""
+        """Its memory in MB, and its number of open files."""
         lines = pathlib.Path(f"/proc/{self.process.pid}/status").read_text().splitlines()
         held = next(int(line.split()[1]) for line in lines if line.startswith("VmRSS"))
         return held / 1024, len(os.listdir(f"/proc/{self.process.pid}/fd"))
@@ -340,5 +340,5 @@ class Many(Started):
         return self.folder / f"replica-{number}"
 
     def number_of(self, name: str) -> int:
-        """The number of the process that goes by this name now."""
+        """The number of the process that has this name now."""
         return int(json.loads((self.folder / "processes.json").read_text())[name])

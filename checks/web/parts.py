@@ -1,7 +1,9 @@
 #!/usr/bin/python3
 """Tests each part of the gateway without PROGRAM: checks/web/parts.py [-v] [NAME ..]
 
-A class of tests for each module of web/gateway_parts. `serve` is stood in for by serve_stand_in.py. No client trusts this."""
+There is a class of tests for each module of web/gateway_parts. serve_stand_in.py stands in for `serve`. No client
+trusts this file.
+"""
 
 import asyncio
 import contextlib
@@ -49,7 +51,7 @@ def publication(version: int, end: bytes = b"x", size: int = 2_000) -> bytes:
 
 @contextlib.contextmanager
 def words_of_log() -> Iterator[Callable[[], str]]:
-    """What is written on standard error meanwhile."""
+    """The text that a block writes on standard error."""
     with tempfile.TemporaryFile() as file:
         kept = os.dup(2)
         os.dup2(file.fileno(), 2)
@@ -205,7 +207,7 @@ class Limits(unittest.TestCase):
             self.assertIsNone(held.add("192.0.2.1", number))
         self.assertIsNone(held.add("192.0.2.2", 4))
         idle.discard(0)
-        # the fifth of the first address closes its own first idle one; a newcomer closes one of the greatest
+        # the fifth connection of the first address closes its first idle one; a new address closes one of the greatest
         self.assertEqual(held.add("192.0.2.1", 5), 1)
         held.drop("192.0.2.1", 1)
         self.assertEqual(held.add("192.0.2.3", 6), 2)
@@ -214,7 +216,7 @@ class Limits(unittest.TestCase):
 
 
 class Asynchronous(unittest.IsolatedAsyncioTestCase):
-    """Tests with a loop, in a folder of their own."""
+    """Tests with an event loop, in their own folder."""
 
     async def asyncSetUp(self) -> None:
         if sys.version_info < (3, 12):
@@ -410,7 +412,7 @@ class Keeping(Asynchronous):
         await self.until(lambda: it.crew is not None and len(it.crew.children) == 3)
 
     async def asked(self, it: keeper.Keeper) -> bytes:
-        """A reply behind a death, which a client asks for again where it is told to: on a busy machine a start takes seconds."""
+        """A reply after a death, which a client asks for again if told to: on a busy machine a start takes seconds."""
         for _ in range(9):
             with contextlib.suppress(keeper.Missing):
                 return await it.ask(publications.Publication(publication(4)).id, 2, struct.pack(">II", 1, 2), "a")
@@ -456,7 +458,7 @@ class Served(Asynchronous):
         return server
 
     async def said(self, octets: bytes, source: str = "127.0.0.1", seconds: float = 5) -> bytes:
-        """All that comes back, until the other side ends or there is no more for a while."""
+        """All octets that come back, until the other side ends or nothing comes for a while."""
         reader, writer = await asyncio.open_connection("127.0.0.1", self.port, local_addr=(source, 0))
         writer.write(octets)
         got = b""
@@ -700,7 +702,7 @@ class Answering(unittest.TestCase):
 
 
 class Commands(Asynchronous):
-    """What is typed wrong gets one sentence that names the next step, and status 2."""
+    """A wrong command line gets one sentence with the next step, and status 2."""
 
     async def ended(self, *words: str) -> tuple[int, str]:
         process = await asyncio.create_subprocess_exec(

@@ -1,20 +1,21 @@
 #!/usr/bin/python3
-"""Plays the gateway, the caches in front of it, and their clients, good and bad: checks/web/play.py PROGRAM [PART ..]
+"""Plays the gateway, the caches in front of it, and good and bad clients: checks/web/play.py PROGRAM [PART ..]
 
-examples  what web/openapi.json shows, with its statuses, headers and octets beside `prove` and `reach`
-files     publications and chains moved into their places: new, broken, old, another owner's, and a key's successor
+examples  the examples of web/openapi.json: statuses, headers and octets, compared with `prove` and `reach`
+files     publications and chains that are moved into place: new, broken, old, another owner's, and a key's successor
 killed    `serve` is killed while clients ask
-shared    ten ask the same while `serve` stands still, which then goes on, or is killed
-odd       octets that are no HTTP, requests in a row, 200 connections held open, clients that read nothing
-limits    asks by address, behind a proxy that is named and without one
+shared    ten clients ask the same query while `serve` is stopped, which then continues or is killed
+odd       octets that are not HTTP, requests in a row, 200 connections held open, clients that read nothing
+limits    requests by address, with and without a named proxy
 stopped   a stop while clients ask
-many      two replicas behind cache and balancing: a killed gateway, a publication rolled by moving it to FOLDER/map.pub, a
+many      two replicas behind cache and balancer: a killed gateway, a publication rolled by moving it to FOLDER/map.pub, a
           replica that lies
-anew      asks past the cache are limited for each address, by the front of one of IPv6; both forms of an answer are kept
+anew      queries past the cache are limited for each address, for IPv6 by its prefix; both forms of an answer are kept
 samples   nginx -t, haproxy -c, systemd-analyze and promtool over the samples
 
-Half a minute of what checks/web/measure.py measures by hand. What needs a package that this machine lacks is skipped by
-name. Ends with status 1 if anything differs, and ends no process but those that it starts. No client trusts this file.
+These are short forms, in half a minute, of what checks/web/measure.py measures by hand. Parts whose package is missing
+are skipped by name. Ends with status 1 if anything differs. The script ends only processes that it started. No client
+trusts this file.
 """
 
 import concurrent.futures
@@ -110,7 +111,7 @@ def examples(owner: Owner, draw: random.Random) -> None:
 
 
 def spellings(place: Place, here: str, owner: Owner, name: str) -> None:
-    """One spelling of each address, and what each method and header gets."""
+    """Each address has one spelling; the answers to each method and header."""
     far = f"/v1/p/{here}/reach?from={owner.ids[0]}&radius=100000"
     wanted = owner.reach(name, owner.ids[0], 100000)
     for path, status in (
@@ -211,7 +212,7 @@ def files(owner: Owner, _draw: random.Random) -> None:
     file.unlink()
     time.sleep(0.6)
     same("a file that is gone", gateway.newest(), ids[5])
-    # The successor's map comes before its link, and is taken once the link is here.
+    # The successor's map comes before its link, and is installed when the link has come.
     replace(file, octets[6])
     time.sleep(0.6)
     same("not along the chain", gateway.newest(), ids[5])
@@ -248,7 +249,7 @@ def killed(owner: Owner, draw: random.Random) -> str:
 
 
 def shared(owner: Owner, _draw: random.Random) -> None:
-    """Whoever asks what is under way already shares its answer, and its end."""
+    """A query that is in progress already is shared: its answer and its failure."""
     gateway = Gateway(owner, "dij-3.pub")
     here, ends = gateway.newest(), (owner.ids[0], owner.ids[-1])
     wanted = owner.prove("dij-3.pub", *ends)
@@ -278,7 +279,7 @@ def number_of(line: bytes, gateway: Gateway) -> int:
 
 
 def frames_of(gateway: Gateway) -> int:
-    """How many frames the `serve` that runs has taken."""
+    """The number of frames that the running `serve` has taken."""
     return number_of(rb"^road_gateway_serve_frames (\d+)$", gateway)
 
 
@@ -441,13 +442,13 @@ def many(owner: Owner, draw: random.Random) -> None:
 
 
 def anew(owner: Owner, _draw: random.Random) -> None:
-    """Whoever asks past the cache too often is told so, and nobody else is."""
+    """A client that asks past the cache too often is told so, and nobody else."""
     if shutil.which("nginx") is None:
         print("skipped: asks past the cache, since this machine has no nginx")
         return
     started = Many(owner, "dij-3.pub", "--replicas", "1")
     conf = started.folder / "nginx/nginx.conf"
-    # whom a request names stands in for its address here, since this machine has one of IPv6 alone
+    # the client that a request names replaces its address here, since this machine has only one of IPv6
     conf.write_text(
         conf.read_text().replace(
             "server_tokens off;", "server_tokens off; set_real_ip_from 127.0.0.0/8; real_ip_header X-Real-IP;", 1
@@ -463,7 +464,7 @@ def anew(owner: Owner, _draw: random.Random) -> None:
     place = Place(started.address)
 
     def statuses(*names: str) -> list[int]:
-        """The statuses of asks that are all sent before one is answered, since a busy machine answers few a second."""
+        """The statuses of requests that are all sent before the first answer, since a busy machine answers few in a second."""
         held = [socket.create_connection((place.host, place.port), timeout=30) for _ in names]
         for one, name in zip(held, names):
             one.sendall(
@@ -512,7 +513,7 @@ def newest_of(address: str) -> str:
 
 
 def without_page(owner: Owner) -> None:
-    """The owner's site without a page lets nothing run."""
+    """The policy of an owner's site without a page allows no scripts."""
     started = Many(owner, "dij-3.pub", "--replicas", "1")
     status, headers, _ = Place(started.said["owner"]).ask("/owner.key")
     same(
@@ -524,14 +525,14 @@ def without_page(owner: Owner) -> None:
 
 
 def lies(owner: Owner, draw: random.Random) -> None:
-    """One replica of two lies in a third of its answers, and the cache keeps what it was given."""
+    """One replica of two lies in a third of its answers, and the cache keeps them."""
     liar = owner.path("liar")
     liar.write_text(LIAR.format(program=owner.program, each=3))
     liar.chmod(0o755)
     started = Many(owner, "dij-3.pub", "--replicas", "2", "--haproxy", program=liar)
     until("both gateways are ready", lambda: all_ready(started))
     client, refused, asks = Client(owner, started.address), 0, 0
-    # more asks where the liar got none of them that it lies about
+    # more queries, if the liar got none of those that it lies about
     while asks < 30 or not refused and asks < 300:
         asks += 1
         start, end = draw.choice(owner.ids), draw.choice(owner.ids)

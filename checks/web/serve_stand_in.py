@@ -1,8 +1,10 @@
 #!/usr/bin/python3
 """Stands in for `road_proof serve PUB PUBKEY [CHAIN]` in the tests of the gateway's parts. It verifies nothing.
 
-A key of `slow` answers after 0.2 s, `dies` ends at the first ask, `lies` answers for another session, `stalls` never
-answers, `late` takes 0.3 s to begin. A publication whose last octet is `!` is refused as not signed."""
+The key selects the behaviour: `slow` answers after 0.2 s, `dies` ends at the first query, `lies` answers for another
+session, `stalls` never answers, `late` takes 0.3 s to begin. A publication whose last octet is `!` is refused as not
+signed.
+"""
 
 import os
 import pathlib

@@ -101,7 +101,7 @@ static const char *const sentences[] = {
     [GOG_NO_ROUTE] = "No route leads from one to the other: the map that the owner signed shows this.",
     [GOG_NOT_ANSWER] =
         "The server says, without proof, that an end is not a node, or that no route joins the two (kind #).",
-    [GOG_MALFORMED] = "The octets are not a reply: the field at offset # can't be read.",
+    [GOG_MALFORMED] = "The octets are not a reply: the field at offset # cannot be read.",
     [GOG_STALE] = "The reply is from version # of the map, which is older than the minimum version.",
     [GOG_BAD_CHAIN] = "Link # of the owner's chain of keys is not signed. Fetch the chain again.",
     [GOG_BAD_SIGNATURE] =
@@ -117,7 +117,7 @@ static const char *const sentences[] = {
     [GOG_NO_MEMORY] = "There was not enough memory to check the reply. Try again.",
     [GOG_TOO_LONG] = "A reply or a chain of 4,294,967,296 octets or more is not read.",
     [GOG_MALFORMED_CHAIN] =
-        "The octets are not a chain of keys: the field at offset # can't be read. Fetch the chain again.",
+        "The octets are not a chain of keys: the field at offset # cannot be read. Fetch the chain again.",
     [GOG_NONE_WITHIN] = "None of the listed nodes lies within the radius: the map that the owner signed shows this.",
     [GOG_AHEAD] = "The map is dated #, more than a day ahead of the clock here, which says ##: either the date or the "
                   "clock is wrong.",

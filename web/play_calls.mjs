@@ -57,7 +57,7 @@ async function hashes(origin) {
     same("a body that stops midway", await ended(() => load(`${origin}/part`), "stop midway"), "Error");
     same("a reply that stops midway", await ended(() => new Server(`${origin}/part?`).chain(), "the server's answer stops midway"), "NoAnswer");
     same("a place that is not there", await ended(() => load(`${origin}/none`), "404"), "Error");
-    same("a file that is not there", await ended(() => load(new URL(`file://${folder}/none.wasm`)), "can't be read"), "Error");
+    same("a file that is not there", await ended(() => load(new URL(`file://${folder}/none.wasm`)), "cannot be read"), "Error");
     same("nobody at the place", await ended(() => load("http://127.0.0.1:1/"), "is not answered"), "Error");
 }
 
@@ -129,7 +129,7 @@ async function workers() {
     same("a worker, with a wrong number", await ended(check(client, NaN), "least"), "RangeError");
     same("a worker, behind them", await ended(check(client)), "gives route");
     const [how, took] = await timed(() => client.checkRoute(octets, from, to, () => 0), "");
-    same("what can't be posted", [how !== "gives undefined" && !how.startsWith("gives"), took < 2].join(), "true,true");
+    same("a value that cannot be posted", [how !== "gives undefined" && !how.startsWith("gives"), took < 2].join(), "true,true");
     same("a worker, behind that", await ended(check(client)), "gives route");
     client.end();
     const [after, long] = await timed(check(client), "ended");

@@ -63,7 +63,7 @@ let loaded;
 async function octetsAt(place) {
     if (place.protocol === "file:" && globalThis.process?.versions?.node) {
         const { readFile } = await import("node:fs/promises");
-        return readFile(place).catch((cause) => { throw new Error(`${place} can't be read`, { cause }); });
+        return readFile(place).catch((cause) => { throw new Error(`${place} cannot be read`, { cause }); });
     }
     const found = await fetch(place).catch((cause) => { throw new Error(`${place} is not answered`, { cause }); });
     if (!found.ok) throw new Error(`${place} is answered with status ${found.status}`);
@@ -84,7 +84,7 @@ function hexOf(octets) {
 /** Returns the SHA-256 of octets. A page has it only over a secure connection; elsewhere nothing is loaded. */
 async function sha256Of(octets) {
     const engine = globalThis.crypto ?? (globalThis.process?.versions?.node && (await import("node:crypto")).webcrypto);
-    if (!engine?.subtle) throw new Error("integrity can't be compared here: a page hashes over a secure connection alone");
+    if (!engine?.subtle) throw new Error("integrity cannot be compared here: a page can hash only over a secure connection");
     return hexOf(new Uint8Array(await engine.subtle.digest("SHA-256", octets)));
 }
 

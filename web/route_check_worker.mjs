@@ -34,7 +34,7 @@ export class WorkerClient {
         client.#worker = THREADS ? new THREADS.Worker(place) : new Worker(place, { type: "module" });
         client.#listen({
             message: (said) => client.#take(said),
-            messageerror: () => client.#finish(new Error("the worker's answer can't be read")),
+            messageerror: () => client.#finish(new Error("the worker's answer cannot be read")),
             error: (error) => client.#finish(new Error(error?.message || "the worker ended by an error")),
             exit: () => client.#finish(new Error("the worker has ended")),
         });

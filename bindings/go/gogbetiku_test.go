@@ -20,7 +20,7 @@ func Example() {
 	if errors.As(err, &refused) {
 		fmt.Println(refused.Kind, refused.First, refused)
 	}
-	// Output: Malformed 0 The octets are not a reply: the field at offset 0 can't be read.
+	// Output: Malformed 0 The octets are not a reply: the field at offset 0 cannot be read.
 }
 
 func TestKeys(t *testing.T) {

@@ -1,4 +1,4 @@
-"""Does what pyproject.toml can't do: a wheel with libgogbetiku.so.0 beside the module is for that library's machine,
+"""Adds to pyproject.toml: a wheel with libgogbetiku.so.0 beside the module is for that library's machine,
 and names the least C library (glibc) that it needs. bindings/wheel builds it."""
 
 # mypy: disallow-subclassing-any=False

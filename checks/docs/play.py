@@ -188,7 +188,7 @@ def play(document: str, program: str) -> tuple[int, int]:
             if wrote != wanted:
                 print(f"{document}:{number}: `{command}` wrote\n{wrote}but the document shows\n{wanted}", end="")
             elif status != "0" and not is_told:
-                print(f"{document}:{number}: `{command}` ended with status {status}, but the document doesn't say so")
+                print(f"{document}:{number}: `{command}` ended with status {status}, but the document does not say so")
             else:
                 passed += 1
         return passed, len(commands) - passed

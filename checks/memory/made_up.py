@@ -84,7 +84,7 @@ def faults_of(path: str) -> Iterator[str]:
         if re.search(r"^\s*(Memory|NoMemory|OutOfMemory),", enum[1], re.M):
             yield "has a variant for want of memory that carries none"
     if crate != "octet_text" and re.search(r"\bimpl\b[^;{]*\bPrinted for\b", code):
-        yield "prints what octet_text doesn't list"
+        yield "prints a value that octet_text does not list"
 
 
 def lines_of(text: str, made: Sequence[str]) -> list[tuple[int, str]]:

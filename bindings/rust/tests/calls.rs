@@ -19,7 +19,7 @@ fn no_octets_are_refused_by_each_call() {
     for refused in [route, reach, nearest] {
         assert_eq!((refused.kind, refused.code, refused.first), (Kind::Malformed, 4, 0));
         assert_eq!(refused.line, "refused Malformed 0");
-        assert_eq!(refused.to_string(), "The octets are not a reply: the field at offset 0 can't be read.");
+        assert_eq!(refused.to_string(), "The octets are not a reply: the field at offset 0 cannot be read.");
     }
 }
 

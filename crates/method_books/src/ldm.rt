@@ -30,7 +30,7 @@ use proof_judge::search_all;
 use proof_method::{Found, GatherError, MethodBook, ends, leaf_adding, method_laws};
 use road_leaf::{NodeLeaf, PairLeaf};
 use road_map::{Ids, Map, map_laws};
-use road_search::{Labels, Path, lengths_through};
+use road_search::{Bound, Labels, Path, lengths_through};
 use std::alloc::Global;
 
 impl MethodBook for LdmBook {
@@ -142,6 +142,12 @@ fn live_labels(alloc: Global, book: &LdmBook, query: Query, most: u64) -> Result
     Ok(labels)
 }
 
+/// Returns how far the first limit of a search is above the bound of its start, so that it rarely needs a second one:
+/// some steps, since codes are inexact, and a part of the bound, since roads wind. No result depends on it.
+fn slack_of(step: u64, least: u64) -> u64 {
+    step.saturating_mul(6).saturating_add(least / 48)
+}
+
 /// Returns a shortest route between two nodes, using the bounds from codes.
 ///
 /// Fails with `UnknownNode` and the start if no node has the start's id, and otherwise with the end if no node has
@@ -161,7 +167,8 @@ fn route_by_codes(alloc: Global, book: &LdmBook, query: Query) -> Result<Path, G
     let end = book.extra(query.to);
     let to = query.to;
     let bounds = ByCodes { book, to, end };
-    let slack = book.numbers.first.saturating_mul(2);
+    let least = bounds.bound(book.map.place(query.from));
+    let slack = slack_of(book.numbers.first, least);
     route_headed(alloc, &book.map, &bounds, query, slack)
 }
 

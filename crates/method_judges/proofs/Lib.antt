@@ -1,4 +1,5 @@
 pub mod LiveLaws
+pub mod WidestLaws
 mod BorderLists
 mod BorderLaws
 mod ScanLaws

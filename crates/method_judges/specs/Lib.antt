@@ -1,3 +1,4 @@
 pub mod Lent
 pub mod Live
 pub mod Scans
+pub mod Widest

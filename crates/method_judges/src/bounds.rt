@@ -8,6 +8,7 @@ ghost use Rattle.road_map.specs.Places.{AreRising};
 ghost use Rattle.book_model.specs.Bounds.{gap, greatest_bound, own_vector, vector_at, bound_of, bound};
 ghost use Rattle.proof_judge.specs.Apart.{is_split, are_split, are_apart};
 ghost use Rattle.method_judges.specs.Lent.{shown};
+ghost use Rattle.method_judges.specs.Widest.{widest};
 
 use octet_text::NoMemory;
 use road_leaf::ExtraView;
@@ -67,32 +68,44 @@ fn vector_at<L: Lookup>(at: &L, id: u32) -> Option<Vector<'_>>
     }
 }
 
-/// Returns the least possible difference of two codes whose errors add up to at most `error`.
-fn gap_of(error: u32, a: u16, b: u16) -> u32
-    ensures value { result ≡ gap error a b }
+/// Returns the least possible difference of two codes whose errors add up to at most `error`, from the difference of
+/// the two.
+fn gap_of(error: u32, difference: u16) -> u32
+    ensures value { result ≡ gap error difference 0 }
     ensures small { result < 2 ^ 16 }
 {
-    u32::from(a.abs_diff(b))
+    u32::from(difference)
         .saturating_sub(error)
         .saturating_sub(1)
 }
 
+/// Returns the greatest difference of two codes over the landmarks for which both vectors have a code, or 0 if there
+/// are none.
+fn widest_of(v: &[u16], t: &[u16]) -> u16
+    requires { length v.now ≡ length t.now }
+    ensures { result ≡ widest v.now t.now }
+{
+    let mut widest = 0;
+    for i in 0..v.len() {
+        let a = v[i];
+        let b = t[i];
+        if a != NO_CODE && b != NO_CODE {
+            widest = a.abs_diff(b).max(widest);
+        }
+    }
+    widest
+}
+
 /// Returns the greatest bound over the landmarks for which both vectors have a code.
+///
+/// The step and the errors are the same at every landmark, so the greatest difference gives the greatest bound.
+#[tactic(auto, using(crate::proofs::WidestLaws::bound_by_widest))]
 fn greatest_of(step: u64, error: u32, v: &[u16], t: &[u16]) -> u128
     requires { length v.now ≡ length t.now }
     ensures value { result ≡ greatest_bound step error v.now t.now }
     ensures small { result < 2 ^ 80 }
 {
-    let mut best: u128 = 0;
-    for i in 0..v.len() {
-        let a = v[i];
-        let b = t[i];
-        if a != NO_CODE && b != NO_CODE {
-            let here = u128::from(step) * u128::from(gap_of(error, a, b));
-            best = best.max(here);
-        }
-    }
-    best
+    u128::from(step) * u128::from(gap_of(error, widest_of(v, t)))
 }
 
 /// Returns the bound that two vectors give, or 0 if one is not at hand or they have different numbers of landmarks.

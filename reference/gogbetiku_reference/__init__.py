@@ -1,4 +1,4 @@
-"""A second implementation of Gogbetiku, in plain Python over the standard library alone.
+"""A second implementation of Gogbetiku, in plain Python with only its standard library.
 
 It says in words that can be run what docs/SPEC.md and RFC 8554 say: read it beside them, check a
 client of your own against it, or doubt the proved program with it. It was written from these texts, and no line of it

@@ -1,4 +1,4 @@
-"""The audit: what an accepted reply is evidence of.
+"""The audit: finds the evidence in an accepted reply.
 
 docs/SPEC.md, 9.1 The audit. Part of the reference: tested, not proved, and trusted by no client.
 """
@@ -42,7 +42,7 @@ Reply = TypeVar("Reply", Answer, NearReply)
 
 
 def forged(desk: Desk, chain: Sequence[Link], header: Header, signature: bytes) -> Forged | None:
-    """The first text of those that an accepted reply stands on that no slot holds, links before the header."""
+    """The first text on which an accepted reply depends and that no slot has, links before the header."""
     texts = [(link_text(link.key), link.signature) for link in chain] + [(header.octets(), signature)]
     return next((Forged(*signed) for signed in texts if not desk.has_signed(signed[0])), None)
 
@@ -73,7 +73,7 @@ def audit_reply(
     reply_of: Callable[[], Reply],
     clash_of: Callable[[Held, Reply], Clash | None],
 ) -> Finding:
-    """The first finding that holds. A refusal of the client, and each other reason to find nothing, is raised."""
+    """The first finding that holds. Raises a refusal of the client, and each other reason to find nothing."""
     desk.area_of(public)
     checked()
     held = install(publication)
@@ -88,7 +88,7 @@ def audit_reply(
 
 
 def read_answer(octets: bytes) -> Answer:
-    """An answer, which an accepted reply is."""
+    """The answer in an accepted reply."""
     answer = read_reply(Reader(octets))
     assert isinstance(answer, Answer)
     return answer

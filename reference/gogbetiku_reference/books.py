@@ -77,7 +77,7 @@ class Book:
 
 
 def parameter_ranges(settings: Settings, nodes: int) -> tuple[range, range, range]:
-    """What the three parameters may be."""
+    """The ranges of the three parameters."""
     if settings.method == LDM:
         return range(1, min(64, nodes) + 1), range(1, 17), range(65_535)
     if settings.method == HYP:
@@ -86,7 +86,7 @@ def parameter_ranges(settings: Settings, nodes: int) -> tuple[range, range, rang
 
 
 def test_settings(settings: Settings, nodes: int) -> None:
-    """Answers the first setting that is out of its range."""
+    """Raises the first setting that is out of range."""
     if settings.method not in range(1, 5):
         raise Fault("Settings", 0)
     if settings.order not in range(6):
@@ -100,7 +100,7 @@ def test_settings(settings: Settings, nodes: int) -> None:
 
 
 def pair_leaves(chart: Map, chosen: list[int]) -> tuple[PairLeaf, ...]:
-    """A leaf for each pair of some nodes, given by rising id."""
+    """A leaf for each pair of these nodes, which are in ascending order of ids."""
     return tuple(PairLeaf(a, b, chart.distances(a).get(b, NO_WALK)) for a in chosen for b in chosen if a < b)
 
 
@@ -127,7 +127,7 @@ def hyp_book(chart: Map, settings: Settings, order: list[int]) -> Book:
 
 
 def book_on(chart: Map, settings: Settings) -> Book:
-    """The book of a map, or why there is none."""
+    """The book of a map. Raises the fault if there is none."""
     test_settings(settings, len(chart.places))
     if settings.method == FULL and len(chart.places) > MOST_FULL:
         raise Fault("TooManyNodes", len(chart.places))
@@ -141,5 +141,5 @@ def book_on(chart: Map, settings: Settings) -> Book:
 
 
 def book_of(parts: Parts, settings: Settings) -> Book:
-    """The book of parts, or the first fault: that they make no map, or that it has no book."""
+    """The book of parts. Raises the first fault: they are not a valid map, or the map has no book."""
     return book_on(map_of(parts), settings)

@@ -12,5 +12,5 @@ def cells_of(chart: Map, columns: int, rows: int) -> dict[int, int]:
 
 
 def borders_of(chart: Map, cells: dict[int, int]) -> list[int]:
-    """The nodes with a road to a node of another cell, by rising id."""
+    """The nodes with a road to a node of another cell, by ascending id."""
     return [node for node in chart.places if any(cells[there] != cells[node] for there, _ in chart.arcs[node])]

@@ -1,4 +1,4 @@
-"""The client: what it says of a reply, with the owner's public key alone.
+"""The client: its verdict on a reply, which needs only the owner's public key.
 
 docs/SPEC.md, 8.1 The tests, in order, and 8.4 Range queries. Part of the reference: tested, not proved, and trusted by
 no client.
@@ -24,7 +24,7 @@ Found = TypeVar("Found")
 
 @dataclass(frozen=True)
 class Accepted:
-    """A route with its length, or, without a route, that none exists; and the accepted header."""
+    """A route with its length, or no route if none exists; and the accepted header."""
 
     route: tuple[int, ...] | None
     length: int
@@ -33,7 +33,7 @@ class Accepted:
 
 @dataclass(frozen=True)
 class Within:
-    """The nodes within a radius by rising id, each with its distance; and the accepted header."""
+    """The nodes within a radius by ascending id, each with its distance; and the accepted header."""
 
     distances: dict[int, int]
     header: Header
@@ -47,7 +47,7 @@ def read_or_refuse(octets: bytes, read: Callable[[Reader], Found]) -> Found:
 
 
 def test_header(public: bytes, chain: Sequence[Link], header: Header, signature: bytes, least: int) -> None:
-    """The header's version is taken, and it is signed under the key, or under that of a link of a good chain."""
+    """Tests that the version is accepted, and that the header is signed under the key or under a key of a good chain."""
     if header.version < least:
         raise Refused("Stale", header.version)
     keys = [public]
@@ -69,7 +69,7 @@ def test_cover(
     cover: Sequence[bytes],
     root: bytes,
 ) -> None:
-    """Items and a cover are under the root of a tree. Without an item nothing is folded."""
+    """Tests that items and a cover give the root of a tree. Without items nothing is tested."""
     if not items:
         if cover:
             raise Refused("BadCover", *tree, "Long")
@@ -83,7 +83,7 @@ def test_cover(
 
 
 def check(public: bytes, chain: Sequence[Link], octets: bytes, start: int, end: int, least: int) -> Accepted:
-    """What the client accepts of a reply to the query for a route, or the first test that it does not pass."""
+    """The accepted answer of a reply to the query for a route. Raises the first failing test."""
     answer = read_or_refuse(octets, read_reply)
     if isinstance(answer, int):
         raise Refused("NotAnswer", answer)
@@ -101,7 +101,7 @@ def check(public: bytes, chain: Sequence[Link], octets: bytes, start: int, end: 
 
 
 def check_near(public: bytes, chain: Sequence[Link], octets: bytes, start: int, radius: int, least: int) -> Within:
-    """The same of a reply to the query for the nodes within a radius."""
+    """The same for a reply to the query for the nodes within a radius."""
     reply = read_or_refuse(octets, read_near_reply)
     header = reply.header
     test_header(public, chain, header, reply.signature, least)

@@ -1,4 +1,4 @@
-"""Verdicts in the numbers of the client as a library.
+"""Verdicts in the numbers of the client library.
 
 docs/LIBRARY.md, "The calls". Part of the reference: tested, not proved, and trusted by no client.
 """

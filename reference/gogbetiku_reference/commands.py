@@ -46,7 +46,7 @@ SECRET_DIGITS, PUBLIC_DIGITS = 96, 112
 
 @dataclass(frozen=True)
 class Ended:
-    """A status, what was written, the image of the disk that is left, and the fault where there is one."""
+    """A status, the output, the new image of the disk, and the fault, if any."""
 
     status: int
     output: bytes
@@ -56,7 +56,7 @@ class Ended:
 
 @dataclass(frozen=True)
 class World:
-    """What a command reads: files by their names, the image of the owner's disk, and the input."""
+    """The inputs of a command: files by name, the image of the owner's disk, and the standard input."""
 
     file: Callable[[str], bytes]
     disk: bytes = b""
@@ -69,7 +69,7 @@ class World:
         return octets
 
     def hex_file(self, name: str, digits: int | None = None) -> bytes:
-        """The octets that a file of so many digits spells, or of any even number of them."""
+        """The octets of a file with this many hex digits, or with any even number of them."""
         found = re.fullmatch(rb"((?:[0-9a-fA-F]{2})*)(?:\r?\n)?", self.load(name))
         if found is None or digits not in (None, len(found[1])):
             raise Fault("BadHex")
@@ -79,7 +79,7 @@ class World:
         return read_or_fault(lambda: read_publication(Reader(self.load(name))))
 
     def chain(self, names: tuple[str, ...]) -> tuple[Link, ...]:
-        """The links of a chain file, none where none is named."""
+        """The links of a chain file; none if no file is named."""
         return read_or_fault(lambda: read_chain(self.load(names[0]))) if names else ()
 
     def chart(self, name: str) -> Map:
@@ -101,7 +101,7 @@ def read_or_fault(read: Callable[[], Found]) -> Found:
 
 
 def told(world: World, check: Callable[[], str]) -> Ended:
-    """The line of what is accepted, or of the refusal."""
+    """The line of an accepted answer or of a refusal."""
     try:
         return world.ended(DONE, check())
     except Refused as refused:
@@ -255,7 +255,7 @@ def file_name(word: str) -> str:
 
 
 def number(values: range) -> Callable[[str], int | None]:
-    """A word that is a number of this range."""
+    """A word that is a number in this range."""
 
     def read(word: str) -> int | None:
         significant = word.lstrip("0") or "0"
@@ -269,7 +269,7 @@ def one_of(names: dict[str, int]) -> Callable[[str], int | None]:
     return names.get
 
 
-# what a word says, or nothing where it says none of that kind
+# the meaning of a word, or None if it has none of that kind
 WordReader = Callable[[str], str | int | None]
 FILE, ID, WIDE, FAN = file_name, number(range(2**32)), number(range(2**64)), number(range(2, 33))
 METHOD, ORDER, KIND = one_of(METHODS), one_of(ORDERS), one_of(KINDS)
@@ -295,7 +295,7 @@ FORMS: dict[str, tuple[Callable[..., Ended], list[WordReader], int]] = {
 
 
 def command_of(words: list[str]) -> tuple[Callable[..., Ended], list[str | int | None]]:
-    """The command that words ask for, and what they say."""
+    """The command of these words, and its arguments."""
     if not words or words[0] not in FORMS:
         raise Fault("Words")
     command, readers, further = FORMS[words[0]]
@@ -312,7 +312,7 @@ def status_of(fault: Fault) -> int:
 
 
 def run(words: list[str], world: World) -> Ended:
-    """Does what words ask for. No file, disk or stream fails."""
+    """Runs the command of these words. No file, disk or stream fails."""
     try:
         command, values = command_of(words)
         return command(world, *values)

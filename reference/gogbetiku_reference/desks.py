@@ -1,4 +1,4 @@
-"""The owner's disk: keys in areas, and the slots that hold what was signed.
+"""The owner's disk: keys in areas, and slots with the signed texts.
 
 docs/SPEC.md, 4.3 The desk and 4.4 Links and chain files. An image is the content of `owner.desk`; each call gives the
 image that is left where nothing fails. Of crashes and of the order of device calls nothing is said here. Part of the
@@ -23,7 +23,7 @@ def area_octets(kind: int) -> int:
 
 @dataclass(frozen=True)
 class Area:
-    """An open area: where it begins, its key, and the text of each slot, nothing for one that is not spent."""
+    """An open area: its place, its key, and the text of each slot, None for a free slot."""
 
     at: int
     key: Key
@@ -51,7 +51,7 @@ class Desk:
         return self.areas[-1]
 
     def has_signed(self, text: bytes) -> bool:
-        """Whether a text stands in a spent slot."""
+        """Whether a spent slot has this text."""
         return any(text in area.texts for area in self.areas)
 
     def area_of(self, public: bytes) -> Area:
@@ -70,13 +70,13 @@ class Desk:
 
 
 def slot_text(image: bytes, at: int) -> bytes | None:
-    """The text of the slot that begins there, nothing where it is not spent."""
+    """The text of the slot at a place; None if it is not spent."""
     length = min(image[at + LENGTH], MOST_TEXT)
     return image[at + TEXT : at + TEXT + length] if image[at] != 0 else None
 
 
 def read_area(image: bytes, at: int) -> Area:
-    """The area that begins there."""
+    """The area at a place."""
     kind = int.from_bytes(image[at + KIND : at + NAME], "big")
     if kind not in HEIGHTS or at + area_octets(kind) > len(image):
         raise Fault("BadBlock")
@@ -89,7 +89,7 @@ def read_area(image: bytes, at: int) -> Area:
 
 @lru_cache(maxsize=256)
 def open_desk(image: bytes) -> Desk:
-    """The open areas, or why the disk cannot be used."""
+    """The open areas. Raises the reason if the disk cannot be used."""
     if len(image) < BLOCK or image[0] == 0:
         raise Fault("NoKey")
     areas = [read_area(image, 0)]
@@ -106,7 +106,7 @@ def open_desk(image: bytes) -> Desk:
 
 
 def written(image: bytes, at: int, octets: bytes) -> bytes:
-    """An image after octets were written at a place that is not past its end."""
+    """An image after a write at a place up to its end."""
     return image[:at] + octets + image[at + len(octets) :]
 
 
@@ -116,19 +116,19 @@ def blank_area(kind: int, secret: bytes, gate: int) -> bytes:
 
 
 def create(image: bytes, kind: int, secret: bytes) -> bytes:
-    """The image with a key where none stood."""
+    """The image with a key at a place without one."""
     if len(image) >= BLOCK and image[0] != 0:
         raise Fault("Held")
     return written(image, 0, blank_area(kind, secret, 1))
 
 
 def spend(image: bytes, area: Area, slot: int, text: bytes) -> bytes:
-    """The image in which a slot holds a text."""
+    """The image in which a slot has a text."""
     return written(image, area.at + BLOCK + SLOT * slot, u8(1) + u8(len(text)) + text)
 
 
 def sign(image: bytes, text: bytes) -> tuple[bytes, bytes]:
-    """The image after a text was signed by the lowest free slot, and the signature."""
+    """The image after the first free slot signed a text, and the signature."""
     area = open_desk(image).current()
     if not area.free():
         raise Fault("KeysUsedUp")
@@ -137,7 +137,7 @@ def sign(image: bytes, text: bytes) -> tuple[bytes, bytes]:
 
 
 def succeed(image: bytes, kind: int, secret: bytes) -> bytes:
-    """The image with one key more, which the last slot of the current one has signed."""
+    """The image with one more key, which the last slot of the current key has signed."""
     desk = open_desk(image)
     if len(desk.areas) == MOST_AREAS:
         raise Fault("TooManyKeys")
@@ -151,7 +151,7 @@ def succeed(image: bytes, kind: int, secret: bytes) -> bytes:
 
 
 def spent_by(area: Area, signature: bytes) -> bytes | None:
-    """What the slot has signed that a signature names."""
+    """The text that the slot named in a signature has signed."""
     slot = int.from_bytes(signature[:4], "big")
     return area.texts[slot] if len(signature) >= 4 and slot < len(area.texts) else None
 

@@ -22,7 +22,7 @@ def told_lines(text: bytes) -> Lines:
 
 
 def problem(lines: Lines, file: int, begins: list[bytes], counts: int) -> tuple[int, ...]:
-    """The counts of the problem line, the first line of all."""
+    """The counts of the problem line, which is the first line."""
     nothing: tuple[int, list[bytes]] = (0, [])
     number, words = next(lines, nothing)
     if words[: len(begins)] != begins or len(words) != len(begins) + counts:
@@ -50,7 +50,7 @@ def rows(lines: Lines, file: int, word: bytes, readers: Sequence[NumberReader], 
 
 
 def read_graph(text: bytes) -> tuple[int, list[Arc]]:
-    """How many nodes there are, and the arcs."""
+    """The number of nodes, and the arcs."""
     lines = told_lines(text)
     nodes, count = problem(lines, GRAPH, [b"p", b"sp"], 2)
     arcs = list(rows(lines, GRAPH, b"a", (unsigned, unsigned, unsigned), 2, nodes))
@@ -60,7 +60,7 @@ def read_graph(text: bytes) -> tuple[int, list[Arc]]:
 
 
 def read_places(text: bytes, nodes: int) -> list[tuple[int, int, int]]:
-    """The nodes with their places, by rising id."""
+    """The nodes with their places, by ascending id."""
     lines = told_lines(text)
     (count,) = problem(lines, PLACES, [b"p", b"aux", b"sp", b"co"], 1)
     places = list(rows(lines, PLACES, b"v", (unsigned, coordinate, coordinate), 1, count))
@@ -73,7 +73,7 @@ def read_places(text: bytes, nodes: int) -> list[tuple[int, int, int]]:
 
 
 def unpaired(arcs: list[Arc]) -> int | None:
-    """The index of the first arc between two nodes that has no arc back of its own."""
+    """The index of the first arc between two nodes that has no arc back."""
     all_arcs, so_far = Counter(arcs), Counter[Arc]()
     for index, (start, end, length) in enumerate(arcs):
         so_far[start, end, length] += 1
@@ -83,7 +83,7 @@ def unpaired(arcs: list[Arc]) -> int | None:
 
 
 def read_dimacs(graph: bytes, places: bytes) -> Parts:
-    """The parts that a graph and its coordinates say, or their first fault."""
+    """The parts in a graph and its coordinates. Raises their first fault."""
     nodes, arcs = read_graph(graph)
     placed = read_places(places, nodes)
     index = unpaired(arcs)

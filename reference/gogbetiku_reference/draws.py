@@ -1,4 +1,4 @@
-"""Drawn numbers, and grids whose lengths are drawn.
+"""Pseudo-random numbers, and grids with pseudo-random lengths.
 
 docs/SPEC.md, 10.1 The survey. Part of the reference: tested, not proved, and trusted by no client.
 """
@@ -6,7 +6,7 @@ from .maps import Parts
 
 
 class Draw:
-    """Numbers from 0 to 32,767, the same ones for the same seed."""
+    """Numbers from 0 to 32,767, which depend only on the seed."""
 
     def __init__(self, seed: int):
         self.state = seed % 2**31

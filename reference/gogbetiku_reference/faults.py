@@ -1,4 +1,4 @@
-"""What a reader, a map, a book, a desk or a command answers in place of a value, and what a client refuses with.
+"""The faults of readers, maps, books, desks and commands, and the refusals of clients.
 
 The names are those of docs/SPEC.md and of docs/COMMANDS.md, Statuses. Part of the reference: tested, not proved, and
 trusted by no client.
@@ -18,11 +18,11 @@ class Named(Exception):
 
 
 class Fault(Named):
-    """Why a command did not do its work."""
+    """The reason why a command did not do its work."""
 
 
 class Refused(Named):
-    """The first test that a reply does not pass."""
+    """The first test that a reply fails."""
 
     def line(self) -> str:
         return f"refused {self}\n"

@@ -23,13 +23,13 @@ MAP_FAULTS = {"Empty", "TooMany", "RepeatedNode", "UnknownEnd", "SelfRoad", "Cro
 
 @dataclass(frozen=True)
 class Guard:
-    """A public key, and the links from it: a guarded service installs what is signed along them alone."""
+    """A public key, and the links from it: a guarded service installs only publications that are signed along them."""
 
     public: bytes
     chain: Sequence[Link]
 
     def cause(self, publication: Publication) -> int | None:
-        """Why a publication is not signed."""
+        """The reason why a publication is not signed."""
         try:
             test_header(self.public, self.chain, publication.header, publication.signature, 0)
         except Refused as refused:
@@ -38,7 +38,7 @@ class Guard:
 
 
 class Service:
-    """The newest publication, and what each session is pinned to."""
+    """The newest publication, and the publication of each session."""
 
     def __init__(self, first: Held, guard: Guard | None = None):
         self.newest = first
@@ -47,7 +47,7 @@ class Service:
         self.pins: dict[int, Held] = {}
 
     def step(self, body: bytes) -> bytes:
-        """The reply to a body, which changes nothing where it is refused."""
+        """The reply to a body. A refused body changes nothing."""
         kind = body[0] if body else 0
         if kind == INSTALL:
             return self.install(body[1:])
@@ -100,7 +100,7 @@ class Service:
 
 
 def install_code(fault: Fault) -> int:
-    """Why a publication whose octets can be read is not installed."""
+    """The reason why a publication that can be read is not installed."""
     return 2 if fault.name in MAP_FAULTS else 4 if fault.name == "HeaderWrong" else 3
 
 
@@ -109,7 +109,7 @@ def framed(body: bytes) -> bytes:
 
 
 def next_frame(text: bytes, at: int) -> bytes:
-    """The body of the frame that begins there."""
+    """The body of the frame at a place."""
     length = int.from_bytes(text[at : at + 4], "big")
     if len(text) - at < 4:
         raise Fault("TruncatedFrame")
@@ -121,7 +121,7 @@ def next_frame(text: bytes, at: int) -> bytes:
 
 
 def bodies_of(text: bytes) -> tuple[list[bytes], Fault | None]:
-    """The bodies of all frames that are whole, and why the input does not end between two of them."""
+    """The bodies of all whole frames, and the fault if the input does not end after one."""
     bodies: list[bytes] = []
     at = 0
     while at < len(text):

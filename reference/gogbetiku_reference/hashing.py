@@ -1,4 +1,4 @@
-"""SHA-256 of FIPS 180-4, as the standard library of Python has it. `H` in docs/SPEC.md.
+"""SHA-256 of FIPS 180-4, from Python's standard library. `H` in docs/SPEC.md.
 
 Python brings two implementations: `hashlib` gives OpenSSL's, which takes several microseconds to begin. Its own one, which
 stands under a name that depends on the version, begins at once, and a key is made of hundreds of thousands of short texts.
@@ -14,14 +14,14 @@ Hash = Callable[[bytes], bytes]
 
 
 class Hasher(Protocol):
-    """What was fed a text, and gives its digest."""
+    """A hash of the text so far, which gives its digest."""
 
     def digest(self) -> bytes:
         ...
 
 
 def implementation() -> Callable[[bytes], Hasher]:
-    """Python's own implementation where it is found, else OpenSSL's."""
+    """Python's own implementation if it exists, otherwise OpenSSL's."""
     for name in ("_sha2", "_sha256"):
         try:
             found: Callable[[bytes], Hasher] = importlib.import_module(name).sha256

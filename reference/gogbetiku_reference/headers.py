@@ -47,7 +47,7 @@ class Header:
         )
 
     def kind(self) -> Kind:
-        """What the leaves of the nodes add."""
+        """The kind of extra fields in the leaves of nodes."""
         if self.method == LDM:
             return Kind(VECTOR, self.second)
         return Kind(CELL if self.method == HYP else PLAIN)

@@ -1,4 +1,4 @@
-"""The judgement of a route by the leaves at hand, and of the claim that there is none, under the four methods.
+"""The judgement of a route, or of the claim that there is none, by the leaves of a reply, under the four methods.
 
 docs/SPEC.md, 8.2 Judging a route and 8.3 Judging that there is no route. Part of the reference: tested, not proved, and
 trusted by no client.
@@ -17,7 +17,7 @@ from .walks import Arcs, least_lengths
 
 @dataclass(frozen=True)
 class AtHand:
-    """The leaves that a reply brings, the two ends of the query, and the first number of the header."""
+    """The leaves of a reply, the two ends of the query, and the first number of the header."""
 
     nodes: tuple[NodeLeaf, ...]
     pairs: tuple[PairLeaf, ...]
@@ -31,14 +31,14 @@ class AtHand:
 
     @cached_property
     def said(self) -> dict[tuple[int, int], int]:
-        """The distance that the first leaf of each pair says."""
+        """The distance in the first leaf of each pair."""
         return {(leaf.a, leaf.b): leaf.distance for leaf in reversed(self.pairs)}
 
     def arcs_of(self, node: int) -> Arcs | None:
         return self.leaves[node].arcs if node in self.leaves else None
 
     def is_inner(self, node: int, _length: int) -> bool:
-        """Whether an inner walk goes on from here."""
+        """Whether an inner walk continues from this node."""
         return not self.is_border(node)
 
     def is_border(self, node: int) -> bool:
@@ -46,28 +46,28 @@ class AtHand:
         return leaf is not None and isinstance(leaf.added, InCell) and leaf.added.border
 
     def distance_of(self, one: int, other: int) -> int:
-        """The distance that a pair's leaf says, in either direction of the two."""
+        """The distance in the leaf of a pair, with its ids in either order."""
         pair = min(one, other), max(one, other)
         if pair not in self.said:
             raise Refused("MissingPair", *pair)
         return self.said[pair]
 
     def test_at_hand(self, nodes: Sequence[int] | dict[int, int]) -> None:
-        """Refuses the least node without a leaf."""
+        """Refuses with the least node without a leaf."""
         missing = [node for node in nodes if node not in self.leaves]
         if missing:
             raise Refused("MissingTuple", min(missing))
 
 
 def test_repeated(nodes: Sequence[NodeLeaf]) -> None:
-    """Refuses the least id that two leaves have."""
+    """Refuses with the least id that two leaves have."""
     repeated = [node for node, count in Counter(leaf.id for leaf in nodes).items() if count > 1]
     if repeated:
         raise Refused("RepeatedNode", min(repeated))
 
 
 def route_length(hand: AtHand, route: Sequence[int]) -> int:
-    """The length of a route that runs from end to end along arcs of leaves at hand."""
+    """The length of a route from end to end along arcs of known leaves."""
     if route[0] != hand.start:
         raise Refused("BadRoute", 0)
     total = 0
@@ -83,7 +83,7 @@ def route_length(hand: AtHand, route: Sequence[int]) -> int:
 
 
 def judge(method: int, hand: AtHand, route: Sequence[int]) -> int:
-    """The length of a route than which the leaves show no walk to be shorter, or the first failing test."""
+    """The length of a route, if the leaves show that no walk is shorter. Raises the first failing test."""
     test_repeated(hand.nodes)
     length = route_length(hand, route)
     JUDGES[method](hand, length)
@@ -108,7 +108,7 @@ def judge_full(hand: AtHand, length: int) -> None:
 
 
 def test_live(hand: AtHand, goes_on: Callable[[int, int], bool]) -> None:
-    """Each node that a walk of this sort leads to has a leaf, and none of them leads to the end."""
+    """Tests that each node to which a walk of this sort leads has a leaf, and that none leads to the end."""
     reached = least_lengths(hand.start, hand.arcs_of, goes_on)
     live = [node for node in reached if node in hand.leaves and goes_on(node, reached[node])]
     hand.test_at_hand([there for node in live for there, _ in hand.leaves[node].arcs])
@@ -125,7 +125,7 @@ def borders_among(hand: AtHand, reached: dict[int, int]) -> list[int]:
 
 
 def inner_walks(hand: AtHand, below: int | None) -> tuple[dict[int, int], dict[int, int]]:
-    """The nodes that inner walks reach from the start and from the end; all have leaves, and no such walk joins the two."""
+    """The nodes that inner walks reach from either end. Tests that all have leaves, and that no such walk joins the ends."""
     from_start = least_lengths(hand.start, hand.arcs_of, hand.is_inner, below)
     from_end = least_lengths(hand.end, hand.arcs_of, hand.is_inner, below)
     hand.test_at_hand([*from_start, *from_end])
@@ -135,7 +135,7 @@ def inner_walks(hand: AtHand, below: int | None) -> tuple[dict[int, int], dict[i
 
 
 def border_pairs(hand: AtHand, from_start: dict[int, int], from_end: dict[int, int]) -> Iterator[tuple[int, int, int]]:
-    """Each border near the start with each near the end, by rising ids, and their inner lengths together."""
+    """Each border near the start with each border near the end, by ascending ids, with the sum of their inner lengths."""
     for one in borders_among(hand, from_start):
         for other in borders_among(hand, from_end):
             yield one, other, from_start[one] + from_end[other]
@@ -155,7 +155,7 @@ JUDGES = {DIJ: judge_dij, FULL: judge_full, LDM: judge_ldm, HYP: judge_hyp}
 
 
 def judge_apart(method: int, hand: AtHand) -> None:
-    """Refuses by the first failing test where the leaves don't show that no walk joins the two ends."""
+    """Raises the first failing test if the leaves do not show that no walk joins the two ends."""
     test_repeated(hand.nodes)
     hand.test_at_hand([hand.start])
     hand.test_at_hand([hand.end])
@@ -176,7 +176,7 @@ def apart_full(hand: AtHand) -> None:
 
 
 def test_no_walk(hand: AtHand, one: int, other: int) -> None:
-    """A leaf of the pair is at hand, and says that no walk joins the two."""
+    """Tests that the pair has a leaf, and that by this leaf no walk joins the two."""
     said = hand.distance_of(one, other)
     if said != NO_WALK:
         raise Refused("Disagrees", said)

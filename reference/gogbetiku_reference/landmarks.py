@@ -1,4 +1,4 @@
-"""Landmarks, the codes of nodes, the nodes near by that stand for others, bounds, and nodes that are apart.
+"""Landmarks, the codes of nodes, nodes that use the codes of others, bounds, and nodes without a walk between them.
 
 docs/SPEC.md, 5.3 LDM: landmarks, codes, bound, and 7.2 No route. Part of the reference: tested, not proved, and trusted
 by no client.
@@ -16,7 +16,7 @@ Leaves = Mapping[int, NodeLeaf]
 
 
 def pick(chart: Map, count: int) -> list[int]:
-    """The landmarks: each the node farthest from those before it, the least id among equals."""
+    """The landmarks: each is the node farthest from the previous ones, with the least id among equals."""
     chosen: list[int] = []
     while len(chosen) < count:
         left = [node for node in chart.places if node not in chosen]
@@ -25,7 +25,7 @@ def pick(chart: Map, count: int) -> list[int]:
 
 
 def farness(chart: Map, chosen: list[int], node: int) -> float:
-    """The least distance from a landmark to a node; without end where none reaches it."""
+    """The least distance from a landmark to a node; infinite if no walk leads to it."""
     return min((chart.distances(mark).get(node, float("inf")) for mark in chosen), default=float("inf"))
 
 
@@ -35,7 +35,7 @@ def step_of(chart: Map, chosen: list[int], bits: int) -> int:
 
 
 def codes_of(chart: Map, chosen: list[int], step: int) -> dict[int, Codes]:
-    """The codes of each node, one a landmark."""
+    """The codes of each node, one for each landmark."""
     return {
         node: tuple(
             chart.distances(mark)[node] // step if node in chart.distances(mark) else GREATEST_CODE for mark in chosen
@@ -45,7 +45,7 @@ def codes_of(chart: Map, chosen: list[int], step: int) -> dict[int, Codes]:
 
 
 def error_of(own: Codes, other: Codes) -> int | None:
-    """The greatest difference of two nodes' codes; nothing where just one of two codes is the greatest."""
+    """The greatest difference of two nodes' codes; None if exactly one of two codes is the greatest code."""
     greatest = 0
     for a, b in zip(own, other):
         if (a == GREATEST_CODE) != (b == GREATEST_CODE):
@@ -60,14 +60,14 @@ def fits(own: Codes, other: Codes, threshold: int) -> bool:
 
 
 def near(codes: dict[int, Codes], node: int, other: int) -> Near:
-    """What a node's leaf says where the codes of another one stand for its own."""
+    """The entry in the leaf of a node that uses the codes of another node."""
     error = error_of(codes[node], codes[other])
     assert error is not None
     return Near(other, error)
 
 
 def references_of(codes: dict[int, Codes], order: list[int], threshold: int) -> dict[int, Own | Near]:
-    """What each node's leaf says: its own codes, or the latest node before it that fits."""
+    """The entry in each node's leaf: its own codes, or the last fitting node before it."""
     said: dict[int, Own | Near] = {}
     kept: list[int] = []
     for node in order:
@@ -81,7 +81,7 @@ def references_of(codes: dict[int, Codes], order: list[int], threshold: int) -> 
 
 
 def vector_of(leaves: Leaves, node: int) -> tuple[Codes, int] | None:
-    """The codes that are at hand for a node, with their error."""
+    """The known codes for a node, with their error."""
     leaf = leaves.get(node)
     if leaf is None:
         return None
@@ -94,7 +94,7 @@ def vector_of(leaves: Leaves, node: int) -> tuple[Codes, int] | None:
 
 
 def bound(step: int, leaves: Leaves, node: int, end: int) -> int:
-    """A length than which no walk between two nodes is shorter, by their codes at hand."""
+    """A lower bound of the length of walks between two nodes, by their known codes."""
     one, other = vector_of(leaves, node), vector_of(leaves, end)
     if one is None or other is None:
         return 0
@@ -104,7 +104,7 @@ def bound(step: int, leaves: Leaves, node: int, end: int) -> int:
 
 
 def are_apart(leaves: Leaves, node: int, end: int) -> bool:
-    """Whether the codes at hand show that no walk joins two nodes."""
+    """Whether the known codes show that no walk joins two nodes."""
     one, other = vector_of(leaves, node), vector_of(leaves, end)
     if one is None or other is None:
         return False

@@ -13,7 +13,7 @@ PAIR_OCTETS = 17
 
 @dataclass(frozen=True)
 class Kind:
-    """What a node's leaf adds: nothing, the codes of so many landmarks, or a cell."""
+    """The extra fields of a node's leaf: none, the codes of this many landmarks, or a cell."""
 
     name: str
     landmarks: int = 0
@@ -21,14 +21,14 @@ class Kind:
 
 @dataclass(frozen=True)
 class Own:
-    """A node's own codes, one a landmark."""
+    """A node's own codes, one for each landmark."""
 
     codes: tuple[int, ...]
 
 
 @dataclass(frozen=True)
 class Near:
-    """A node near by whose codes serve, and their greatest error."""
+    """A node whose codes are used instead, and their greatest error."""
 
     reference: int
     error: int
@@ -45,7 +45,7 @@ Added = Own | Near | InCell | None
 
 @dataclass(frozen=True)
 class NodeLeaf:
-    """Where a node lies, the arcs out of it by rising neighbour, and what the kind adds."""
+    """The place of a node, its arcs by ascending neighbour, and the extra fields."""
 
     id: int
     x: int
@@ -60,7 +60,7 @@ class NodeLeaf:
 
 @dataclass(frozen=True)
 class PairLeaf:
-    """The distance of two nodes, of which `a` is the lesser id; `NO_WALK` where no walk joins them."""
+    """The distance of two nodes; `a` is the lesser id, and `NO_WALK` means that no walk joins them."""
 
     a: int
     b: int
@@ -82,7 +82,7 @@ def added_text(added: Added) -> bytes:
 
 
 def read_arcs(reader: Reader, own: int) -> tuple[tuple[int, int], ...]:
-    """The arcs, whose ids rise strictly; none is the node's own."""
+    """The arcs by strictly ascending ids, without the node's own."""
     arcs: list[tuple[int, int]] = []
     for _ in range(reader.number(2, range(256))):
         begin = reader.at
@@ -106,7 +106,7 @@ def read_added(reader: Reader, kind: Kind) -> Added:
 
 
 def read_node_leaf(text: bytes, kind: Kind) -> NodeLeaf:
-    """The leaf of this kind that a whole text spells. `Malformed` where it spells none."""
+    """The leaf of this kind in a whole text. Raises `Malformed` if the text is not such a leaf."""
     reader = Reader(text)
     reader.take(1, b"N")
     node, x, y = reader.number(4), reader.signed(4), reader.signed(4)
@@ -117,7 +117,7 @@ def read_node_leaf(text: bytes, kind: Kind) -> NodeLeaf:
 
 
 def read_pair_leaf(text: bytes) -> PairLeaf:
-    """The leaf of a pair that 17 octets spell. `Malformed` where they spell none."""
+    """The leaf of a pair in 17 octets. Raises `Malformed` if they are not such a leaf."""
     reader = Reader(text)
     reader.take(1, b"P")
     a, b, distance = reader.number(4), reader.number(4), reader.number(8)

@@ -1,4 +1,4 @@
-"""Keys and signatures of LMS, and the values that a one-time key is made of.
+"""Keys and signatures of LMS, and the values of one-time keys.
 
 RFC 8554, "LM-OTS One-Time Signatures" and "Leighton-Micali Signatures", with secret values from a seed as in its
 appendix on pseudorandom key generation; docs/SPEC.md, 4.1 LMS, says which types there are and how the
@@ -25,7 +25,7 @@ def secret_value(name: bytes, seed: bytes, slot: int, number: int) -> bytes:
 
 
 def walked(name: bytes, slot: int, number: int, begin: int, end: int, value: bytes) -> bytes:
-    """A value of a chain after the steps from `begin` up to, but without, `end`."""
+    """A value of a chain after the steps from `begin` to `end`, without `end`."""
     front = name + u32(slot) + u16(number)
     for step in STEPS[begin:end]:
         value = SHA256(front + step + value).digest()
@@ -33,7 +33,7 @@ def walked(name: bytes, slot: int, number: int, begin: int, end: int, value: byt
 
 
 def digits_of(name: bytes, slot: int, randomiser: bytes, text: bytes) -> bytes:
-    """The octets of the hashed text and of their checksum: how many steps of each chain a signature has taken."""
+    """The octets of the hashed text and of its checksum: the steps of each chain in a signature."""
     hashed = sha256(name + u32(slot) + D_MESG + randomiser + text)
     return hashed + u16(sum(LAST_STEP - octet for octet in hashed))
 
@@ -52,7 +52,7 @@ def inner_value(name: bytes, node: int, left: bytes, right: bytes) -> bytes:
 
 
 class Key:
-    """A private key: type, `I`, `SEED`, and each node of its tree, the root being node 1."""
+    """A private key: type, `I`, `SEED`, and each node of its tree. Node 1 is the root."""
 
     def __init__(self, kind: int, secret: bytes):
         self.kind, self.name, self.seed = kind, secret[:16], secret[16:]
@@ -63,7 +63,7 @@ class Key:
         self.public = u32(kind) + u32(ONE_TIME_TYPE) + self.name + self.nodes[1]
 
     def value(self, slot: int, number: int, steps: int) -> bytes:
-        """The own value of a chain, after so many steps."""
+        """The key's value of a chain after this many steps."""
         return walked(self.name, slot, number, 0, steps, secret_value(self.name, self.seed, slot, number))
 
     def ends(self, slot: int) -> list[bytes]:
@@ -79,13 +79,13 @@ class Key:
         return digits_of(self.name, slot, self.randomiser(slot), text)
 
     def sign(self, slot: int, text: bytes) -> bytes:
-        """The signature of a text by this one-time key. Who calls sees to it that no slot signs two texts."""
+        """The signature of a text by this one-time key. The caller must not let a slot sign two texts."""
         shown = [self.value(slot, number, digit) for number, digit in enumerate(self.digits(slot, text))]
         one_time = u32(ONE_TIME_TYPE) + self.randomiser(slot) + b"".join(shown)
         return u32(slot) + one_time + u32(self.kind) + b"".join(self.path(slot))
 
     def path(self, slot: int) -> list[bytes]:
-        """The nodes beside the way from the leaf up."""
+        """The sibling nodes on the way from the leaf to the root."""
         node, path = self.slots + slot, []
         while node > 1:
             path.append(self.nodes[node ^ 1])
@@ -95,7 +95,7 @@ class Key:
 
 @lru_cache(maxsize=64)
 def key_of(kind: int, secret: bytes) -> Key:
-    """The key of a type and a secret of 48 octets, `I` and then `SEED`."""
+    """The key of a type and a secret of 48 octets: `I`, then `SEED`."""
     return Key(kind, secret)
 
 
@@ -135,7 +135,7 @@ def kind_of(public: bytes) -> int:
 
 
 def claimed_ends(name: bytes, signature: Signature, text: bytes) -> list[bytes]:
-    """The last values of the chains, from those that a signature shows."""
+    """The last values of the chains, computed from the values in a signature."""
     digits = digits_of(name, signature.slot, signature.randomiser, text)
     return [
         walked(name, signature.slot, number, digit, LAST_STEP, value)
@@ -144,7 +144,7 @@ def claimed_ends(name: bytes, signature: Signature, text: bytes) -> list[bytes]:
 
 
 def claimed_root(name: bytes, signature: Signature, leaf: bytes) -> bytes:
-    """The root, from a leaf's value and the path."""
+    """The root, computed from a leaf's value and the path."""
     node, value = 2 ** len(signature.path) + signature.slot, leaf
     for beside in signature.path:
         left, right = (value, beside) if node % 2 == 0 else (beside, value)
@@ -154,7 +154,7 @@ def claimed_root(name: bytes, signature: Signature, leaf: bytes) -> bytes:
 
 
 def verify(public: bytes, text: bytes, octets: bytes) -> None:
-    """Refuses, with `BadKey`, `BadForm` or `NoMatch`, what is no signature of the text under the public key."""
+    """Raises `BadKey`, `BadForm` or `NoMatch` if the octets are not a signature of the text under the public key."""
     kind = kind_of(public)
     signature, name = Signature(kind, octets), public[8:24]
     one_time_public = ends_hash(name, signature.slot, claimed_ends(name, signature, text))
@@ -165,7 +165,7 @@ def verify(public: bytes, text: bytes, octets: bytes) -> None:
 
 @lru_cache(maxsize=8192)
 def why_not(public: bytes, text: bytes, octets: bytes) -> str | None:
-    """Why a signature is not good, or nothing. Answers are kept, since many replies have one signed header."""
+    """The reason why a signature does not verify, or None. Cached, since many replies have the same signed header."""
     try:
         verify(public, text, octets)
     except Refused as refused:

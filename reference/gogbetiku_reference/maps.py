@@ -1,4 +1,4 @@
-"""Nodes and roads, the map that they make, and its distances and shortest routes.
+"""Nodes and roads, their map, and its distances and shortest routes.
 
 docs/SPEC.md, 2.3 Maps and 10 Lines. Part of the reference: tested, not proved, and trusted by no client.
 """
@@ -25,7 +25,7 @@ class Parts:
 
 
 class Map:
-    """Where each node lies, and the arcs out of it, `(neighbour, length)`; both by rising id."""
+    """The place of each node, and its arcs `(neighbour, length)`, both by ascending id."""
 
     def __init__(self, parts: Parts):
         self.parts = parts
@@ -42,7 +42,7 @@ class Map:
         return least_lengths(start, self.arcs.get)
 
     def route(self, start: int, end: int) -> tuple[int, ...] | None:
-        """A shortest route, which meets no node twice."""
+        """A shortest route without a repeated node."""
         came: dict[int, int] = {}
         waiting = [(0, start, start)]
         while waiting and end not in came:
@@ -54,7 +54,7 @@ class Map:
         return way_back(came, start, end) if end in came else None
 
     def length_of(self, route: tuple[int, ...]) -> int | None:
-        """The length of a route along arcs; nothing where it takes a hop that is none."""
+        """The length of a route along arcs; None if a hop is not an arc."""
         total = 0
         for here, there in zip(route, route[1:]):
             arcs = dict(self.arcs.get(here, ()))
@@ -64,7 +64,7 @@ class Map:
         return total
 
     def is_shortest(self, start: int, end: int, route: tuple[int, ...]) -> bool:
-        """Whether this is a shortest route between the two that meets no node twice."""
+        """Whether this is a shortest route between the two, without a repeated node."""
         return (
             len(route) > 0
             and (route[0], route[-1]) == (start, end)
@@ -75,7 +75,7 @@ class Map:
 
 
 def way_back(came: dict[int, int], start: int, end: int) -> tuple[int, ...]:
-    """The nodes from `start` to `end`, where each came from the one before it."""
+    """The nodes from `start` to `end`, from each node's predecessor."""
     route = [end]
     while route[-1] != start:
         route.append(came[route[-1]])
@@ -83,7 +83,7 @@ def way_back(came: dict[int, int], start: int, end: int) -> tuple[int, ...]:
 
 
 def map_of(parts: Parts) -> Map:
-    """The map that parts make, or the first fault."""
+    """The map of these parts. Raises the first fault."""
     if not parts.nodes:
         raise Fault("Empty")
     if len(parts.nodes) > MOST_NODES or len(parts.roads) > MOST_ROADS:

@@ -1,12 +1,12 @@
 """Numbers and pieces taken from the front of octets, field by field.
 
-docs/SPEC.md, 1.1 Notation: a reader answers the offset of the first field that can't be read. Part of the reference:
+docs/SPEC.md, 1.1 Notation: a reader returns the offset of the first field that cannot be read. Part of the reference:
 tested, not proved, and trusted by no client.
 """
 
 
 class Malformed(Exception):
-    """A field can't be read: too few octets are left for it, its value is out of its range, or octets follow the last."""
+    """A field cannot be read: too few octets are left for it, its value is out of range, or octets follow the last field."""
 
     def __init__(self, at: int):
         super().__init__(at)
@@ -14,7 +14,7 @@ class Malformed(Exception):
 
 
 class Reader:
-    """Octets, and the place of the next field. `begins` lists where each field that was asked for begins."""
+    """Octets, and the place of the next field. `begins` lists the places of all fields read so far."""
 
     def __init__(self, octets: bytes):
         self.octets = octets
@@ -22,7 +22,7 @@ class Reader:
         self.begins: list[int] = []
 
     def take(self, count: int, wanted: bytes | None = None) -> bytes:
-        """A field of so many octets; with `wanted`, these octets alone are in its range."""
+        """A field of this many octets; with `wanted`, only these octets are in range."""
         self.begins.append(self.at)
         if len(self.octets) - self.at < count:
             raise Malformed(self.at)
@@ -33,7 +33,7 @@ class Reader:
         return piece
 
     def number(self, width: int, values: range | None = None) -> int:
-        """A number of so many octets, which must be one of `values`."""
+        """A number of this many octets, which must be one of `values`."""
         begin = self.at
         value = int.from_bytes(self.take(width), "big")
         if values is not None and value not in values:
@@ -45,7 +45,7 @@ class Reader:
         return int.from_bytes(self.take(width), "big", signed=True)
 
     def end(self) -> None:
-        """Nothing follows."""
+        """Tests that no octets follow."""
         if self.at != len(self.octets):
             raise Malformed(self.at)
 

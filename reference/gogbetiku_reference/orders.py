@@ -13,7 +13,7 @@ SIDE, LEVELS = 65_536, 16
 
 
 def frame_slot(value: int, least: int, greatest: int, count: int) -> int:
-    """In which of `count` equal parts of the frame from `least` to `greatest` a coordinate lies."""
+    """The index of the part that contains a coordinate, of `count` equal parts from `least` to `greatest`."""
     return (value - least) * count // (greatest - least + 1)
 
 
@@ -31,7 +31,7 @@ def by_id(chart: Map, _seed: int) -> list[int]:
 
 
 def hops_from(chart: Map, start: int) -> dict[int, int]:
-    """The nodes of a component, each with the hops that lead to it from `start`."""
+    """The nodes of a component, each with its number of hops from `start`."""
     hops, front = {start: 0}, [start]
     while front:
         front = sorted({there for here in front for there, _ in chart.arcs[here]} - hops.keys())
@@ -80,7 +80,7 @@ def hilbert(chart: Map, _seed: int) -> list[int]:
 
 
 def halved(chart: Map, nodes: list[int], across: bool) -> list[int]:
-    """Nodes by halves, across and along in turn."""
+    """Nodes ordered by repeated halving, across and along in turn."""
     if len(nodes) <= 1:
         return nodes
 

@@ -14,7 +14,7 @@ PUBLICATION = b"RPP1"
 
 @dataclass(frozen=True)
 class Settings:
-    """What a book is built by."""
+    """The settings of a book."""
 
     method: int
     version: int
@@ -28,7 +28,7 @@ class Settings:
 
 @dataclass(frozen=True)
 class Publication:
-    """A signed header, and the settings and the map that it was built from."""
+    """A signed header, with its settings and its map."""
 
     header: Header
     signature: bytes

@@ -1,4 +1,4 @@
-"""What a good signature comes down to where its slot has not signed the text.
+"""Reduces a verified signature on a text that its slot has not signed.
 
 docs/SPEC.md, 9.2 The reduction of a forgery; RFC 8554, "LM-OTS Public Key", "LM-OTS Signature Generation" and "LMS
 Signature Verification", for what is hashed on the way to the root. Part of the reference: tested, not proved, and
@@ -35,7 +35,7 @@ Texts = tuple[bytes, bytes]
 
 @dataclass(frozen=True)
 class Chain:
-    """A value of a chain that the slot has not released, after that many steps."""
+    """A value of a chain that the slot has not released, after this many steps."""
 
     slot: int
     at: int
@@ -49,7 +49,7 @@ class Signed:
 
 
 def tree_texts(key: Key, signature: Signature, leaf: bytes) -> Iterator[Texts]:
-    """What is hashed at each inner node on the way from the root to a slot's leaf: the key's own text and the shown one."""
+    """The hashed texts at each inner node from the root to a slot's leaf: the key's own text and the text of the signature."""
     node, value, texts = key.slots + signature.slot, leaf, []
     for beside in signature.path:
         shown = value + beside if node % 2 == 0 else beside + value
@@ -61,7 +61,7 @@ def tree_texts(key: Key, signature: Signature, leaf: bytes) -> Iterator[Texts]:
 
 
 def leaf_texts(key: Key, signature: Signature, text: bytes) -> Iterator[Texts]:
-    """The same from the root to the ends of the chains: inner nodes, the leaf, and the ends themselves."""
+    """The same from the root to the ends of the chains: inner nodes, the leaf, and the ends."""
     own, shown = key.ends(signature.slot), claimed_ends(key.name, signature, text)
     own_hash, shown_hash = (ends_hash(key.name, signature.slot, ends) for ends in (own, shown))
     node = key.slots + signature.slot
@@ -72,7 +72,7 @@ def leaf_texts(key: Key, signature: Signature, text: bytes) -> Iterator[Texts]:
 
 
 def chain_texts(key: Key, signature: Signature, text: bytes) -> Iterator[Texts]:
-    """What each step of each chain hashes, from the end back to the value that is shown."""
+    """The hashed text of each step of each chain, from the end back to the value in the signature."""
     for number, digit in enumerate(digits_of(key.name, signature.slot, signature.randomiser, text)):
         for step in range(LAST_STEP - 1, digit - 1, -1):
             front = key.name + u32(signature.slot) + u16(number) + STEPS[step]
@@ -87,7 +87,7 @@ def collision_in(texts: Iterator[Texts]) -> Collision | None:
 
 
 def unreleased(key: Key, spent: bytes | None, signature: Signature, text: bytes) -> Chain | Collision:
-    """The first chain that the signature shows at an earlier step than the text that the slot has signed."""
+    """The first chain whose step in the signature is earlier than that of the text that the slot has signed."""
     digits, at = digits_of(key.name, signature.slot, signature.randomiser, text), 0
     if spent is not None:
         signed = key.digits(signature.slot, spent)
@@ -99,7 +99,7 @@ def unreleased(key: Key, spent: bytes | None, signature: Signature, text: bytes)
 
 
 def reduce(key: Key, spent: bytes | None, text: bytes, octets: bytes) -> Signed | Chain | Collision:
-    """What a signature on a text comes down to, by the text that its slot has signed."""
+    """The result of reducing a signature on a text, given the text that its slot has signed."""
     try:
         verify(key.public, text, octets)
     except Refused as refused:
@@ -114,7 +114,7 @@ def reduce(key: Key, spent: bytes | None, text: bytes, octets: bytes) -> Signed 
 
 
 def shows_own(key: Key, signature: Signature, text: bytes) -> bool:
-    """Whether each value is the key's own after as many steps as its digit says."""
+    """Whether each value is the key's own after the number of steps of its digit."""
     digits = digits_of(key.name, signature.slot, signature.randomiser, text)
     return all(
         value == key.value(signature.slot, number, digit)

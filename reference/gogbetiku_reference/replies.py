@@ -32,7 +32,7 @@ class PairItem:
 
 @dataclass(frozen=True)
 class Answer:
-    """An answer with a route, or, of kind `APART`, one by which no walk joins the two ends."""
+    """An answer with a route or, of kind `APART`, without one because no walk joins the two ends."""
 
     kind: int
     header: Header
@@ -99,7 +99,7 @@ def read_route(reader: Reader) -> tuple[int, ...]:
 
 
 def read_place(reader: Reader, before: int | None) -> int:
-    """The place of an item, which is above that of the item before it."""
+    """The place of an item, which is greater than that of the previous item."""
     return reader.number(4, range(0 if before is None else before + 1, 2**32))
 
 
@@ -107,7 +107,7 @@ Leaf = TypeVar("Leaf", NodeLeaf, PairLeaf)
 
 
 def read_leaf(reader: Reader, length: int, read: Callable[[bytes], Leaf]) -> tuple[Leaf, bytes]:
-    """A whole leaf, which is one field, with its text."""
+    """A whole leaf as one field, with its text."""
     begin = reader.at
     text = reader.take(length)
     try:
@@ -139,7 +139,7 @@ def read_cover(reader: Reader) -> tuple[bytes, ...]:
 
 
 def read_reply(reader: Reader) -> Answer | int:
-    """An answer, or the kind of a reply that stands alone."""
+    """An answer, or the kind of a reply of one octet."""
     kind = reader.number(1, range(4))
     if kind in (UNKNOWN_NODE, NO_ROUTE):
         reader.end()

@@ -11,12 +11,12 @@ from .maps import MOST_NODES, MOST_ROADS, Parts
 UNSIGNED = re.compile(rb"[0-9]+")
 U32 = range(2**32)
 MOST_DIGITS = 20
-# what reads a word as a number, or finds that it is none
+# reads a word as a number, or returns None
 NumberReader = Callable[[bytes], int | None]
 
 
 def lines_of(text: bytes) -> Iterator[tuple[int, list[bytes]]]:
-    """The lines by their numbers, each as its words."""
+    """The words of each line, by its number."""
     pieces = text.split(b"\n")
     if pieces[-1] == b"":
         pieces.pop()
@@ -34,7 +34,7 @@ def unsigned(word: bytes, values: range = U32) -> int | None:
 
 
 def coordinate(word: bytes) -> int | None:
-    """A number of 32 bits, with `-` in front of a negative one."""
+    """A number of 32 bits, with `-` before a negative one."""
     if not word.startswith(b"-"):
         return unsigned(word, range(2**31))
     number = unsigned(word[1:], range(2**31 + 1))
@@ -42,7 +42,7 @@ def coordinate(word: bytes) -> int | None:
 
 
 def numbers_of(words: list[bytes], readers: Sequence[NumberReader]) -> tuple[int, ...] | None:
-    """The numbers of some words, each by its reader; nothing where one is no number of its range."""
+    """The numbers of these words, each by its reader; None if one is not a number in its range."""
     numbers = [reader(word) for reader, word in zip(readers, words)]
     known = tuple(number for number in numbers if number is not None)
     return known if len(known) == len(numbers) else None
@@ -53,7 +53,7 @@ FORMS = {b"node": (unsigned, coordinate, coordinate), b"road": (unsigned, unsign
 
 
 def read_roads(text: bytes) -> Parts:
-    """The parts that a road file lists, or its first fault."""
+    """The parts in a road file. Raises its first fault."""
     lines = ((number, words) for number, words in lines_of(text) if words and not words[0].startswith(b"#"))
     title = next(lines, None)
     if title is None or title[1] != [b"roads", b"1"]:

@@ -22,14 +22,14 @@ Gathered = tuple[set[int], set[tuple[int, int]]]
 
 @dataclass(frozen=True)
 class Held:
-    """A publication whose header is that of its book, and the book."""
+    """A publication whose header matches its book, and the book."""
 
     publication: Publication
     book: Book
 
 
 def install(publication: Publication) -> Held:
-    """The publication with its book, or why there is none."""
+    """The publication with its book. Raises the fault if there is none."""
     book = book_of(publication.parts, publication.settings())
     if book.header != publication.header:
         raise Fault("HeaderWrong")
@@ -41,12 +41,12 @@ def all_at_hand(book: Book, start: int, end: int) -> AtHand:
 
 
 def met(hand: AtHand, goes_on: Callable[[int, int], bool]) -> set[int]:
-    """The nodes at which walks end that go on only so, the start included."""
+    """The nodes at which walks that continue under this condition end, including the start."""
     return set(least_lengths(hand.start, hand.arcs_of, goes_on))
 
 
 def with_references(book: Book, nodes: set[int]) -> set[int]:
-    """Nodes, and those whose codes stand for theirs."""
+    """Nodes, and the nodes whose codes they use."""
     named = [book.leaves[node].added for node in nodes]
     return nodes | {added.reference for added in named if isinstance(added, Near)}
 
@@ -54,7 +54,7 @@ def with_references(book: Book, nodes: set[int]) -> set[int]:
 def pairs_between(
     hand: AtHand, from_start: dict[int, int], from_end: dict[int, int], below: int | None
 ) -> set[tuple[int, int]]:
-    """The pairs of a border near the start and another near the end whose inner lengths are together below that."""
+    """The pairs of a border near the start and another near the end whose inner lengths have a sum below this length."""
     return {
         (min(one, other), max(one, other))
         for one in borders_among(hand, from_start)
@@ -74,7 +74,7 @@ def pair_of(start: int, end: int) -> set[tuple[int, int]]:
 
 
 def gathered(book: Book, start: int, end: int, route: Iterable[int], length: int) -> Gathered:
-    """The nodes and the pairs whose leaves show that a route of this length is a shortest one."""
+    """The nodes and the pairs whose leaves show that a route of this length is shortest."""
     hand, nodes, pairs = all_at_hand(book, start, end), set(route), set()
     if book.settings.method == DIJ:
         nodes |= least_lengths(start, hand.arcs_of, below=length + 1).keys()
@@ -123,7 +123,7 @@ def pair_cover(book: Book, items: Iterable[PairItem]) -> tuple[bytes, ...]:
 
 
 def shows(held: Held, kind: int, route: tuple[int, ...], found: Gathered) -> Answer:
-    """The answer of this kind that brings these leaves with their covers."""
+    """The answer of this kind with these leaves and their covers."""
     nodes, pairs = node_items(held.book, found[0]), pair_items(held.book, found[1])
     return Answer(
         kind,
@@ -142,7 +142,7 @@ def is_known(held: Held, node: int) -> bool:
 
 
 def answer(held: Held, start: int, end: int, taken: tuple[int, ...] | None = None) -> bytes:
-    """The honest reply to the query for a route; with `taken`, the one that brings that shortest route."""
+    """The honest reply to the query for a route; with `taken`, the one with this shortest route."""
     if not is_known(held, start) or not is_known(held, end):
         return u8(UNKNOWN_NODE)
     route = taken or held.book.chart.route(start, end)
@@ -153,7 +153,7 @@ def answer(held: Held, start: int, end: int, taken: tuple[int, ...] | None = Non
 
 
 def is_honest(held: Held, start: int, end: int, octets: bytes) -> bool:
-    """Whether these octets are an honest reply, whichever of several shortest routes they bring."""
+    """Whether these octets are an honest reply, with any of several shortest routes."""
     taken = route_in(octets)
     if taken is not None and not held.book.chart.is_shortest(start, end, taken):
         return False
@@ -169,7 +169,7 @@ def route_in(octets: bytes) -> tuple[int, ...] | None:
 
 
 def near_reply(held: Held, nodes: Iterable[int]) -> NearReply:
-    """The reply on a radius that brings these nodes."""
+    """The range reply with these nodes."""
     items = node_items(held.book, nodes)
     return NearReply(held.publication.header, held.publication.signature, items, node_cover(held.book, items))
 

@@ -12,7 +12,7 @@ Places = list[set[int]]
 
 
 def counts_of(leaves: int, fan: int) -> list[int]:
-    """How many places each level has, from the leaves up."""
+    """The number of places on each level, from the leaves up."""
     counts = [leaves]
     while counts[-1] > 1:
         counts.append(-(-counts[-1] // fan))
@@ -24,7 +24,7 @@ def leaf_digest(text: bytes, hashed: Hash = sha256) -> bytes:
 
 
 def above(digests: Sequence[bytes], hashed: Hash = sha256) -> bytes:
-    """The digest of a place above these."""
+    """The digest of the place above these digests."""
     return hashed(b"\x01" + b"".join(digests))
 
 
@@ -50,12 +50,12 @@ def chosen_by_level(leaves: int, fan: int, places: Sequence[int]) -> Places:
 
 
 def children(counts: list[int], fan: int, level: int, place: int) -> range:
-    """The places below a place of this level, none below a leaf's."""
+    """The places below a place of this level; none below a leaf."""
     return range(place * fan, min(place * fan + fan, counts[level - 1])) if level else range(0)
 
 
 def spots(leaves: int, fan: int, places: Sequence[int]) -> list[tuple[int, int]]:
-    """Where the digests of the cover stand, from left to right: level and place."""
+    """The places of the digests of the cover, from left to right: level and place."""
     counts, chosen = counts_of(leaves, fan), chosen_by_level(leaves, fan, places)
 
     def below(level: int, place: int) -> Iterator[tuple[int, int]]:
@@ -68,12 +68,12 @@ def spots(leaves: int, fan: int, places: Sequence[int]) -> list[tuple[int, int]]
 
 
 def cover_of(levels: list[list[bytes]], fan: int, places: Sequence[int]) -> list[bytes]:
-    """The cover of some chosen leaves."""
+    """The cover of the chosen leaves."""
     return [levels[level][place] for level, place in spots(len(levels[0]), fan, places)]
 
 
 def test_places(leaves: int, places: Sequence[int]) -> None:
-    """Names the index of the first place that is no leaf, or not above the one before."""
+    """Raises the index of the first place that is not a leaf, or not greater than the previous one."""
     for index, place in enumerate(places):
         if place >= leaves:
             raise Fault("Place", index)
@@ -84,7 +84,7 @@ def test_places(leaves: int, places: Sequence[int]) -> None:
 def fold(
     leaves: int, fan: int, places: Sequence[int], texts: Sequence[bytes], cover: Sequence[bytes], hashed: Hash = sha256
 ) -> bytes:
-    """The digest of the top place, from the texts of some leaves and the digests of a cover."""
+    """The digest of the top place, from the texts of these leaves and the digests of a cover."""
     test_places(leaves, places)
     known = folded(leaves, fan, places, texts, cover, hashed)
     return known[len(counts_of(leaves, fan)) - 1, 0]
@@ -118,7 +118,7 @@ def clash(
     cover: Sequence[bytes],
     hashed: Hash = sha256,
 ) -> tuple[bytes, bytes] | None:
-    """Two different texts with one digest, where a cover and texts that fold to a tree's root differ from the tree.
+    """Two different texts with the same digest, if a cover and texts fold to a tree's root but differ from the tree.
 
     From the top down: the first place whose digests agree, and whose hashed texts, the tree's and the given one, differ.
     """

@@ -1,4 +1,4 @@
-"""Least lengths of walks: over a map, or over the leaves at hand.
+"""Least lengths of walks over a map, or over known leaves.
 
 docs/SPEC.md, 7.1 A route and 8.2 Judging a route: a walk takes a hop only from a node whose arcs are known and that
 lets it go on. Part of the reference: tested, not proved, and trusted by no client.
@@ -19,7 +19,7 @@ def least_lengths(
     lets: Callable[[int, int], bool] = always,
     below: int | None = None,
 ) -> dict[int, int]:
-    """Each node at which such a walk from `start` ends, with the least length of one.
+    """Each node at which such a walk from `start` ends, with the least length.
 
     `arcs_of` answers nothing for a node whose arcs are not known. `lets` says whether a walk goes on from a node after
     that length, and where it does, it does so after every lesser one. With `below`, all of a walk is shorter than that.

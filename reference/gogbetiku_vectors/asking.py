@@ -1,4 +1,4 @@
-"""How the vectors of a client are asked: replies and queries as they are given, and verdicts as they come.
+"""The form of a client's vectors: replies and queries as input, and verdicts as results.
 
 Tested, not proved; no client trusts it.
 """
@@ -24,7 +24,7 @@ from .scenes import LINE, LINE_LDM, STREETS, brings, owner, published, settings_
 
 
 GREATEST = 2**64 - 1
-# where the fields of an answer begin, and those of a reply on a radius, which has three octets more in front
+# the places of the fields of an answer, and of a range reply, which has three more octets before them
 HEADER = layout.IN_ANSWER
 METHOD, ORDER, FANNED, ZERO = (HEADER + at for at in (layout.METHOD, layout.ORDER, layout.FAN, layout.ZERO))
 VERSIONED, NODES, NODE_ROOT = (HEADER + at for at in (layout.VERSION, layout.NODES, layout.NODE_ROOT))
@@ -82,7 +82,7 @@ def asked(
     public: bytes | None = None,
     chain: tuple[Link, ...] = (),
 ) -> Fields:
-    """A reply to a query for a route, as it is given to a client."""
+    """A reply to a query for a route, as a client's input."""
     text = reply if isinstance(reply, bytes) else reply.octets()
     return {
         "public": (public or owner().public).hex(),
@@ -108,7 +108,7 @@ def near_asked(
 
 
 def expected(given: Fields, line: str, run: Callable[[Fields], Fields]) -> Fields:
-    """The verdict, whose line must be this one."""
+    """The verdict. Its line must be this one."""
     result = run(given)
     if result["line"] != line + "\n":
         raise AssertionError(f"{result['line'].strip()}, and not {line}")
@@ -144,12 +144,12 @@ def neared(
 
 
 def put(text: bytes, at: int, piece: bytes) -> bytes:
-    """Octets with a piece in the place of what stood there."""
+    """Octets with a piece replaced."""
     return text[:at] + piece + text[at + len(piece) :]
 
 
 def turned(text: bytes, at: int, bits: int = 1) -> bytes:
-    """Octets with some bits of one turned."""
+    """Octets with some bits of one flipped."""
     return put(text, at, u8(text[at] ^ bits))
 
 
@@ -169,12 +169,12 @@ def honest(method: str) -> Answer:
 
 @lru_cache(maxsize=1)
 def keys() -> list[Key]:
-    """The first key and two that follow it."""
+    """The first key and the two next ones."""
     return [owner(), *(key_of(5, bytes([number]) * 48) for number in (1, 2))]
 
 
 def link(before: Key, after: bytes) -> Link:
-    """A link that the last slot of a key has signed."""
+    """A link signed by the last slot of a key."""
     return Link(after, before.sign(before.slots - 1, link_text(after)))
 
 
@@ -189,7 +189,7 @@ def by_key(number: int) -> Held:
 
 
 def bad_chains() -> Iterator[tuple[str, str, tuple[Link, ...]]]:
-    """Chains of which a link is not signed under the key before it."""
+    """Chains with a link that is not signed under the previous key."""
     first, second, third = keys()
     one, two = good_chain()
     strange = u32(7) + second.public[4:]
@@ -216,6 +216,6 @@ def leaf(node: int, arcs: dict[int, int], added: Added = None) -> NodeLeaf:
 
 
 def added_of(method: str, border: bool = False) -> Added:
-    """What a leaf adds under a method, of one landmark and one cell."""
+    """The extra fields of a leaf under a method, with one landmark and one cell."""
     known: dict[str, Added] = {"ldm": Own((0,)), "hyp": InCell(0, border)}
     return known.get(method)

@@ -1,4 +1,4 @@
-"""Vectors of the client: for each of its tests, and for each field that can be wrong, a reply that fails just there.
+"""Vectors of the client: for each of its tests, and for each field, a reply that fails exactly there.
 
 Tested, not proved; no client trusts it.
 """
@@ -197,13 +197,13 @@ def run_turned(given: Fields, stride: int = 1) -> Fields:
 
 
 def line_with_bit(given: Fields, bit: int) -> str:
-    """The line where this bit of the reply, counted from its first octet's highest one, is turned."""
+    """The line if this bit of the reply, counted from the highest bit of its first octet, is flipped."""
     reply = turned(octets(given["reply"]), bit // 8, 128 >> bit % 8).hex()
     return str((run_near if "radius" in given else run_route)({**given, "reply": reply})["line"])
 
 
 def quick(public: bytes, text: bytes, signature: bytes) -> str | None:
-    """Why a signature is not good, where all that are good are the desk's own: what has a key's form and no other fault
+    """The reason why a signature does not verify, if only the desk's own verify: what has a key's form and no other fault
     does not match. So no bit needs a hash."""
     try:
         Signature(kind_of(public), signature)
@@ -217,7 +217,7 @@ GOOD: set[tuple[bytes, bytes, bytes]] = set()
 
 @contextmanager
 def without_hashing(header: Header, signature: bytes) -> Iterator[None]:
-    """Signatures are looked at by `quick`."""
+    """Uses `quick` for signatures."""
     GOOD.add((owner().public, header.octets(), signature))
     with mock.patch.object(clients, "why_not", quick):
         yield

@@ -1,4 +1,4 @@
-"""Replies that fail by two tests, of which the first in order is told, or by one test twice, of which the least is.
+"""Replies that fail two tests, of which the first in order is reported, or one test twice, of which the least is reported.
 
 Tested, not proved; no client trusts it.
 """
@@ -46,7 +46,7 @@ def causes() -> Iterator[Case]:
 
 
 def tests_in_order(kind: str) -> Iterator[Case]:
-    """From the last test on, each earlier one fails besides: it is told."""
+    """For each test from the last one on, an earlier one fails too, and is reported."""
     chain, public = good_chain(), owner().public
     reply, tree = good(kind, "hyp" if kind != "radius" else "dij"), "" if kind == "radius" else "1 "
     bad_chain = (chain[0], replace(chain[1], signature=b""))
@@ -84,7 +84,7 @@ def tests_in_order(kind: str) -> Iterator[Case]:
 
 
 def octets_in_order() -> Iterator[Case]:
-    """What cannot be read is told before all else, the first such field."""
+    """The first field that cannot be read is reported before all else."""
     for kind in KINDS:
         reply = good(kind, "dij").octets()
         front = layout.IN_RANGE_REPLY if kind == "radius" else layout.IN_ANSWER
@@ -206,7 +206,7 @@ def numbers_of(method: str) -> tuple[int, int]:
 
 
 def walks_in_order() -> Iterator[Case]:
-    """A node without a leaf is told before a shorter way, the least one; and the route before both."""
+    """The least node without a leaf is reported before a shorter walk; the route before both."""
     for method in ("dij", "ldm", "hyp"):
         added = added_of(method)
         nodes = [leaf(1, {2: 9, 3: 2, 8: 1, 7: 1}, added), leaf(2, {1: 9, 3: 9}, added), leaf(3, {1: 2, 2: 9}, added)]
@@ -350,7 +350,7 @@ def tables(near: dict[int, int], far: dict[int, int], more: dict[int, NodeLeaf] 
 
 
 def pairs_in_order() -> Iterator[Case]:
-    """Of borders that fail the first is told, by the start's and then the end's, each by rising id."""
+    """The first failing border is reported: the start's, then the end's, each by ascending id."""
     near, far = {14: 1, 12: 2}, {23: 1, 21: 2}
 
     def answer(kind: int, said: dict[tuple[int, int], int], nodes: list[NodeLeaf]) -> Answer:
@@ -460,7 +460,7 @@ def pairs_in_order() -> Iterator[Case]:
 
 
 def directions() -> Iterator[Case]:
-    """Leaves whose arcs lead one way alone: walks go from the start, and an arc back counts for nothing."""
+    """Leaves whose arcs lead in one direction only: walks begin at the start, and an arc back does not count."""
     for method in ("dij", "ldm", "hyp"):
         added, name = added_of(method), method.upper()
         nodes = [leaf(1, {2: 4}, added), leaf(2, {3: 5}, added), leaf(3, {1: 1, 2: 1}, added)]
@@ -515,7 +515,7 @@ def directions() -> Iterator[Case]:
 
 
 def radius_in_order() -> Iterator[Case]:
-    """A radius: of nodes without a leaf the least id, not the nearest; each with its least length."""
+    """A radius: of the nodes without a leaf, the least id and not the nearest; each with its least length."""
     held = by_hand("dij", [leaf(1, {2: 9, 4: 1, 8: 1, 9: 2}), leaf(2, {}), leaf(4, {2: 1, 7: 3})])
     reply = near_reply(books()["dij"], [])
     for places, line in ((range(3), "MissingTuple 7"), ([0, 1], "MissingTuple 4"), ([1, 2], "MissingTuple 1")):

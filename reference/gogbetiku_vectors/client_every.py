@@ -41,7 +41,7 @@ def six() -> Held:
 
 @dataclass(frozen=True)
 class Query:
-    """What is asked of a reply, but for its octets."""
+    """The query to a reply, without its octets."""
 
     least: int = 3
     public: bytes | None = None
@@ -55,7 +55,7 @@ def of_kind(kind: str, why: str, line: str, reply: Reply, query: Query = Query()
 
 
 def every(kinds: tuple[str, ...]) -> Iterator[Case]:
-    """Each test fails alone, under each method and for each of these kinds."""
+    """Each test fails by itself, under each method and for each of these kinds."""
     for kind in kinds:
         for method in PARAMETERS:
             name, reply = f"{kind}, {method.upper()}", good(kind, method)
@@ -82,7 +82,7 @@ def queries() -> Iterator[tuple[str, str, Query]]:
 
 
 def changes(kind: str, reply: Reply) -> Iterator[tuple[str, str, Reply]]:
-    """A reply with one thing wrong, and the refusal."""
+    """A reply with one fault, and the refusal."""
     yield "no signature", "BadSignature BadForm", replace(reply, signature=b"")
     yield "a bit of the signature", "BadSignature NoMatch", replace(reply, signature=turned(reply.signature, 700))
     newer = replace(reply, header=replace(reply.header, version=4))

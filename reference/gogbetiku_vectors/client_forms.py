@@ -1,4 +1,4 @@
-"""Replies that can't be read: for each field, one that is out of its range.
+"""Replies that cannot be read: for each field, one that is out of range.
 
 Tested, not proved; no client trusts it.
 """
@@ -56,7 +56,7 @@ def kinds() -> Iterator[Case]:
 
 
 def header_fields() -> Iterator[Case]:
-    """A header whose field is out of its range; just within, the signature is the first test that fails."""
+    """A header with a field out of range; if the field is just in range, the signature is the first failing test."""
     dij = honest("dij").octets()
     wrong = [
         ("the first octets are no header's", HEADER, b"RPF2"),
@@ -129,7 +129,7 @@ def header_fields() -> Iterator[Case]:
 
 
 def list_fields() -> Iterator[Case]:
-    """Route, items and covers that can't be read."""
+    """Route, items and covers that cannot be read."""
     dij, reply = honest("dij").octets(), honest("dij")
     items = ROUTED + 4 + 12
     first = items + 4
@@ -184,7 +184,7 @@ def with_text(item: Item, text: bytes) -> Item:
 
 
 def bad_leaves(reply: Answer) -> Iterator[tuple[str, tuple[NodeItem, ...]]]:
-    """Answers whose first leaf spells none."""
+    """Answers whose first leaf is not a leaf."""
     leaf, others = reply.nodes[0].leaf, reply.nodes[1:]
     wrong = [
         ("an arc from a node to itself", replace(leaf, arcs=((1, 4), (4, 3)))),
@@ -200,7 +200,7 @@ def bad_leaves(reply: Answer) -> Iterator[tuple[str, tuple[NodeItem, ...]]]:
 
 
 def added_fields() -> Iterator[Case]:
-    """What the leaves of LDM and HYP add, and can't be read."""
+    """Extra fields of leaves under LDM and HYP that cannot be read."""
     first = ROUTED + 4 + 12 + 4 + 6
     ldm, hyp = honest("ldm"), honest("hyp")
     for why, text in (
@@ -223,7 +223,7 @@ def added_fields() -> Iterator[Case]:
 
 
 def pair_fields() -> Iterator[Case]:
-    """Pair items that can't be read."""
+    """Pair items that cannot be read."""
     hyp = honest("hyp")
     text = hyp.octets()
     second = len(text) - 8 - 32 * (len(hyp.node_cover) + len(hyp.pair_cover)) - 21

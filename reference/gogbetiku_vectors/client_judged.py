@@ -174,7 +174,7 @@ def judged_ldm() -> Iterator[Case]:
 
 
 def bounds() -> Iterator[Case]:
-    """Bounds by hand-made codes: step 1, from 1 over 2 to 3, and a node 4 beside 1 that lacks a leaf."""
+    """Bounds by hand-made codes: step 1, from 1 over 2 to 3, and a neighbour 4 of 1 that lacks a leaf."""
 
     def ldm(
         ends: tuple[Added, ...],
@@ -315,7 +315,7 @@ def cells() -> Iterator[Case]:
 
 
 def judged_apart() -> Iterator[Case]:
-    """Replies by which no walk joins the two ends."""
+    """Replies that claim that no walk joins the two ends."""
     held = books()
     dij, full, ldm, hyp = (held[method] for method in ("dij", "full", "ldm", "hyp"))
     none = "accepted none"
@@ -388,7 +388,7 @@ def judged_apart() -> Iterator[Case]:
 
 
 def apart_by_hand() -> Iterator[Case]:
-    """Leaves of no map that the owner here has signed."""
+    """Signed leaves that no map has."""
 
     def case(why: str, line: str, held: Held) -> Case:
         places = range(len(held.book.nodes))

@@ -1,4 +1,4 @@
-"""Replies with more of a thing than a small limit lets in: items, routes, digests, arcs, landmarks, octets of a leaf, links.
+"""Replies that exceed small limits of wrong clients: items, routes, digests, arcs, landmarks, octets of a leaf, links.
 
 A client that takes 8, 16, 32 or 255 of one, or looks at the first so many alone, says otherwise of one of these. Tested, not
 proved; no client trusts it.
@@ -87,7 +87,7 @@ def long_routes() -> Iterator[Case]:
 
 
 def apart_path(method: str, count: int) -> Held:
-    """Nodes in a row, of which the last is joined to none."""
+    """Nodes in a row, with a last node that is joined to none."""
     last = Own((0,)) if method == "ldm" else added_of(method)
     nodes = [
         leaf(node, {there: 1 for there in (node - 1, node + 1) if 1 <= there < count}, added_of(method))
@@ -97,7 +97,7 @@ def apart_path(method: str, count: int) -> Held:
 
 
 def many_items() -> Iterator[Case]:
-    """Items behind the first so many that are read, hashed and looked at."""
+    """Items after this many are read, hashed and judged too."""
     for count in COUNTS:
         nodes = [leaf(node, {}) for node in range(1, count)]
         for twice in (1, count - 1):
@@ -177,7 +177,7 @@ def border_table(side: int) -> Iterator[Case]:
 
 
 def many_digests() -> Iterator[Case]:
-    """Covers of many digests, of which each counts."""
+    """Covers of many digests, each of which counts."""
     for chosen, fan, count in ((1, 32, 1024), (2, 2, 1024), (10, 32, 1024)):
         nodes = [leaf(node, {}) for node in range(1, count + 1)]
         held = by_hand("dij", nodes, fan=fan)
@@ -251,7 +251,7 @@ def many_arcs() -> Iterator[Case]:
 
 
 def many_landmarks() -> Iterator[Case]:
-    """One of 64 landmarks tells, wherever it stands; with error, named, and for no route too."""
+    """One of 64 landmarks decides, at any position; also with an error, for named nodes, and without a route."""
     for count in (2, 3, 9, 17, 33, MOST_LANDMARKS):
         for tells in sorted({0, count // 2, count - 1}):
             codes = tuple(10 if mark == tells else 0 for mark in range(count))

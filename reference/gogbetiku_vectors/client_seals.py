@@ -1,4 +1,4 @@
-"""Versions, chains, signatures and covers that are not good.
+"""Wrong versions, chains, signatures and covers.
 
 Tested, not proved; no client trusts it.
 """
@@ -66,7 +66,7 @@ def versions_and_chains() -> Iterator[Case]:
 
 
 def signatures() -> Iterator[Case]:
-    """Signatures of the header that are not good, each field in turn."""
+    """Wrong signatures of the header, by each field."""
     dij, public = honest("dij").octets(), owner().public
     yield routed("a key of an unknown type", "refused BadSignature BadKey", dij, public=put(public, 0, u32(7)))
     yield routed("a key of type 4", "refused BadSignature BadKey", dij, public=put(public, 0, u32(4)))
@@ -137,7 +137,7 @@ def signatures() -> Iterator[Case]:
 
 
 def covers() -> Iterator[Case]:
-    """Items and covers that are not under the signed roots."""
+    """Items and covers that do not give the signed roots."""
     dij, hyp, full = honest("dij"), honest("hyp"), honest("full")
     last, leaf = dij.nodes[-1], dij.nodes[1].leaf
     yield routed(
@@ -182,7 +182,7 @@ def covers() -> Iterator[Case]:
 
 
 def added_covers(ldm: Answer, hyp: Answer) -> Iterator[Case]:
-    """What a leaf adds is under the root."""
+    """The root covers the extra fields of a leaf."""
     second = ldm.nodes[1].leaf
     for why, other in (
         ("another code", replace(second, added=Own((2,)))),
@@ -256,7 +256,7 @@ def pair_covers(dij: Answer, full: Answer, hyp: Answer) -> Iterator[Case]:
 
 
 def repeated() -> Iterator[Case]:
-    """Trees in which a leaf stands twice: no map has them, and the owner here has signed them."""
+    """Signed trees with a repeated leaf, which no map has."""
     one, two, three = leaf(1, {2: 4}), leaf(2, {1: 4, 3: 5}), leaf(3, {2: 5})
     held = by_hand("dij", [one, two, three, replace(one, x=7), replace(two, x=7)])
     yield routed(

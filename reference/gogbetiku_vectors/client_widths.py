@@ -16,7 +16,7 @@ from .families import Case
 from .scenes import PARAMETERS, SIX, STREETS, at_places, brings, brings_apart, by_hand, published, settings_of
 
 TWO_32, TWO_53, TWO_63 = 2**32, 2**53, 2**63
-# a version, the asked one, and what a client says of it where it keeps either with fewer bits or a sign
+# a version, the minimum version, and the verdict of a client that keeps either with fewer bits or a sign
 VERSIONS = [
     (TWO_32 + 1, 2, "the version passes 32 bits"),
     (TWO_32, TWO_32, "the version is 2^32, which is asked for"),

@@ -1,4 +1,4 @@
-"""Families of vectors: what a family shows, the form of its cases, and how the reference answers one.
+"""Families of vectors: the purpose of a family, the form of its cases, and the reference's result for each.
 
 Octets are hex, numbers that may need 64 bits decimal strings, other numbers JSON numbers. Tested, not proved; no client trusts it.
 """
@@ -8,7 +8,7 @@ from typing import Any
 
 Fields = dict[str, Any]
 
-# octets in hex; where a name in braces stands, the octets of that name at the head of the file
+# octets in hex; a name in braces stands for the octets with that name at the head of the file
 HEX: Fields = {"type": "string", "pattern": r"^([0-9a-f]{2}|\{s[0-9]+\})*$"}
 WIDE: Fields = {"type": "string", "pattern": "^(0|[1-9][0-9]*)$"}
 NUMBER: Fields = {"type": "integer", "minimum": 0}
@@ -44,7 +44,7 @@ SPAN = row(NUMBER, NUMBER)
 
 @dataclass
 class Case:
-    """One vector: why it is there, what is given, and what must come of it."""
+    """One vector: its purpose, its input, and its result."""
 
     why: str
     given: Fields
@@ -53,7 +53,7 @@ class Case:
 
 @dataclass
 class Family:
-    """A file of vectors. `run` is the reference's answer to what is given; `slow` says that it takes a minute."""
+    """A file of vectors. `run` computes the reference's result for an input; `slow` says that this takes a minute."""
 
     name: str
     shows: str
@@ -99,17 +99,17 @@ def octets(digits: str) -> bytes:
     return bytes.fromhex(digits)
 
 
-# octets that follow so many times
+# octets that are repeated this many times
 AGAIN = row(HEX, NUMBER)
 
 
 def octets_again(given: Fields, name: str) -> bytes:
-    """Octets, with those of `again` behind them as often as it says."""
+    """Octets, followed by those of `again`, repeated as it says."""
     piece, times = given.get("again", ["", 0])
     return octets(given[name]) + octets(piece) * int(times) + octets(given.get("then", ""))
 
 
 def answered(run: Callable[[Fields], Fields], cases: list[tuple[str, Fields]]) -> Iterator[Case]:
-    """Cases whose results are what the reference answers."""
+    """Cases with the reference's results."""
     for why, given in cases:
         yield Case(why, given, run(given))

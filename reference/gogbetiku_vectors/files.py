@@ -1,4 +1,4 @@
-"""The files of the folder vectors/: all families, and how their cases and schemas are written.
+"""The files of the folder vectors/: all families, and the form of their cases and schemas.
 
 A signature that stands more than once in a file has a name there, and `{name}` stands in its place.
 
@@ -18,12 +18,12 @@ from .imported import IMPORTED, Imported
 FAMILIES: list[Family] = [*formats.FAMILIES, *signing.FAMILIES, *parties.FAMILIES, *client.FAMILIES, *owners.FAMILIES]
 
 
-# a signature of height 5 behind its length
+# a signature of height 5 after its length
 SIGNATURE = re.compile("050c(000000[0-9a-f]{2}00000004[0-9a-f]{2568})")
 
 
 def named_signatures(cases: str) -> dict[str, str]:
-    """The signatures that stand more than once, by the names that they are given."""
+    """The signatures that occur more than once, by their new names."""
     counted = Counter(SIGNATURE.findall(cases))
     return {
         f"s{number}": digits
@@ -32,7 +32,7 @@ def named_signatures(cases: str) -> dict[str, str]:
 
 
 def case_lines(made: Fields) -> str:
-    """A file's text: a case a line."""
+    """A file's text, with one case in each line."""
     cases = ",\n".join(json.dumps(case) for case in made["cases"])
     named = named_signatures(cases)
     for name, digits in named.items():
@@ -44,7 +44,7 @@ def case_lines(made: Fields) -> str:
 
 
 FILES: dict[str, Family | Imported] = {file.name: file for file in FAMILIES} | {file.name: file for file in IMPORTED}
-# what takes longest is made first, that of the client twice by one process
+# the slowest are made first, and those of the client together by one process
 TOGETHER = [["client", "client_radius", "client_verify"], ["turned"], ["services"], ["lms_verify", "signatures"]]
 
 
@@ -76,7 +76,7 @@ def write_all(folder: pathlib.Path) -> None:
 
 
 def differences(folder: pathlib.Path) -> list[str]:
-    """What is not as the reference makes it."""
+    """The files that differ from the reference's."""
     found, named = [], {f"{name}{end}" for name in FILES for end in (".json", ".schema.json")}
     for name, text in texts(slow=False):
         if not (folder / name).exists() or (folder / name).read_text(encoding="ascii") != text:
@@ -85,7 +85,7 @@ def differences(folder: pathlib.Path) -> list[str]:
 
 
 def read_family(folder: pathlib.Path, family: Family) -> list[Fields]:
-    """The cases of a family's file, with each signature in its place."""
+    """The cases of a family's file, with signatures in place of their names."""
     text = (folder / f"{family.name}.json").read_text(encoding="ascii")
     named = json.loads(text)["signatures"]
     cases: list[Fields] = json.loads(re.sub(r"\{(s[0-9]+)\}", lambda found: str(named[found[1]]), text))["cases"]

@@ -565,7 +565,7 @@ READERS = {"reply": read_reply, "radius reply": read_near_reply, "publication": 
 
 
 def place_of_cut(sort: str, text: bytes) -> int | None:
-    """Where the first field begins that can't be read; nothing where all can."""
+    """The place of the first field that cannot be read; None if all can."""
     try:
         read_chain(text) if sort == "chain" else READERS[sort](Reader(text))
     except Malformed as fault:
@@ -583,7 +583,7 @@ def run_cut(given: Fields, stride: int = 1) -> Fields:
 
 
 def cut(why: str, sort: str, text: bytes) -> Case:
-    """All ways to cut octets, in ranges of lengths whose first unreadable field begins at one place."""
+    """All truncations of octets, in ranges of lengths with the same first unreadable field."""
     lengths: list[list[int]] = []
     places: list[int | None] = []
     for length in range(len(text)):

@@ -65,7 +65,7 @@ METHODS = {1: "Dij", 2: "Full", 3: "Ldm", 4: "Hyp"}
 
 @dataclass(frozen=True)
 class Imported:
-    """A file: its algorithm, its flags with what they say, the fields of a group and of a test, and its groups."""
+    """A file: its algorithm, its flags with their meanings, the fields of a group and of a test, and its groups."""
 
     name: str
     algorithm: str
@@ -90,7 +90,7 @@ class Imported:
         }
 
     def text(self) -> str:
-        """A test a line."""
+        """One test in each line."""
         made = self.made()
         groups = [
             json.dumps({**group, "tests": []})[:-2] + "\n" + ",\n".join(map(json.dumps, group["tests"])) + "\n]}"
@@ -120,7 +120,7 @@ class Imported:
 
 
 def grouped(rows: Iterator[tuple[tuple[str, ...], Fields]], head: Callable[[tuple[str, ...]], Fields]) -> list[Fields]:
-    """Groups of tests under what they have in common."""
+    """Groups of tests by their common fields."""
     groups: dict[tuple[str, ...], list[Fields]] = {}
     for common, test in rows:
         groups.setdefault(common, []).append(test)
@@ -192,7 +192,7 @@ def client_flags(case: Case, themes: dict[int, str]) -> list[str]:
 
 
 def themes_of() -> dict[int, str]:
-    """What the cases of each sort show, by the cases."""
+    """The purpose of the cases of each sort."""
     return {id(case): theme for theme, cases in (*by_test().items(), *both()[2].items()) for case in cases}
 
 

@@ -28,7 +28,7 @@ ONES, TWOS, NINES = b"\x01" * 48, b"\x02" * 48, b"\x09" * 48
 
 
 def image_fields(image: bytes) -> Fields:
-    """An image by its length and its pieces that are not zeros."""
+    """An image as its length and its pieces that are not zeros."""
     pieces = [[found.start(), found[0].hex()] for found in re.finditer(rb"[^\x00](?:\x00{0,7}[^\x00])*", image, re.S)]
     return {"length": len(image), "pieces": pieces}
 
@@ -313,7 +313,7 @@ def near_audited(
 
 
 def forger(version: int, slot: int, key: Key | None = None) -> Held:
-    """A publication of the five nodes, signed past the desk."""
+    """A publication of the five nodes, signed without the desk."""
     return published(STREETS, settings_of("dij", version=version), slot, key or owner())
 
 
@@ -385,7 +385,7 @@ def make_audits() -> Iterator[Case]:
 
 
 def along_chains() -> Iterator[tuple[str, Fields]]:
-    """A desk of two keys, and links past it."""
+    """A desk of two keys, and links signed without it."""
     second, strange = key_of(5, ONES), key_of(5, TWOS)
     one, two = forger(3, 0), published(STREETS, settings_of("full", version=5), 0, second)
     disk = used(desks.succeed(used(fresh(), one.publication.header.octets()), 5, ONES), two.publication.header.octets())
@@ -522,7 +522,7 @@ def make_reductions() -> Iterator[Case]:
 
 
 def with_randomiser(key: Key, slot: int, text: bytes) -> bytes:
-    """A signature whose randomiser is zeros, as who has the secret can make it."""
+    """A signature with a randomiser of zeros, which anybody with the secret can make."""
     shown = [key.value(slot, number, digit) for number, digit in enumerate(digits_of(key.name, slot, bytes(32), text))]
     return u32(slot) + u32(4) + bytes(32) + b"".join(shown) + u32(key.kind) + b"".join(key.path(slot))
 

@@ -47,7 +47,7 @@ from .scenes import LINE, LINE_LDM, PARAMETERS, SEED, SIX, STREETS, ZEROS, owner
 FAULT = {"fault": TEXT}
 METHOD_NAMES = {number: name for name, number in METHODS.items()}
 ORDER_NAMES = {number: name for name, number in ORDERS.items()}
-# routes over it are unique: each road has a length of its own, a power of two
+# routes over it are unique: each road has another power of two as its length
 PLAIN = Parts(
     ((7, -5, 3), (12, 0, 0), (3, 9, -8), (40, 9, 3), (5, -5, -8), (21, 4, 4), (8, 30, 30), (9, 31, 30), (100, 4, 4)),
     tuple(
@@ -64,7 +64,7 @@ EQUAL = Parts(
     ((1, 0, 0), (2, 9, 0), (3, 0, 9), (4, 9, 9), (5, 18, 0), (6, 20, 0)),
     ((1, 2, 5), (1, 3, 5), (1, 4, 5), (1, 5, 6), (2, 6, 2), (3, 4, 9)),
 )
-# many nodes to a landmark's code, and two components
+# many nodes for each code of a landmark, and two components
 WIDE_MAP = Parts(
     tuple((node, node % 7 * 10 - 30, node // 7 * 10) for node in range(1, 29)),
     tuple(
@@ -77,18 +77,18 @@ WIDE_MAP = Parts(
 
 
 def zigzag(borders: int, more: int = 0) -> Parts:
-    """Nodes in a row to and fro between two cells, and some that have no road."""
+    """Nodes in a row that alternates between two cells, and some without roads."""
     nodes = tuple((node, node % 2, 0) for node in range(borders + more))
     return Parts(nodes, tuple((node, node + 1, 1) for node in range(borders - 1)))
 
 
-# a row of 70 nodes, and two that lie beside the 7th and the 6th
+# a row of 70 nodes, and two neighbours of the 7th and the 6th
 CANDIDATES = Parts(
     tuple((node, node, 0) for node in range(1, 73)),
     (*((node, node + 1, 1) for node in range(1, 70)), (7, 71, 0), (6, 72, 0)),
 )
 BETWEEN = Parts((*CANDIDATES.nodes, (73, 0, 0)), (*CANDIDATES.roads, (5, 73, 0)))
-# two borders that are 0 apart
+# two borders at distance 0
 LEVEL_BORDERS = Parts(((1, 0, 0), (2, 1, 0), (3, 10, 0), (4, 11, 0)), ((1, 2, 4), (2, 3, 0), (3, 4, 3)))
 
 
@@ -430,7 +430,7 @@ INSTALLS = Family(
 
 
 def all_routes(chart: Map, start: int, end: int) -> list[tuple[int, ...]]:
-    """All shortest routes that meet no node twice."""
+    """All shortest routes without a repeated node."""
     found: list[tuple[int, ...]] = []
     waiting: list[tuple[int, ...]] = [(start,)]
     while waiting:
@@ -471,7 +471,7 @@ def query(held: Held, start: int, end: int) -> Fields:
 
 
 def scenes() -> Iterator[tuple[str, Held, list[tuple[int, int]]]]:
-    """Publications, each with some ends."""
+    """Publications, each with pairs of ends."""
     for method in PARAMETERS:
         for order in ORDERS:
             yield f"five nodes, {method}, {order}", published(

@@ -1,4 +1,4 @@
-"""Maps, publications over them and replies, true ones and lies, that vectors and checks stand on.
+"""Maps, publications, and true and false replies, which vectors and checks use.
 
 Tested, not proved; no client trusts it.
 """
@@ -51,7 +51,7 @@ def settings_of(
 
 @lru_cache(maxsize=512)
 def published(parts: Parts, settings: Settings, slot: int = 0, key: Key | None = None) -> Held:
-    """A publication, signed by this slot."""
+    """A publication signed by this slot."""
     book = book_of(parts, settings)
     signature = (key or owner()).sign(slot, book.header.octets())
     publication = Publication(book.header, signature, settings.seed, settings.p1, settings.p2, settings.p3, parts)
@@ -59,12 +59,12 @@ def published(parts: Parts, settings: Settings, slot: int = 0, key: Key | None =
 
 
 def brings(held: Held, route: Iterable[int], nodes: Iterable[int], pairs: Iterable[tuple[int, int]] = ()) -> Answer:
-    """An answer that brings a route and the leaves of these nodes and pairs, with the covers that fit them."""
+    """An answer with a route and the leaves of these nodes and pairs, and the covers that fit them."""
     return shows(held, ROUTE, tuple(route), (set(nodes), set(pairs)))
 
 
 def brings_apart(held: Held, nodes: Iterable[int], pairs: Iterable[tuple[int, int]] = ()) -> Answer:
-    """An answer without a route, with the same."""
+    """The same without a route."""
     return shows(held, APART, (), (set(nodes), set(pairs)))
 
 
@@ -76,7 +76,7 @@ def by_hand(
     second: int = 0,
     fan: int = FAN,
 ) -> Held:
-    """A signed header over leaves that need not be those of any map."""
+    """A signed header over any leaves, even if no map has them."""
     settings = settings_of(method, fan=fan)
     book = Book(NO_MAP, settings, tuple(nodes), tuple(pairs), first, second)
     publication = Publication(book.header, owner().sign(0, book.header.octets()), 0, *PARAMETERS[method], NO_MAP.parts)
@@ -87,7 +87,7 @@ NO_MAP = Map(Parts((), ()))
 
 
 def at_places(held: Held, kind: int, route: Iterable[int], nodes: Iterable[int], pairs: Iterable[int] = ()) -> Answer:
-    """An answer that brings the leaves at these places, with the covers that fit them."""
+    """An answer with the leaves at these places, and the covers that fit them."""
     book = held.book
     brought = tuple(NodeItem(place, book.nodes[place], book.node_texts[place]) for place in sorted(nodes))
     said = tuple(PairItem(place, book.pairs[place], book.pair_texts[place]) for place in sorted(pairs))

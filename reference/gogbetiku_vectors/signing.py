@@ -82,7 +82,7 @@ def run_signature(given: Fields) -> Fields:
 
 
 def signed(why: str, key: Key, slot: int, text: bytes) -> tuple[str, Fields]:
-    """A signature of a key's own, with what it is made from."""
+    """A signature by a key, with its ingredients."""
     return why, {
         "public": key.public.hex(),
         "text": text.hex(),
@@ -97,7 +97,7 @@ def bare(why: str, public: bytes, text: bytes, signature: bytes) -> tuple[str, F
 
 
 def great_signature(slot: int, text: bytes) -> tuple[bytes, bytes]:
-    """A public key of the greater height and a signature under it: the path is drawn, and the root made of it.
+    """A public key of the greater height and a signature under it: the path is random, and the root is computed from it.
 
     No secret for all of its slots is known. It spares making a whole tree of 1,024 one-time keys.
     """
@@ -279,7 +279,7 @@ def run_tree(given: Fields) -> Fields:
 
 
 def leaf_texts(count: int) -> list[bytes]:
-    """The leaves of so many nodes in a row."""
+    """The leaves of this many nodes in a row."""
     return [
         NodeLeaf(node, node, 0, tuple((there, 5) for there in (node - 1, node + 1) if 1 <= there <= count)).text()
         for node in range(1, count + 1)

@@ -1,7 +1,7 @@
-"""Ways to be wrong: the reference with one of its tests, orders, widths or limits another, as a program may have it.
+"""Ways to be wrong: the reference with one changed test, order, width or limit, as a wrong program may have it.
 
 Each is a switch: `python3 -m gogbetiku_wrong`, from the folder reference, lists them, and with a number and a command runs
-that command wrongly. checks/switched_off.py shows which vector catches each; caught.json keeps the answers. Tested, not
+that command wrongly. checks/switched_off.py finds the vector that catches each; caught.json keeps the results. Tested, not
 proved; no client trusts it.
 """
 import importlib
@@ -19,7 +19,7 @@ PACKAGE = pathlib.Path(__file__).resolve().parent.parent / "gogbetiku_reference"
 
 @dataclass(frozen=True)
 class Wrong:
-    """A way to be wrong: whose, against which section of docs/SPEC.md, and the text that takes the place of another."""
+    """A way to be wrong: the part, the section of docs/SPEC.md, a text of the reference, and its replacement."""
 
     part: str
     section: str
@@ -27,7 +27,7 @@ class Wrong:
     module: str
     old: str
     new: str
-    # why no octets show it, where none do
+    # the reason why no octets show it, if none do
     unseen: str = ""
 
     def name(self) -> str:
@@ -56,7 +56,7 @@ def loaded() -> list[ModuleType]:
 
 
 def replaced(old: dict[str, object], new: dict[str, object]) -> Iterator[tuple[dict[object, object], object, object]]:
-    """Where the other modules, and the tables in them, have what a module had: the place, the name, and what is there now."""
+    """The uses of a module's old values in other modules and their tables: the place, the name, and the new value."""
     by_old = {id(value): new[name] for name, value in old.items() if callable(value) and new.get(name) is not value}
     for module in loaded():
         space = vars(module)
@@ -73,7 +73,7 @@ def replaced(old: dict[str, object], new: dict[str, object]) -> Iterator[tuple[d
 
 @contextmanager
 def switched(module: str, code: CodeType) -> Iterator[None]:
-    """The reference has this code for one of its modules."""
+    """Gives one module of the reference this code during a block."""
     space = vars(importlib.import_module(f"gogbetiku_reference.{module}"))
     old, places = dict(space), []
     try:

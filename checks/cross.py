@@ -622,7 +622,7 @@ class Both:
         done = subprocess.run([self.program, *words], cwd=self.folder, input=source, capture_output=True, check=False)
         self.slowest = max(self.slowest, time.monotonic() - begun)
         self.is_guarded = b"No run and no crash leaves that" in done.stderr
-        self.is_spent_first = b"counted as free and has the header" in done.stderr
+        self.is_spent_first = b"counted as free, but has the header" in done.stderr
         return Ended(done.returncode, done.stdout, desk.read_bytes())
 
     def by_reference(self, words: list[str], files: dict[str, bytes], source: bytes, disk: bytes) -> Ended:

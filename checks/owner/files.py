@@ -77,14 +77,14 @@ def of_reading(owner: Owner) -> None:
         "a bad number",
         owner.run("route bad.roads 1 1"),
         3,
-        "Line 2: 47.37 is no whole number from -2147483648 to 2147483647.",
+        "Line 2: 47.37 is not a whole number from -2147483648 to 2147483647.",
     )
     write("bad.gr", "p sp 2 2\na 1 2 -4\n")
     says(
         "a bad length",
         owner.run("dimacs bad.gr five.roads"),
         3,
-        "bad.gr: Line 2: -4 is no whole number from 0 to 4294967295.",
+        "bad.gr: Line 2: -4 is not a whole number from 0 to 4294967295.",
     )
     says("-", owner.run("route - 1 3"), 3, "/dev/stdin")
     same("/dev/stdin", owner.run("route /dev/stdin 1 3", FIVE.encode())[:2], (0, b"9: 1 2 3\n"))
@@ -117,9 +117,9 @@ def of_signing(owner: Owner) -> None:
         "a version again",
         owner.publish(4),
         0,
-        "The desk has signed version 4 before, and one-time key 2 has now signed version 4",
+        "The desk has already signed version 4, and one-time key 2 has now signed version 4",
     )
-    says("a version far above", owner.publish(4 + 2**32 + 1), 0, "more than 4294967296 above version 4")
+    says("a version far above", owner.publish(4 + 2**32 + 1), 0, "more than 4294967296 above the last version, 4.")
     says("desk", owner.run("desk"), 0, "The short name of its key is ")
 
 
@@ -132,7 +132,7 @@ def of_replies(owner: Owner, folder: str) -> None:
     same("a refusal over a pipe", by_pipe[:2], (1, b"refused BadCover 1 Differs\n"))
     same(
         "what is said of it",
-        ("is empty" in by_pipe[2], "not shown to be those that were signed" in by_pipe[2]),
+        ("is empty" in by_pipe[2], "does not show that its roads are the signed ones" in by_pipe[2]),
         (False, True),
     )
     none = owner.run("prove one.pub 1 5")[1]
@@ -193,10 +193,10 @@ def of_desk_file(owner: Owner) -> None:
     os.rename("real.desk", "owner.desk")
     if os.geteuid():
         os.chmod(".", 0o300)
-        says("a folder that cannot be listed", owner.publish(2**34), 7, "Its folder can't be listed or synced: ")
+        says("a folder that cannot be listed", owner.publish(2**34), 7, "Its folder cannot be listed or synced: ")
         same("the desk beside it", desk(), before)
     os.chmod(".", 0o777)
-    says("an open folder", owner.run("desk"), 0, "Others may write to its folder")
+    says("an open folder", owner.run("desk"), 0, "Others can write to its folder")
     os.chmod(".", 0o700)
 
 
@@ -216,7 +216,7 @@ def of_open_desk(owner: Owner) -> None:
             words,
             ended,
             12 if words.startswith("key") else 0,
-            "Others could read it until now, and it is closed to them from now on.",
+            "Others could read it until now, and cannot from now on.",
         )
         same("how often it is said", ended[2].count("Others "), 1)
         same("the mode that a writer leaves", stat.S_IMODE(os.stat("owner.desk").st_mode), 0o600)
@@ -242,7 +242,7 @@ def of_streams(owner: Owner) -> None:
         )
         same(
             f"{words} {stream}<> {name}",
-            (ran.returncode, "Standard output is this file" in ran.stderr),
+            (ran.returncode, "Standard output would overwrite this file" in ran.stderr),
             (status, stream == 1),
         )
         same(f"{words} {stream}<> {name}: the files", (desk(), pathlib.Path(name).read_bytes()), was)
@@ -262,11 +262,11 @@ def of_lost_key(owner: Owner) -> None:
     for lost in (b"", b"ffff\n", public[:100]):
         pathlib.Path("owner.key").write_bytes(lost)
         for words, status in ((f"publish five.roads {PLAIN.format(2**36)}", 0), ("links", 0)):
-            says(words, owner.run(words), status, "owner.key: It is there and is no key")
+            says(words, owner.run(words), status, "owner.key: It is not a public key")
     pathlib.Path("owner.key").write_bytes(public)
     write("second.hex", bytes(range(100, 148)).hex())
     says("succeed", owner.run("succeed second.hex h5"), 0)
-    says("a key again", owner.run("key second.hex h5"), 12, "only a copy of it helps")
+    says("a key again", owner.run("key second.hex h5"), 12, "`road_proof desk` writes only the current key")
     same("a second key's map", owner.publish(7)[0], 0)
     says("desk", owner.run("desk"), 0, f"The last version that it has signed is 7, and the greatest is {2**36}.")
     whole = desk()
@@ -345,10 +345,10 @@ def of_mirrors(owner: Owner) -> None:
     lost("a FIFO", "It is a FIFO or a socket", 2**34)
     os.remove("mirror-1")
     os.mkdir("mirror-1")
-    lost("a folder", "It can't be opened: ", 2**34 + 1)
+    lost("a folder", "It cannot be opened: ", 2**34 + 1)
     os.rmdir("mirror-1")
     os.symlink("not/mounted", "mirror-1")
-    lost("a link to nothing", "It can't be opened: ", 2**34 + 2)
+    lost("a link to nothing", "It cannot be opened: ", 2**34 + 2)
     os.remove("mirror-1")
     os.symlink("owner.desk", "mirror-1")
     size = len(desk())
@@ -364,7 +364,7 @@ def of_mirrors(owner: Owner) -> None:
     os.remove("mirror-2")
     if not os.geteuid():
         os.lchown("mirror-1", 65534, 65534)
-        lost("another user's link", "It is a link, and the link or what it leads to is another user's.", 2**34 + 5)
+        lost("another user's link", "It is a link, and the link or its target belongs to another user.", 2**34 + 5)
         same("what it leads to", pathlib.Path("copy").read_bytes(), ended[1])
     os.remove("mirror-1")
 
@@ -412,14 +412,17 @@ def of_refused_calls(owner: Owner) -> None:
     for error, status in (("EACCES", 4), ("EIO", 4), ("ENOENT", 3)):
         same(f"{error} at a file", failing(owner, "openat", error, "five.roads", "route five.roads 1 3")[0], status)
     publish, before = f"publish five.roads {PLAIN.format(2**34 + 8)}", desk()
-    for name, said in ((".", "Its folder can't be listed or synced: "), ("owner.desk", "It can't be read or written")):
+    for name, said in (
+        (".", "Its folder cannot be listed or synced: "),
+        ("owner.desk", "It cannot be read or written"),
+    ):
         ended = failing(owner, "fsync", "EIO", name, publish)
         says(f"a sync of {name} that fails", ended, 7, f"road_proof: owner.desk: {said}")
         same("what was written", ended[1], b"")
     same("the desk behind a folder that was not synced", desk()[:BLOCK], before[:BLOCK])
     write("mirror-1", "")
     for error, status, parts in (
-        ("EIO", 15, ("road_proof: mirror-1: It can't be synced: ", "lost mirror 1")),
+        ("EIO", 15, ("road_proof: mirror-1: It cannot be synced: ", "lost mirror 1")),
         ("EINVAL", 0, ()),
     ):
         pathlib.Path("mirror-1").write_bytes(b"")
@@ -526,7 +529,7 @@ def of_bits(owner: Owner) -> None:
             same(
                 f"the gate of slot {slot}: the slot that signs is free, where {said!r} is said", number in signed, False
             )
-            same("what is said", "counted as free and has the header of version 5" in said, True)
+            same("what is said", "counted as free, but has the header of version 5" in said, True)
         else:
             same(f"the gate of slot {slot}: {said!r}", (status, "No run and no crash leaves that" in said), (12, True))
             same("the desk", desk(), bytes(turned))

@@ -26,10 +26,10 @@ pub enum WhyLost {
 impl Display for WhyLost {
     fn fmt<W: fmt::Write>(&self, f: &mut Formatter<W>) -> fmt::Result {
         match self {
-            WhyLost::Refused(e) => write!(f, "It can't be opened: {e}."),
+            WhyLost::Refused(e) => write!(f, "It cannot be opened: {e}."),
             WhyLost::Waits => f.write_str("It is a FIFO or a socket, which is not opened."),
             WhyLost::Owner => f.write_str(
-                "It is a link, and the link or what it leads to is another user's.",
+                "It is a link, and the link or its target belongs to another user.",
             ),
             WhyLost::Desk => f.write_str("It leads to the owner's desk."),
             WhyLost::Changed => f.write_str(

@@ -77,7 +77,7 @@ fn not_risen<W: fmt::Write>(
 ) -> fmt::Result {
     write!(
         f,
-        " The desk has signed version {greatest} before, and one-time key {slot} has now signed version {version}: a client that asks for a later one than that refuses it."
+        " The desk has already signed version {greatest}, and one-time key {slot} has now signed version {version}. A client with a higher minimum refuses it."
     )
 }
 
@@ -90,20 +90,22 @@ fn risen_far<W: fmt::Write>(
 ) -> fmt::Result {
     write!(
         f,
-        " Version {version} of one-time key {slot} is more than 4294967296 above version {last}, the last: look whether it was meant."
+        " Version {version} of one-time key {slot} is more than 4294967296 above the last version, {last}. Check whether you meant that."
     )
 }
 
 /// Writes the message about a signed header.
 fn header<W: fmt::Write>(f: &mut Formatter<W>, signed: Signed) -> fmt::Result {
     let Signed { version, nodes } = signed;
-    write!(f, "{nodes} nodes, version {version}")
+    let unit = if nodes == 1 { "node" } else { "nodes" };
+    write!(f, "{nodes} {unit}, version {version}")
 }
 
 impl Display for Signing {
     fn fmt<W: fmt::Write>(&self, f: &mut Formatter<W>) -> fmt::Result {
         let Signing { slot, left, .. } = *self;
-        write!(f, "One-time key {slot} has signed, and {left} are left. ")?;
+        let are = if left == 1 { "is" } else { "are" };
+        write!(f, "One-time key {slot} has signed, and {left} {are} left. ")?;
         match self.before {
             Some(before) => {
                 f.write_str("Before: ")?;

@@ -220,7 +220,7 @@ fn a_signing_is_told(rt: HostRuntime) -> Result<(), Fail> {
         alloc,
         FIVE,
         5,
-        "One-time key 5 has signed, and 25 are left. Before: 9 nodes, version 5; now: 12 nodes, version 5. The desk has signed version 5 before, and one-time key 5 has now signed version 5: a client that asks for a later one than that refuses it.",
+        "One-time key 5 has signed, and 25 are left. Before: 9 nodes, version 5; now: 12 nodes, version 5. The desk has already signed version 5, and one-time key 5 has now signed version 5. A client with a higher minimum refuses it.",
     )?;
     let first = Sight {
         last: None,
@@ -233,6 +233,21 @@ fn a_signing_is_told(rt: HostRuntime) -> Result<(), Fail> {
         first,
         1,
         "One-time key 5 has signed, and 25 are left. Now: 12 nodes, version 1.",
+    )?;
+    let two_left = Sight {
+        spent: 29,
+        last: Some(Signed {
+            version: 5,
+            nodes: 1,
+        }),
+        ..FIVE
+    };
+    assert_signing(
+        &rt,
+        alloc,
+        two_left,
+        6,
+        "One-time key 5 has signed, and 1 is left. Before: 1 node, version 5; now: 12 nodes, version 6.",
     )?;
     assert_same(&rt, Signing::of(FIVE, b"RPP1"), None);
     Ok(())

@@ -34,22 +34,26 @@ fn told_of(alloc: Global, words: &Words) -> Result<String, Fail> {
     }
 }
 
-static WRONG: [(&str, &str); 13] = [
+static WRONG: [(&str, &str); 14] = [
     (
         "rout map.roads 1 3",
         "road_proof: rout: There is no such command. `road_proof help` lists them.",
     ),
     (
         "route map.roads 1",
-        "road_proof: route: It takes 3 arguments, and here are 2.",
+        "road_proof: route: It takes 3 arguments, not 2.",
     ),
     (
         "desk owner.desk",
-        "road_proof: desk: It takes 0 arguments, and here is 1.",
+        "road_proof: desk: It takes 0 arguments, not 1.",
     ),
     (
         "serve",
-        "road_proof: serve: It takes 1 arguments, or up to two more, and here are 0.",
+        "road_proof: serve: It takes 1 to 3 arguments, not 0.",
+    ),
+    (
+        "check owner.key m1.reply 1 3",
+        "road_proof: check: It takes 5 to 6 arguments, not 4.",
     ),
     (
         "route map.roads -1 3",
@@ -81,7 +85,7 @@ static WRONG: [(&str, &str); 13] = [
     ),
     (
         "root map.roads",
-        "road_proof: root: It takes 2 arguments, and here is 1.",
+        "road_proof: root: It takes 2 arguments, not 1.",
     ),
     (
         "--version 1",
@@ -195,7 +199,7 @@ fn refused_text(rt: &impl Abort, alloc: Global, reply: &[u8]) -> Result<String, 
 
 #[test]
 fn a_line_end_too_many_is_told(rt: HostRuntime) -> Result<(), Fail> {
-    let longer = "from offset 2 on. It is longer than what can be read by one octet, a line end.";
+    let longer = "at offset 2 cannot be read. The file has one octet too many: a line end.";
     for (reply, is_longer) in [
         (b"\x02\x00\n".as_slice(), true),
         (b"\x02\x00x".as_slice(), false),
@@ -227,42 +231,42 @@ static NUMBERS: [(&str, u32, &str); 8] = [
     (
         "# a map\nroads 1\n\nnode 1 47.37 8.54\r\n",
         4,
-        "Line 4: 47.37 is no whole number from -2147483648 to 2147483647.",
+        "Line 4: 47.37 is not a whole number from -2147483648 to 2147483647.",
     ),
     (
         "roads 1\nnode -1 0 0",
         2,
-        "Line 2: -1 is no whole number from 0 to 4294967295.",
+        "Line 2: -1 is not a whole number from 0 to 4294967295.",
     ),
     (
         "roads 1\nroad 1 2\t4294967296\r\n",
         2,
-        "Line 2: 4294967296 is no whole number from 0 to 4294967295.",
+        "Line 2: 4294967296 is not a whole number from 0 to 4294967295.",
     ),
     (
         "p sp 3 4\na 1 2 0x4\n",
         2,
-        "Line 2: 0x4 is no whole number from 0 to 4294967295.",
+        "Line 2: 0x4 is not a whole number from 0 to 4294967295.",
     ),
     (
         "p sp 3 four\n",
         1,
-        "Line 1: four is no whole number from 0 to 4294967295.",
+        "Line 1: four is not a whole number from 0 to 4294967295.",
     ),
     (
         "p aux sp co 3\nv 1 2147483648 0\n",
         2,
-        "Line 2: 2147483648 is no whole number from -2147483648 to 2147483647.",
+        "Line 2: 2147483648 is not a whole number from -2147483648 to 2147483647.",
     ),
     (
         "roads 1\nroad 1 2 123456789012345678901\n",
         2,
-        "Line 2: 12345678901234567890.. is no whole number from 0 to 4294967295.",
+        "Line 2: 12345678901234567890.. is not a whole number from 0 to 4294967295.",
     ),
     (
         "roads 1\nroad 1 2 \x1b[2J\n",
         2,
-        "Line 2: what stands there is no whole number from 0 to 4294967295.",
+        "Line 2: an unprintable word is not a whole number from 0 to 4294967295.",
     ),
 ];
 
@@ -338,35 +342,33 @@ fn a_road_file_is_told_by_line_and_id(rt: HostRuntime) -> Result<(), Fail> {
     Ok(())
 }
 
-static DIGITS: [(&str, Option<usize>, &str); 6] = [
-    (
-        "0aF\r\n",
-        Some(4),
-        "There are 3 hex digits, and 4 are wanted.",
-    ),
-    ("", Some(4), "There are 0 hex digits, and 4 are wanted."),
+static DIGITS: [(&str, Option<usize>, &str); 8] = [
+    ("0aF\r\n", Some(4), "It has 3 hex digits, not 4."),
+    ("", Some(4), "It has 0 hex digits, not 4."),
+    ("a\n", Some(4), "It has 1 hex digit, not 4."),
+    ("a", None, "It has 1 hex digit. The number must be even."),
     (
         "0a0g",
         Some(4),
-        "The octet at offset 3 is no hex digit, \
-         and the file must be 4 of them and at most one line end.",
+        "The octet at offset 3 is not a hex digit. \
+         The file must have 4 hex digits and at most one line end.",
     ),
     (
         "0a0b\n\n",
         Some(4),
-        "The octet at offset 4 is no hex digit, \
-         and the file must be 4 of them and at most one line end.",
+        "The octet at offset 4 is not a hex digit. \
+         The file must have 4 hex digits and at most one line end.",
     ),
     (
         "0aF\r\n",
         None,
-        "There are 3 hex digits, and an even number of them is wanted.",
+        "It has 3 hex digits. The number must be even.",
     ),
     (
         "0a 0",
         None,
-        "The octet at offset 2 is no hex digit, \
-         and the file must be an even number of them and at most one line end.",
+        "The octet at offset 2 is not a hex digit. \
+         The file must have an even number of hex digits and at most one line end.",
     ),
 ];
 
@@ -415,7 +417,7 @@ fn hex_that_was_not_kept_whole_is_told_by_its_size(rt: HostRuntime) -> Result<()
         &rt,
         rt.alloc(),
         WrongHex::of(b"0a0b", 6, Some(4)),
-        "It has 6 octets, which are more than are wanted.",
+        "It is too long: it has 6 octets.",
     )
 }
 
@@ -423,12 +425,12 @@ static ROUTES: [(CheckError, &str); 9] = [
     (
         CheckError::NotAnswer(2),
         "The answer is not to be used: \
-         there is none, and the server says, without proof, that no route joins the two ends.",
+         there is none. The server says, without proof, that no route joins the two ends.",
     ),
     (
         CheckError::Stale(3),
         "The answer is not to be used: \
-         the reply is of version 3 of the map, which is older than LEAST asks for.",
+         the reply is of version 3 of the map, which is older than LEAST.",
     ),
     (
         CheckError::BadChain(0, SealError::NoMatch),
@@ -439,7 +441,7 @@ static ROUTES: [(CheckError, &str); 9] = [
         CheckError::BadSignature(SealError::NoMatch),
         "The answer is not to be used: \
          the reply is not signed under this public key, \
-         nor under a key of the chain where one is named.",
+         or under a key of the chain if one is given.",
     ),
     (
         CheckError::Judged(Refusal::Shorter(9)),
@@ -450,19 +452,19 @@ static ROUTES: [(CheckError, &str); 9] = [
     (
         CheckError::Judged(Refusal::MissingTuple(4)),
         "The answer is not to be used: \
-         the reply leaves out the node 4, \
-         without which it shows neither a shortest route nor that there is none.",
+         the reply leaves out the node 4. \
+         Without this node, it shows neither a shortest route nor that there is none.",
     ),
     (
         CheckError::Judged(Refusal::MissingPair(4, 5)),
         "The answer is not to be used: \
-         the reply leaves out how far apart the nodes 4 and 5 are, \
-         without which it shows neither a shortest route nor that there is none.",
+         the reply leaves out the distance between the nodes 4 and 5. \
+         Without it, the reply shows neither a shortest route nor that there is none.",
     ),
     (
         CheckError::Judged(Refusal::Disagrees(9)),
         "The answer is not to be used: \
-         the reply brings a signed distance, 9, that says otherwise.",
+         a signed distance in the reply, 9, contradicts it.",
     ),
     (
         CheckError::Judged(Refusal::BadRoute(1)),
@@ -483,7 +485,7 @@ static NEARS: [(NearError, &str); 2] = [
     (
         NearError::Malformed(0),
         "The nodes are not to be used: \
-         the file is no reply to a range query, and can't be read from offset 0 on.",
+         the file is not a reply to a range query. The field at offset 0 cannot be read.",
     ),
     (
         NearError::MissingTuple(4),

@@ -56,9 +56,7 @@ fn not_begun(rt: HostRuntime, why: Unbegun) -> ExitCode {
         Unbegun::Memory(_) | Unbegun::NotGiven => eprintln!(rt;
             "road_proof: memory: Out of memory."
         ),
-        Unbegun::NotText => eprintln!(rt;
-            "road_proof: arguments: One of them is no text in UTF-8."
-        ),
+        Unbegun::NotText => eprintln!(rt; "road_proof: arguments: One of them is not valid UTF-8."),
     };
     ExitCode::from(why.status())
 }
@@ -72,7 +70,7 @@ fn tell_clash(rt: HostRuntime, clash: Clash<'_>) -> ExitCode {
         Clash::OutputIsInput(name) => tell_overwritten(rt, name),
         Clash::OutputIsTerminal => {
             let _ = eprintln!(rt;
-                "road_proof: standard output: It is a terminal, and what this command writes is octets. Send them to a file. Nothing was done."
+                "road_proof: standard output: It is a terminal, and this command writes binary output. Send it to a file. Nothing was done."
             );
         }
     }
@@ -82,7 +80,7 @@ fn tell_clash(rt: HostRuntime, clash: Clash<'_>) -> ExitCode {
 /// Reports that standard output is a file that the command uses.
 fn tell_overwritten(rt: HostRuntime, name: &str) {
     let _ = eprintln!(rt;
-        "road_proof: {name}: Standard output is this file, and would overwrite it. Send it elsewhere. Nothing was done."
+        "road_proof: {name}: Standard output would overwrite this file. Send it elsewhere. Nothing was done."
     );
 }
 
@@ -166,7 +164,7 @@ fn tell_ran(rt: HostRuntime, words: &Words, ended: Ended, done: &Done) {
 /// Reports that a map is not signed by the expected key.
 fn tell_unsigned(rt: HostRuntime) {
     let _ = eprintln!(rt;
-        "road_proof: owner.desk: The map is not signed by the key of the file owner.key, or by the one that the last link behind it names, and no client would accept it. Nothing was written. Something has changed the desk. Sign nothing more by it."
+        "road_proof: owner.desk: The map is not signed by the key of the file owner.key, or by the one that the last link after it names. No client would accept it. Nothing was written. Something has changed the desk: sign nothing more with it."
     );
 }
 
@@ -183,7 +181,7 @@ fn tell_unfit(rt: HostRuntime, words: &Words, unfit: Unfit, disk: &DeskDisk<Host
         }
         Unfit::OtherKey => {
             let _ = eprintln!(rt;
-                "road_proof: owner.desk: Its first key is not that of the file owner.key. One of the two was changed, or is of another owner. Nothing was signed. Compare owner.key with another copy of your public key: if it is right, sign nothing more by this desk, and make another key, in another folder."
+                "road_proof: owner.desk: Its first key is not that of the file owner.key. One of the two was changed, or belongs to another owner. Nothing was signed. Compare owner.key with another copy of your public key. If it is right, sign nothing more with this desk, and make a new key in another folder."
             );
             return;
         }

@@ -52,7 +52,7 @@ pub fn tell_unsynced(rt: HostRuntime, unsynced: &Unsynced) {
     for lost in unsynced {
         if let Some((label, e)) = lost {
             let _ = eprintln!(rt;
-                "road_proof: mirror-{label}: It can't be synced: {e}.\nlost mirror {label}"
+                "road_proof: mirror-{label}: It cannot be synced: {e}.\nlost mirror {label}"
             );
         }
     }

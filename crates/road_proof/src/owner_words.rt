@@ -15,7 +15,7 @@ pub fn tell_places(rt: HostRuntime, words: &Words) {
     if how != DeskUse::Not {
         if unsafe_folder(&rt) {
             let _ = eprintln!(rt;
-                "road_proof: owner.desk: Others may write to its folder, and put another desk into it. `chmod go-w .` ends that."
+                "road_proof: owner.desk: Others can write to its folder, and put another desk there. `chmod go-w .` prevents that."
             );
         }
     }
@@ -33,7 +33,7 @@ pub fn tell_opening(rt: HostRuntime, disk: &DeskDisk<HostRuntime>) {
     }
     if disk.was_readable() {
         let _ = eprintln!(rt;
-            "road_proof: owner.desk: Others could read it until now, and it is closed to them from now on. Whoever has read it can sign in your name."
+            "road_proof: owner.desk: Others could read it until now, and cannot from now on. Whoever has read it can sign in your name."
         );
     }
 }
@@ -42,7 +42,7 @@ pub fn tell_opening(rt: HostRuntime, disk: &DeskDisk<HostRuntime>) {
 pub fn tell_key_file(rt: HostRuntime, known: KeyFile) {
     if known == KeyFile::Broken {
         let _ = eprintln!(rt;
-            "road_proof: owner.key: It is there and is no key, so that the desk is compared with nothing. Put a copy of your public key there, or take it away."
+            "road_proof: owner.key: It is not a public key, so the desk is not compared with it. Put a copy of your public key there, or remove the file."
         );
     }
 }
@@ -52,10 +52,10 @@ pub fn tell_spending(rt: HostRuntime, spending: Spending) {
     let _ = match spending {
         Spending::Nothing => return,
         Spending::Header { slot, version } => eprintln!(rt;
-            "road_proof: owner.desk: One-time key {slot} counted as free and has the header of version {version}. A crash has left it so, or something else has changed the file. It counts as used from now on. If that map was ever given out, stop: something changes the file."
+            "road_proof: owner.desk: One-time key {slot} counted as free, but has the header of version {version}. A crash left it so, or something else changed the file. It counts as used from now on. If you ever gave out that map, stop: something changes the file."
         ),
         Spending::Link { key } => eprintln!(rt;
-            "road_proof: owner.desk: The link from key {key} to the key behind it counted as unsigned and stands whole. A crash has left it so, or something else has changed the file. It counts as signed from now on."
+            "road_proof: owner.desk: The link from key {key} to the next key counted as unsigned, but is whole. A crash left it so, or something else changed the file. It counts as signed from now on."
         ),
     };
 }
@@ -79,10 +79,10 @@ pub fn tell_desk(
 fn tell_key_again(rt: HostRuntime, sight: Option<Sight>) {
     let _ = match sight {
         Some(sight) if sight.key == 1 => eprintln!(rt;
-            "road_proof: owner.key: Where this has emptied it, `road_proof desk | cut -d' ' -f1 > owner.key` writes it again."
+            "road_proof: owner.key: If this command has emptied it, `road_proof desk | cut -d' ' -f1 > owner.key` writes it again."
         ),
         _ => eprintln!(rt;
-            "road_proof: owner.key: Where this has emptied it, only a copy of it helps, since the desk tells its current key alone."
+            "road_proof: owner.key: If this command has emptied it, take a copy of it: `road_proof desk` writes only the current key."
         ),
     };
 }
@@ -106,7 +106,9 @@ pub fn tell_folder(rt: HostRuntime, ended: Ended) {
         return;
     }
     if let Some(e) = folder_fault(&rt) {
-        let _ = eprintln!(rt; "road_proof: owner.desk: Its folder can't be listed or synced: {e}.");
+        let _ = eprintln!(rt;
+            "road_proof: owner.desk: Its folder cannot be listed or synced: {e}."
+        );
     }
 }
 

@@ -22,7 +22,7 @@ pub fn tell_of_serve(rt: HostRuntime, words: &Words, status: u8, begun: Option<I
     };
     if status == 0 && is_slow(rt, begun) && rt.stderr().is_terminal() {
         let _ = eprintln!(rt;
-            "road_proof: {publication}: `prove` makes its book anew for each question. `road_proof serve` makes it once, and answers many."
+            "road_proof: {publication}: `prove` prepares its book for each query. `road_proof serve` prepares it once, and answers many."
         );
     }
 }

@@ -41,26 +41,30 @@ impl Display for WrongHex {
         match (self.place, self.wanted, self.all) {
             (Some(place), Some(wanted), _) => write!(
                 f,
-                "The octet at offset {place} is no hex digit, and the file must be {wanted} of them and at most one line end."
+                "The octet at offset {place} is not a hex digit. The file must have {wanted} hex digits and at most one line end."
             ),
             (Some(place), None, _) => write!(
                 f,
-                "The octet at offset {place} is no hex digit, and the file must be an even number of them and at most one line end."
+                "The octet at offset {place} is not a hex digit. The file must have an even number of hex digits and at most one line end."
             ),
-            (None, _, Some(length)) => {
-                write!(f, "It has {length} octets, which are more than are wanted.")
-            }
+            (None, _, Some(length)) => { write!(f, "It is too long: it has {length} octets.") }
             (None, Some(wanted), None) => {
-                write!(f, "There are {found} hex digits, and {wanted} are wanted.")
+                write!(f, "It has {found} hex {}, not {wanted}.", digits(found))
             }
             (None, None, None) => {
                 write!(
                     f,
-                    "There are {found} hex digits, and an even number of them is wanted."
+                    "It has {found} hex {}. The number must be even.",
+                    digits(found)
                 )
             }
         }
     }
+}
+
+/// Returns the word for this number of digits.
+fn digits(count: usize) -> &'static str {
+    if count == 1 { "digit" } else { "digits" }
 }
 
 /// Returns a text without its final line end, if it has one.

@@ -35,10 +35,10 @@ impl Display for Look {
         f.write_str(match self {
             Look::Empty => "It is empty.",
             Look::Gzip => "It looks like a gzip file, which must be unpacked first.",
-            Look::ByteOrderMark => "It begins with a byte order mark, which must not stand there.",
+            Look::ByteOrderMark => "It begins with a byte order mark, which must be removed.",
             Look::RoadFile => "It looks like a road file.",
             Look::Publication => "It looks like a publication.",
-            Look::Reply => "It looks like a reply on a route.",
+            Look::Reply => "It looks like a reply with a route.",
             Look::NearReply => "It looks like a reply to a range query.",
             Look::Chain => "It looks like a chain file.",
         })

@@ -141,7 +141,7 @@ impl<'a> Message<'a> {
         ) {
             return write!(
                 f,
-                "road_proof: {publication}: It is not served, since it or a link of the chain is not signed, as the line that was written says."
+                "road_proof: {publication}: It is not served: it or a link of the chain is not signed. The output says which."
             );
         }
         let reply = reply_of(self.command);
@@ -159,7 +159,7 @@ impl<'a> Message<'a> {
                     .malformed_at()
                     .is_some_and(|at| self.facts.file.ends_a_line_at(at))
                 {
-                    f.write_str(" It is longer than what can be read by one octet, a line end.")?;
+                    f.write_str(" The file has one octet too many: a line end.")?;
                 }
                 self.look(f, reply_look(self.command))
             }
@@ -170,7 +170,7 @@ impl<'a> Message<'a> {
             ),
             _ => write!(
                 f,
-                "road_proof: {reply}: {} not to be used: the reply rests on a text that the owner never signed, or on two texts of one digest, as the line that was written says. Keep that line with the three files.",
+                "road_proof: {reply}: {} not to be used: the reply rests on a text that the owner never signed, or on two texts with the same digest. Keep the output with the three files.",
                 brought(self.command)
             ),
         }
@@ -181,12 +181,12 @@ impl<'a> Message<'a> {
         if self.ended.status == 1 {
             write!(
                 f,
-                "road_proof: {signature}: It is no signature of this key on the text, for the reason in the line that was written."
+                "road_proof: {signature}: It is not a signature by this key on the text. The output gives the reason."
             )
         } else {
             write!(
                 f,
-                "road_proof: {signature}: It rests on two texts of one digest, or on a value that the desk never released, as the line that was written says. Keep that line with the three files."
+                "road_proof: {signature}: It rests on two texts with the same digest, or on a value that the desk never released. Keep the output with the three files."
             )
         }
     }
@@ -281,15 +281,15 @@ impl<'a> Message<'a> {
             Fault::Plan(fault) => self.plan(f, fault),
             Fault::UnknownNode(id) => write!(f, "It has no node {id}."),
             Fault::NoRoute => f.write_str("No route joins the two nodes."),
-            Fault::HeaderWrong => f.write_str("Its header is not that of its map and settings."),
-            Fault::OtherKey => f.write_str("This public key is none of those in owner.desk."),
+            Fault::HeaderWrong => f.write_str("Its header does not match its map and settings."),
+            Fault::OtherKey => f.write_str("The file owner.desk does not have this public key."),
             Fault::OtherPublication => write!(
                 f,
-                "{} not to be used before the reply is audited with its own publication, which is another one of the owner's.",
+                "{} not to be used yet. The reply is from another publication of the owner: audit it with that one.",
                 brought(self.command)
             ),
             Fault::MirrorLost => f.write_str(
-                "One that did not take the whole publication was lost. Standard output has all of it.",
+                "A mirror failed before it had the whole publication. Standard output has all of it.",
             ),
             Fault::Disk
             | Fault::KeysUsedUp
@@ -308,9 +308,7 @@ impl<'a> Message<'a> {
     /// Writes the sentence about a file that could not be read, or is not of the right kind.
     fn file<W: fmt::Write>(&self, f: &mut Formatter<W>, fault: Fault) -> fmt::Result {
         match fault {
-            Fault::TooLong => f.write_str(
-                "It has more than 268435456 octets, the most that are read.",
-            ),
+            Fault::TooLong => f.write_str("It has more than 268435456 octets, the limit."),
             Fault::Road(fault) => match fault {
                 RoadError::BadNumber(line) => self.number(f, line),
                 RoadError::NoTitle => {
@@ -331,22 +329,22 @@ impl<'a> Message<'a> {
                 let (kind, wanted) = self.malformed();
                 write!(
                     f,
-                    "It is no {kind}, and can't be read from offset {place} on."
+                    "It is not a {kind}: the field at offset {place} cannot be read."
                 )?;
                 self.look(f, wanted)
             }
             Fault::BadHex => {
                 match self.facts.file {
                     Content::Hex { wrong, .. } => write!(f, "{wrong}")?,
-                    _ => f.write_str("It is not the hex digits that are wanted.")?,
+                    _ => f.write_str("It is not the required hex digits.")?,
                 }
                 self.look(f, Look::Empty)
             }
             _ => {
-                f.write_str("It can't be read")?;
+                f.write_str("It cannot be read")?;
                 reason(f, self.facts.file_error)?;
                 match self.facts.name {
-                    "-" => f.write_str(" Standard input is taken under the name /dev/stdin."),
+                    "-" => f.write_str(" The name of standard input is /dev/stdin."),
                     _ => Ok(()),
                 }
             }
@@ -357,7 +355,7 @@ impl<'a> Message<'a> {
     fn number<W: fmt::Write>(&self, f: &mut Formatter<W>, line: u32) -> fmt::Result {
         match bad_number(self.facts.file.octets(), line) {
             Some(bad) => write!(f, "{bad}"),
-            None => write!(f, "Line {line} has a word that is no number of its range."),
+            None => write!(f, "Line {line} has an invalid number, or one out of range."),
         }
     }
 
@@ -401,11 +399,11 @@ impl<'a> Message<'a> {
         match (fault, settings_of(self.command)) {
             (PlanError::Settings(number), Some(method)) => {
                 let rule = plan_rule(method, number);
-                write!(f, "It is out of its range. {rule}")
+                write!(f, "It is out of range. {rule}")
             }
             (PlanError::Settings(number), None) => {
                 let name = setting_name(number);
-                write!(f, "Its setting {name} is out of its range.")
+                write!(f, "Its setting {name} is out of range.")
             }
             _ => write!(f, "{fault}"),
         }
@@ -416,13 +414,13 @@ impl<'a> Message<'a> {
         match fault {
             Fault::TruncatedFrame => f.write_str("It ends within a frame."),
             Fault::FrameTooLong => f.write_str(
-                "A frame of it is announced with more than 4194304 octets, the most that are taken.",
+                "It announces a frame of more than 4194304 octets, the limit.",
             ),
             Fault::TooManyFrames => f.write_str(
-                "It goes on after its 1000000th frame, the last that is taken.",
+                "It continues after its 1000000th frame, the limit.",
             ),
             _ => {
-                f.write_str("It can't be read")?;
+                f.write_str("It cannot be read")?;
                 reason(f, self.facts.source_error)
             }
         }
@@ -432,33 +430,33 @@ impl<'a> Message<'a> {
     fn desk<W: fmt::Write>(&self, f: &mut Formatter<W>, fault: Fault) -> fmt::Result {
         match fault {
             Fault::KeysUsedUp => f.write_str(
-                "All of its one-time keys were used but the one that signs the next key. `road_proof succeed` makes that key.",
+                "All its one-time keys are used, except the one that signs the next key. `road_proof succeed` makes the next key.",
             ),
-            Fault::Held => f.write_str("It holds a key already, which no other key may replace."),
+            Fault::Held => f.write_str("It already holds a key. No other key may replace it."),
             Fault::NoKey => f.write_str(
-                "It holds no key, or is not there. `road_proof key` makes one.",
+                "It holds no key, or does not exist. `road_proof key` makes one.",
             ),
             Fault::BadBlock => f.write_str(
-                "A key in it is of an unknown kind, or not all of its slots are there, or it is not the one that the key before it has signed. Or a signature by it was not verified, as a bit of memory had turned: then nothing was written.",
+                "One of its keys is of an unknown kind, lacks slots, or is not the one that the previous key signed. Or a new signature was wrong because a bit of memory had flipped: then nothing was written.",
             ),
             Fault::TooManyKeys => f.write_str(
-                "It holds eight keys, the most that it may hold. Make another key, in another folder.",
+                "It holds eight keys, the limit. Make a new key in another folder.",
             ),
             Fault::NoSuccession => f.write_str(
-                "The last one-time key of its key has signed a publication, so that it can't sign the next key. Make another key, in another folder.",
+                "Its last one-time key has signed a publication, so it cannot sign the next key. Make a new key in another folder.",
             ),
             Fault::SameSecret => f.write_str(
-                "It holds a key already whose first 16 octets are those of this secret. The next key is made from a secret of its own.",
+                "It already holds a key whose first 16 octets are those of this secret. The next key needs another secret.",
             ),
             _ => match self.facts.desk_error {
                 Some(e) if e.kind() == ErrorKind::WouldBlock => {
-                    f.write_str("Another process is at work on it.")
+                    f.write_str("Another process is using it.")
                 }
                 Some(e) if e.kind() == ErrorKind::AlreadyExists => {
-                    f.write_str("Another process has made it meanwhile.")
+                    f.write_str("Another process has just made it.")
                 }
                 error => {
-                    f.write_str("It can't be read or written")?;
+                    f.write_str("It cannot be read or written")?;
                     reason(f, error)
                 }
             },
@@ -471,7 +469,7 @@ fn few_left<W: fmt::Write>(f: &mut Formatter<W>, left: u32) -> fmt::Result {
     let keys = if left == 1 { "key is" } else { "keys are" };
     write!(
         f,
-        "road_proof: owner.desk: {left} one-time {keys} left. Make the next key (`road_proof succeed`) before they end."
+        "road_proof: owner.desk: {left} one-time {keys} left. `road_proof succeed` makes the next key."
     )
 }
 

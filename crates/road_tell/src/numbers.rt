@@ -87,6 +87,6 @@ impl Display for BadNumber<'_> {
             Range::Natural => "0 to 4294967295",
             Range::Coordinate => "-2147483648 to 2147483647",
         };
-        write!(f, "Line {line}: {word} is no whole number from {ends}.")
+        write!(f, "Line {line}: {word} is not a whole number from {ends}.")
     }
 }

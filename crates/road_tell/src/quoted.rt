@@ -14,11 +14,11 @@ impl Display for Quoted<'_> {
     fn fmt<W: fmt::Write>(&self, f: &mut Formatter<W>) -> fmt::Result {
         let (front, rest) = self.0.split_at(self.0.len().min(MOST));
         if !front.iter().all(|octet| octet.is_ascii_graphic()) {
-            return f.write_str("what stands there");
+            return f.write_str("an unprintable word");
         }
         match str::from_utf8(front) {
             Ok(word) => f.write_str(word)?,
-            Err(_) => return f.write_str("what stands there"),
+            Err(_) => return f.write_str("an unprintable word"),
         }
         if rest.is_empty() {
             Ok(())

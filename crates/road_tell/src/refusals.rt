@@ -6,7 +6,7 @@ use route_client::{CheckError, NearError};
 use std::fmt::{self, Display, Formatter};
 
 /// The sentence about items that do not recompute a signed root.
-const COVER: &str = "the roads in the reply are not shown to be those that were signed.";
+const COVER: &str = "the reply does not show that its roads are the signed ones.";
 
 /// The sentence about memory that ran out.
 const MEMORY: &str = "the check ran out of memory.";
@@ -58,18 +58,18 @@ impl Unusable {
     fn route<W: fmt::Write>(f: &mut Formatter<W>, why: CheckError) -> fmt::Result {
         match why {
             CheckError::NotAnswer(1) => f.write_str(
-                "there is none, and the server says, without proof, that an end is no node of the map.",
+                "there is none. The server says, without proof, that an end is not a node of the map.",
             ),
             CheckError::NotAnswer(_) => f.write_str(
-                "there is none, and the server says, without proof, that no route joins the two ends.",
+                "there is none. The server says, without proof, that no route joins the two ends.",
             ),
             CheckError::Malformed(place) => write!(
                 f,
-                "the file is no reply, and can't be read from offset {place} on."
+                "the file is not a reply. The field at offset {place} cannot be read."
             ),
             CheckError::Stale(version) => write!(
                 f,
-                "the reply is of version {version} of the map, which is older than LEAST asks for."
+                "the reply is of version {version} of the map, which is older than LEAST."
             ),
             CheckError::BadChain(link, _) => Unusable::chain(f, link),
             CheckError::BadSignature(why) => Unusable::seal(f, why),
@@ -84,11 +84,11 @@ impl Unusable {
         match why {
             NearError::Malformed(place) => write!(
                 f,
-                "the file is no reply to a range query, and can't be read from offset {place} on."
+                "the file is not a reply to a range query. The field at offset {place} cannot be read."
             ),
             NearError::Stale(version) => write!(
                 f,
-                "the reply is of version {version} of the map, which is older than LEAST asks for."
+                "the reply is of version {version} of the map, which is older than LEAST."
             ),
             NearError::BadChain(link, _) => Unusable::chain(f, link),
             NearError::BadSignature(why) => Unusable::seal(f, why),
@@ -114,10 +114,10 @@ impl Unusable {
     fn seal<W: fmt::Write>(f: &mut Formatter<W>, why: SealError) -> fmt::Result {
         f.write_str(match why {
             SealError::BadKey => {
-                "the public key is of no kind that is known here, so that nothing is signed under it."
+                "the public key is of an unknown kind, so nothing is signed under it."
             }
             _ => {
-                "the reply is not signed under this public key, nor under a key of the chain where one is named."
+                "the reply is not signed under this public key, or under a key of the chain if one is given."
             }
         })
     }
@@ -132,11 +132,11 @@ impl Unusable {
             ),
             Refusal::MissingTuple(id) => write!(
                 f,
-                "the reply leaves out the node {id}, without which it shows neither a shortest route nor that there is none."
+                "the reply leaves out the node {id}. Without this node, it shows neither a shortest route nor that there is none."
             ),
             Refusal::MissingPair(a, b) => write!(
                 f,
-                "the reply leaves out how far apart the nodes {a} and {b} are, without which it shows neither a shortest route nor that there is none."
+                "the reply leaves out the distance between the nodes {a} and {b}. Without it, the reply shows neither a shortest route nor that there is none."
             ),
             Refusal::Shorter(length) => write!(
                 f,
@@ -144,7 +144,7 @@ impl Unusable {
             ),
             Refusal::Disagrees(distance) => write!(
                 f,
-                "the reply brings a signed distance, {distance}, that says otherwise."
+                "a signed distance in the reply, {distance}, contradicts it."
             ),
             Refusal::Memory(_) => f.write_str(MEMORY),
         }

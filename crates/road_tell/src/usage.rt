@@ -22,14 +22,14 @@ pub struct Usage {
 
 /// The text of `help publish` about its nine arguments.
 const PUBLISHING: &str = "
-      VERSION  above that of the map before, as clients refuse older ones than they ask for
-      SEED     0, but for shuffled
-      FAN      2 to 32, how many children a tree's node has; 2 has the shortest replies
-      dij      0 0 0 for P1 P2 P3; nothing is prepared, and replies have all nodes nearer than T
-      full     0 0 0; at most 1024 nodes, whose distances are all signed
+      VERSION  above that of the previous map: clients refuse versions below a minimum
+      SEED     0, except for shuffled
+      FAN      2 to 32, the number of children of a tree node; 2 gives the shortest replies
+      dij      0 0 0 for P1 P2 P3; no hints, and replies have all nodes nearer than T
+      full     0 0 0; at most 1024 nodes, and all their distances are signed
       ldm      1 to 64 landmarks, 1 to 16 bits, a threshold to 65534
       hyp      1 to 1024 columns, 1 to 1024 rows, 0; at most 2048 border nodes
-      Numbers are whole, VERSION and SEED to 18446744073709551615.
+      All are whole numbers, VERSION and SEED from 0 to 18446744073709551615.
       In doubt: publish ROADS ldm VERSION hilbert 0 2 16 12 0";
 
 /// The commands.
@@ -41,7 +41,7 @@ pub const USAGES: [Usage; 17] = [
     },
     Usage {
         words: "root ROADS FAN",
-        does: "writes the count of nodes, and the root of the tree over their leaves",
+        does: "writes the number of nodes, and the root of the tree over their leaves",
         more: "",
     },
     Usage {
@@ -56,7 +56,7 @@ pub const USAGES: [Usage; 17] = [
     },
     Usage {
         words: "succeed SECRET KIND",
-        does: "makes the key that follows the owner's key, which signs it with its last one-time\n      key, and writes its public key",
+        does: "makes the owner's next key, signs it with the last one-time key of the current one,\n      and writes its public key",
         more: "",
     },
     Usage {
@@ -81,17 +81,17 @@ pub const USAGES: [Usage; 17] = [
     },
     Usage {
         words: "serve PUB [PUBKEY [CHAIN]]",
-        does: "answers the frames of standard input over a publication, and over those that\n      are installed after it, for up to 16 sessions; with PUBKEY only over those that\n      are signed under it or along CHAIN, and range queries too",
+        does: "answers the frames of standard input over a publication and over later installed\n      ones, for up to 16 sessions; with PUBKEY only over those that are signed under it\n      or along CHAIN, and range queries too",
         more: "",
     },
     Usage {
         words: "check PUBKEY REPLY S T LEAST [CHAIN]",
-        does: "writes what a client says of a reply: that it accepts a route, or that there\n      is none, of version LEAST or later, or why it does not; CHAIN is the chain file\n      of an owner with later keys",
+        does: "checks a reply and writes the verdict of a client: the route or that there is none,\n      in a map of version LEAST or later, or why the reply is refused; CHAIN is the\n      chain file of an owner with later keys",
         more: "",
     },
     Usage {
         words: "audit PUBKEY PUB REPLY S T [CHAIN]",
-        does: "writes what a reply is evidence of, by owner.desk and a publication",
+        does: "judges a reply by owner.desk and a publication, and writes the evidence if it is false",
         more: "",
     },
     Usage {
@@ -101,22 +101,22 @@ pub const USAGES: [Usage; 17] = [
     },
     Usage {
         words: "check-reach PUBKEY REPLY S RADIUS LEAST [CHAIN]",
-        does: "writes what a client says of such a reply: how many nodes lie within RADIUS,\n      and which, by version LEAST or later, or why it does not accept it",
+        does: "checks such a reply and writes the verdict of a client: the nodes within RADIUS,\n      in a map of version LEAST or later, or why the reply is refused",
         more: "",
     },
     Usage {
         words: "audit-reach PUBKEY PUB REPLY S RADIUS [CHAIN]",
-        does: "writes what such a reply is evidence of, by owner.desk and a publication",
+        does: "judges such a reply by owner.desk and a publication, and writes the evidence if it is\n      false",
         more: "",
     },
     Usage {
         words: "reduce PUBKEY TEXT SIGNATURE",
-        does: "writes what a signature on a text that the desk never signed reduces to, by\n      owner.desk: a collision of SHA-256, or a value that the desk never released",
+        does: "reduces a signature on a text that the desk never signed, by owner.desk, and writes\n      the result: a collision of SHA-256, or a value that the desk never released",
         more: "",
     },
     Usage {
         words: "survey WIDTH SEED METHOD QUERIES",
-        does: "publishes a grid by a key in memory, answers random queries over it, checks each\n      reply, and writes how many were accepted, their lengths' total, and a digest",
+        does: "signs a grid with a key in memory, answers random queries over it, checks each reply,\n      and writes the number of accepted replies, their total length, and a digest",
         more: "",
     },
 ];

@@ -15,7 +15,8 @@ pub enum WrongWords<'a> {
     /// The command takes a different number of arguments.
     Count {
         usage: &'static Usage,
-        wanted: usize,
+        least: usize,
+        most: usize,
         found: usize,
     },
     /// This argument is invalid at its position.
@@ -44,12 +45,13 @@ pub fn wrong_words(words: &Words) -> Option<WrongWords<'_>> {
 /// Returns the first argument that is invalid at its position, if the number of arguments is right.
 fn wrong_place<'a>(usage: &'static Usage, words: &'a Words) -> Option<WrongWords<'a>> {
     let most = usage.words.split(' ').count();
-    let wanted = most.saturating_sub(usage.optional());
+    let least = most.saturating_sub(usage.optional());
     let found = words.count() as usize;
-    if found < wanted || most < found {
+    if found < least || most < found {
         return Some(WrongWords::Count {
             usage,
-            wanted: wanted.saturating_sub(1),
+            least: least.saturating_sub(1),
+            most: most.saturating_sub(1),
             found: found.saturating_sub(1),
         });
     }
@@ -107,20 +109,17 @@ impl Display for WrongWords<'_> {
             ),
             WrongWords::Count {
                 usage,
-                wanted,
+                least,
+                most,
                 found,
             } => {
                 let name = usage.words.split(' ').next().unwrap_or("");
-                let more = match usage.optional() {
-                    0 => "",
-                    1 => ", or one more",
-                    _ => ", or up to two more",
-                };
-                let are = if *found == 1 { "is" } else { "are" };
-                write!(
-                    f,
-                    "road_proof: {name}: It takes {wanted} arguments{more}, and here {are} {found}.\n{usage}"
-                )
+                write!(f, "road_proof: {name}: It takes ")?;
+                if *least < *most {
+                    write!(f, "{least} to ")?;
+                }
+                let arguments = if *most == 1 { "argument" } else { "arguments" };
+                write!(f, "{most} {arguments}, not {found}.\n{usage}")
             }
             WrongWords::Word { usage, place, word } => {
                 let rule = rule(place);

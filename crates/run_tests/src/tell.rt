@@ -99,7 +99,7 @@ fn each_end_is_told(rt: HostRuntime) -> Result<(), Fail> {
         (
             "route none 1 5",
             "none",
-            "road_proof: none: It can't be read: entity not found.",
+            "road_proof: none: It cannot be read: entity not found.",
         ),
         (
             "route self.roads 1 5",
@@ -119,17 +119,17 @@ fn each_end_is_told(rt: HostRuntime) -> Result<(), Fail> {
         (
             "prove map.roads 1 3",
             "map.roads",
-            "road_proof: map.roads: It is no publication, and can't be read from offset 0 on. It looks like a road file.",
+            "road_proof: map.roads: It is not a publication: the field at offset 0 cannot be read. It looks like a road file.",
         ),
         (
             "key map.roads h5",
             "map.roads",
-            "road_proof: map.roads: The octet at offset 0 is no hex digit, and the file must be 96 of them and at most one line end. It looks like a road file.",
+            "road_proof: map.roads: The octet at offset 0 is not a hex digit. The file must have 96 hex digits and at most one line end. It looks like a road file.",
         ),
         (
             "desk",
             "file",
-            "road_proof: owner.desk: It holds no key, or is not there. `road_proof key` makes one.",
+            "road_proof: owner.desk: It holds no key, or does not exist. `road_proof key` makes one.",
         ),
         (
             "survey 33 7 full 1",
@@ -139,7 +139,7 @@ fn each_end_is_told(rt: HostRuntime) -> Result<(), Fail> {
         (
             "check zeros map.roads 1 3 0",
             "zeros",
-            "road_proof: zeros: There are 96 hex digits, and 112 are wanted.",
+            "road_proof: zeros: It has 96 hex digits, not 112.",
         ),
     ] {
         says(&rt, rt.alloc(), line, name, wanted)?;
@@ -261,7 +261,7 @@ fn ends_over_real_files_are_told(rt: HostRuntime) -> Result<(), Fail> {
             None,
             ErrorKind::Other,
             b"".as_slice(),
-            "road_proof: owner.desk: 1 one-time key is left. Make the next key (`road_proof succeed`) before they end.",
+            "road_proof: owner.desk: 1 one-time key is left. `road_proof succeed` makes the next key.",
         ),
         (
             publish,
@@ -269,7 +269,7 @@ fn ends_over_real_files_are_told(rt: HostRuntime) -> Result<(), Fail> {
             Some(Fault::Disk),
             ErrorKind::WouldBlock,
             b"".as_slice(),
-            "road_proof: owner.desk: Another process is at work on it.",
+            "road_proof: owner.desk: Another process is using it.",
         ),
         (
             publish,
@@ -285,7 +285,7 @@ fn ends_over_real_files_are_told(rt: HostRuntime) -> Result<(), Fail> {
             None,
             ErrorKind::Other,
             b"".as_slice(),
-            "road_proof: r: It is not served, since it or a link of the chain is not signed, as the line that was written says.",
+            "road_proof: r: It is not served: it or a link of the chain is not signed. The output says which.",
         ),
         (
             "serve r",
@@ -293,7 +293,7 @@ fn ends_over_real_files_are_told(rt: HostRuntime) -> Result<(), Fail> {
             Some(Fault::Source),
             ErrorKind::BrokenPipe,
             b"".as_slice(),
-            "road_proof: standard input: It can't be read: broken pipe.",
+            "road_proof: standard input: It cannot be read: broken pipe.",
         ),
         (
             "serve r",
@@ -309,7 +309,7 @@ fn ends_over_real_files_are_told(rt: HostRuntime) -> Result<(), Fail> {
             Some(Fault::HeaderWrong),
             ErrorKind::Other,
             b"".as_slice(),
-            "road_proof: r: Its header is not that of its map and settings.",
+            "road_proof: r: Its header does not match its map and settings.",
         ),
         (
             publish,
@@ -317,7 +317,7 @@ fn ends_over_real_files_are_told(rt: HostRuntime) -> Result<(), Fail> {
             Some(settings),
             ErrorKind::Other,
             b"".as_slice(),
-            "road_proof: P1: It is out of its range. Under dij and full it is 0.",
+            "road_proof: P1: It is out of range. Under dij and full it is 0.",
         ),
         (
             audit,
@@ -325,7 +325,7 @@ fn ends_over_real_files_are_told(rt: HostRuntime) -> Result<(), Fail> {
             None,
             ErrorKind::Other,
             b"".as_slice(),
-            "road_proof: r: The answer is not to be used: the reply rests on a text that the owner never signed, or on two texts of one digest, as the line that was written says. Keep that line with the three files.",
+            "road_proof: r: The answer is not to be used: the reply rests on a text that the owner never signed, or on two texts with the same digest. Keep the output with the three files.",
         ),
         (
             audit,
@@ -333,7 +333,7 @@ fn ends_over_real_files_are_told(rt: HostRuntime) -> Result<(), Fail> {
             Some(Fault::OtherPublication),
             ErrorKind::Other,
             b"".as_slice(),
-            "road_proof: r: The answer is not to be used before the reply is audited with its own publication, which is another one of the owner's.",
+            "road_proof: r: The answer is not to be used yet. The reply is from another publication of the owner: audit it with that one.",
         ),
         (
             check,
@@ -341,7 +341,7 @@ fn ends_over_real_files_are_told(rt: HostRuntime) -> Result<(), Fail> {
             None,
             ErrorKind::Other,
             b"refused Malformed 0\n".as_slice(),
-            "road_proof: r: The answer is not to be used: the file is no reply, and can't be read from offset 0 on. It looks like a publication.",
+            "road_proof: r: The answer is not to be used: the file is not a reply. The field at offset 0 cannot be read. It looks like a publication.",
         ),
         (
             "check-reach k r 1 4 3",
@@ -349,7 +349,7 @@ fn ends_over_real_files_are_told(rt: HostRuntime) -> Result<(), Fail> {
             None,
             ErrorKind::Other,
             b"refused Malformed 0\n".as_slice(),
-            "road_proof: r: The nodes are not to be used: the file is no reply to a range query, and can't be read from offset 0 on. It looks like a publication.",
+            "road_proof: r: The nodes are not to be used: the file is not a reply to a range query. The field at offset 0 cannot be read. It looks like a publication.",
         ),
         (
             "audit-reach k p r 1 4",
@@ -357,7 +357,7 @@ fn ends_over_real_files_are_told(rt: HostRuntime) -> Result<(), Fail> {
             Some(Fault::OtherPublication),
             ErrorKind::Other,
             b"".as_slice(),
-            "road_proof: r: The nodes are not to be used before the reply is audited with its own publication, which is another one of the owner's.",
+            "road_proof: r: The nodes are not to be used yet. The reply is from another publication of the owner: audit it with that one.",
         ),
         (
             "reduce k t r",
@@ -365,7 +365,7 @@ fn ends_over_real_files_are_told(rt: HostRuntime) -> Result<(), Fail> {
             None,
             ErrorKind::Other,
             b"".as_slice(),
-            "road_proof: r: It is no signature of this key on the text, for the reason in the line that was written.",
+            "road_proof: r: It is not a signature by this key on the text. The output gives the reason.",
         ),
         (
             "reduce k t r",
@@ -373,7 +373,7 @@ fn ends_over_real_files_are_told(rt: HostRuntime) -> Result<(), Fail> {
             None,
             ErrorKind::Other,
             b"".as_slice(),
-            "road_proof: r: It rests on two texts of one digest, or on a value that the desk never released, as the line that was written says. Keep that line with the three files.",
+            "road_proof: r: It rests on two texts with the same digest, or on a value that the desk never released. Keep the output with the three files.",
         ),
         (
             "reduce k t r",
@@ -381,7 +381,7 @@ fn ends_over_real_files_are_told(rt: HostRuntime) -> Result<(), Fail> {
             Some(Fault::BadHex),
             ErrorKind::Other,
             b"".as_slice(),
-            "road_proof: r: The octet at offset 0 is no hex digit, and the file must be an even number of them and at most one line end. It looks like a publication.",
+            "road_proof: r: The octet at offset 0 is not a hex digit. The file must have an even number of hex digits and at most one line end. It looks like a publication.",
         ),
         (
             "reach r 9 4",

@@ -24,15 +24,15 @@ TOP = os.path.dirname(os.path.dirname(os.path.abspath(__file__)))
 MAIN = "road_proof"
 # the files with trusted bodies, and the number of statements in these bodies
 TRUSTED = {
-    "desk_disk/src/handle.rt": 17,
+    "desk_disk/src/handle.rt": 14,
     "desk_disk/src/look.rt": 6,
-    "desk_disk/src/state.rt": 51,
+    "desk_disk/src/state.rt": 52,
     "desk_guard/src/folder.rt": 9,
     "desk_guard/src/owner_mirror.rt": 25,
     "desk_guard/src/secret_file.rt": 3,
     "desk_guard/src/streams.rt": 4,
     "desk_guard/src/user.rt": 7,
-    "guarded_run/src/owner_key.rt": 11,
+    "guarded_run/src/owner_key.rt": 3,
     "mirror_out/src/file_mirror.rt": 9,
     "road_io/src/calls.rt": 23,
     "road_io/src/file_disk.rt": 45,

@@ -169,23 +169,38 @@ def of_replies(owner: Owner, folder: str) -> None:
 def of_desk_file(owner: Owner) -> None:
     before = desk()
 
-    def refused(what: str, *parts: str) -> None:
-        says(what, owner.publish(2**34), 7, *parts)
+    def refused(what: str, part: str, status: int) -> None:
+        """A command that writes refuses the desk, and one that only reads it ends with this status and says the same."""
+        says(what, owner.publish(2**34), 7, part)
+        for words in ("desk", "links"):
+            ended = owner.run(words)
+            says(f"{what}: {words}", ended, status, part)
+            same(f"{what}: how often {words} says it", ended[2].count(part), 1)
+            same(f"{what}: whether {words} writes", bool(ended[1]), words == "desk" and not status)
         same(f"{what}: the desk", desk(), before)
-        same(f"{what}: desk", owner.run("desk")[0], 0)
 
     for mode in (0o620, 0o602, 0o666):
         os.chmod("owner.desk", mode)
-        refused(f"a desk of mode {mode:o}", "Others may write it. `chmod 600 owner.desk` ends that")
+        refused(f"a desk of mode {mode:o}", "Others may write it. `chmod 600 owner.desk` ends that", 0)
         same("its mode", stat.S_IMODE(os.stat("owner.desk").st_mode), mode)
     os.chmod("owner.desk", 0o600)
     os.link("owner.desk", "second.desk")
-    refused("a desk of two names", "It has a second name")
+    refused("a desk of two names", "It has a second name", 7)
     os.remove("second.desk")
     os.rename("owner.desk", "real.desk")
     os.symlink("real.desk", "owner.desk")
-    refused("a link", "It is a link, which is not followed.")
+    refused("a link", "It is a link, which is not followed.", 7)
     os.remove("owner.desk")
+    os.mkfifo("owner.desk")
+    for words in ("desk", "links"):
+        says(f"{words} at a FIFO", owner.run(words), 7, "It is no regular file. Take it away.")
+    os.remove("owner.desk")
+    if not os.geteuid():
+        os.chown("real.desk", 65534, 65534)
+        os.rename("real.desk", "owner.desk")
+        refused("another user's desk", "It is another user's.", 7)
+        os.chown("owner.desk", 0, 0)
+        os.rename("owner.desk", "real.desk")
     os.symlink("nowhere", "owner.desk")
     says("a link to nothing", owner.run("key secret.hex h5"), 7, "It is a link")
     same("what it leads to", os.path.exists("nowhere"), False)
@@ -322,6 +337,10 @@ def of_swaps(owner: Owner, folder: str) -> None:
     ended = swapped(owner, folder, f"publish five.roads {PLAIN.format(2**34)}", "owner.desk", "other.desk")
     says("a desk that became a link", ended, 7, "road_proof: owner.desk: ")
     same("what was written", (ended[1], desk(), pathlib.Path("other.desk").read_bytes()), (b"", before, before))
+    for words in ("desk", "links"):
+        ended = swapped(owner, folder, words, "owner.desk", "other.desk")
+        says(f"{words} at a desk that became a link", ended, 7, "road_proof: owner.desk: It is a link")
+        same(f"{words}: what was written", ended[1], b"")
     os.remove("other.desk")
     write("mirror-1", "")
     write("foreign", "")

@@ -1,1 +1,2 @@
 pub mod SystemLaws
+mod Found

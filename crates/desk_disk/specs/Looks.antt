@@ -5,6 +5,8 @@ use Rattle.std.specs.declared.option.Option.TheVariants.{None, Some}
 use Rattle.std.specs.Str.{bytes_eq}
 use Rattle.road_io.specs.Shelves.{Note}
 use Rattle.desk_disk.specs.declared.look.Look.{Look}
+use Rattle.desk_disk.specs.declared.unsafe_desk.Unsafe.{Unsafe}
+use Rattle.desk_disk.specs.declared.unsafe_desk.Unsafe.TheVariants as faults
 
 -- a look at a file as it is recorded, under a code: its kind (1: a regular file), its owner, the number of its
 -- names, its mode, its device and its number on the device
@@ -28,6 +30,11 @@ is_closed look = bit_and look.mode 0x3f == 0
 abbrev pub is_unwritable : Look → Bool
 is_unwritable look = bit_and look.mode 0x12 == 0
 
+-- such a file, whatever others may do with it, if the system reports the user
+abbrev pub is_users : Option ℕ → Look → Bool
+is_users None look = false
+is_users (Some user) look = is_own user look
+
 -- the file belongs to the user and is closed to others, if the system reports the user
 abbrev pub is_safe : Option ℕ → Look → Bool
 is_safe None look = false
@@ -40,6 +47,13 @@ is_safe_but_read (Some user) look = is_own user look && is_unwritable look
 -- the name is not a link; it is the name of the handle's file
 abbrev pub is_under : Look → Look → Bool
 is_under named held = named.kind == 1 && named.device == held.device && named.inode == held.inode
+
+-- at most the mode of the file is at fault: others may read or write it
+abbrev pub is_of_mode : Option Unsafe → Bool
+is_of_mode None = true
+is_of_mode (Some faults.Mode) = true
+is_of_mode (Some faults.Readable) = true
+is_of_mode (Some fault) = false
 
 -- ---- the recorded answers: 0 the user of the process, 1 a look at the file of a name, without following a link, 2
 -- a look at the file of the handle, 3 that others were denied access to that file, through the handle
@@ -60,19 +74,22 @@ abbrev pub are_looks : List ℕ → Note → Note → Note → Bool
 are_looks name user named held = part 0 user == 0 && part 0 named == 1 && part 0 held == 2 &&
     bytes_eq named.1 name
 
--- these looks show a safe file
-abbrev pub is_seen : List ℕ → List Note → Bool
-is_seen name (held ∷ named ∷ user ∷ before) = are_looks name user named held &&
-    is_under (shown named) (shown held) && is_own (part 1 user) (shown held) &&
-    is_closed (shown held)
-is_seen name answers = false
+-- these looks show a regular file and no link, of the user, with one name
+abbrev pub is_seen_own : List ℕ → List Note → Bool
+is_seen_own name (held ∷ named ∷ user ∷ before) = are_looks name user named held &&
+    is_under (shown named) (shown held) && is_own (part 1 user) (shown held)
+is_seen_own name answers = false
 
--- these looks show a file that is safe except that others may read it
+-- these looks show such a file, and it is closed to others
+abbrev pub is_seen : List ℕ → List Note → Bool
+is_seen name [] = false
+is_seen name (held ∷ before) = is_seen_own name (held ∷ before) && is_closed (shown held)
+
+-- these looks show such a file, and others may at most read it
 abbrev pub is_seen_readable : List ℕ → List Note → Bool
-is_seen_readable name (held ∷ named ∷ user ∷ before) = are_looks name user named held &&
-    is_under (shown named) (shown held) && is_own (part 1 user) (shown held) &&
-    is_unwritable (shown held)
-is_seen_readable name answers = false
+is_seen_readable name [] = false
+is_seen_readable name (held ∷ before) =
+    is_seen_own name (held ∷ before) && is_unwritable (shown held)
 
 -- others were denied access to a file only directly after looks which show that it is safe except that others may
 -- read it

@@ -51,8 +51,8 @@ TellsFilesApart system = (j k : ℕ) (name : List ℕ) (file held : Inode) →
     file.identity ≡ held.identity
 
 -- at these two moments, the name was not a link but the name of the handle's own file, which was a regular file of
--- the user, with one name, that others could neither read nor write
-pub record IsSafeAt (system : System) (name : List ℕ) (told looked seen : ℕ) : Type 0 where
+-- the user, with one name
+pub record IsOwnAt (system : System) (name : List ℕ) (told looked seen : ℕ) : Type 0 where
   pub under : Inode
   pub held : Inode
   pub stood : (system looked).named name ≡ Some under
@@ -62,9 +62,18 @@ pub record IsSafeAt (system : System) (name : List ℕ) (told looked seen : ℕ)
   pub regular : held.shown.kind ≡ 1
   pub own : held.shown.owner ≡ (system told).user
   pub one_name : held.shown.names ≡ 1
-  pub closed : bit_and held.shown.mode 0x3f ≡ 0
 
--- the handle was found to be safe at the last three answers, in each file system that gave these answers
+-- such a file, and others could neither read nor write it
+pub record IsSafeAt (system : System) (name : List ℕ) (told looked seen : ℕ) : Type 0 where
+  pub file : IsOwnAt system name told looked seen
+  pub closed : bit_and file.held.shown.mode 0x3f ≡ 0
+
+-- the handle was found to be the user's own at the last three answers, in each file system that gave these answers
+abbrev pub WasOwn : List ℕ → List Note → Type 0
+WasOwn name answers = (system : System) → Answers system answers → (told : ℕ) ×
+    IsOwnAt system name told (suc told) (suc (suc told))
+
+-- and to be safe
 abbrev pub WasSafe : List ℕ → List Note → Type 0
 WasSafe name answers = (system : System) → Answers system answers → (told : ℕ) ×
     IsSafeAt system name told (suc told) (suc (suc told))

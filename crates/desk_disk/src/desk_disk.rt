@@ -2,9 +2,9 @@
 ghost use Rattle.std.specs.Prelude.{◌≡◌, ◌≤◌, [], ◌∷◌, ◌&&◌, false, IfOk, OnOk, length};
 ghost use Rattle.road_io.specs.Causes.{HasCause, Rose, RoseBy};
 ghost use Rattle.road_io.specs.Worlds.{noted_sync, noted_write};
-ghost use Rattle.desk_disk.specs.States.{is_followed};
+ghost use Rattle.desk_disk.specs.States.{is_read_only, WasFound};
 
-use crate::state::{NotOpened, State, make, open_followed, open_seen};
+use crate::state::{NotOpened, State, make, open_own, open_seen};
 use crate::unsafe_desk::Unsafe;
 use road_io::{Disk, Failed, Record};
 use std::fs::File;
@@ -17,9 +17,9 @@ use std::rt::Files;
 /// each call fails with `ErrorKind::WouldBlock`. If the file does not exist, the disk is empty, and the first write
 /// creates a file that only its owner may read and write.
 ///
-/// For a command that writes, the file itself is opened, never a link, and only if the file is safe: after the
-/// opening, the system must answer that the handle is a regular file and not a link, has one name, belongs to the
-/// user and is closed to others. For a command that only reads, any file is read, and nothing is written.
+/// The file itself is opened, never a link, and only if the file is safe: after the opening, the system must answer
+/// that the handle is a regular file and not a link, has one name and belongs to the user. For a command that writes,
+/// it must also be closed to others. For a command that only reads, nothing is written.
 ///
 /// Each error counts as a disk error. So does a range that does not end within the file, and a write that starts
 /// past the end of the file.
@@ -34,7 +34,7 @@ pub struct DeskDisk<R: Files<File = File> + Drop> {
     why_unsafe: Option<Unsafe>,
     history: Record,
     world: Record,
-    pub ghost seen: { (writes && is_followed state) ≡ false },
+    pub ghost seen: { (writes && is_read_only state) ≡ false },
 }
 
 impl<R: Files<File = File> + Drop> DeskDisk<R> {
@@ -74,6 +74,18 @@ impl<R: Files<File = File> + Drop> DeskDisk<R> {
         self.state.was_readable()
     }
 
+    /// Returns what is at fault with the mode of the file, if a command that only reads has opened it. The fault is left.
+    pub fn fault_left(&self) -> Option<Unsafe> {
+        self.state.fault_left()
+    }
+
+    /// States what was found of the file after its opening.
+    pub fn was_found(&self)
+        ensures { WasFound self.now.state }
+    {
+        self.state.was_found()
+    }
+
     // Begins a call: counts the call, and opens the file if it is not open yet.
     fn begin(&mut self) -> Result<(), Failed>
         ensures cause { HasCause self.old.faults self.new.faults result }
@@ -92,7 +104,7 @@ impl<R: Files<File = File> + Drop> DeskDisk<R> {
 
     // Stores the state after an opening. Counts a disk error if the opening failed.
     fn take(&mut self, opened: Result<State, NotOpened>) -> Result<(), Failed>
-        requires { IfOk opened (λ state. (self.old.writes && is_followed state) ≡ false) }
+        requires { IfOk opened (λ state. (self.old.writes && is_read_only state) ≡ false) }
         ensures cause { HasCause self.old.faults self.new.faults result }
         ensures kept { OnOk result (self.new.faults ≡ self.old.faults) }
         ensures same { self.new.calls ≡ self.old.calls }
@@ -158,13 +170,9 @@ impl<R: Files<File = File> + Drop> DeskDisk<R> {
 
 // Opens the desk's file, for a command that writes to it or for one that only reads.
 fn opened<R: Files<File = File>>(rt: &R, writes: bool) -> Result<State, NotOpened>
-    ensures { IfOk result (λ state. (writes && is_followed state) ≡ false) }
+    ensures { IfOk result (λ state. (writes && is_read_only state) ≡ false) }
 {
-    if writes {
-        open_seen(rt)
-    } else {
-        Ok(open_followed(rt)?)
-    }
+    if writes { open_seen(rt) } else { open_own(rt) }
 }
 
 impl<R: Files<File = File> + Drop> Disk for DeskDisk<R> {

@@ -1,10 +1,10 @@
 //! A handle of the desk's file, and the system's answers about it before it is used.
 ghost use Rattle.std.specs.Prelude.{◌≡◌, [], ◌∷◌, Ok, Some, None, true, IfOk};
-ghost use Rattle.desk_disk.specs.Looks.{is_seen, is_seen_readable, seen_as, shuts_well};
+ghost use Rattle.desk_disk.specs.Looks.{is_of_mode, is_seen, is_seen_own, is_seen_readable, seen_as, shuts_well};
 ghost use Rattle.desk_disk.specs.declared.look.TheConstants.{DESK};
 
 use crate::look::{DESK, Look, look_of};
-use crate::unsafe_desk::{Unsafe, fault_of, fault_of_opened};
+use crate::unsafe_desk::{Unsafe, fault_of_opened, is_of_mode};
 use road_io::Record;
 use std::fs::{self, File, OpenFile, Permissions};
 use std::io;
@@ -15,14 +15,6 @@ use std::rt::Files;
 pub fn user<R: Files>(rt: &R) -> Option<u64> {
     match fs::metadata(rt, "/proc/self") {
         Ok(process) => Some(u64::from(process.uid())),
-        Err(_) => None,
-    }
-}
-
-/// Returns why the desk's file is not safe, if it exists. Does not follow a link.
-pub fn desk_fault<R: Files>(rt: &R) -> Option<Unsafe> {
-    match rt.symlink_metadata(DESK) {
-        Ok(named) => fault_of(look_of(&named), user(rt)),
         Err(_) => None,
     }
 }
@@ -38,6 +30,8 @@ pub fn looked<R: Files, F: OpenFile>(
     ensures seen { result ≡ Ok None → is_seen name.now answers.new.events ≡ true }
     ensures readable { result ≡ Ok (Some Unsafe.Readable) →
         is_seen_readable name.now answers.new.events ≡ true }
+    ensures own { IfOk result (λ fault. is_of_mode fault ≡ true →
+        is_seen_own name.now answers.new.events ≡ true) }
     ensures shuts { shuts_well name.now answers.old.events ≡ true →
         shuts_well name.now answers.new.events ≡ true }
 {
@@ -92,6 +86,50 @@ fn settled<R: Files, F: OpenFile>(
             Ok((looked(rt, name, file, answers)?, true))
         }
         fault => Ok((fault, false)),
+    }
+}
+
+/// A handle of the desk's file that was found to be a regular file and no link, the user's own, with one name, and the
+/// system's answers about it.
+///
+/// A command that only reads the desk reads it only through such a handle.
+#[derive(Drop)]
+pub struct OwnFile {
+    file: File,
+    answers: Record,
+    fault: Option<Unsafe>,
+    pub ghost seen: { is_seen_own DESK.now answers.events ≡ true },
+}
+
+impl OwnFile {
+    /// Takes the file that was opened by the desk's name, if at most its mode is at fault. Leaves its mode. Nothing may
+    /// have been read before.
+    pub fn of<R: Files>(rt: &R, file: File) -> io::Result<Result<OwnFile, Unsafe>> {
+        let mut answers = Record::new();
+        let fault = looked(rt, DESK, &file, &mut answers)?;
+        match fault {
+            Some(why) if !is_of_mode(fault) => Ok(Err(why)),
+            _ => Ok(Ok(OwnFile {
+                file,
+                answers,
+                fault,
+            })),
+        }
+    }
+
+    /// Returns what is at fault with the mode of the file.
+    pub fn fault(&self) -> Option<Unsafe> {
+        self.fault
+    }
+
+    /// Returns the file.
+    pub fn file(&self) -> &File {
+        &self.file
+    }
+
+    /// Returns the file, for reading.
+    pub fn file_mut(&mut self) -> &mut File {
+        &mut self.file
     }
 }
 

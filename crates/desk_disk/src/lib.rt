@@ -2,7 +2,6 @@
 #![tactic(auto)]
 
 pub use desk_disk::DeskDisk;
-pub use handle::desk_fault;
 pub use laws::opening_laws;
 pub use unsafe_desk::Unsafe;
 

@@ -1,7 +1,7 @@
 //! Why a file is not safe as a desk.
 ghost use Rattle.std.specs.Prelude.{◌≡◌, ◌&&◌, Some, true};
 ghost use Rattle.std.specs.Option.{is_none};
-ghost use Rattle.desk_disk.specs.Looks.{is_safe, is_safe_but_read, is_under};
+ghost use Rattle.desk_disk.specs.Looks.{is_of_mode, is_safe, is_safe_but_read, is_under, is_users};
 
 use crate::look::{LINK, Look, REGULAR};
 use std::fmt::{self, Display, Formatter};
@@ -39,7 +39,7 @@ impl Display for Unsafe {
             Unsafe::Link => "It is a link, which is not followed. Move the file itself here.",
             Unsafe::Kind => "It is no regular file. Take it away.",
             Unsafe::Changed =>
-                "Something else put another file under its name just now. Nothing was done.",
+                "Something else put another file under its name just now. Nothing was done. Stop what changes this folder, look which file is your desk, and run the command again.",
             Unsafe::User =>
                 "The system does not say whose process this is, so nobody can say whose file it is. Mount /proc.",
             Unsafe::Owner =>
@@ -53,10 +53,18 @@ impl Display for Unsafe {
     }
 }
 
+/// Tests whether nothing is at fault, or the mode alone.
+pub fn is_of_mode(fault: Option<Unsafe>) -> bool
+    ensures { result ≡ is_of_mode fault }
+{
+    matches!(fault, None | Some(Unsafe::Mode | Unsafe::Readable))
+}
+
 /// Returns why a file with this look is not safe as a desk of a user, without regard to its name.
 pub fn fault_of(look: Look, user: Option<u64>) -> Option<Unsafe>
     ensures none { is_none result ≡ is_safe user look }
     ensures readable { result ≡ Some Unsafe.Readable → is_safe_but_read user look ≡ true }
+    ensures own { is_of_mode result ≡ is_users user look }
 {
     let Some(user) = user else {
         return Some(Unsafe::User);
@@ -84,6 +92,7 @@ pub fn fault_of_opened(named: Look, held: Look, user: Option<u64>) -> Option<Uns
     ensures none { is_none result ≡ (is_under named held && is_safe user held) }
     ensures readable { result ≡ Some Unsafe.Readable →
         (is_under named held && is_safe_but_read user held) ≡ true }
+    ensures own { is_of_mode result ≡ (is_under named held && is_users user held) }
 {
     if named.kind == LINK {
         return Some(Unsafe::Link);

@@ -30,6 +30,17 @@ pub struct Looked {
     pub told: Result<Told, Unfit>,
 }
 
+// Makes the writes of a disk durable, so that a crash leaves the octets that a read gives, and nothing else.
+fn settle<D: Disk>(disk: &mut D) -> Result<(), Unfit>
+    ensures stable { OnOk result (IsStable D.Disk disk.new) }
+    ensures content { OnOk result (D.content disk.new ≡ D.content disk.old) }
+    ensures moments { AtEachMoment D.Disk disk.old disk.new Stays }
+    ensures fault { IfErr result (λ why. why ≡ Unfit.Disk) }
+{
+    disk.sync()?;
+    Ok(())
+}
+
 // Makes the writes of a disk durable and reads its octets.
 fn stable_image<D: Disk>(alloc: Global, disk: &mut D) -> Result<Vec<u8>, Unfit>
     ensures image { IfOk result (λ image. ForSome (D.content disk.new) (λ c. image.items ≡ seen_of c)) }
@@ -39,7 +50,7 @@ fn stable_image<D: Disk>(alloc: Global, disk: &mut D) -> Result<Vec<u8>, Unfit>
     ensures not_strange { (e : Strange) → result ≢ Err (Unfit.Strange e) }
     ensures not_other { result ≢ Err Unfit.OtherKey }
 {
-    disk.sync()?;
+    settle(disk)?;
     let image = image_of(alloc, disk)?;
     Ok(image)
 }

@@ -42,15 +42,15 @@ module _ {M : Type 0} (octets : M → Option (List ℕ)) (label handed puts room
   }
 
 module _ {L S I K D M : Type 0} (library : LibraryView L) (source : SourceView S) (below : SinkView I) (sink : SinkView K) (awaited : K → Option (List ℕ)) (disk : DiskView D) (mirror : MirrorView M) where
-  ran_part : (asked : Option Request) (first : Option (List ℕ)) (sight : Option Sight) (signer : Option (List ℕ)) (spending : Spending) (ended : Ended) (l l' : L) (s s' : S) (k' : K) (d d' : D) (ms ms' : List M)
-      → RunsBehind library source below sink awaited disk mirror asked first sight signer spending ended l l' s s' k' d d' ms ms' → (before : List Release) → IsPartOfLife mirror.octets mirror.named mirror.handed mirror.puts mirror.room disk d d' before
-  ran_part asked first sight signer spending ended l l' s s' k' d d' ms ms' it before =
+  ran_part : (asked : Option Request) (first : Option (List ℕ)) (sight : Option Sight) (signer : Option (List ℕ)) (spending : Spending) (ended : Ended) (l l' : L) (s s' : S) (i : I) (k' : K) (d d' : D) (ms ms' gone gone' : List M)
+      → RunsBehind library source below sink awaited disk mirror asked first sight signer spending ended l l' s s' i k' d d' ms ms' gone gone' → (before : List Release) → IsPartOfLife mirror.octets mirror.named mirror.handed mirror.puts mirror.room disk d d' before
+  ran_part asked first sight signer spending ended l l' s s' i k' d d' ms ms' gone gone' it before =
       behind_part mirror.octets mirror.named mirror.handed mirror.puts mirror.room disk (keys_used asked) d it.began d' before it.looked
       (run_of library source sink disk mirror asked l l' s s' it.fresh k' it.began d' ms ms' ended.status (outcome_of ended) it.runs)
 
-  pub call_part : (asked : Option Request) (first : Option (List ℕ)) (sight : Option Sight) (signer : Option (List ℕ)) (spending : Spending) (end : End) (l l' : L) (s s' : S) (k' : K) (d d' : D) (ms ms' : List M)
-      → Guards library source below sink awaited disk mirror asked first sight signer spending end l l' s s' k' d d' ms ms' → (before : List Release) → IsPartOfLife mirror.octets mirror.named mirror.handed mirror.puts mirror.room disk d d' before
-  call_part asked first sight signer spending (Refused why) l l' s s' k' d d' ms ms' it before =
+  pub call_part : (asked : Option Request) (first : Option (List ℕ)) (sight : Option Sight) (signer : Option (List ℕ)) (spending : Spending) (end : End) (l l' : L) (s s' : S) (i : I) (k' : K) (d d' : D) (ms ms' gone gone' : List M)
+      → Guards library source below sink awaited disk mirror asked first sight signer spending end l l' s s' i k' d d' ms ms' gone gone' → (before : List Release) → IsPartOfLife mirror.octets mirror.named mirror.handed mirror.puts mirror.room disk d d' before
+  call_part asked first sight signer spending (Refused why) l l' s s' i k' d d' ms ms' gone gone' it before =
       look_part mirror.octets mirror.named mirror.handed mirror.puts mirror.room disk (keys_used asked) d d' before it.looked
-  call_part asked first sight signer spending (Unsigned ended) l l' s s' k' d d' ms ms' it before = ran_part asked first sight signer spending ended l l' s s' k' d d' ms ms' it before
-  call_part asked first sight signer spending (Ran ended) l l' s s' k' d d' ms ms' it before = ran_part asked first sight signer spending ended l l' s s' k' d d' ms ms' it before
+  call_part asked first sight signer spending (Unsigned ended) l l' s s' i k' d d' ms ms' gone gone' it before = ran_part asked first sight signer spending ended l l' s s' i k' d d' ms ms' gone gone' it before
+  call_part asked first sight signer spending (Ran ended) l l' s s' i k' d d' ms ms' gone gone' it before = ran_part asked first sight signer spending ended l l' s s' i k' d d' ms ms' gone gone' it before

@@ -22,7 +22,6 @@ use Rattle.command_files.specs.declared.ended.Ended.{Ended}
 use Rattle.road_run.specs.Gone.{OnGone}
 use Rattle.road_run.specs.Runs.{RunsOver}
 use Rattle.guarded_run.specs.Uses.{keys_used}
-use Rattle.guarded_run.specs.Losing.{LosesBehind}
 use Rattle.guarded_run.proofs.SignSteps.{signs_behind}
 use Rattle.guarded_run.specs.Guarding.{EndsBehind, Guards, IfRun, RunsNot, RunsBehind}
 use Rattle.guarded_run.specs.declared.guarding.End.{End}
@@ -75,28 +74,29 @@ module _ {D : Type 0} (disk : DiskView D) (first : Option (List ℕ)) (spending 
   }
 
 module _ {L S I K D M : Type 0} (library : LibraryView L) (source : SourceView S) (below : SinkView I) (sink : SinkView K) (awaited : K → Option (List ℕ)) (disk : DiskView D) (mirror : MirrorView M) where
-  pub refused : (asked : Option Request) (first : Option (List ℕ)) (spending : Spending) (why : Unfit) (what : Option Use) (l : L) (s : S) (k : K) (d d' : D) (ms : List M) → what ≡ keys_used asked
-      → IsRefusal disk first spending why d d' what → sink.taken k ≡ Some [] → RunsNot library source below sink awaited disk mirror asked first spending why l l s s k d d' ms ms
-  refused asked first spending why what l s k d d' ms is known silent =
+  pub refused : (asked : Option Request) (first : Option (List ℕ)) (spending : Spending) (why : Unfit) (what : Option Use) (l : L) (s : S) (k : K) (d d' : D) (ms gone : List M) → what ≡ keys_used asked
+      → IsRefusal disk first spending why d d' what → sink.taken k ≡ Some [] → RunsNot library source below sink awaited disk mirror asked first spending why l l s s k d d' ms ms gone gone
+  refused asked first spending why what l s k d d' ms gone is known silent =
       let now : IsRefusal disk first spending why d d' (keys_used asked) = subst (IsRefusal disk first spending why d d') is known in
-      record { uses = now.uses; looked = now.looked; left = now.left; cause = now.cause; spent = now.spent; files = refl; input = refl; silent = silent; mirrors = refl }
+      record { uses = now.uses; looked = now.looked; left = now.left; cause = now.cause; spent = now.spent; files = refl; input = refl; silent = silent; mirrors = refl; none_gone = refl }
 
-  pub ran : (asked : Option Request) (first : Option (List ℕ)) (sight : Option Sight) (signer : Option (List ℕ)) (spending : Spending) (ended : Ended) (what : Option Use) (l l' : L) (s s' : S) (fresh k' : K) (d began d' : D) (ms ms' : List M)
-      → what ≡ keys_used asked → IsBegun disk first sight signer spending d began what → sink.taken fresh ≡ Some [] → awaited fresh ≡ signer
+  pub ran : (asked : Option Request) (first : Option (List ℕ)) (sight : Option Sight) (signer : Option (List ℕ)) (spending : Spending) (ended : Ended) (what : Option Use) (l l' : L) (s s' : S) (i : I) (fresh k' : K) (d began d' : D) (ms ms' gone gone' : List M)
+      → what ≡ keys_used asked → IsBegun disk first sight signer spending d began what → sink.taken fresh ≡ Some [] → awaited fresh ≡ signer → sink.faults fresh ≡ below.faults i
       → RunsOver library source sink disk mirror asked l l' s s' fresh k' began d' ms ms' ended.status (outcome_of ended)
-      → RunsBehind library source below sink awaited disk mirror asked first sight signer spending ended l l' s s' k' d d' ms ms'
-  ran asked first sight signer spending ended what l l' s s' fresh k' d began d' ms ms' is known empty awaits runs =
+      → OnGone mirror.octets mirror.named mirror.handed mirror.puts mirror.room mirror.faults disk began d' asked (sink.taken fresh) (sink.taken k') ms ms' gone gone' (outcome_of ended)
+      → RunsBehind library source below sink awaited disk mirror asked first sight signer spending ended l l' s s' i k' d d' ms ms' gone gone'
+  ran asked first sight signer spending ended what l l' s s' i fresh k' d began d' ms ms' gone gone' is known empty awaits unfailed runs lost =
       let now : IsBegun disk first sight signer spending d began (keys_used asked) = subst (IsBegun disk first sight signer spending d began) is known in
-      record { began = began; fresh = fresh; looked = now.looked; unrefused = now.unrefused; spent = now.spent; quiet = now.quiet; fit = now.fit; stable = now.stable; signs = signs_behind library source sink disk mirror asked first sight signer l l' s s' fresh k' began d' ms ms' ended.status (outcome_of ended) runs now.fit now.stable; empty = empty; awaits = awaits; runs = runs }
+      record { began = began; fresh = fresh; looked = now.looked; unrefused = now.unrefused; spent = now.spent; quiet = now.quiet; fit = now.fit; stable = now.stable; signs = signs_behind library source sink disk mirror asked first sight signer l l' s s' fresh k' began d' ms ms' ended.status (outcome_of ended) runs now.fit now.stable; empty = empty; awaits = awaits; unfailed = unfailed; runs = runs; lost = lost }
 
-  pub guards : (asked : Option Request) (first : Option (List ℕ)) (sight : Option Sight) (signer : Option (List ℕ)) (spending : Spending) (end : End) (ended : Ended) (l l' : L) (s s' : S) (k' : K) (d d' : D) (ms ms' : List M) (awaits : Type 0) (refusals : ℕ)
-      → EndsBehind end ended awaits refusals → RunsBehind library source below sink awaited disk mirror asked first sight signer spending ended l l' s s' k' d d' ms ms'
-      → Guards library source below sink awaited disk mirror asked first sight signer spending end l l' s s' k' d d' ms ms'
-  guards asked first sight signer spending (Refused why) ended l l' s s' k' d d' ms ms' awaits refusals ends behind = absurd ends
-  guards asked first sight signer spending (Unsigned it) ended l l' s s' k' d d' ms ms' awaits refusals ends behind =
-      subst (λ (e : Ended). RunsBehind library source below sink awaited disk mirror asked first sight signer spending e l l' s s' k' d d' ms ms') (sym (ends.0)) behind
-  guards asked first sight signer spending (Ran it) ended l l' s s' k' d d' ms ms' awaits refusals ends behind =
-      subst (λ (e : Ended). RunsBehind library source below sink awaited disk mirror asked first sight signer spending e l l' s s' k' d d' ms ms') (sym (ends.0)) behind
+  pub guards : (asked : Option Request) (first : Option (List ℕ)) (sight : Option Sight) (signer : Option (List ℕ)) (spending : Spending) (end : End) (ended : Ended) (l l' : L) (s s' : S) (i : I) (k' : K) (d d' : D) (ms ms' gone gone' : List M) (awaits : Type 0) (refusals : ℕ)
+      → EndsBehind end ended awaits refusals → RunsBehind library source below sink awaited disk mirror asked first sight signer spending ended l l' s s' i k' d d' ms ms' gone gone'
+      → Guards library source below sink awaited disk mirror asked first sight signer spending end l l' s s' i k' d d' ms ms' gone gone'
+  guards asked first sight signer spending (Refused why) ended l l' s s' i k' d d' ms ms' gone gone' awaits refusals ends behind = absurd ends
+  guards asked first sight signer spending (Unsigned it) ended l l' s s' i k' d d' ms ms' gone gone' awaits refusals ends behind =
+      subst (λ (e : Ended). RunsBehind library source below sink awaited disk mirror asked first sight signer spending e l l' s s' i k' d d' ms ms' gone gone') (sym (ends.0)) behind
+  guards asked first sight signer spending (Ran it) ended l l' s s' i k' d d' ms ms' gone gone' awaits refusals ends behind =
+      subst (λ (e : Ended). RunsBehind library source below sink awaited disk mirror asked first sight signer spending e l l' s s' i k' d d' ms ms' gone gone') (sym (ends.0)) behind
 
 pub some_sight : {D : Type 0} (g : DiskView D) (new : D) (image : List ℕ) (found : Option Sight) → MatchOption found (IsUntold image) (IsSight image) → ForSome (g.content new) (λ c. image ≡ seen_of c)
     → IfSome found (λ sight. ForSome (g.content new) (λ c. IsSight (seen_of c) sight))
@@ -107,20 +107,3 @@ pub ends_so : (end : End) (ended : Ended) (awaits : Type 0) (refusals : ℕ) →
 ends_so (Refused why) ended awaits refusals ends = tt
 ends_so (Unsigned it) ended awaits refusals ends = (refl, ends.1)
 ends_so (Ran it) ended awaits refusals ends = (refl, ends.1, ends.2)
-
--- the mirrors that a run lost, by how its end is told
-pub loses : {M D : Type 0} (mirror : MirrorView M) (disk : DiskView D) (asked : Option Request) (end : End) (ended : Ended) (awaits : Type 0) (refusals : ℕ) (began d' : D) (before now : Option (List ℕ)) (old kept gone_before gone_now : List M) → EndsBehind end ended awaits refusals
-    → before ≡ Some []
-    → OnGone mirror.octets mirror.named mirror.handed mirror.puts mirror.room mirror.faults disk began d' asked before now old kept gone_before gone_now (outcome_of ended)
-    → IfRun end (λ it. LosesBehind mirror disk asked d' now old kept gone_before gone_now it)
-loses mirror disk asked (Refused why) ended awaits refusals began d' before now old kept gone_before gone_now ends empty lost = tt
-loses mirror disk asked (Unsigned it) ended awaits refusals began d' before now old kept gone_before gone_now ends empty lost =
-    subst (λ (e : Ended). LosesBehind mirror disk asked d' now old kept gone_before gone_now e) (sym (ends.0)) (record {
-      began = began;
-      lost = subst (λ (b : Option (List ℕ)). OnGone mirror.octets mirror.named mirror.handed mirror.puts mirror.room mirror.faults disk began d' asked b now old kept gone_before gone_now (outcome_of ended)) empty lost;
-    })
-loses mirror disk asked (Ran it) ended awaits refusals began d' before now old kept gone_before gone_now ends empty lost =
-    subst (λ (e : Ended). LosesBehind mirror disk asked d' now old kept gone_before gone_now e) (sym (ends.0)) (record {
-      began = began;
-      lost = subst (λ (b : Option (List ℕ)). OnGone mirror.octets mirror.named mirror.handed mirror.puts mirror.room mirror.faults disk began d' asked b now old kept gone_before gone_now (outcome_of ended)) empty lost;
-    })

@@ -2,3 +2,4 @@ mod GuardSteps
 mod SignSteps
 mod CallLaws
 mod Fresh
+mod KeyFiles

@@ -1,4 +1,5 @@
--- The effect of the guarded call: it looks at the desk, and runs after a look that found nothing strange.
+-- The effect of the guarded call on the objects that it is given: it looks at the desk, and runs after a look that found
+-- nothing strange.
 use Rattle.std.specs.Prelude.{◌≡◌, ◌≢◌, ◌⊎◌, ℕ, zero, ◌<◌, ◌≤◌, Bool, false, List, []}
 use Rattle.std.specs.Option.{ForSome}
 use Rattle.std.specs.declared.option.Option.{Option}
@@ -21,8 +22,8 @@ use Rattle.road_command.specs.Requests.{Request, Publish, Succeed}
 use Rattle.command_files.specs.Outcomes.{outcome_of}
 use Rattle.command_files.specs.declared.ended.Ended.{Ended}
 use Rattle.road_run.specs.BehindLooks.{IsUnwritten}
+use Rattle.road_run.specs.Gone.{OnGone}
 use Rattle.road_run.specs.Runs.{RunsOver}
-use Rattle.guarded_run.specs.Shipping.{AreFresh}
 use Rattle.guarded_run.specs.Uses.{keys_used}
 use Rattle.guarded_run.specs.declared.guarding.End.{End}
 use Rattle.guarded_run.specs.declared.guarding.End.TheVariants.{Refused, Unsigned, Ran}
@@ -45,10 +46,11 @@ SignsBehind g asked sight began new = (k : ℕ) (i : List ℕ) → g.clock began
 
 module _ {L S I K D M : Type 0} (library : LibraryView L) (source : SourceView S) (below : SinkView I)
     (sink : SinkView K) (awaited : K → Option (List ℕ)) (disk : DiskView D) (mirror : MirrorView M) where
-  -- A command that uses the keys was refused. Nothing ran: library, source and mirrors are unchanged, the
-  -- sink took nothing, and the desk is as the look leaves it.
+  -- A command that uses the keys was refused. Nothing ran: library, source and mirrors are unchanged, none is gone,
+  -- the sink took nothing, and the desk is as the look leaves it.
   pub record RunsNot (asked : Option Request) (first : Option (List ℕ)) (spending : Spending)
-      (why : Unfit) (l l' : L) (s s' : S) (k' : K) (d d' : D) (ms ms' : List M) : Type 0 where
+      (why : Unfit) (l l' : L) (s s' : S) (k' : K) (d d' : D) (ms ms' gone gone' : List M) :
+      Type 0 where
     pub uses : keys_used asked ≢ None
     pub looked : Looks disk (keys_used asked) d d'
     pub left : LeavesAsItWas why (AtEachMoment disk d d' Stays)
@@ -58,12 +60,14 @@ module _ {L S I K D M : Type 0} (library : LibraryView L) (source : SourceView S
     pub input : s' ≡ s
     pub silent : sink.taken k' ≡ Some []
     pub mirrors : ms' ≡ ms
+    pub none_gone : gone' ≡ gone
 
-  -- The run came after the look, from the desk as the look left and reported it, into a sink that had taken
-  -- nothing and expected this key.
+  -- The run came after the look, from the desk as the look left and reported it, into a sink over the one that was
+  -- given, which had taken nothing and expected this key. From the same desk, the list of the mirrors that are gone
+  -- grew as `OnGone` states.
   pub record RunsBehind (asked : Option Request) (first : Option (List ℕ)) (sight : Option Sight)
       (signer : Option (List ℕ)) (spending : Spending) (ended : Ended) (l l' : L) (s s' : S)
-      (k' : K) (d d' : D) (ms ms' : List M) : Type 0 where
+      (i : I) (k' : K) (d d' : D) (ms ms' gone gone' : List M) : Type 0 where
     pub began : D
     pub fresh : K
     pub looked : Looks disk (keys_used asked) d began
@@ -78,28 +82,20 @@ module _ {L S I K D M : Type 0} (library : LibraryView L) (source : SourceView S
     pub signs : SignsBehind disk asked sight began d'
     pub empty : sink.taken fresh ≡ Some []
     pub awaits : awaited fresh ≡ signer
+    pub unfailed : sink.faults fresh ≡ below.faults i
     pub runs : RunsOver library source sink disk mirror asked l l' s s' fresh k' began d' ms ms'
         ended.status (outcome_of ended)
+    pub lost : OnGone mirror.octets mirror.named mirror.handed mirror.puts mirror.room mirror.faults
+        disk began d' asked (sink.taken fresh) (sink.taken k') ms ms' gone gone' (outcome_of ended)
 
   abbrev pub Guards : Option Request → Option (List ℕ) → Option Sight → Option (List ℕ) → Spending →
-      End → L → L → S → S → K → D → D → List M → List M → Type 0
-  Guards asked first sight signer spending (Refused why) l l' s s' k' d d' ms ms' =
-      RunsNot asked first spending why l l' s s' k' d d' ms ms'
-  Guards asked first sight signer spending (Unsigned ended) l l' s s' k' d d' ms ms' =
-      RunsBehind asked first sight signer spending ended l l' s s' k' d d' ms ms'
-  Guards asked first sight signer spending (Ran ended) l l' s s' k' d d' ms ms' =
-      RunsBehind asked first sight signer spending ended l l' s s' k' d d' ms ms'
-
-  -- the whole call, from objects to which no call was made, except the mirrors
-  pub record Processes (asked : Option Request) (first : Option (List ℕ)) (sight : Option Sight)
-      (signer : Option (List ℕ)) (spending : Spending) (end : End) (l' : L) (s' : S) (k' : K) (d' : D)
-      (ms ms' : List M) : Type 0 where
-    pub l : L
-    pub s : S
-    pub k : I
-    pub d : D
-    pub fresh : AreFresh library source below disk l s k d
-    pub guards : Guards asked first sight signer spending end l l' s s' k' d d' ms ms'
+      End → L → L → S → S → I → K → D → D → List M → List M → List M → List M → Type 0
+  Guards asked first sight signer spending (Refused why) l l' s s' i k' d d' ms ms' gone gone' =
+      RunsNot asked first spending why l l' s s' k' d d' ms ms' gone gone'
+  Guards asked first sight signer spending (Unsigned ended) l l' s s' i k' d d' ms ms' gone gone' =
+      RunsBehind asked first sight signer spending ended l l' s s' i k' d d' ms ms' gone gone'
+  Guards asked first sight signer spending (Ran ended) l l' s s' i k' d d' ms ms' gone gone' =
+      RunsBehind asked first sight signer spending ended l l' s s' i k' d d' ms ms' gone gone'
 
 -- P holds for the end of a run
 abbrev pub IfRun : End → (Ended → Type 0) → Type 0

@@ -1,5 +1,6 @@
 pub mod Uses
 pub mod Shipping
 pub mod Guarding
-pub mod Losing
+pub mod OwnerKey
+pub mod Telling
 pub mod CallSteps

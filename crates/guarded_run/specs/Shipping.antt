@@ -7,10 +7,11 @@ use Rattle.road_io.specs.declared.source.Source.{Ghosts as SourceView}
 use Rattle.road_io.specs.declared.sink.Sink.{Ghosts as SinkView}
 use Rattle.road_io.specs.declared.disk.Disk.{Ghosts as DiskView}
 
--- No call was made to these objects: the library and the disk state their contents, no name was requested, nothing
--- was given or taken, and nothing has failed.
-pub record AreFresh {L S K D : Type 0} (library : LibraryView L) (source : SourceView S)
-    (sink : SinkView K) (disk : DiskView D) (l : L) (s : S) (k : K) (d : D) : Type 0 where
+-- No call was made to these objects: the libraries and the disk state their contents, no name was requested, nothing
+-- was given or taken, and nothing has failed. F is the library by which the file `owner.key` is read.
+pub record AreFresh {L S K D F : Type 0} (library : LibraryView L) (source : SourceView S)
+    (sink : SinkView K) (disk : DiskView D) (keys : LibraryView F) (l : L) (s : S) (k : K) (d : D)
+    (f : F) : Type 0 where
   pub files : (folder : Folder) × (library.files l ≡ Some folder)
   pub unasked : library.asked l ≡ []
   pub library_faults : library.faults l ≡ 0
@@ -21,3 +22,6 @@ pub record AreFresh {L S K D : Type 0} (library : LibraryView L) (source : Sourc
   pub content : (octets : List ℕ) × (disk.content d ≡ Some octets)
   pub disk_faults : disk.faults d ≡ 0
   pub calls : disk.calls d ≡ 0
+  pub key_files : (folder : Folder) × (keys.files f ≡ Some folder)
+  pub keys_unasked : keys.asked f ≡ []
+  pub key_faults : keys.faults f ≡ 0

@@ -1,17 +1,21 @@
 //! The one call that does the look, the opening, the run and the sink in order.
-ghost use Rattle.std.specs.Prelude.{◌≡◌};
+ghost use Rattle.std.specs.Prelude.{◌≡◌, false, true, IfSome};
 ghost use Rattle.std.specs.declared.option.Option.TheVariants.{Some};
 ghost use Rattle.road_command.specs.Requests.{request_of};
 ghost use Rattle.road_io.specs.Noted.{noted};
 ghost use Rattle.signed_out.specs.Fronts.{GoesOut};
 ghost use Rattle.mirror_out.specs.Gone.{HasRoom};
-ghost use Rattle.guarded_run.specs.Guarding.{EndsBehind, IfRun, Processes, exit_of};
-ghost use Rattle.guarded_run.specs.Losing.{LosesBehind};
-ghost use Rattle.guarded_run.specs.Uses.{key_known};
+ghost use Rattle.desk_disk.specs.States.{WasFound};
+ghost use Rattle.road_io.specs.Disk.{Narrows};
+ghost use Rattle.guarded_run.specs.Guarding.{EndsBehind, Guards, IfRun, exit_of};
+ghost use Rattle.guarded_run.specs.OwnerKey.{IsKnown, key_known};
+ghost use Rattle.guarded_run.specs.Shipping.{AreFresh};
+ghost use Rattle.guarded_run.specs.Uses.{does_sign, keys_used};
+ghost use Rattle.guarded_run.specs.declared.owner_key.TheConstants.{OWNER_KEY};
 
 use crate::on_files::run_on_files;
 use crate::owner_key::{KeyFile, key_file};
-use crate::shipping::{Objects, shipped};
+use crate::shipping::Objects;
 use crate::uses::keys_used;
 use command_files::Ended;
 use desk_disk::DeskDisk;
@@ -44,7 +48,7 @@ pub type Unsynced = [Option<(u32, io::Error)>; 8];
 
 /// The results of a guarded run, and what it leaves.
 #[derive(Drop)]
-pub struct Guarded<L: Drop, S: Drop, K: Sink + Drop, D: Drop> {
+pub struct Guarded<L: Drop, S: Drop, K: Sink + Drop, D: Drop, F: Drop> {
     /// How it ended.
     pub end: End,
     /// What the look at the desk spent.
@@ -53,7 +57,7 @@ pub struct Guarded<L: Drop, S: Drop, K: Sink + Drop, D: Drop> {
     pub sight: Option<Sight>,
     /// The key with which a map had to be signed.
     pub signer: Option<[u8; 56]>,
-    /// The state of the file `owner.key`, if the command signs.
+    /// The state of the file `owner.key`.
     pub known: KeyFile,
     /// The owner's first key, if that file holds it.
     pub first: Option<[u8; 56]>,
@@ -65,6 +69,8 @@ pub struct Guarded<L: Drop, S: Drop, K: Sink + Drop, D: Drop> {
     pub sink: SignedSink<K>,
     /// The desk.
     pub disk: D,
+    /// The files by which `owner.key` was read.
+    pub keys: F,
     /// The mirrors that were not lost.
     pub mirrors: Vec<FileMirror>,
     /// The mirrors that were lost.
@@ -75,7 +81,7 @@ pub struct Guarded<L: Drop, S: Drop, K: Sink + Drop, D: Drop> {
     pub unsynced: Unsynced,
 }
 
-impl<L: Drop, S: Drop, K: Sink + Drop, D: Drop> Guarded<L, S, K, D> {
+impl<L: Drop, S: Drop, K: Sink + Drop, D: Drop, F: Drop> Guarded<L, S, K, D, F> {
     /// Returns the status of the process.
     pub fn status(&self) -> u8
         ensures { result ≡ exit_of self.now.end self.now.is_synced }
@@ -114,36 +120,55 @@ fn synced(mirrors: &[FileMirror]) -> Unsynced {
     unsynced
 }
 
-/// Does everything that the program does, after a look at the owner's desk.
+/// Does everything that the program does over these objects, after a look at the owner's desk. No call was made to them.
 ///
 /// The disk inspects the desk's file after it is opened and before it is written. Then, for a command that uses the
 /// desk's keys, it looks at what the desk holds. The file `owner.key` may hold the first key. If the desk is strange,
 /// or has a key other than that one, nothing runs and nothing changes. Otherwise it spends what waits in the desk and
 /// runs, with a sink that lets a map through only if the desk's current key signed it. Afterwards it syncs what the
-/// mirrors took. It keeps this many octets of each file that is loaded. It appends the mirrors that are lost to
-/// `gone`, which has room for all.
+/// mirrors took. It appends the mirrors that are lost to `gone`, which has room for all.
 pub fn guarded_run<R: Files<File = File> + Print + Input + Drop + Copy>(
     rt: R,
     alloc: Global,
     words: &Words,
-    most: usize,
+    objects: Objects<
+        KeptLibrary<FileLibrary<R>>,
+        StdSource<R>,
+        KeptSink<StdSink<R>>,
+        DeskDisk<R>,
+        FileLibrary<R>,
+    >,
     mirrors: Vec<FileMirror>,
     gone: Vec<FileMirror>,
-) -> Guarded<KeptLibrary<FileLibrary<R>>, StdSource<R>, KeptSink<StdSink<R>>, DeskDisk<R>>
+) -> Guarded<
+    KeptLibrary<FileLibrary<R>>,
+    StdSource<R>,
+    KeptSink<StdSink<R>>,
+    DeskDisk<R>,
+    FileLibrary<R>,
+>
+    requires fresh { AreFresh ⟦<KeptLibrary<FileLibrary<R>> as Library>⟧ ⟦<StdSource<R> as Source>⟧
+        ⟦<KeptSink<StdSink<R>> as Sink>⟧ ⟦<DeskDisk<R> as Disk>⟧ ⟦<FileLibrary<R> as Library>⟧
+        objects.library objects.source objects.sink objects.disk objects.keys }
     requires room { HasRoom gone mirrors }
-    ensures guards { Processes ⟦<KeptLibrary<FileLibrary<R>> as Library>⟧ ⟦<StdSource<R> as Source>⟧
+    ensures guards { Guards ⟦<KeptLibrary<FileLibrary<R>> as Library>⟧ ⟦<StdSource<R> as Source>⟧
         ⟦<KeptSink<StdSink<R>> as Sink>⟧ ⟦<SignedSink<KeptSink<StdSink<R>>> as Sink>⟧
         (λ sink. sink.awaited) ⟦<DeskDisk<R> as Disk>⟧ ⟦<FileMirror as Mirror>⟧ (request_of words.now)
-        result.first result.sight result.signer result.spending result.end result.library result.source
-        result.sink result.disk mirrors.items result.mirrors.items }
+        result.first result.sight result.signer result.spending result.end objects.library
+        result.library objects.source result.source objects.sink result.sink objects.disk result.disk
+        mirrors.items result.mirrors.items gone.items result.gone.items }
+    ensures opened { WasFound result.disk.state }
+    ensures unused { does_sign (keys_used (request_of words.now)) ≡ false →
+        (result.known ≡ KeyFile.Unused) × (result.keys ≡ objects.keys) }
+    ensures known { does_sign (keys_used (request_of words.now)) ≡ true →
+        IfSome (⟦<FileLibrary<R> as Library>⟧.files result.keys)
+        (λ folder. IsKnown (folder OWNER_KEY.now) result.known) }
+    ensures key_files { Narrows (⟦<FileLibrary<R> as Library>⟧.files objects.keys)
+        (⟦<FileLibrary<R> as Library>⟧.files result.keys) }
     ensures first { result.first ≡ key_known result.known }
     ensures below { ⟦<KeptSink<StdSink<R>> as Sink>⟧.taken result.sink.inner ≡
         Some (noted result.sink.history.events) }
     ensures out { GoesOut result.sink.awaited (noted result.sink.history.events) }
-    ensures gone { IfRun result.end (λ ended. LosesBehind
-        ⟦<FileMirror as Mirror>⟧ ⟦<DeskDisk<R> as Disk>⟧ (request_of words.now) result.disk
-        (⟦<SignedSink<KeptSink<StdSink<R>>> as Sink>⟧.taken result.sink) mirrors.items
-        result.mirrors.items gone.items result.gone.items ended) }
     ensures unsigned { IfRun result.end (λ ended.
         EndsBehind result.end ended (result.sink.awaited ≡ result.signer) result.sink.refusals) }
 {
@@ -152,15 +177,17 @@ pub fn guarded_run<R: Files<File = File> + Print + Input + Drop + Copy>(
         mut source,
         sink,
         mut disk,
-    } = shipped(rt, alloc, words, most);
+        mut keys,
+    } = objects;
     let mut mirrors = mirrors;
     let mut gone = gone;
-    let known = key_file(rt, alloc, words);
+    let known = key_file(&rt, alloc, words, &mut keys);
     let first = known.key();
     let Looked { spending, told } = fit_desk(alloc, keys_used(words), first, &mut disk);
     let Told { sight, signer } = match told {
         Ok(told) => told,
         Err(why) => {
+            disk.was_found();
             return Guarded {
                 end: End::Refused(why),
                 spending,
@@ -172,6 +199,7 @@ pub fn guarded_run<R: Files<File = File> + Print + Input + Drop + Copy>(
                 source,
                 sink: SignedSink::new(sink, None),
                 disk,
+                keys,
                 mirrors,
                 gone,
                 is_synced: true,
@@ -191,6 +219,7 @@ pub fn guarded_run<R: Files<File = File> + Print + Input + Drop + Copy>(
         &mut gone,
     );
     let unsynced = synced(&mirrors);
+    disk.was_found();
     Guarded {
         end: end_of(ended, &sink, &signer),
         spending,
@@ -202,6 +231,7 @@ pub fn guarded_run<R: Files<File = File> + Print + Input + Drop + Copy>(
         source,
         sink,
         disk,
+        keys,
         mirrors,
         gone,
         is_synced: unsynced.iter().all(|lost| lost.is_none()),

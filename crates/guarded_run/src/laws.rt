@@ -17,8 +17,10 @@ use road_io::{Disk, Library, Sink, Source};
 pub fn guarded_calls_are_steps<L: Library, S: Source, I: Sink, K: Sink, D: Disk, M: Mirror>()
     ensures { (awaited : K → Option (List ℕ)) (asked : Option Request) (first : Option (List ℕ))
         (sight : Option Sight) (signer : Option (List ℕ)) (spending : Spending) (end : End)
-        (l after_l : L) (s after_s : S) (after_k : K) (old new : D) (ms after_ms : List M) →
+        (l after_l : L) (s after_s : S) (i : I) (after_k : K) (old new : D)
+        (ms after_ms gone after_gone : List M) →
         Guards L.Library S.Source I.Sink K.Sink awaited D.Disk M.Mirror asked first sight signer
-        spending end l after_l s after_s after_k old new ms after_ms → (before : List Release) →
+        spending end l after_l s after_s i after_k old new ms after_ms gone after_gone →
+        (before : List Release) →
         IsPartOfLife M.octets M.named M.handed M.puts M.room D.Disk old new before }
 {}

@@ -1,5 +1,5 @@
-//! The program with the look at the owner's desk: one call performs the look, the opening, the run and the writing
-//! to the sink, in this order.
+//! The program with the look at the owner's desk: one call performs the opening, the look, the run and the writing to
+//! the sink, in this order.
 #![tactic(auto)]
 
 pub use guarding::{End, Guarded, Unsynced, guarded_run};
@@ -9,7 +9,8 @@ pub use on_files::run_on_files;
 pub use owner_key::KeyFile;
 pub use shipping::{Objects, shipped};
 pub use sights::{left_after, sight_on};
-pub use uses::{DeskUse, desk_use, keys_used, writes_desk};
+pub use telling::{News, Reason, news_of, reason_of};
+pub use uses::{keys_used, uses_desk, writes_desk};
 
 mod guarding;
 mod laws;
@@ -18,4 +19,5 @@ mod on_files;
 mod owner_key;
 mod shipping;
 mod sights;
+mod telling;
 mod uses;

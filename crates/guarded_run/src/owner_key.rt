@@ -1,23 +1,35 @@
 //! The file `owner.key`.
-ghost use Rattle.std.specs.Prelude.{◌≡◌};
-ghost use Rattle.guarded_run.specs.Uses.{key_known};
+ghost use Rattle.std.specs.Prelude.{◌≡◌, ℕ, List, Option, false, true, IfSome};
+ghost use Rattle.road_io.specs.Contents.{Gives};
+ghost use Rattle.road_command.specs.Requests.{request_of};
+ghost use Rattle.road_io.specs.Disk.{Narrows};
+ghost use Rattle.guarded_run.specs.OwnerKey.{IsKnown, key_in, key_known};
+ghost use Rattle.guarded_run.specs.Uses.{does_sign, keys_used};
+ghost use Rattle.guarded_run.specs.declared.owner_key.TheConstants.{OWNER_KEY};
 
 use crate::uses::signs;
-use desk_sight::key_in;
 use road_command::Words;
-use road_io::{FileLibrary, Library};
+use road_io::{Library, LoadError};
 use std::alloc::Global;
 use std::fs;
-use std::io::ErrorKind;
 use std::rt::Files;
+
+/// The name of the file with the owner's first key.
+pub const OWNER_KEY: &str = "owner.key";
 
 /// The state of the file `owner.key`.
 #[derive(Clone, Copy, Debug, PartialEq, Eq)]
 pub enum KeyFile {
+    /// The command does not sign, so the file was not looked at.
+    Unused,
     /// The file does not exist.
     Absent,
-    /// It exists, but is not a regular file that begins with a key.
-    Broken,
+    /// It is not a regular file, so it was not read.
+    Special,
+    /// It could not be read.
+    Unread(LoadError),
+    /// It does not begin with a key.
+    NoKey,
     /// It begins with this key.
     Key([u8; 56]),
 }
@@ -29,27 +41,71 @@ impl KeyFile {
     {
         match self {
             KeyFile::Key(public) => Some(public),
-            KeyFile::Absent | KeyFile::Broken => None,
+            _ => None,
         }
+    }
+
+    /// Tests whether the file exists, and no key was read from it.
+    pub fn is_broken(self) -> bool {
+        matches!(self, KeyFile::Special | KeyFile::Unread(_) | KeyFile::NoKey)
     }
 }
 
-/// Returns the state of the file `owner.key` in the working folder. For a command that does not sign, the file counts
-/// as absent.
-pub fn key_file<R: Files + Drop + Copy>(rt: R, alloc: Global, words: &Words) -> KeyFile {
+/// Returns the key that the first 112 hex digits of a text encode.
+fn key_in(text: &[u8]) -> Option<[u8; 56]>
+    ensures { result ≡ key_in text.now }
+{
+    let digits = if text.len() < 112 { text } else { &text[..112] };
+    let mut public = [0u8; 56];
+    match hex::decode_to_slice(digits, &mut public) {
+        Ok(()) => Some(public),
+        Err(_) => None,
+    }
+}
+
+/// Tests whether the file exists and is not a regular file. Opening such a file might wait.
+fn is_special<R: Files>(rt: &R) -> bool {
+    match fs::metadata(rt, OWNER_KEY) {
+        Ok(file) => !file.is_file(),
+        Err(_) => false,
+    }
+}
+
+/// Returns the state of the file by what its load gave.
+#[tactic(auto, using(crate::proofs::KeyFiles::some_and))]
+fn known_by(loaded: Result<Vec<u8>, LoadError>) -> KeyFile
+    ensures { (file : Option (List ℕ)) → Gives file 4096 loaded → IsKnown file result }
+{
+    let text = match loaded {
+        Ok(text) => text,
+        Err(LoadError::Missing) => return KeyFile::Absent,
+        Err(why) => return KeyFile::Unread(why),
+    };
+    match key_in(&text) {
+        Some(public) => KeyFile::Key(public),
+        None => KeyFile::NoKey,
+    }
+}
+
+/// Returns the state of the file `owner.key` in a library, for a command that signs. For another, makes no call.
+#[tactic(auto, using(crate::proofs::KeyFiles::by_gives, crate::proofs::KeyFiles::special))]
+pub fn key_file<R: Files, L: Library>(
+    rt: &R,
+    alloc: Global,
+    words: &Words,
+    library: &mut L,
+) -> KeyFile
+    ensures unused { does_sign (keys_used (request_of words.now)) ≡ false →
+        (result ≡ KeyFile.Unused) × (library.new ≡ library.old) }
+    ensures known { does_sign (keys_used (request_of words.now)) ≡ true →
+        IfSome (L.files library.new) (λ folder. IsKnown (folder OWNER_KEY.now) result) }
+    ensures files { Narrows (L.files library.old) (L.files library.new) }
+{
     if !signs(words) {
-        return KeyFile::Absent;
+        return KeyFile::Unused;
     }
-    match fs::metadata(&rt, "owner.key") {
-        Ok(file) if file.is_file() => {}
-        Err(e) if e.kind() == ErrorKind::NotFound => return KeyFile::Absent,
-        _ => return KeyFile::Broken,
+    if is_special(rt) {
+        return KeyFile::Special;
     }
-    match FileLibrary::new(rt).load(alloc, "owner.key", 4096) {
-        Ok(text) => match key_in(&text) {
-            Some(public) => KeyFile::Key(public),
-            None => KeyFile::Broken,
-        },
-        Err(_) => KeyFile::Broken,
-    }
+    known_by(library.load(alloc, OWNER_KEY, 4096))
 }

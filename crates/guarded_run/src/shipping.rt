@@ -16,7 +16,7 @@ use std::rt::Files;
 
 /// The objects that a run uses besides the mirrors.
 #[derive(Drop)]
-pub struct Objects<L: Drop, S: Drop, K: Drop, D: Drop> {
+pub struct Objects<L: Drop, S: Drop, K: Drop, D: Drop, F: Drop> {
     /// The files of the working folder.
     pub library: L,
     /// Standard input.
@@ -25,6 +25,8 @@ pub struct Objects<L: Drop, S: Drop, K: Drop, D: Drop> {
     pub sink: K,
     /// The owner's desk.
     pub disk: D,
+    /// The files of the working folder once more, by which the file `owner.key` is read.
+    pub keys: F,
 }
 
 /// Makes the objects for a run with these arguments. Makes no call to them. The library keeps at most `most` octets
@@ -34,10 +36,16 @@ pub fn shipped<R: Files<File = File> + Print + Input + Drop + Copy>(
     alloc: Global,
     words: &Words,
     most: usize,
-) -> Objects<KeptLibrary<FileLibrary<R>>, StdSource<R>, KeptSink<StdSink<R>>, DeskDisk<R>>
+) -> Objects<
+    KeptLibrary<FileLibrary<R>>,
+    StdSource<R>,
+    KeptSink<StdSink<R>>,
+    DeskDisk<R>,
+    FileLibrary<R>,
+>
     ensures fresh { AreFresh ⟦<KeptLibrary<FileLibrary<R>> as Library>⟧ ⟦<StdSource<R> as Source>⟧
-        ⟦<KeptSink<StdSink<R>> as Sink>⟧ ⟦<DeskDisk<R> as Disk>⟧
-        result.library result.source result.sink result.disk }
+        ⟦<KeptSink<StdSink<R>> as Sink>⟧ ⟦<DeskDisk<R> as Disk>⟧ ⟦<FileLibrary<R> as Library>⟧
+        result.library result.source result.sink result.disk result.keys }
     ensures writes { result.disk.writes ≡ writes_desk (request_of words.now) }
 {
     Objects {
@@ -45,5 +53,6 @@ pub fn shipped<R: Files<File = File> + Print + Input + Drop + Copy>(
         source: StdSource::new(&rt),
         sink: KeptSink::new(StdSink::new(rt)),
         disk: DeskDisk::new(rt, writes_desk(words)),
+        keys: FileLibrary::new(rt),
     }
 }

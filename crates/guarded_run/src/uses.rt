@@ -1,7 +1,7 @@
 //! How a command uses the owner's desk.
 ghost use Rattle.std.specs.Prelude.{◌≡◌};
 ghost use Rattle.road_command.specs.Requests.{request_of};
-ghost use Rattle.guarded_run.specs.Uses.{keys_used, writes_desk};
+ghost use Rattle.guarded_run.specs.Uses.{does_sign, keys_used, uses_desk, writes_desk};
 
 use desk_sight::Use;
 use road_command::{Command, Words, command_of};
@@ -30,37 +30,30 @@ pub fn writes_desk(words: &Words) -> bool
 }
 
 /// Tests whether the requested command signs with the keys of the desk.
-pub(crate) fn signs(words: &Words) -> bool {
+pub(crate) fn signs(words: &Words) -> bool
+    ensures { result ≡ does_sign (keys_used (request_of words.now)) }
+{
     matches!(
         keys_used(words),
         Some(Use::Publish | Use::Succeed | Use::Links)
     )
 }
 
-/// How a command uses the desk's file.
-#[derive(Clone, Copy, Debug, PartialEq, Eq)]
-pub enum DeskUse {
-    /// It writes to the file.
-    Writes,
-    /// It only reads the file.
-    Reads,
-    /// It does not use the file.
-    Not,
-}
-
-/// Returns how the requested command uses the desk's file.
-pub fn desk_use(words: &Words) -> DeskUse {
-    if writes_desk(words) {
-        return DeskUse::Writes;
-    }
-    match command_of(words) {
+/// Tests whether the requested command uses the desk's file.
+pub fn uses_desk(words: &Words) -> bool
+    ensures { result ≡ uses_desk (request_of words.now) }
+{
+    matches!(
+        command_of(words),
         Some(
-            Command::Desk
-            | Command::Links
-            | Command::Audit { .. }
-            | Command::AuditReach { .. }
-            | Command::Reduce { .. },
-        ) => DeskUse::Reads,
-        _ => DeskUse::Not,
-    }
+            Command::Key { .. }
+                | Command::Publish { .. }
+                | Command::Succeed { .. }
+                | Command::Links
+                | Command::Desk
+                | Command::Audit { .. }
+                | Command::AuditReach { .. }
+                | Command::Reduce { .. }
+        )
+    )
 }

@@ -1,8 +1,8 @@
 //! Gogbetiku: shortest routes over road maps that prove themselves.
 //!
-//! `guarded_run` does everything that the program does, over the real files and streams: it looks at the owner's
-//! desk before a command that uses its keys, and then calls `run` (`road_run`). `main` reads the arguments, and
-//! writes the message of `road_tell` on its end to standard error.
+//! `guarded_run` does everything that the program does, over the real files and streams that `shipped` makes: it looks at
+//! the owner's desk before a command that uses its keys, and then calls `run` (`road_run`). `main` reads the arguments.
+//! It writes a sentence to standard error for each reason and each news that `guarded_run` gives.
 #![tactic(auto)]
 
 mod long_work;
@@ -10,17 +10,19 @@ mod mirror_files;
 mod owner_words;
 mod serve_hint;
 
-use command_files::{Ended, Fault};
+use command_files::Ended;
 use desk_disk::DeskDisk;
 use desk_guard::{Clash, Unbegun, answer_status, desk_clash, output_clash};
-use desk_sight::Unfit;
-use guarded_run::{End, Guarded, guarded_run, left_after, room_for_lost};
+use guarded_run::{
+    Guarded, News, Reason, guarded_run, left_after, news_of, reason_of, room_for_lost, shipped,
+    sight_on,
+};
 use long_work::tell_long_work;
 use mirror_files::{labels_of, tell_lost, tell_unsynced, told_mirrors};
 use octet_text::NoMemory;
 use owner_words::{
-    tell_desk, tell_folder, tell_key_file, tell_opening, tell_places, tell_secret, tell_signing,
-    tell_spending,
+    tell_folder, tell_key_again, tell_key_file, tell_opening, tell_places, tell_secret,
+    tell_signing, tell_spending, tell_versions,
 };
 use road_command::{Command, MOST_WORDS, Words, command_of};
 use road_io::{FileLibrary, KeptLibrary, KeptSink, StdSink, StdSource};
@@ -110,6 +112,7 @@ type Done = Guarded<
     StdSource<HostRuntime>,
     KeptSink<StdSink<HostRuntime>>,
     DeskDisk<HostRuntime>,
+    FileLibrary<HostRuntime>,
 >;
 
 /// Returns the front of a file that was loaded, or nothing for another.
@@ -141,63 +144,73 @@ fn facts_of<'a>(words: &'a Words, ended: Ended, done: &'a Done) -> Facts<'a> {
     }
 }
 
-/// Reports how a run ended, and what it signed, and why a desk was not opened.
-fn tell_ran(rt: HostRuntime, words: &Words, ended: Ended, done: &Done) {
-    if done.disk.why_unsafe().is_some() {
-        return;
-    }
-    let facts = facts_of(words, ended, done);
-    tell_signing(
-        rt,
-        words,
-        ended.status,
-        done.sight,
-        facts.line,
-        facts.file.octets(),
-    );
-    tell_end(rt, words, ended, facts);
-    if let Some(Command::Key { secret, .. } | Command::Succeed { secret, .. }) = command_of(words) {
-        tell_secret(rt, secret, ended.status, front_of(done, secret));
-    }
-}
-
-/// Reports that a map is not signed by the expected key.
-fn tell_unsigned(rt: HostRuntime) {
-    let _ = eprintln!(rt;
-        "road_proof: owner.desk: The map is not signed by the key of the file owner.key, or by the one that the last link after it names. No client would accept it. Nothing was written. Something has changed the desk: sign nothing more with it."
-    );
-}
-
-/// Reports why a command that uses the desk's keys does not begin.
-fn tell_unfit(rt: HostRuntime, words: &Words, unfit: Unfit, disk: &DeskDisk<HostRuntime>) {
-    let ended = match unfit {
-        Unfit::Disk if disk.why_unsafe().is_some() => return,
-        Unfit::Disk => Ended::of(Err(Fault::Disk)),
-        Unfit::Memory(none) => Ended::of(Err(Fault::Memory(none))),
-        Unfit::BadBlock => Ended::of(Err(Fault::BadBlock)),
-        Unfit::Strange(strange) => {
-            let _ = eprintln!(rt; "road_proof: owner.desk: {strange}");
-            return;
-        }
-        Unfit::OtherKey => {
-            let _ = eprintln!(rt;
-                "road_proof: owner.desk: Its first key is not that of the file owner.key. One of the two was changed, or belongs to another owner. Nothing was signed. Compare owner.key with another copy of your public key. If it is right, sign nothing more with this desk, and make a new key in another folder."
-            );
-            return;
-        }
-    };
-    let facts = Facts {
+/// Returns what is known where the look at the desk failed.
+fn facts_of_look(done: &Done) -> Facts<'_> {
+    Facts {
         name: "owner.desk",
         file: Content::Unknown,
         file_error: None,
         source_error: None,
         sink_error: None,
-        desk_error: disk.last_error(),
+        desk_error: done.disk.last_error(),
         line: b"",
         key: None,
         left: None,
+    }
+}
+
+/// Reports why a run ended as it did.
+fn tell_reason(rt: HostRuntime, words: &Words, done: &Done) {
+    let _ = match reason_of(done.end, done.disk.why_unsafe()) {
+        Reason::Unsafe(why) => eprintln!(rt; "road_proof: owner.desk: {why}"),
+        Reason::Strange(strange) => eprintln!(rt; "road_proof: owner.desk: {strange}"),
+        Reason::OtherKey => eprintln!(rt;
+            "road_proof: owner.desk: Its first key is not that of the file owner.key. One of the two was changed, or belongs to another owner. Nothing was signed. Compare owner.key with another copy of your public key. If it is right, sign nothing more with this desk, and make a new key in another folder."
+        ),
+        Reason::Unsigned => eprintln!(rt;
+            "road_proof: owner.desk: The map is not signed by the key of the file owner.key, or by the one that the last link after it names. No client would accept it. Nothing was written. Something has changed the desk: sign nothing more with it."
+        ),
+        Reason::Failed(fault) => {
+            return tell_end(rt, words, Ended::of(Err(fault)), facts_of_look(done));
+        }
+        Reason::Ended(ended) => return tell_end(rt, words, ended, facts_of(words, ended, done)),
     };
-    tell_end(rt, words, ended, facts);
+}
+
+/// Reports what was signed.
+fn tell_signed(rt: HostRuntime, words: &Words, news: News, done: &Done) {
+    if let (News::Signed(sight), Some(Command::Publish { roads, .. })) = (news, command_of(words)) {
+        tell_signing(
+            rt,
+            roads,
+            sight,
+            done.sink.inner().front(),
+            front_of(done, roads),
+        );
+    }
+}
+
+/// Reports the other news of a run that began then.
+fn tell_news(
+    rt: HostRuntime,
+    alloc: Global,
+    words: &Words,
+    news: News,
+    done: &mut Done,
+    begun: Option<Instant>,
+) {
+    match (news, command_of(words)) {
+        (News::Made, Some(Command::Key { secret, .. } | Command::Succeed { secret, .. })) =>
+            tell_secret(rt, secret, front_of(done, secret)),
+        (News::Stands, _) => tell_key_again(rt, sight_on(alloc, &mut done.disk)),
+        (News::Shown, _) => tell_versions(rt, sight_on(alloc, &mut done.disk)),
+        (News::Answered, Some(Command::Prove { publication, .. })) => tell_of_serve(
+            rt,
+            publication,
+            begun,
+        ),
+        _ => {}
+    }
 }
 
 /// Does what the arguments ask for over the real files and streams, and reports how it ended.
@@ -215,21 +228,17 @@ fn run_words(
     let mirrors = told_mirrors(rt, alloc, words)?;
     let labels = labels_of(alloc, &mirrors)?;
     let gone = room_for_lost(alloc, &mirrors)?;
-    let mut done = guarded_run(rt, alloc, words, most_kept(words), mirrors, gone);
+    let objects = shipped(rt, alloc, words, most_kept(words));
+    let mut done = guarded_run(rt, alloc, words, objects, mirrors, gone);
     tell_key_file(rt, done.known);
     tell_opening(rt, &done.disk);
     tell_spending(rt, done.spending);
     tell_lost(rt, &labels, &done.mirrors);
     tell_unsynced(rt, &done.unsynced);
-    match done.end {
-        End::Refused(unfit) => tell_unfit(rt, words, unfit, &done.disk),
-        End::Unsigned(_) => tell_unsigned(rt),
-        End::Ran(ended) => {
-            tell_ran(rt, words, ended, &done);
-            tell_desk(rt, alloc, words, ended, &mut done.disk);
-            tell_of_serve(rt, words, ended.status, begun);
-        }
-    }
+    let news = news_of(words, done.sight, done.end);
+    tell_signed(rt, words, news, &done);
+    tell_reason(rt, words, &done);
+    tell_news(rt, alloc, words, news, &mut done, begun);
     Ok(ExitCode::from(done.status()))
 }
 

@@ -1,34 +1,26 @@
 //! Messages to an owner about the files that her command uses, before the command begins and after it.
 
 use command_files::{Ended, Fault};
-use desk_disk::{DeskDisk, desk_fault};
+use desk_disk::DeskDisk;
 use desk_guard::{Signing, folder_fault, has_few_octets, is_open_to_others, unsafe_folder};
 use desk_sight::{Sight, Spending};
-use guarded_run::{DeskUse, KeyFile, desk_use, sight_on};
-use road_command::{Command, Words, command_of};
+use guarded_run::{KeyFile, uses_desk};
+use road_command::Words;
 use road_tell::zero_roads;
-use std::alloc::Global;
 
-/// Reports why the desk's folder is not safe and, if a command only reads the desk, why its file is not safe.
+/// Reports why the desk's folder is not safe.
 pub fn tell_places(rt: HostRuntime, words: &Words) {
-    let how = desk_use(words);
-    if how != DeskUse::Not {
-        if unsafe_folder(&rt) {
-            let _ = eprintln!(rt;
-                "road_proof: owner.desk: Others can write to its folder, and put another desk there. `chmod go-w .` prevents that."
-            );
-        }
-    }
-    if how == DeskUse::Reads {
-        if let Some(why) = desk_fault(&rt) {
-            let _ = eprintln!(rt; "road_proof: owner.desk: {why}");
-        }
+    if uses_desk(words) && unsafe_folder(&rt) {
+        let _ = eprintln!(rt;
+            "road_proof: owner.desk: Others can write to its folder, and put another desk there. `chmod go-w .` prevents that."
+        );
     }
 }
 
-/// Reports after a run why the desk's file was not opened, or that others could read it until it was opened.
+/// Reports after a run what is at fault with the mode of the desk's file that a command has read, or that others could
+/// read the file until it was opened.
 pub fn tell_opening(rt: HostRuntime, disk: &DeskDisk<HostRuntime>) {
-    if let Some(why) = disk.why_unsafe() {
+    if let Some(why) = disk.fault_left() {
         let _ = eprintln!(rt; "road_proof: owner.desk: {why}");
     }
     if disk.was_readable() {
@@ -40,7 +32,7 @@ pub fn tell_opening(rt: HostRuntime, disk: &DeskDisk<HostRuntime>) {
 
 /// Reports that the file `owner.key` exists and holds no key.
 pub fn tell_key_file(rt: HostRuntime, known: KeyFile) {
-    if known == KeyFile::Broken {
+    if known.is_broken() {
         let _ = eprintln!(rt;
             "road_proof: owner.key: It is not a public key, so the desk is not compared with it. Put a copy of your public key there, or remove the file."
         );
@@ -60,23 +52,8 @@ pub fn tell_spending(rt: HostRuntime, spending: Spending) {
     };
 }
 
-/// Reports the facts about her desk that an owner needs after `key` or `desk`, from the desk's contents.
-pub fn tell_desk(
-    rt: HostRuntime,
-    alloc: Global,
-    words: &Words,
-    ended: Ended,
-    disk: &mut DeskDisk<HostRuntime>,
-) {
-    match (command_of(words), ended.fault) {
-        (Some(Command::Key { .. }), Some(Fault::Held)) => tell_key_again(rt, sight_on(alloc, disk)),
-        (Some(Command::Desk), None) => tell_versions(rt, sight_on(alloc, disk)),
-        _ => {}
-    }
-}
-
 /// Reports how to restore the public key of an existing key, if the file `owner.key` was lost.
-fn tell_key_again(rt: HostRuntime, sight: Option<Sight>) {
+pub fn tell_key_again(rt: HostRuntime, sight: Option<Sight>) {
     let _ = match sight {
         Some(sight) if sight.key == 1 => eprintln!(rt;
             "road_proof: owner.key: If this command has emptied it, `road_proof desk | cut -d' ' -f1 > owner.key` writes it again."
@@ -88,7 +65,7 @@ fn tell_key_again(rt: HostRuntime, sight: Option<Sight>) {
 }
 
 /// Reports which versions the desk has signed.
-fn tell_versions(rt: HostRuntime, sight: Option<Sight>) {
+pub fn tell_versions(rt: HostRuntime, sight: Option<Sight>) {
     let Some(sight) = sight else {
         return;
     };
@@ -114,36 +91,22 @@ pub fn tell_folder(rt: HostRuntime, ended: Ended) {
 
 /// Reports why the text of a secret's file is not secret. A key was made from this file, and `text` has its first
 /// octets.
-pub fn tell_secret(rt: HostRuntime, secret: &str, status: u8, text: &[u8]) {
-    if status == 0 && has_few_octets(text) {
+pub fn tell_secret(rt: HostRuntime, secret: &str, text: &[u8]) {
+    if has_few_octets(text) {
         let _ = eprintln!(rt;
             "road_proof: {secret}: It has fewer than 16 different octets and is no secret: anybody can sign in your name."
         );
     }
-    if status == 0 && is_open_to_others(&rt, secret) {
+    if is_open_to_others(&rt, secret) {
         let _ = eprintln!(rt;
             "road_proof: {secret}: Others may read or write it. Destroy it now that the key is made."
         );
     }
 }
 
-/// Reports which one-time key a completed `publish` used and what this key signed, from the desk as it was before
-/// and from the publication. Also reports how many roads of the road file have length 0.
-pub fn tell_signing(
-    rt: HostRuntime,
-    words: &Words,
-    status: u8,
-    sight: Option<Sight>,
-    publication: &[u8],
-    roads: &[u8],
-) {
-    let (Some(Command::Publish { roads: name, .. }), Some(sight)) = (command_of(words), sight)
-    else {
-        return;
-    };
-    if status != 0 && status != 6 && status != 15 {
-        return;
-    }
+/// Reports which one-time key a `publish` used and what this key signed, from the desk as it was before and from the
+/// publication. Also reports how many roads of the road file with this name have length 0.
+pub fn tell_signing(rt: HostRuntime, name: &str, sight: Sight, publication: &[u8], roads: &[u8]) {
     if let Some(signing) = Signing::of(sight, publication) {
         let _ = eprintln!(rt; "road_proof: owner.desk: {signing}");
     }

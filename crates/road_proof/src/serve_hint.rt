@@ -1,6 +1,5 @@
 //! The hint that `serve` keeps its book.
 
-use road_command::{Command, Words, command_of};
 use std::io::IsTerminal;
 use std::time::{Duration, Instant};
 
@@ -15,12 +14,9 @@ fn is_slow(rt: HostRuntime, begun: Option<Instant>) -> bool {
     }
 }
 
-/// After a slow but successful `prove`, reports that `serve` keeps its book, if standard error is a terminal.
-pub fn tell_of_serve(rt: HostRuntime, words: &Words, status: u8, begun: Option<Instant>) {
-    let Some(Command::Prove { publication, .. }) = command_of(words) else {
-        return;
-    };
-    if status == 0 && is_slow(rt, begun) && rt.stderr().is_terminal() {
+/// After a slow `prove` that has answered, reports that `serve` keeps its book, if standard error is a terminal.
+pub fn tell_of_serve(rt: HostRuntime, publication: &str, begun: Option<Instant>) {
+    if is_slow(rt, begun) && rt.stderr().is_terminal() {
         let _ = eprintln!(rt;
             "road_proof: {publication}: `prove` prepares its book for each query. `road_proof serve` prepares it once, and answers many."
         );

@@ -52,6 +52,7 @@ impl<K: Sink + Drop> SignedSink<K> {
         ensures inner { result.inner ≡ inner }
         ensures nothing { noted result.history.events ≡ [] }
         ensures refusals { result.refusals ≡ 0 }
+        ensures faults { K.faults result.inner + result.refusals ≡ K.faults inner }
     {
         SignedSink {
             inner,

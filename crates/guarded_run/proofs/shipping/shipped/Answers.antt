@@ -18,4 +18,7 @@ returns-clause-fresh g c =
       content = fresh_content c.new-6.result.world.events c.new-6.result.history.events c.new-6.ensures.history;
       disk_faults = c.new-6.ensures.faults;
       calls = c.new-6.ensures.calls;
+      key_files = fresh_files c.new-7.result.world.events c.new-7.result.history.events c.new-7.ensures.history;
+      keys_unasked = fresh_names c.new-7.result.names.events c.new-7.ensures.names;
+      key_faults = c.new-7.ensures.faults;
     }

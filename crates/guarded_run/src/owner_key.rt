@@ -1,5 +1,5 @@
 //! The file `owner.key`.
-ghost use Rattle.std.specs.Prelude.{◌≡◌, ℕ, List, Option, false, true, IfSome};
+ghost use Rattle.std.specs.Prelude.{◌≡◌, ℕ, List, Option, false, true, take, IfSome};
 ghost use Rattle.road_io.specs.Contents.{Gives};
 ghost use Rattle.road_command.specs.Requests.{request_of};
 ghost use Rattle.road_io.specs.Disk.{Narrows};
@@ -51,13 +51,23 @@ impl KeyFile {
     }
 }
 
+/// Returns the first 112 octets of a text, or all of a shorter one.
+fn first_digits(text: &[u8]) -> &[u8]
+    ensures { result.now ≡ take 112 text.now }
+{
+    if text.len() <= 112 {
+        text
+    } else {
+        &text[..112]
+    }
+}
+
 /// Returns the key that the first 112 hex digits of a text encode.
 fn key_in(text: &[u8]) -> Option<[u8; 56]>
     ensures { result ≡ key_in text.now }
 {
-    let digits = if text.len() < 112 { text } else { &text[..112] };
     let mut public = [0u8; 56];
-    match hex::decode_to_slice(digits, &mut public) {
+    match hex::decode_to_slice(first_digits(text), &mut public) {
         Ok(()) => Some(public),
         Err(_) => None,
     }

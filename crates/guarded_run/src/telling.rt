@@ -1,6 +1,7 @@
 //! Why a run ended as it did, and what else its owner is to know. The sentences stand in the program.
 ghost use Rattle.std.specs.Prelude.{◌≡◌};
 ghost use Rattle.road_command.specs.Requests.{request_of};
+ghost use Rattle.guarded_run.specs.declared.guarding.End.TheVariants.{Refused};
 ghost use Rattle.guarded_run.specs.Telling.{done_news, key_news, map_news, news_by, news_of, reason_of, signed_news};
 
 use crate::guarding::End;
@@ -30,15 +31,29 @@ pub enum Reason {
 pub fn reason_of(end: End, unopened: Option<Unsafe>) -> Reason
     ensures { result ≡ reason_of end unopened }
 {
-    match (end, unopened) {
-        (End::Refused(Unfit::Disk) | End::Ran(_), Some(why)) => Reason::Unsafe(why),
-        (End::Refused(Unfit::Disk), None) => Reason::Failed(Fault::Disk),
-        (End::Refused(Unfit::Memory(none)), _) => Reason::Failed(Fault::Memory(none)),
-        (End::Refused(Unfit::BadBlock), _) => Reason::Failed(Fault::BadBlock),
-        (End::Refused(Unfit::Strange(strange)), _) => Reason::Strange(strange),
-        (End::Refused(Unfit::OtherKey), _) => Reason::OtherKey,
-        (End::Unsigned(_), _) => Reason::Unsigned,
-        (End::Ran(ended), None) => Reason::Ended(ended),
+    match end {
+        End::Refused(why) => refusal_of(why, unopened),
+        End::Unsigned(_) => Reason::Unsigned,
+        End::Ran(ended) => match unopened {
+            Some(why) => Reason::Unsafe(why),
+            None => Reason::Ended(ended),
+        },
+    }
+}
+
+/// Returns why a run did not begin.
+fn refusal_of(why: Unfit, unopened: Option<Unsafe>) -> Reason
+    ensures { result ≡ reason_of (Refused why) unopened }
+{
+    match why {
+        Unfit::Disk => match unopened {
+            Some(why) => Reason::Unsafe(why),
+            None => Reason::Failed(Fault::Disk),
+        },
+        Unfit::Memory(none) => Reason::Failed(Fault::Memory(none)),
+        Unfit::BadBlock => Reason::Failed(Fault::BadBlock),
+        Unfit::Strange(strange) => Reason::Strange(strange),
+        Unfit::OtherKey => Reason::OtherKey,
     }
 }
 

@@ -391,7 +391,7 @@ def place_by(program: Program, sort: str, text: bytes) -> int | None:
 
 
 def placed(ended: tuple[int, bytes, str]) -> int | None:
-    found = re.search(r"from offset (\d+) on", ended[2])
+    found = re.search(r"the field at offset (\d+) cannot be read", ended[2])
     return int(found[1]) if found else None
 
 

@@ -93,7 +93,7 @@ def turned(program: str, words: str) -> Ended:
 def refused(program: str, words: str) -> None:
     status, out, said = turned(program, words)
     same(f"{words}: status and output, where {said!r} is said", (status, out), (12, b""))
-    same(f"{words}: what is said", "was not verified" in said, True)
+    same(f"{words}: what is said", "a new signature was wrong" in said, True)
 
 
 def run(program: str, words: str) -> bytes:

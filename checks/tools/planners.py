@@ -222,16 +222,29 @@ def play_stopped(it: Place, gateway: Any, whole: str) -> None:
 def play_interrupted(it: Place, front: Any, whole: str) -> None:
     """A table that a person stops ends at once, and continues from its file."""
     front.seen.clear()
-    front.wrong = lambda path, *_: time.sleep(0.05) if "from=" in path else None
+    is_sent = threading.Event()
+
+    def has_rows() -> bool:
+        return (it.at / "part.csv").read_text().count("\n") >= 30
+
+    def held(path: str, *_: Any) -> None:
+        """Holds the asks after the first rows until the signal is sent, so that the table cannot end before it."""
+        if "from=" in path:
+            time.sleep(0.05)
+            if has_rows():
+                is_sent.wait(60)
+
+    front.wrong = held
     words = [sys.executable, TOOLS / "table.py", front.origin, it.owner.path("owner.key"), "sources", "targets"]
     with open(it.at / "part.csv", "w") as file:
         table = subprocess.Popen(
             [*map(str, words), "--asks", "2"], cwd=it.at, stdout=file, stderr=subprocess.PIPE, text=True
         )
         until = time.monotonic() + 60
-        while (it.at / "part.csv").read_text().count("\n") < 30 and time.monotonic() < until:
+        while not has_rows() and time.monotonic() < until:
             time.sleep(0.01)
         table.send_signal(signal.SIGINT)
+        is_sent.set()
         said = table.communicate(timeout=60)[1]
     part = (it.at / "part.csv").read_text()
     holds(

@@ -1,18 +1,17 @@
 #!/usr/bin/env python3
 """Lists the trusted bodies: checks/trusted.py [--list]
 
-The standard library promises little about the system's calls. So a body that makes such a call or records an answer is
-trusted to make the call that it claims, and to record the true answer. This script tests that
+The crate `outside` calls the system and records the answers. Its bodies are trusted, since the standard library promises
+little about the system. This script tests that
 
-- only the files of TRUSTED have such bodies, with the number of statements in the table. A statement is one that ends
-  with a semicolon, a value at the end of a block, a condition, or a case; signatures and clauses do not count;
-- no other file of a crate names a part of the standard library that reaches the system: by `use` or a path, by a method
-  of a file or of the runtime, or by a macro that prints; and none defines its own object for a file, a stream or the
-  runtime. Crates of tests may do so. So may the program's main crate, which reads the arguments and the clock and writes
-  messages.
+- they have at most 120 statements, and a function that calls the system at most five. A statement is one that ends with a
+  semicolon, a value at the end of a block, a condition, or a case; signatures and clauses do not count;
+- no other crate names a part of the standard library that reaches the system: by `use` or a path, by a method of a file
+  or of the runtime, or by a macro that prints; and none defines its own object for a file, a stream or the runtime. Crates
+  of tests may do so. So may the program's main crate, which reads the arguments and the clock and writes messages.
 
-With --list it prints each of these bodies, its number of statements, and the calls that it names. Nobody trusts this
-script.
+docs/CLAIMS.md has both numbers. With --list it prints each function, its number of statements, and the parts of the
+standard library that it names. Nobody trusts this script.
 """
 import glob
 import os
@@ -21,25 +20,7 @@ import sys
 from collections.abc import Iterator
 
 TOP = os.path.dirname(os.path.dirname(os.path.abspath(__file__)))
-MAIN = "road_proof"
-# the files with trusted bodies, and the number of statements in these bodies
-TRUSTED = {
-    "desk_disk/src/handle.rt": 14,
-    "desk_disk/src/look.rt": 6,
-    "desk_disk/src/state.rt": 52,
-    "desk_guard/src/folder.rt": 9,
-    "desk_guard/src/owner_mirror.rt": 25,
-    "desk_guard/src/secret_file.rt": 3,
-    "desk_guard/src/streams.rt": 4,
-    "desk_guard/src/user.rt": 7,
-    "guarded_run/src/owner_key.rt": 3,
-    "mirror_out/src/file_mirror.rt": 9,
-    "road_io/src/calls.rt": 23,
-    "road_io/src/file_disk.rt": 45,
-    "road_io/src/file_library.rt": 34,
-    "road_io/src/std_sink.rt": 10,
-    "road_io/src/std_source.rt": 1,
-}
+TRUSTED, MAIN, MOST, LONGEST = "outside", "road_proof", 120, 5
 # names that a crate may use from the parts of std that reach the system: types, and the bound of the runtime
 ALLOWED = {"std::io", "std::io::Error", "std::io::ErrorKind", "std::io::Result", "std::fs::File", "std::rt::Files"}
 REACHING = ("env", "fs", "io", "net", "os", "process", "rt", "thread", "time")
@@ -49,9 +30,7 @@ METHODS = (
     "read_line read_link read_to_end reader remove_dir remove_file rename seek set_len set_permissions set_times stderr stdin "
     "stdout symlink symlink_metadata sync_all sync_data try_lock try_lock_shared unlock write_all write_some write_vectored"
 ).split()
-# calls, and the fields of a file's metadata
-LOOKED = "dev ino mode nlink uid is_block_device is_fifo is_socket".split()
-CALL = re.compile(rf"\.(?:{'|'.join((*METHODS, *LOOKED))}|note|open|read)\(|\bfs::\w+")
+CALL = re.compile(rf"\.(?:{'|'.join(METHODS)}|open|read)\(|\bfs::\w+")
 METHOD = re.compile(
     rf"\.(?:{'|'.join(METHODS)})\(|\b(?:e?print(?:ln)?|dbg)!|\bFile::\w+|\bio::(?!Error\b|ErrorKind\b|Result\b)\w+"
 )
@@ -155,24 +134,27 @@ def reaches(text: str) -> Iterator[str]:
 
 
 def main() -> None:
-    faults: list[str] = []
-    rows: list[tuple[str, int, str, int, list[str]]] = []
+    faults, rows = [], []
+    for name, text in sources(TRUSTED):
+        for function, line, body in bodies(text):
+            called, number = sorted({found.strip(" .(") for found in CALL.findall(body)}), statements(body)
+            rows.append((name, line, function, number, called))
+            if called and number > LONGEST:
+                faults.append(f"{name}:{line}: {function} calls the system and has {number} statements, not {LONGEST}")
     for crate in crates():
-        for name, text in sources(crate) if crate != MAIN else []:
-            if name not in TRUSTED:
-                faults += [f"{name}: {found}" for found in reaches(text)]
-            for function, line, body in bodies(text):
-                called = sorted({found.strip(" .(") for found in CALL.findall(body)})
-                if called and name in TRUSTED:
-                    rows.append((name, line, function, statements(body), called))
+        if crate not in (TRUSTED, MAIN):
+            faults += [f"{name}: {found}" for name, text in sources(crate) for found in reaches(text)]
+    count = sum(row[3] for row in rows)
     if sys.argv[1:] == ["--list"]:
         for name, line, function, number, called in rows:
-            print(f"{name}:{line}: {function}: {number}: {', '.join(called)}")
-    for name, wanted in TRUSTED.items():
-        found = sum(row[3] for row in rows if row[0] == name)
-        if found != wanted:
-            faults.append(f"{name} has {found} statements in trusted bodies, and not {wanted}")
-    print(f"{sum(row[3] for row in rows)} statements in {len(rows)} trusted bodies")
+            print(f"{name}:{line}: {function}: {number}{': ' + ', '.join(called) if called else ''}")
+    calling = sum(1 for row in rows if row[4])
+    print(f"{count} statements in {len(rows)} trusted bodies, of at most {MOST}; {calling} of them call the system")
+    if count > MOST:
+        faults.append(f"there are {count} statements in trusted bodies, more than {MOST}")
+    with open(f"{TOP}/docs/CLAIMS.md", encoding="utf-8") as file:
+        if f"the {len(rows)} bodies of the crate `{TRUSTED}`, {count} statements" not in file.read():
+            faults.append("docs/CLAIMS.md has other numbers")
     print("\n".join(faults) if faults else "0 faults")
     sys.exit(1 if faults else 0)
 

@@ -75,8 +75,6 @@ FAULTS: list[tuple[str, str | tuple[str, str], str]] = [
         (r"(?<=Proved\*\* with `)[^`]*", "another kit"),
         "README.md: it does not say that it is proved with the toolchain",
     ),
-    ("crates/desk_disk/src/desk_disk.rt", "let a = 1;\n" * 100, "docs/CLAIMS.md: the adapters have"),
-    ("SECURITY.md", "\nThe adapters have 700 lines.\n", "SECURITY.md: only docs/CLAIMS.md says how many lines"),
     ("out/planted", "octets", "out/planted: Git tracks a file under out/"),
     ("reference/.mypy_cache/planted", "octets", "reference/.mypy_cache/planted: Git tracks a file under .mypy_cache/"),
     ("crates/road_proof/out/planted", "octets", "crates/road_proof/out/planted: Git tracks a file under out/"),

@@ -5,7 +5,7 @@ It counts the words outside code blocks of README.md and docs/*.md, and prints t
 in the documents of APART, it finds sentences of more than 40 words, links to missing files or headings, and names of
 missing files. It compares the version in the file VERSION with the version in the program, the changelog, README's
 release file, the C header, the modules for Python and JavaScript and the crate for Rust. It compares the toolchain that
-the program names with those in SUMS and README, and the number of lines of the adapters with CLAIMS. Git must track
+the program names with those in SUMS and README. Git must track
 nothing under an out folder or a cache. Ends with status 1 if something exceeds its limit, differs or is missing.
 checks/docs/planted.py plants each fault.
 """
@@ -28,21 +28,6 @@ VERSIONS = {
     "web/package.json": r'"version": "([^"]*)"',
     "bindings/rust/Cargo.toml": r'^version = "([^"]*)"',
 }
-ADAPTERS = [
-    f"crates/{name}.rt"
-    for name in (
-        "road_io/src/file_library",
-        "road_io/src/std_source",
-        "road_io/src/std_sink",
-        "road_io/src/calls",
-        "road_io/src/record",
-        "mirror_out/src/file_mirror",
-        "desk_disk/src/desk_disk",
-        "desk_disk/src/state",
-        "desk_disk/src/handle",
-        "desk_disk/src/look",
-    )
-]
 KIT = r'KIT: &str = "([^"]*)"'
 APART = [
     "SECURITY.md",
@@ -161,21 +146,6 @@ def versions_that_differ() -> Iterator[str]:
         yield "README.md: it does not say that it is proved with the toolchain that the program names"
 
 
-def adapters_that_differ() -> Iterator[str]:
-    """Compares the number of lines of the adapters, in hundreds, with the only page that states it."""
-    count = sum(
-        not re.match(r"\s*(//.*)?$", line)
-        for name in ADAPTERS
-        if os.path.exists(f"{TOP}/{name}")
-        for line in read(name).splitlines()
-    )
-    if f"*The adapters*, some {round(count, -2)} lines" not in read("docs/CLAIMS.md"):
-        yield f"docs/CLAIMS.md: the adapters have {count} lines"
-    for document in ("README.md", "SECURITY.md", "docs/ARCHITECTURE.md"):
-        if re.search(r"adapters[^.]*\d+ lines", read(document)):
-            yield f"{document}: only docs/CLAIMS.md says how many lines the adapters have"
-
-
 def tracked_in_out() -> list[str]:
     listed = subprocess.run(["git", "ls-files"], cwd=TOP, capture_output=True, text=True, check=True).stdout.split("\n")
     found = [(re.search(r"(?:^|/)(out|\.mypy_cache|__pycache__)/", name), name) for name in listed]
@@ -184,7 +154,7 @@ def tracked_in_out() -> list[str]:
 
 def main() -> None:
     documents = ["README.md"] + sorted(os.path.relpath(name, TOP) for name in glob.glob(f"{TOP}/docs/*.md"))
-    faults = [*versions_that_differ(), *adapters_that_differ(), *tracked_in_out()]
+    faults = [*versions_that_differ(), *tracked_in_out()]
     counts: dict[str, int] = {}
     for document in documents + APART:
         text = read(document)

@@ -507,7 +507,7 @@ def make_headers() -> Iterator[Case]:
 
 HEADERS = Family(
     "headers",
-    "The fields of a header of 104 octets, or the place of the first that can't be read.",
+    "The fields of a header of 104 octets, or the place of the first that cannot be read.",
     record({"octets": HEX}),
     record({}, {"header": record(HEADER_FIELDS), "malformed": NUMBER}),
     run_header,
@@ -554,7 +554,7 @@ def make_chains() -> Iterator[Case]:
 
 CHAINS = Family(
     "chain_files",
-    "The links that a chain file lists, or the place of the first field that can't be read.",
+    "The links that a chain file lists, or the place of the first field that cannot be read.",
     record({"octets": HEX}),
     record({}, {"links": listed(record({"key": HEX, "signature": HEX})), "malformed": NUMBER}),
     run_chain,
@@ -610,7 +610,7 @@ def make_cuts() -> Iterator[Case]:
 
 CUTS = Family(
     "cuts",
-    "Octets that are cut behind their first ones: for each length of a range, the first field that can't be read "
+    "Octets that are cut behind their first ones: for each length of a range, the first field that cannot be read "
     "begins at the same place. Null says that what is left spells a whole value, a chain of fewer links.",
     record({"sort": one_of("reply", "radius reply", "publication", "chain"), "octets": HEX, "lengths": listed(SPAN)}),
     record({"places": listed({"type": ["integer", "null"]})}),

@@ -33,7 +33,7 @@ CLIENT_NOTES = {
     "Ldm": "under LDM",
     "Hyp": "under HYP",
     "Chain": "with a chain of keys",
-    "Form": "octets that can or can't be read",
+    "Form": "octets that can or cannot be read",
     "Seal": "versions, chains and signatures",
     "Cover": "items and covers, and ids in two items",
     "Judgement": "routes and their absence, judged by the items",

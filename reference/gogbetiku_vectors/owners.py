@@ -156,7 +156,7 @@ def make_desks() -> Iterator[Case]:
 
 DESKS = Family(
     "desks",
-    "What an image of the owner's disk opens as: the keys of its areas, how many one-time keys of the current one are left for headers and how many there are, and the chain of its links; or why it can't be used. An image is zeros but for the pieces at their places.",
+    "What an image of the owner's disk opens as: the keys of its areas, how many one-time keys of the current one are left for headers and how many there are, and the chain of its links; or why it cannot be used. An image is zeros but for the pieces at their places.",
     record({"image": IMAGE}),
     record({}, {"keys": listed(HEX), "left": NUMBER, "total": NUMBER, "links": HEX, **FAULT}),
     run_desk,
@@ -180,7 +180,7 @@ def make_changes() -> Iterator[Case]:
         ("key", "where a key stands", good, RISING),
         ("key", "over 63 octets", b"\x09" * 63, RISING),
         ("key", "over a closed gate and what is left of another key", put(used(good, b"a text"), 0, u8(0)), RISING),
-        ("key", "where a disk is open that can't be used", put(good, layout.KIND, u32(9)), RISING),
+        ("key", "where a disk is open that cannot be used", put(good, layout.KIND, u32(9)), RISING),
         ("key", "over a longer disk", bytes(5000), RISING),
         ("succeed", "behind a key that has signed nothing", good, ONES),
         ("succeed", "behind a key that has signed", used(good, b"a text", b"another"), ONES),
@@ -192,7 +192,7 @@ def make_changes() -> Iterator[Case]:
         ("succeed", "where the last slot has signed a header", with_slot(good, 31, b"RPF1" + bytes(100)), ONES),
         ("succeed", "behind eight keys", eight_areas(), bytes([9]) * 48),
         ("succeed", "behind eight keys, with the secret of one", eight_areas(), ZEROS),
-        ("succeed", "on a disk that can't be used", put(good, layout.KIND, u32(9)), ONES),
+        ("succeed", "on a disk that cannot be used", put(good, layout.KIND, u32(9)), ONES),
         ("succeed", "over a longer disk", good + b"\x05" * 6000, ONES),
         ("succeed", "the last slot is spent, and the secret is the same", with_slot(good, 31, b"RPF1"), ZEROS),
         ("key", "over 64 octets", b"\x09" * 64, RISING),
@@ -239,7 +239,7 @@ def make_signings() -> Iterator[Case]:
         ("the second slot of the current key of two", used(two, b"a text")),
         ("all slots of the current key of two are spent", second_full),
         ("no key", b""),
-        ("a disk that can't be used", put(good, layout.KIND, u32(9))),
+        ("a disk that cannot be used", put(good, layout.KIND, u32(9))),
         ("a longer disk, which stays as long", good + b"\x07" * 100),
     ]
     return answered(
@@ -340,7 +340,7 @@ def make_audits() -> Iterator[Case]:
     rows += [
         ("a spare leaf", audited(disk, dij, brings(dij, [1, 2, 3], [1, 2, 3, 4, 5]).octets())),
         ("a reply that the client refuses", audited(disk, dij, brings(dij, [1, 2, 3], [1, 2, 3]).octets())),
-        ("a reply that can't be read", audited(disk, dij, good[:-1])),
+        ("a reply that cannot be read", audited(disk, dij, good[:-1])),
         ("a version is never too old", audited(disk, dij, good)),
         ("a server's bare word", audited(disk, dij, b"\x01")),
         ("a reply on a radius that is refused", near_audited(disk, dij, near_reply(dij, [1, 2]).octets())),
@@ -368,17 +368,17 @@ def make_audits() -> Iterator[Case]:
             ),
         ),
         (
-            "a refused reply is told before a publication that can't be installed",
+            "a refused reply is told before a publication that cannot be installed",
             audited(disk, replace(dij, publication=replace(dij.publication, p1=1)), good[:-1]),
         ),
         ("a disk without a key", audited(b"", dij, good)),
-        ("a disk that can't be used", audited(put(disk, layout.KIND, u32(9)), dij, good)),
+        ("a disk that cannot be used", audited(put(disk, layout.KIND, u32(9)), dij, good)),
         ("an empty disk that has signed nothing", audited(fresh(), dij, good)),
     ]
     broken = audited(disk, dij, good)
     rows += [
-        ("a publication that can't be read", {**broken, "publication": broken["publication"][:-2]}),
-        ("a chain that can't be read", {**broken, "chain": "00"}),
+        ("a publication that cannot be read", {**broken, "publication": broken["publication"][:-2]}),
+        ("a chain that cannot be read", {**broken, "chain": "00"}),
     ]
     yield from answered(run_audit, rows)
     yield from answered(run_audit, list(along_chains()))
@@ -529,7 +529,7 @@ def with_randomiser(key: Key, slot: int, text: bytes) -> bytes:
 
 REDUCTIONS = Family(
     "reductions",
-    "What a signature on a text comes down to, by an image of the owner's disk, with the status of the command. Two texts of equal SHA-256 can't be shown.",
+    "What a signature on a text comes down to, by an image of the owner's disk, with the status of the command. Two texts of equal SHA-256 cannot be shown.",
     record({"image": IMAGE, "public": HEX, "text": HEX, "signature": HEX}),
     ENDED,
     run_reduction,

@@ -421,7 +421,7 @@ def make_installs() -> Iterator[Case]:
 
 INSTALLS = Family(
     "installs",
-    "Whether a server takes a publication, or why not: the first field that can't be read, a fault of its map or of its settings, or a header that is not that of its book.",
+    "Whether a server takes a publication, or why not: the first field that cannot be read, a fault of its map or of its settings, or a header that is not that of its book.",
     record({"publication": HEX}),
     record({}, {"installed": {"const": True}, **FAULT}),
     run_install,

@@ -32,7 +32,7 @@ pub enum Fault {
     #[error("{0}")]
     Plan(PlanError),
     /// A publication file or a chain file cannot be read. The first unreadable field begins at this offset.
-    #[error("The file can't be read from offset {0} on.")]
+    #[error("The file cannot be read from offset {0} on.")]
     Malformed(u32),
     /// A publication's header does not match its map and settings.
     #[error("The publication's header is not that of its map and settings.")]
@@ -80,13 +80,13 @@ pub enum Fault {
     #[error("The owner's disk holds no key.")]
     NoKey,
     /// An open area of the disk cannot be used.
-    #[error("The key on the owner's disk can't be used.")]
+    #[error("The key on the owner's disk cannot be used.")]
     BadBlock,
     /// The disk has eight keys, which is the maximum.
     #[error("The owner's disk holds eight keys already.")]
     TooManyKeys,
     /// The last one-time key of the current key was used, but did not sign the next key.
-    #[error("The last one-time key of the owner's key was used, so that it can't sign the next key.")]
+    #[error("The last one-time key of the owner's key was used, so that it cannot sign the next key.")]
     NoSuccession,
     /// The disk already holds a key with this secret.
     #[error("The owner's disk holds a key of this secret already.")]

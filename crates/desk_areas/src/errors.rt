@@ -15,7 +15,7 @@ pub enum StartError {
     NoKey,
     /// An area of the disk cannot be used: its kind is unknown, some of its slots are not on the disk, or the link
     /// before it names another key.
-    #[error("The disk holds a key that can't be used.")]
+    #[error("The disk holds a key that cannot be used.")]
     BadBlock,
     /// The disk failed.
     #[error("The disk failed.")]

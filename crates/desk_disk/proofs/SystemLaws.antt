@@ -3,9 +3,10 @@ use Rattle.std.proofs.Common.{◌≡◌, ℕ, zero, suc, List, [], ◌∷◌, �
 use Rattle.std.specs.Str.{bytes_eq}
 use Rattle.std.proofs.lemmas.Bool.Decides.{nat_tests}
 use Rattle.std.proofs.lemmas.Slice.Eq.{bytes_eq-Decides}
+use Rattle.outside.specs.declared.look.Look.{Look}
+use Rattle.outside.specs.Looks.{seen_as}
 use Rattle.road_io.specs.Shelves.{Note}
-use Rattle.desk_disk.specs.declared.look.Look.{Look}
-use Rattle.desk_disk.specs.Looks.{seen_as, part, shown, is_own, is_closed, is_under, are_looks, is_seen_own, is_seen}
+use Rattle.desk_disk.specs.Looks.{part, shown, is_own, is_closed, is_under, are_looks, is_seen_own, is_seen}
 use Rattle.desk_disk.specs.Systems.{System, Moment, Inode, IsShown, AnswersAt, Answers, TellsFilesApart, IsOwnAt, IsSafeAt, WasOwn, WasSafe}
 
 left : (a b : Bool) → (a && b) ≡ true → a ≡ true
@@ -62,11 +63,11 @@ module _ (system : System) (name : List ℕ) (held named user : Note) (told look
       let u : part 1 user ≡ (system told).user = answers_user (system told) user (same (part 0 user) 0 (left a0 a1 a01)) of_user in
       let n : IsShown ((system looked).named named.1) 1 named.0 = answers_named (system looked) named (same (part 0 named) 1 (right a0 a1 a01)) of_named in
       let h : IsShown (system seen).held 2 held.0 = answers_held (system seen) held (same (part 0 held) 2 (right (a0 && a1) a2 a012)) of_held in
-      let b0 = part 1 named == 1 in
+      let b0 = part 1 named == 0o10 in
       let b1 = part 5 named == part 5 held in
       let b2 = part 6 named == part 6 held in
       let b01 : (b0 && b1) ≡ true = left (b0 && b1) b2 is_b in
-      let c0 = part 1 held == 1 in
+      let c0 = part 1 held == 0o10 in
       let c1 = part 2 held == part 1 user in
       let c2 = part 3 held == 1 in
       let c01 : (c0 && c1) ≡ true = left (c0 && c1) c2 is_c in
@@ -78,9 +79,9 @@ module _ (system : System) (name : List ℕ) (held named user : Note) (told look
         held = h.file;
         stood = stood;
         opened = h.is;
-        no_link = sym (at 1 1 named n.file.shown n.shows) ∙ same (part 1 named) 1 (left b0 b1 b01);
+        no_link = sym (at 1 1 named n.file.shown n.shows) ∙ same (part 1 named) 0o10 (left b0 b1 b01);
         one = λ apart. apart looked seen name n.file h.file stood h.is device inode;
-        regular = sym (at 1 2 held h.file.shown h.shows) ∙ same (part 1 held) 1 (left c0 c1 c01);
+        regular = sym (at 1 2 held h.file.shown h.shows) ∙ same (part 1 held) 0o10 (left c0 c1 c01);
         own = sym (at 2 2 held h.file.shown h.shows) ∙ same (part 2 held) (part 1 user) (right c0 c1 c01) ∙ u;
         one_name = sym (at 3 2 held h.file.shown h.shows) ∙ same (part 3 held) 1 (right (c0 && c1) c2 is_c);
       }

@@ -3,24 +3,19 @@ use Rattle.std.specs.Prelude.{ℕ, List, [], ◌∷◌, ◌==◌, ◌&&◌, ◌|
 use Rattle.std.specs.declared.option.Option.{Option}
 use Rattle.std.specs.declared.option.Option.TheVariants.{None, Some}
 use Rattle.std.specs.Str.{bytes_eq}
+use Rattle.outside.specs.declared.look.Look.{Look}
 use Rattle.road_io.specs.Shelves.{Note}
-use Rattle.desk_disk.specs.declared.look.Look.{Look}
 use Rattle.desk_disk.specs.declared.unsafe_desk.Unsafe.{Unsafe}
 use Rattle.desk_disk.specs.declared.unsafe_desk.Unsafe.TheVariants as faults
-
--- a look at a file as it is recorded, under a code: its kind (1: a regular file), its owner, the number of its
--- names, its mode, its device and its number on the device
-abbrev pub seen_as : ℕ → Look → List ℕ
-seen_as code look = code ∷ look.kind ∷ look.owner ∷ look.names ∷ look.mode ∷ look.device ∷ look.inode ∷ []
 
 abbrev pub part : ℕ → Note → ℕ
 part k note = slice_index note.0 k
 
 -- ---- one look
 
--- a regular file, of this user, with one name
+-- a regular file (by the highest bits of C's `st_mode`), of this user, with one name
 abbrev pub is_own : ℕ → Look → Bool
-is_own user look = look.kind == 1 && look.owner == user && look.names == 1
+is_own user look = look.kind == 0o10 && look.owner == user && look.names == 1
 
 -- such a file, and others may neither read nor write it
 abbrev pub is_closed : Look → Bool
@@ -46,7 +41,7 @@ is_safe_but_read (Some user) look = is_own user look && is_unwritable look
 
 -- the name is not a link; it is the name of the handle's file
 abbrev pub is_under : Look → Look → Bool
-is_under named held = named.kind == 1 && named.device == held.device && named.inode == held.inode
+is_under named held = named.kind == 0o10 && named.device == held.device && named.inode == held.inode
 
 -- at most the mode of the file is at fault: others may read or write it
 abbrev pub is_of_mode : Option Unsafe → Bool

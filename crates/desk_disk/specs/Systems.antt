@@ -3,9 +3,9 @@
 use Rattle.std.specs.Prelude.{◌≡◌, ℕ, zero, suc, List, [], ◌∷◌, length, slice_index, bit_and}
 use Rattle.std.specs.declared.option.Option.{Option}
 use Rattle.std.specs.declared.option.Option.TheVariants.{Some}
+use Rattle.outside.specs.declared.look.Look.{Look}
+use Rattle.outside.specs.Looks.{seen_as}
 use Rattle.road_io.specs.Shelves.{Note}
-use Rattle.desk_disk.specs.declared.look.Look.{Look}
-use Rattle.desk_disk.specs.Looks.{seen_as}
 
 -- a file: its identity, which no answer shows, and the facts that a look at it shows
 pub record Inode : Type 0 where
@@ -57,9 +57,9 @@ pub record IsOwnAt (system : System) (name : List ℕ) (told looked seen : ℕ) 
   pub held : Inode
   pub stood : (system looked).named name ≡ Some under
   pub opened : (system seen).held ≡ Some held
-  pub no_link : under.shown.kind ≡ 1
+  pub no_link : under.shown.kind ≡ 0o10
   pub one : TellsFilesApart system → under.identity ≡ held.identity
-  pub regular : held.shown.kind ≡ 1
+  pub regular : held.shown.kind ≡ 0o10
   pub own : held.shown.owner ≡ (system told).user
   pub one_name : held.shown.names ≡ 1
 

@@ -1,12 +1,13 @@
 //! The owner's desk as a disk.
-ghost use Rattle.std.specs.Prelude.{◌≡◌, ◌≤◌, [], ◌∷◌, ◌&&◌, false, IfOk, OnOk, length};
+ghost use Rattle.std.specs.Prelude.{◌≡◌, ◌≤◌, [], ◌∷◌, ◌&&◌, false, true, IfOk, OnOk, length};
+ghost use Rattle.outside.specs.Calls.{noted_sync, noted_write};
 ghost use Rattle.road_io.specs.Causes.{HasCause, Rose, RoseBy};
-ghost use Rattle.road_io.specs.Worlds.{noted_sync, noted_write};
-ghost use Rattle.desk_disk.specs.States.{is_read_only, WasFound};
+ghost use Rattle.desk_disk.specs.States.{is_found, is_read_only, WasFound};
 
-use crate::state::{NotOpened, State, make, open_own, open_seen};
+use crate::state::{NotOpened, State, make, open_own, open_seen, write};
 use crate::unsafe_desk::Unsafe;
-use road_io::{Disk, Failed, Record};
+use outside::{NotedDisk, Record};
+use road_io::{Disk, Failed};
 use std::fs::File;
 use std::io;
 use std::rt::Files;
@@ -25,16 +26,16 @@ use std::rt::Files;
 /// past the end of the file.
 #[derive(Drop)]
 pub struct DeskDisk<R: Files<File = File> + Drop> {
-    rt: R,
+    disk: NotedDisk<R>,
     writes: bool,
     state: State,
     faults: u64,
     calls: u64,
     last_error: Option<io::Error>,
     why_unsafe: Option<Unsafe>,
-    history: Record,
     world: Record,
     pub ghost seen: { (writes && is_read_only state) ≡ false },
+    pub ghost found: { is_found state disk.names.answers.events ≡ true },
 }
 
 impl<R: Files<File = File> + Drop> DeskDisk<R> {
@@ -42,19 +43,18 @@ impl<R: Files<File = File> + Drop> DeskDisk<R> {
     /// desk may be in any world.
     pub fn new(rt: R, writes: bool) -> DeskDisk<R>
         ensures writes { result.writes ≡ writes }
-        ensures history { result.history.events ≡ [] }
+        ensures history { result.disk.history.events ≡ [] }
         ensures faults { result.faults ≡ 0 }
         ensures calls { result.calls ≡ 0 }
     {
         DeskDisk {
-            rt,
+            disk: NotedDisk::new(rt),
             writes,
             state: State::Unseen,
             faults: 0,
             calls: 0,
             last_error: None,
             why_unsafe: None,
-            history: Record::new(),
             world: Record::new(),
         }
     }
@@ -71,32 +71,34 @@ impl<R: Files<File = File> + Drop> DeskDisk<R> {
 
     /// Tests whether others could read the file until it was opened. From then on they cannot.
     pub fn was_readable(&self) -> bool {
-        self.state.was_readable()
+        self.state == State::Seen(true)
     }
 
     /// Returns what is at fault with the mode of the file, if a command that only reads has opened it. The fault is left.
     pub fn fault_left(&self) -> Option<Unsafe> {
-        self.state.fault_left()
+        match self.state {
+            State::Own(fault) => fault,
+            _ => None,
+        }
     }
 
     /// States what was found of the file after its opening.
+    #[tactic(auto, using(crate::proofs::Found::found))]
     pub fn was_found(&self)
-        ensures { WasFound self.now.state }
-    {
-        self.state.was_found()
-    }
+        ensures { WasFound self.now.state self.now.disk.names.answers.events }
+    {}
 
     // Begins a call: counts the call, and opens the file if it is not open yet.
     fn begin(&mut self) -> Result<(), Failed>
         ensures cause { HasCause self.old.faults self.new.faults result }
         ensures kept { OnOk result (self.new.faults ≡ self.old.faults) }
         ensures counted { RoseBy 1 self.old.calls self.new.calls }
-        ensures noted { self.new.history.events ≡ self.old.history.events }
+        ensures noted { self.new.disk.history.events ≡ self.old.disk.history.events }
         ensures world { self.new.world.events ≡ self.old.world.events }
     {
         self.calls = self.calls.saturating_add(1);
         if let State::Unseen = self.state {
-            let opened = opened(&self.rt, self.writes);
+            let opened = opened(&mut self.disk, self.writes);
             self.take(opened)?;
         }
         Ok(())
@@ -104,11 +106,13 @@ impl<R: Files<File = File> + Drop> DeskDisk<R> {
 
     // Stores the state after an opening. Counts a disk error if the opening failed.
     fn take(&mut self, opened: Result<State, NotOpened>) -> Result<(), Failed>
-        requires { IfOk opened (λ state. (self.old.writes && is_read_only state) ≡ false) }
+        requires written { IfOk opened (λ state. (self.old.writes && is_read_only state) ≡ false) }
+        requires found { IfOk opened (λ state.
+            is_found state self.old.disk.names.answers.events ≡ true) }
         ensures cause { HasCause self.old.faults self.new.faults result }
         ensures kept { OnOk result (self.new.faults ≡ self.old.faults) }
         ensures same { self.new.calls ≡ self.old.calls }
-        ensures noted { self.new.history.events ≡ self.old.history.events }
+        ensures noted { self.new.disk.history.events ≡ self.old.disk.history.events }
         ensures world { self.new.world.events ≡ self.old.world.events }
     {
         match opened {
@@ -126,14 +130,14 @@ impl<R: Files<File = File> + Drop> DeskDisk<R> {
 
     // Writes octets. Counts a failure if the write failed.
     fn put(&mut self, at: u64, octets: &[u8]) -> Result<(), Failed>
-        ensures noted { self.new.history.events ≡
-            noted_write result at octets.now ∷ self.old.history.events }
+        ensures noted { self.new.disk.history.events ≡
+            noted_write result at octets.now ∷ self.old.disk.history.events }
         ensures world { self.new.world.events ≡ self.old.world.events }
         ensures cause { HasCause self.old.faults self.new.faults result }
         ensures kept { OnOk result (self.new.faults ≡ self.old.faults) }
         ensures same { self.new.calls ≡ self.old.calls }
     {
-        match self.state.write(at, octets, &mut self.history) {
+        match write(&mut self.disk, self.state, at, octets) {
             Ok(()) => Ok(()),
             Err(e) => Err(self.failed(e)),
         }
@@ -141,14 +145,14 @@ impl<R: Files<File = File> + Drop> DeskDisk<R> {
 
     // Syncs. Counts a failure if the sync failed.
     fn settle(&mut self) -> Result<(), Failed>
-        ensures noted { self.new.history.events ≡
-            noted_sync result ∷ self.old.history.events }
+        ensures noted { self.new.disk.history.events ≡
+            noted_sync result ∷ self.old.disk.history.events }
         ensures world { self.new.world.events ≡ self.old.world.events }
         ensures cause { HasCause self.old.faults self.new.faults result }
         ensures kept { OnOk result (self.new.faults ≡ self.old.faults) }
         ensures same { self.new.calls ≡ self.old.calls }
     {
-        match self.state.sync(&mut self.history) {
+        match self.disk.sync() {
             Ok(()) => Ok(()),
             Err(e) => Err(self.failed(e)),
         }
@@ -159,7 +163,7 @@ impl<R: Files<File = File> + Drop> DeskDisk<R> {
         ensures cause { Rose self.old.faults self.new.faults }
         ensures later { self.old.faults ≤ self.new.faults }
         ensures same { self.new.calls ≡ self.old.calls }
-        ensures noted { self.new.history.events ≡ self.old.history.events }
+        ensures noted { self.new.disk.history.events ≡ self.old.disk.history.events }
         ensures world { self.new.world.events ≡ self.old.world.events }
     {
         self.faults = self.faults.saturating_add(1);
@@ -169,32 +173,42 @@ impl<R: Files<File = File> + Drop> DeskDisk<R> {
 }
 
 // Opens the desk's file, for a command that writes to it or for one that only reads.
-fn opened<R: Files<File = File>>(rt: &R, writes: bool) -> Result<State, NotOpened>
-    ensures { IfOk result (λ state. (writes && is_read_only state) ≡ false) }
+fn opened<R: Files<File = File> + Drop>(
+    disk: &mut NotedDisk<R>,
+    writes: bool,
+) -> Result<State, NotOpened>
+    ensures written { IfOk result (λ state. (writes && is_read_only state) ≡ false) }
+    ensures found { IfOk result (λ state.
+        is_found state disk.new.names.answers.events ≡ true) }
+    ensures history { disk.new.history.events ≡ disk.old.history.events }
 {
-    if writes { open_seen(rt) } else { open_own(rt) }
+    if writes {
+        open_seen(disk)
+    } else {
+        open_own(disk)
+    }
 }
 
 impl<R: Files<File = File> + Drop> Disk for DeskDisk<R> {
     ghost use Rattle.road_io.specs.Worlds.{reads, LeavesAt, reads_left_now};
 
-    ghost content = { λ d. reads d.world.events d.history.events };
+    ghost content = { λ d. reads d.world.events d.disk.history.events };
 
-    ghost clock = { λ d. length d.history.events };
+    ghost clock = { λ d. length d.disk.history.events };
 
-    ghost image_at = { λ d k i. LeavesAt d.world.events d.history.events k i };
+    ghost image_at = { λ d k i. LeavesAt d.world.events d.disk.history.events k i };
 
     ghost faults = { λ d. d.faults };
 
     ghost calls = { λ d. d.calls };
 
-    ghost reads_image = { λ d c is. reads_left_now d.world.events d.history.events c is };
+    ghost reads_image = { λ d c is. reads_left_now d.world.events d.disk.history.events c is };
 
     ghost image_tells = { λ d i h. (h.now, h.agrees) };
 
     fn len(&mut self) -> Result<u64, Failed> {
         self.begin()?;
-        match self.state.len(&mut self.history) {
+        match self.disk.len() {
             Ok(count) => Ok(count),
             Err(e) => Err(self.failed(e)),
         }
@@ -202,7 +216,7 @@ impl<R: Files<File = File> + Drop> Disk for DeskDisk<R> {
 
     fn read_at(&mut self, at: u64, into: &mut [u8]) -> Result<(), Failed> {
         self.begin()?;
-        match self.state.read(at, into, &mut self.history) {
+        match self.disk.read_at(at, into) {
             Ok(()) => Ok(()),
             Err(e) => Err(self.failed(e)),
         }
@@ -211,7 +225,7 @@ impl<R: Files<File = File> + Drop> Disk for DeskDisk<R> {
     fn write_at(&mut self, at: u64, octets: &[u8]) -> Result<(), Failed> {
         self.begin()?;
         if let State::Absent = self.state {
-            let made = make(&self.rt);
+            let made = make(&mut self.disk);
             self.take(made)?;
         }
         self.put(at, octets)

@@ -8,6 +8,5 @@ pub use unsafe_desk::Unsafe;
 mod desk_disk;
 mod handle;
 mod laws;
-mod look;
 mod state;
 mod unsafe_desk;

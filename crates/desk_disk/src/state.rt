@@ -1,28 +1,26 @@
-//! What is known about the desk's file.
-ghost use Rattle.std.specs.Prelude.{◌≡◌, ◌∷◌, [], false, IfOk, IsErr, OnOk, OnErr};
-ghost use Rattle.road_io.specs.Worlds.{noted_sync, noted_write};
-ghost use Rattle.desk_disk.specs.States.{is_read_only, is_writable, WasFound};
+//! How the desk's file is opened.
+ghost use Rattle.std.specs.Prelude.{◌≡◌, ◌∷◌, false, true, IfOk, IsErr};
+ghost use Rattle.outside.specs.Calls.{noted_write};
+ghost use Rattle.desk_disk.specs.States.{is_found, is_read_only, is_writable};
 
-use crate::handle::{OwnFile, SeenFile, user};
-use crate::look::{DESK, look_of};
+use crate::handle::{DESK, looked, settled};
 use crate::unsafe_desk::{Unsafe, fault_of, is_of_mode};
-use road_io::{Record, length_noted, read_at_noted, sync_noted, write_at_noted};
-use std::fs::{self, File, OpenOptions};
+use outside::NotedDisk;
+use std::fs::File;
 use std::io::{self, ErrorKind};
-use std::os::unix::fs::OpenOptionsExt;
 use std::rt::Files;
 
 /// What is known about the desk's file.
-#[derive(Drop)]
+#[derive(Clone, Copy, Debug, PartialEq, Eq)]
 pub enum State {
     /// The file has not been looked at.
     Unseen,
     /// The file did not exist.
     Absent,
-    /// A command that only reads has opened it. It was found to be the user's own.
-    Own(OwnFile),
-    /// A command that writes has opened it. It was found to be safe.
-    Seen(SeenFile),
+    /// A command that only reads has opened it. It was found to be the user's own, with this fault of its mode.
+    Own(Option<Unsafe>),
+    /// A command that writes has opened it. It was found to be safe. Whether others could read it until then.
+    Seen(bool),
 }
 
 /// Why a file was not opened.
@@ -39,88 +37,104 @@ impl From<io::Error> for NotOpened {
     }
 }
 
-/// Looks at the desk's name, without following a link. Returns why its file is not safe, or `None` if no file has
-/// the name.
-fn fault_of_name<R: Files>(rt: &R) -> io::Result<Option<Option<Unsafe>>> {
-    match rt.symlink_metadata(DESK) {
-        Ok(named) => Ok(Some(fault_of(look_of(&named), user(rt)))),
+/// Looks at the desk's name, without following a link. Returns why its file is not safe, or `None` if it is safe or no
+/// file has the name.
+fn fault_of_name<R: Files<File = File> + Drop>(
+    disk: &mut NotedDisk<R>,
+) -> io::Result<Option<Unsafe>>
+    ensures history { disk.new.history.events ≡ disk.old.history.events }
+{
+    let user = disk.user();
+    match disk.look_at_link(DESK) {
+        Ok(named) => Ok(fault_of(named, user)),
         Err(e) if e.kind() == ErrorKind::NotFound => Ok(None),
         Err(e) => Err(e),
     }
 }
 
 /// Opens and locks the file for a command that writes to it: the file itself, never a link, and only if it is safe.
-pub fn open_seen<R: Files<File = File>>(rt: &R) -> Result<State, NotOpened>
-    ensures { IfOk result (λ state. is_read_only state ≡ false) }
+pub fn open_seen<R: Files<File = File> + Drop>(disk: &mut NotedDisk<R>) -> Result<State, NotOpened>
+    ensures written { IfOk result (λ state. is_read_only state ≡ false) }
+    ensures found { IfOk result (λ state.
+        is_found state disk.new.names.answers.events ≡ true) }
+    ensures history { disk.new.history.events ≡ disk.old.history.events }
 {
-    match fault_of_name(rt)? {
-        None => return Ok(State::Absent),
-        Some(None | Some(Unsafe::Readable)) => {}
-        Some(Some(why)) => return Err(NotOpened::Unsafe(why)),
+    match fault_of_name(disk)? {
+        None | Some(Unsafe::Readable) => {}
+        Some(why) => return Err(NotOpened::Unsafe(why)),
     }
-    let file = OpenOptions::new().read(true).write(true).open(rt, DESK)?;
-    lock_seen(rt, file)
+    match disk.open(DESK) {
+        Ok(opened) => {
+            disk.hold(opened)?;
+            seen(disk)
+        }
+        Err(e) if e.kind() == ErrorKind::NotFound => Ok(State::Absent),
+        Err(e) => Err(NotOpened::Failed(e)),
+    }
 }
 
 /// Creates and locks the file. Fails if another process has created the file in the meantime.
-pub fn make<R: Files<File = File>>(rt: &R) -> Result<State, NotOpened>
-    ensures { IfOk result (λ state. is_read_only state ≡ false) }
+pub fn make<R: Files<File = File> + Drop>(disk: &mut NotedDisk<R>) -> Result<State, NotOpened>
+    ensures written { IfOk result (λ state. is_read_only state ≡ false) }
+    ensures found { IfOk result (λ state.
+        is_found state disk.new.names.answers.events ≡ true) }
+    ensures history { disk.new.history.events ≡ disk.old.history.events }
 {
-    let mut how = OpenOptions::new();
-    how.read(true).write(true).create_new(true).mode(0o600);
-    let file = how.open(rt, DESK)?;
-    lock_seen(rt, file)
+    let opened = disk.create(DESK)?;
+    disk.hold(opened)?;
+    seen(disk)
 }
 
-/// Locks a file that was opened, and looks at it.
-fn lock_seen<R: Files<File = File>>(rt: &R, file: File) -> Result<State, NotOpened>
-    ensures { IfOk result (λ state. is_read_only state ≡ false) }
+/// Looks at a file that was opened and locked. If it is not safe, closes it.
+fn seen<R: Files<File = File> + Drop>(disk: &mut NotedDisk<R>) -> Result<State, NotOpened>
+    ensures written { IfOk result (λ state. is_read_only state ≡ false) }
+    ensures found { IfOk result (λ state.
+        is_found state disk.new.names.answers.events ≡ true) }
+    ensures history { disk.new.history.events ≡ disk.old.history.events }
 {
-    lock(&file)?;
-    match SeenFile::of(rt, file)? {
-        Ok(seen) => {
-            sync_folder(rt)?;
-            Ok(State::Seen(seen))
+    let (fault, was_readable) = settled(disk, DESK)?;
+    match fault {
+        None => Ok(State::Seen(was_readable)),
+        Some(why) => {
+            disk.close();
+            Err(NotOpened::Unsafe(why))
         }
-        Err(why) => Err(NotOpened::Unsafe(why)),
     }
-}
-
-/// Locks a file against all other processes.
-fn lock(file: &File) -> io::Result<()> {
-    file.try_lock()?;
-    Ok(())
 }
 
 /// Opens and locks the file for a command that only reads: the file itself, never a link, and only if at most its
-/// mode is at fault.
-pub fn open_own<R: Files<File = File>>(rt: &R) -> Result<State, NotOpened> {
-    match fault_of_name(rt)? {
-        None => return Ok(State::Absent),
-        Some(Some(why)) if !is_of_mode(Some(why)) => return Err(NotOpened::Unsafe(why)),
-        Some(_) => {}
+/// mode is at fault. Opens it for writing if possible, or else for reading.
+pub fn open_own<R: Files<File = File> + Drop>(disk: &mut NotedDisk<R>) -> Result<State, NotOpened>
+    ensures found { IfOk result (λ state.
+        is_found state disk.new.names.answers.events ≡ true) }
+    ensures history { disk.new.history.events ≡ disk.old.history.events }
+{
+    match fault_of_name(disk)? {
+        Some(why) if !is_of_mode(Some(why)) => return Err(NotOpened::Unsafe(why)),
+        _ => {}
     }
-    let file = locked_to_read(rt)?;
-    match OwnFile::of(rt, file)? {
-        Ok(own) => Ok(State::Own(own)),
-        Err(why) => Err(NotOpened::Unsafe(why)),
+    match disk.open(DESK) {
+        Ok(opened) => disk.hold(opened)?,
+        Err(e) if e.kind() == ErrorKind::NotFound => return Ok(State::Absent),
+        Err(e) if is_refused(e.kind()) => disk.open_to_read(DESK)?,
+        Err(e) => return Err(NotOpened::Failed(e)),
     }
+    own(disk)
 }
 
-/// Opens and locks the file for a command that only reads: for writing if possible, or else for reading.
-fn locked_to_read<R: Files<File = File>>(rt: &R) -> io::Result<File> {
-    match OpenOptions::new().read(true).write(true).open(rt, DESK) {
-        Ok(file) => {
-            lock(&file)?;
-            sync_folder(rt)?;
-            Ok(file)
+/// Looks at a file that was opened and locked. If more than its mode is at fault, closes it.
+fn own<R: Files<File = File> + Drop>(disk: &mut NotedDisk<R>) -> Result<State, NotOpened>
+    ensures found { IfOk result (λ state.
+        is_found state disk.new.names.answers.events ≡ true) }
+    ensures history { disk.new.history.events ≡ disk.old.history.events }
+{
+    let fault = looked(disk, DESK)?;
+    match fault {
+        Some(why) if !is_of_mode(fault) => {
+            disk.close();
+            Err(NotOpened::Unsafe(why))
         }
-        Err(e) if is_refused(e.kind()) => {
-            let file = fs::open(rt, DESK)?;
-            file.try_lock_shared()?;
-            Ok(file)
-        }
-        Err(e) => Err(e),
+        _ => Ok(State::Own(fault)),
     }
 }
 
@@ -132,95 +146,23 @@ fn is_refused(kind: ErrorKind) -> bool {
     )
 }
 
-/// Syncs the folder, so that the file's name survives a crash.
-fn sync_folder<R: Files<File = File>>(rt: &R) -> io::Result<()> {
-    fs::open(rt, ".")?.sync_all()
-}
-
-impl State {
-    /// Returns the length of the file in octets, and records it.
-    pub fn len(&self, history: &mut Record) -> io::Result<u64>
-        ensures noted { IfOk result (λ n.
-            history.new.events ≡ (0 ∷ n ∷ [], []) ∷ history.old.events) }
-        ensures kept { OnErr result (history.new.events ≡ history.old.events) }
-    {
-        match self {
-            State::Unseen | State::Absent => {
-                history.note(&[0, 0], &[]);
-                Ok(0)
-            }
-            State::Own(own) => length_noted(own.file(), history),
-            State::Seen(seen) => length_noted(seen.file(), history),
-        }
-    }
-
-    /// Reads octets from an offset on, and records them.
-    pub fn read(&mut self, at: u64, into: &mut [u8], history: &mut Record) -> io::Result<()>
-        ensures same { is_read_only self.new ≡ is_read_only self.old }
-        ensures noted { OnOk result
-            (history.new.events ≡ (1 ∷ at ∷ [], into.new) ∷ history.old.events) }
-        ensures kept { OnErr result (history.new.events ≡ history.old.events) }
-    {
-        match self {
-            State::Unseen | State::Absent if into.is_empty() => {
-                history.note(&[1, at], into);
-                Ok(())
-            }
-            State::Unseen | State::Absent => Err(io::Error::from(ErrorKind::UnexpectedEof)),
-            State::Own(own) => read_at_noted(own.file_mut(), at, into, history),
-            State::Seen(seen) => read_at_noted(seen.file_mut(), at, into, history),
-        }
-    }
-
-    /// Writes octets from an offset on, only to a file that was found to be safe. Records the write or its failure.
-    pub fn write(&mut self, at: u64, octets: &[u8], history: &mut Record) -> io::Result<()>
-        ensures same { is_read_only self.new ≡ is_read_only self.old }
-        ensures seen { is_writable self.old ≡ false → IsErr result }
-        ensures noted { history.new.events ≡
-            noted_write result at octets.now ∷ history.old.events }
-    {
-        let kind = match self {
-            State::Seen(seen) => return write_at_noted(seen.file_mut(), at, octets, history),
-            State::Own(_) => ErrorKind::PermissionDenied,
-            State::Unseen | State::Absent => ErrorKind::NotFound,
-        };
-        history.note(&[3, at], octets);
-        Err(io::Error::from(kind))
-    }
-
-    /// Makes the writes durable. Records the sync or its failure.
-    pub fn sync(&self, history: &mut Record) -> io::Result<()>
-        ensures noted { history.new.events ≡ noted_sync result ∷ history.old.events }
-    {
-        match self {
-            State::Unseen | State::Absent => {
-                history.note(&[4], &[]);
-                Ok(())
-            }
-            State::Own(own) => sync_noted(own.file(), history),
-            State::Seen(seen) => sync_noted(seen.file(), history),
-        }
-    }
-
-    /// Tests whether others could read the file until it was opened.
-    pub fn was_readable(&self) -> bool {
-        match self {
-            State::Seen(seen) => seen.was_readable(),
-            _ => false,
-        }
-    }
-
-    /// Returns what is at fault with the mode of a file that a command reads.
-    pub fn fault_left(&self) -> Option<Unsafe> {
-        match self {
-            State::Own(own) => own.fault(),
-            _ => None,
-        }
-    }
-
-    // Nothing is read or written but from a file that was looked at after its opening.
-    #[tactic(auto, using(crate::proofs::Found::found))]
-    pub fn was_found(&self)
-        ensures { WasFound self.now }
-    {}
+/// Writes octets from an offset on, only to a file that was found to be safe. The write or its failure is noted.
+pub fn write<R: Files<File = File> + Drop>(
+    disk: &mut NotedDisk<R>,
+    state: State,
+    at: u64,
+    octets: &[u8],
+) -> io::Result<()>
+    ensures seen { is_writable state ≡ false → IsErr result }
+    ensures noted { disk.new.history.events ≡
+        noted_write result at octets.now ∷ disk.old.history.events }
+    ensures answers { disk.new.names.answers.events ≡ disk.old.names.answers.events }
+{
+    let kind = match state {
+        State::Seen(_) => return disk.write_at(at, octets),
+        State::Own(_) => ErrorKind::PermissionDenied,
+        State::Unseen | State::Absent => ErrorKind::NotFound,
+    };
+    disk.refuse(at, octets);
+    Err(io::Error::from(kind))
 }

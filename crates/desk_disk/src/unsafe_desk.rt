@@ -3,7 +3,7 @@ ghost use Rattle.std.specs.Prelude.{◌≡◌, ◌&&◌, Some, true};
 ghost use Rattle.std.specs.Option.{is_none};
 ghost use Rattle.desk_disk.specs.Looks.{is_of_mode, is_safe, is_safe_but_read, is_under, is_users};
 
-use crate::look::{LINK, Look, REGULAR};
+use outside::{LINK, Look, REGULAR};
 use std::fmt::{self, Display, Formatter};
 
 /// The mode bits that grant others any permission.

@@ -1,3 +1,4 @@
 pub mod Doubts
 pub mod Asking
 pub mod Beginning
+pub mod Files

@@ -1,11 +1,11 @@
 //! An owner's mirrors: existing files, including those that cannot be opened.
 
-use crate::user::{is_own, is_same_file, user};
+use crate::user::{is_own, is_same_file};
 use mirror_out::FileMirror;
+use outside::{FIFO, LINK, Look, NotedNames, REGULAR, SOCKET, open_to_append};
 use std::fmt::{self, Display, Formatter};
-use std::fs::{self, File, Metadata, OpenFile, OpenOptions};
+use std::fs::File;
 use std::io::{self, ErrorKind};
-use std::os::unix::fs::FileTypeExt;
 use std::rt::Files;
 
 /// Why a mirror is lost before anything is written to it.
@@ -54,10 +54,14 @@ pub fn mirror_of<R: Files<File = File>>(
     name: &str,
     desk: &str,
 ) -> Option<OwnerMirror> {
-    let opened = match fs::symlink_metadata(rt, name) {
+    let mut names = NotedNames::new(rt);
+    let opened = match names.look_at_link(name) {
         Err(e) if e.kind() == ErrorKind::NotFound => return None,
         Err(e) => Err(WhyLost::Refused(e)),
-        Ok(named) => open(rt, name, &named, desk),
+        Ok(named) => match fault_before(&mut names, name, named, desk) {
+            Ok(target) => open(rt, name, target),
+            Err(why) => Err(why),
+        },
     };
     Some(match opened {
         Ok(file) => OwnerMirror {
@@ -71,51 +75,39 @@ pub fn mirror_of<R: Files<File = File>>(
     })
 }
 
-/// Opens an existing file by its name.
-fn open<R: Files<File = File>>(
-    rt: &R,
+/// Looks at the file to which a name leads. Returns the look, or why the file is not opened.
+fn fault_before<R: Files + Drop>(
+    names: &mut NotedNames<R>,
     name: &str,
-    named: &Metadata,
+    named: Look,
     desk: &str,
-) -> Result<File, WhyLost> {
-    let target = match fs::metadata(rt, name) {
+) -> Result<Look, WhyLost> {
+    let target = match names.look(name) {
         Ok(target) => target,
         Err(e) => return Err(WhyLost::Refused(e)),
     };
-    let kind = target.file_type();
-    if kind.is_fifo() || kind.is_socket() {
+    if target.kind == FIFO || target.kind == SOCKET {
         return Err(WhyLost::Waits);
     }
-    if named.is_symlink() && !is_ours(rt, named, &target) {
+    if named.kind == LINK && !is_ours(names.user(), named, target) {
         return Err(WhyLost::Owner);
     }
-    if is_same(rt, &target, desk) {
-        return Err(WhyLost::Desk);
+    match names.look(desk) {
+        Ok(desk) if is_same_file(target, desk) => Err(WhyLost::Desk),
+        _ => Ok(target),
     }
-    match opened(rt, name) {
-        Ok((_, opened)) if !is_same_file(&opened, &target) => Err(WhyLost::Changed),
+}
+
+/// Opens the file of a name for appending, if it is still the one that was looked at.
+fn open<R: Files<File = File>>(rt: &R, name: &str, target: Look) -> Result<File, WhyLost> {
+    match open_to_append(rt, name) {
+        Ok((_, opened)) if !is_same_file(opened, target) => Err(WhyLost::Changed),
         Ok((file, _)) => Ok(file),
         Err(e) => Err(WhyLost::Refused(e)),
     }
 }
 
-/// Opens a file for appending, and looks at it.
-fn opened<R: Files<File = File>>(rt: &R, name: &str) -> io::Result<(File, Metadata)> {
-    let file = OpenOptions::new().append(true).open(rt, name)?;
-    let looked = file.metadata()?;
-    Ok((file, looked))
-}
-
 /// Tests whether a link and its target belong to this user. Devices belong to the system.
-fn is_ours<R: Files>(rt: &R, link: &Metadata, target: &Metadata) -> bool {
-    let user = user(rt);
-    is_own(link, user) && (!target.is_file() || is_own(target, user))
-}
-
-/// Tests whether a name is still the name of this file.
-fn is_same<R: Files>(rt: &R, file: &Metadata, name: &str) -> bool {
-    match fs::metadata(rt, name) {
-        Ok(other) => is_same_file(file, &other),
-        Err(_) => false,
-    }
+fn is_ours(user: Option<u64>, link: Look, target: Look) -> bool {
+    is_own(link, user) && (target.kind != REGULAR || is_own(target, user))
 }

@@ -1,8 +1,10 @@
 //! The secret's file.
 
-use std::fs;
-use std::os::unix::fs::MetadataExt;
+use outside::{NotedNames, REGULAR};
 use std::rt::Files;
+
+/// The mode bits that grant others any permission.
+const OTHERS: u64 = 0o077;
 
 /// The least number of different octets in a secret that counts as random. Fewer than 16 different octets occur in
 /// 48 random octets with a probability of 2^-60.
@@ -10,8 +12,8 @@ const FEW: u32 = 16;
 
 /// Tests whether the file with this name is a regular file that others may read.
 pub fn is_open_to_others<R: Files>(rt: &R, name: &str) -> bool {
-    match fs::metadata(rt, name) {
-        Ok(file) => file.is_file() && file.mode() & 0o077 != 0,
+    match NotedNames::new(rt).look(name) {
+        Ok(file) => file.kind == REGULAR && file.mode & OTHERS != 0,
         Err(_) => false,
     }
 }

@@ -1,12 +1,13 @@
 //! Standard streams that cannot take what a command writes.
-ghost use Rattle.std.specs.Prelude.{◌≡◌, true, Some, IfSome};
+ghost use Rattle.std.specs.Prelude.{◌≡◌, ◌&&◌, [], true, Some, IfSome};
+ghost use Rattle.outside.specs.declared.look.Look.{Look};
 ghost use Rattle.road_command.specs.Requests.{request_of};
+ghost use Rattle.desk_guard.specs.Files.{AreLookedAt, holds_octets, is_same_file};
 ghost use Rattle.desk_guard.specs.Beginning.{clash_exit, writes_octets, IsClash};
 
-use crate::user::is_same_file;
+use crate::user::{holds_octets, is_same_file};
+use outside::NotedNames;
 use road_command::{Command, Words, command_of};
-use std::fs::{self, Metadata};
-use std::os::unix::fs::FileTypeExt;
 use std::rt::Files;
 
 /// Why a standard stream cannot take what a command writes. The process then does nothing.
@@ -85,15 +86,20 @@ pub fn output_clash<'a, R: Files>(rt: &R, words: &'a Words, is_terminal: bool) -
 
 /// Tests whether a stream is the file with a name.
 fn is_stream<R: Files>(rt: &R, stream: &str, name: &str) -> bool {
-    match (fs::metadata(rt, stream), fs::metadata(rt, name)) {
-        (Ok(stream), Ok(file)) => holds_octets(&file) && is_same_file(&stream, &file),
-        _ => false,
-    }
+    is_one(&mut NotedNames::new(rt), stream, name)
 }
 
-/// Tests whether a file holds octets: a regular file or a block device.
-fn holds_octets(file: &Metadata) -> bool {
-    file.is_file() || file.file_type().is_block_device()
+/// Tests whether two names lead to one file that holds octets, by looks at them, which are noted.
+fn is_one<R: Files + Drop>(names: &mut NotedNames<R>, stream: &str, name: &str) -> bool
+    requires { names.old.answers.events ≡ [] }
+    ensures { (held file : Look) →
+        AreLookedAt stream.now held name.now file names.new.answers.events →
+        result ≡ (holds_octets file && is_same_file held file) }
+{
+    match (names.look(stream), names.look(name)) {
+        (Ok(held), Ok(file)) => holds_octets(file) && is_same_file(held, file),
+        _ => false,
+    }
 }
 
 /// Returns the names of the files that a command reads besides the desk, at most four.

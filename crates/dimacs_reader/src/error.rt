@@ -18,7 +18,7 @@ pub enum DimacsError {
     BadLine(u8, u32),
     /// In the file with this number, the line with this number has a word that is not a number in the allowed
     /// range.
-    #[error("Line {1} has a word that is no number of its range.")]
+    #[error("Line {1} has a word that is not a number, or a number out of range.")]
     BadNumber(u8, u32),
     /// The problem line of the file with this number declares more than 65,536 nodes or 524,288 arcs.
     #[error("The problem line says more than 65,536 nodes or 524,288 arcs.")]

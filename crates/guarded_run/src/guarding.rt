@@ -157,7 +157,7 @@ pub fn guarded_run<R: Files<File = File> + Print + Input + Drop + Copy>(
         result.first result.sight result.signer result.spending result.end objects.library
         result.library objects.source result.source objects.sink result.sink objects.disk result.disk
         mirrors.items result.mirrors.items gone.items result.gone.items }
-    ensures opened { WasFound result.disk.state }
+    ensures opened { WasFound result.disk.state result.disk.disk.names.answers.events }
     ensures unused { does_sign (keys_used (request_of words.now)) ≡ false →
         (result.known ≡ KeyFile.Unused) × (result.keys ≡ objects.keys) }
     ensures known { does_sign (keys_used (request_of words.now)) ≡ true →

@@ -8,10 +8,10 @@ ghost use Rattle.guarded_run.specs.Uses.{does_sign, keys_used};
 ghost use Rattle.guarded_run.specs.declared.owner_key.TheConstants.{OWNER_KEY};
 
 use crate::uses::signs;
+use outside::{NotedNames, REGULAR};
 use road_command::Words;
 use road_io::{Library, LoadError};
 use std::alloc::Global;
-use std::fs;
 use std::rt::Files;
 
 /// The name of the file with the owner's first key.
@@ -75,8 +75,8 @@ fn key_in(text: &[u8]) -> Option<[u8; 56]>
 
 /// Tests whether the file exists and is not a regular file. Opening such a file might wait.
 fn is_special<R: Files>(rt: &R) -> bool {
-    match fs::metadata(rt, OWNER_KEY) {
-        Ok(file) => !file.is_file(),
+    match NotedNames::new(rt).look(OWNER_KEY) {
+        Ok(file) => file.kind != REGULAR,
         Err(_) => false,
     }
 }

@@ -88,13 +88,13 @@ pub enum SucceedError {
     #[error("The disk holds no key.")]
     NoKey,
     /// An open area of the disk cannot be used.
-    #[error("The disk holds a key that can't be used.")]
+    #[error("The disk holds a key that cannot be used.")]
     BadBlock,
     /// Eight areas are open.
     #[error("The disk holds eight keys already.")]
     TooManyKeys,
     /// The last slot of the current area is spent, but does not hold a link.
-    #[error("The last one-time key was used, so that it can't sign the next key.")]
+    #[error("The last one-time key was used, so that it cannot sign the next key.")]
     NoSuccession,
     /// The name at the beginning of the secret is already that of an open area's key.
     #[error("The disk holds a key of this secret already.")]

@@ -245,7 +245,7 @@ fn refusals_are_whole_sentences(rt: HostRuntime) -> Result<(), Fail> {
     let wanted = "Too few octets are left at offset 3.";
     assert_printed(&rt, rt.alloc(), short, wanted)?;
     let read = ReadError::Malformed(Malformed { at: 4 });
-    let wanted = "The field at offset 4 can't be read.";
+    let wanted = "The field at offset 4 cannot be read.";
     assert_printed(&rt, rt.alloc(), read, wanted)?;
     Ok(())
 }

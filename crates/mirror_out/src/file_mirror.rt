@@ -4,7 +4,8 @@ ghost use Rattle.std.specs.IoError.{error_kind};
 ghost use Rattle.std.specs.declared.option.Option.TheVariants.{Some};
 
 use crate::Mirror;
-use road_io::{Failed, Record, append_noted};
+use outside::{NotedTail, Record};
+use road_io::Failed;
 use std::fs::File;
 use std::io::{self, ErrorKind};
 
@@ -14,9 +15,8 @@ use std::io::{self, ErrorKind};
 #[derive(Drop)]
 pub struct FileMirror {
     label: u32,
-    file: Option<File>,
+    tail: NotedTail,
     faults: u64,
-    history: Record,
     handed: Record,
 }
 
@@ -26,15 +26,14 @@ impl FileMirror {
     /// Makes a mirror with a label, in a file that is positioned where the first piece goes.
     pub fn new(label: u32, file: File) -> FileMirror
         ensures label { label_of result ≡ label }
-        ensures taken { result.history.events ≡ [] }
+        ensures taken { result.tail.history.events ≡ [] }
         ensures handed { result.handed.events ≡ [] }
         ensures faults { result.faults ≡ 0 }
     {
         FileMirror {
             label,
-            file: Some(file),
+            tail: NotedTail::new(Some(file)),
             faults: 0,
-            history: Record::new(),
             handed: Record::new(),
         }
     }
@@ -42,40 +41,21 @@ impl FileMirror {
     /// Makes a mirror with a label, for a file that could not be opened. Each put fails.
     pub fn lost(label: u32) -> FileMirror
         ensures label { label_of result ≡ label }
-        ensures taken { result.history.events ≡ [] }
+        ensures taken { result.tail.history.events ≡ [] }
         ensures handed { result.handed.events ≡ [] }
         ensures faults { result.faults ≡ 0 }
     {
         FileMirror {
             label,
-            file: None,
+            tail: NotedTail::new(None),
             faults: 0,
-            history: Record::new(),
             handed: Record::new(),
         }
     }
 
     /// Makes the octets that it has taken durable. A device that cannot sync counts as synced.
     pub fn sync(&self) -> io::Result<()> {
-        match &self.file {
-            Some(file) => excused(file.sync_all()),
-            None => Ok(()),
-        }
-    }
-
-    // Writes a piece to the file, if there is a file, and records the octets that the file took.
-    fn write(&mut self, piece: &[u8]) -> io::Result<()>
-        ensures label { self.new.label ≡ self.old.label }
-        ensures faults { self.new.faults ≡ self.old.faults }
-        ensures handed { self.new.handed.events ≡ self.old.handed.events }
-        ensures noted { OnOk result
-            (self.new.history.events ≡ ([], piece.now) ∷ self.old.history.events) }
-        ensures kept { OnErr result (self.new.history.events ≡ self.old.history.events) }
-    {
-        match &mut self.file {
-            Some(file) => append_noted(file, piece, &mut self.history),
-            None => Err(io::Error::from(ErrorKind::NotFound)),
-        }
+        excused(self.tail.sync())
     }
 }
 
@@ -93,7 +73,7 @@ fn excused(answer: io::Result<()>) -> io::Result<()>
 impl Mirror for FileMirror {
     ghost use Rattle.road_io.specs.Noted.{noted};
 
-    ghost octets = { λ m. Some (noted m.history.events) };
+    ghost octets = { λ m. Some (noted m.tail.history.events) };
 
     ghost named = { λ m. m.label };
 
@@ -111,7 +91,7 @@ impl Mirror for FileMirror {
 
     fn put(&mut self, piece: &[u8]) -> Result<(), Failed> {
         self.handed.note(&[], piece);
-        match self.write(piece) {
+        match self.tail.append(piece) {
             Ok(()) => Ok(()),
             Err(_) => {
                 self.faults = self.faults.saturating_add(1);

@@ -10,7 +10,8 @@ use Rattle.std.specs.Result.{OnErr, OnOk}
 use Rattle.std.specs.declared.result.Result.{Result}
 use Rattle.std.specs.declared.result.Result.TheVariants.{Ok, Err}
 use Rattle.road_io.specs.Disk.{written, Torn, Stays}
-use Rattle.road_io.specs.Worlds.{Call, Holding, after_call, noted_write, noted_sync, after, holding, reads, Comes, Leaves, LeavesAt, reads_left}
+use Rattle.outside.specs.Calls.{noted_write, noted_sync}
+use Rattle.road_io.specs.Worlds.{Call, Holding, after_call, after, holding, reads, Comes, Leaves, LeavesAt, reads_left}
 
 pub torn_part : (at n : ℕ) (octets content : List ℕ) → length octets ≤ n → Torn at n content (written at octets content)
 torn_part at n octets content le = record {

@@ -6,8 +6,6 @@ use Rattle.std.specs.Str.{bytes_eq}
 use Rattle.std.specs.Option.{option_map}
 use Rattle.std.specs.declared.option.Option.{Option}
 use Rattle.std.specs.declared.option.Option.TheVariants.{None, Some}
-use Rattle.std.specs.declared.result.Result.{Result}
-use Rattle.std.specs.declared.result.Result.TheVariants.{Ok, Err}
 use Rattle.std.proofs.Common.{inl, subst, sym}
 use Rattle.std.proofs.Math.Nat.{sub_self}
 use Rattle.road_io.specs.Disk.{written, Torn}
@@ -41,16 +39,6 @@ after_call (suc (suc (suc (suc zero)))) at octets left h = Some (record {
   nearest = λ l. h.content;
 })
 after_call _ at octets left h = Some (record { content = h.nearest left; nearest = h.nearest })
-
--- a write as recorded, by its answer: an offset and the octets
-abbrev pub noted_write : {T E : Type 0} → Result T E → ℕ → List ℕ → Call
-noted_write (Ok done) at octets = (2 ∷ at ∷ [], octets)
-noted_write (Err failed) at octets = (3 ∷ at ∷ [], octets)
-
--- a sync as recorded, by its answer
-abbrev pub noted_sync : {T E : Type 0} → Result T E → Call
-noted_sync (Ok done) = (4 ∷ [], [])
-noted_sync (Err failed) = (5 ∷ [], [])
 
 abbrev pub after : Call → List ℕ → Option Holding → Option Holding
 after call left None = None

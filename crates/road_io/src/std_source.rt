@@ -3,31 +3,28 @@
 ghost use Rattle.std.specs.Prelude.{◌≡◌, ◌≤◌, [], length, IfOk};
 ghost use Rattle.std.specs.declared.option.Option.TheVariants.{None};
 
-use crate::calls::read_noted;
-use crate::record::Record;
 use crate::{Failed, Source};
+use outside::{NotedInput, standard_input};
 use std::io;
 
 /// Standard input. Each error counts as a failure.
 #[derive(Drop)]
 pub struct StdSource<R: Input> {
-    reader: R::Reader,
+    input: NotedInput<R::Reader>,
     faults: u64,
     last_error: Option<io::Error>,
-    history: Record,
 }
 
 impl<R: Input> StdSource<R> {
     /// Makes the source of the runtime's standard input. It has given nothing.
     pub fn new(rt: &R) -> StdSource<R>
-        ensures history { result.history.events ≡ [] }
+        ensures history { result.input.history.events ≡ [] }
         ensures faults { result.faults ≡ 0 }
     {
         StdSource {
-            reader: rt.reader(),
+            input: standard_input(rt),
             faults: 0,
             last_error: None,
-            history: Record::new(),
         }
     }
 
@@ -43,14 +40,14 @@ impl<R: Input> Source for StdSource<R> {
 
     ghost left = { λ _. None };
 
-    ghost given = { λ s. noted s.history.events };
+    ghost given = { λ s. noted s.input.history.events };
 
-    ghost ended = { λ s. IsEnd s.history.events };
+    ghost ended = { λ s. IsEnd s.input.history.events };
 
     ghost faults = { λ s. s.faults };
 
     fn read(&mut self, into: &mut [u8]) -> Result<usize, Failed> {
-        match read_noted(&mut self.reader, into, &mut self.history) {
+        match self.input.read(into) {
             Ok(count) => Ok(count),
             Err(e) => {
                 self.faults = self.faults.saturating_add(1);

@@ -12,7 +12,7 @@ use thiserror::Error;
 #[derive(Clone, Copy, Debug, PartialEq, Eq, Error)]
 pub enum NearError {
     /// The octets do not encode a reply. The first field that cannot be read begins at this offset.
-    #[error("The field at place {0} can't be read.")]
+    #[error("The field at offset {0} cannot be read.")]
     Malformed(u32),
     /// The reply has this version, which is older than the minimum.
     #[error("The reply is of version {0}, which is too old.")]

@@ -4,21 +4,21 @@ use Rattle.guarded_run.proofs.shipping.shipped.Goals as goal
 
 pub returns-clause-fresh : goal.returns-clause-fresh
 returns-clause-fresh g c =
-    let shelves : c.new-2.result.inner.history.events ≡ [] = cc in
+    let shelves : c.new-2.result.inner.folder.history.events ≡ [] = cc in
     let names : c.new-2.result.inner.names.events ≡ [] = cc in
-    let output : c.new-5.result.inner.history.events ≡ [] = cc in
+    let output : c.new-5.result.inner.output.history.events ≡ [] = cc in
     record {
-      files = fresh_files c.new-2.result.inner.world.events c.new-2.result.inner.history.events shelves;
+      files = fresh_files c.new-2.result.inner.world.events c.new-2.result.inner.folder.history.events shelves;
       unasked = fresh_names c.new-2.result.inner.names.events names;
       library_faults = cc;
-      given = fresh_octets c.new-3.result.history.events c.new-3.ensures.history;
+      given = fresh_octets c.new-3.result.input.history.events c.new-3.ensures.history;
       source_faults = c.new-3.ensures.faults;
-      taken = ap Some (fresh_octets c.new-5.result.inner.history.events output);
+      taken = ap Some (fresh_octets c.new-5.result.inner.output.history.events output);
       sink_faults = cc;
-      content = fresh_content c.new-6.result.world.events c.new-6.result.history.events c.new-6.ensures.history;
+      content = fresh_content c.new-6.result.world.events c.new-6.result.disk.history.events c.new-6.ensures.history;
       disk_faults = c.new-6.ensures.faults;
       calls = c.new-6.ensures.calls;
-      key_files = fresh_files c.new-7.result.world.events c.new-7.result.history.events c.new-7.ensures.history;
+      key_files = fresh_files c.new-7.result.world.events c.new-7.result.folder.history.events c.new-7.ensures.history;
       keys_unasked = fresh_names c.new-7.result.names.events c.new-7.ensures.names;
       key_faults = c.new-7.ensures.faults;
     }

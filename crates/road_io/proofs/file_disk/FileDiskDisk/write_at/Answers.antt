@@ -1,5 +1,6 @@
 use Rattle.std.proofs.Common.{◌≡◌, ◌∷◌, rules, length}
-use Rattle.road_io.specs.Worlds.{Call, noted_write}
+use Rattle.outside.specs.Calls.{noted_write}
+use Rattle.road_io.specs.Worlds.{Call}
 use Rattle.road_io.specs.Disk.{Torn}
 use Rattle.road_io.proofs.WorldLaws.{later_noted, past_noted, each_noted, later_kept, past_kept, each_kept, torn_same, write_step, wrote, tore}
 use Rattle.road_io.proofs.file_disk.FileDiskDisk.write_at.Goals as goal
@@ -8,57 +9,57 @@ pub returns-in_err-begin-clause-moments : goal.returns-in_err-begin-clause-momen
 returns-in_err-begin-clause-moments g c =
     let d = c.args.self.now in
     let w = c.begin.new.self.world.events in
-    let h = c.begin.new.self.history.events in
+    let h = c.begin.new.self.disk.history.events in
     let same : w ≡ d.world.events = search rules in
-    let noted : h ≡ d.history.events = search rules in
+    let noted : h ≡ d.disk.history.events = search rules in
     record {
-      later = later_kept d.world.events w d.history.events h same noted;
-      past = past_kept d.world.events w d.history.events h same noted;
-      each = each_kept d.world.events w d.history.events h same noted (Torn c.args.at (length c.args.octets.now)) (λ d. torn_same c.args.at (length c.args.octets.now) d);
+      later = later_kept d.world.events w d.disk.history.events h same noted;
+      past = past_kept d.world.events w d.disk.history.events h same noted;
+      each = each_kept d.world.events w d.disk.history.events h same noted (Torn c.args.at (length c.args.octets.now)) (λ d. torn_same c.args.at (length c.args.octets.now) d);
     }
 
 pub returns-in-Err-clause-moments : goal.returns-in-Err-clause-moments
 returns-in-Err-clause-moments g c =
     let d = c.args.self.now in
     let w = c.failed.new.self.world.events in
-    let h = c.failed.new.self.history.events in
+    let h = c.failed.new.self.disk.history.events in
     let same : w ≡ d.world.events = search rules in
-    let noted : h ≡ d.history.events = search rules in
+    let noted : h ≡ d.disk.history.events = search rules in
     record {
-      later = later_kept d.world.events w d.history.events h same noted;
-      past = past_kept d.world.events w d.history.events h same noted;
-      each = each_kept d.world.events w d.history.events h same noted (Torn c.args.at (length c.args.octets.now)) (λ d. torn_same c.args.at (length c.args.octets.now) d);
+      later = later_kept d.world.events w d.disk.history.events h same noted;
+      past = past_kept d.world.events w d.disk.history.events h same noted;
+      each = each_kept d.world.events w d.disk.history.events h same noted (Torn c.args.at (length c.args.octets.now)) (λ d. torn_same c.args.at (length c.args.octets.now) d);
     }
 
 pub returns-clause-moments : goal.returns-clause-moments
 returns-clause-moments g c =
     let d = c.args.self.now in
     let w = c.put.new.self.world.events in
-    let h = c.put.new.self.history.events in
+    let h = c.put.new.self.disk.history.events in
     let call : Call = noted_write c.put.result c.args.at c.args.octets.now in
     let same : w ≡ d.world.events = search rules in
-    let noted : h ≡ call ∷ d.history.events = search rules in
+    let noted : h ≡ call ∷ d.disk.history.events = search rules in
     record {
-      later = later_noted d.world.events w d.history.events h call same noted;
-      past = past_noted d.world.events w d.history.events h call same noted;
-      each = each_noted d.world.events w d.history.events h call same noted (Torn c.args.at (length c.args.octets.now)) (λ d. torn_same c.args.at (length c.args.octets.now) d)
-          (write_step d.world.events w d.history.events h same c.args.at c.args.octets.now c.put.result);
+      later = later_noted d.world.events w d.disk.history.events h call same noted;
+      past = past_noted d.world.events w d.disk.history.events h call same noted;
+      each = each_noted d.world.events w d.disk.history.events h call same noted (Torn c.args.at (length c.args.octets.now)) (λ d. torn_same c.args.at (length c.args.octets.now) d)
+          (write_step d.world.events w d.disk.history.events h same c.args.at c.args.octets.now c.put.result);
     }
 
 pub returns-clause-written : goal.returns-clause-written
 returns-clause-written g c =
     let d = c.args.self.now in
     let w = c.put.new.self.world.events in
-    let h = c.put.new.self.history.events in
+    let h = c.put.new.self.disk.history.events in
     let same : w ≡ d.world.events = search rules in
-    let noted : h ≡ noted_write c.put.result c.args.at c.args.octets.now ∷ d.history.events = search rules in
-    wrote d.world.events w d.history.events h same c.args.at c.args.octets.now c.put.result noted
+    let noted : h ≡ noted_write c.put.result c.args.at c.args.octets.now ∷ d.disk.history.events = search rules in
+    wrote d.world.events w d.disk.history.events h same c.args.at c.args.octets.now c.put.result noted
 
 pub returns-clause-torn : goal.returns-clause-torn
 returns-clause-torn g c =
     let d = c.args.self.now in
     let w = c.put.new.self.world.events in
-    let h = c.put.new.self.history.events in
+    let h = c.put.new.self.disk.history.events in
     let same : w ≡ d.world.events = search rules in
-    let noted : h ≡ noted_write c.put.result c.args.at c.args.octets.now ∷ d.history.events = search rules in
-    tore d.world.events w d.history.events h same c.args.at c.args.octets.now c.put.result noted
+    let noted : h ≡ noted_write c.put.result c.args.at c.args.octets.now ∷ d.disk.history.events = search rules in
+    tore d.world.events w d.disk.history.events h same c.args.at c.args.octets.now c.put.result noted

@@ -19,9 +19,9 @@ pub ended_file : (files : Folder) (name octets : List ℕ) (before now : List No
     → opened before ≡ name → read_of before ≡ octets → agrees files now ≡ true → files name ≡ Some octets
 ended_file files name octets before now is was read agree =
     let both : (has (files (opened before)) (read_of before ++ []) && agrees files before) ≡ true =
-        subst (λ (h : List Note). agrees files h ≡ true) is agree in
+    subst (λ (h : List Note). agrees files h ≡ true) is agree in
     let all : files (opened before) ≡ Some (read_of before ++ []) =
-        has_all (files (opened before)) (read_of before ++ []) (first_holds _ (agrees files before) both) in
+    has_all (files (opened before)) (read_of before ++ []) (first_holds _ (agrees files before) both) in
     ap files (sym was) ∙ all ∙ ap Some (append-nil (read_of before) ∙ read)
 
 has_more : (file : Option (List ℕ)) (octets : List ℕ) (most : ℕ) → begins file octets ≡ true → most < length octets
@@ -37,10 +37,10 @@ pub longer_file : (files : Folder) (name octets piece : List ℕ) (before now : 
     → IsSomeAnd (files name) (λ file. most < length file)
 longer_file files name octets piece before now most is was read more agree =
     let both : (begins (files (opened before)) (read_of before ++ piece) && agrees files before) ≡ true =
-        subst (λ (h : List Note). agrees files h ≡ true) is agree in
+    subst (λ (h : List Note). agrees files h ≡ true) is agree in
     let front : begins (files (opened before)) (read_of before ++ piece) ≡ true =
-        first_holds _ (agrees files before) both in
+    first_holds _ (agrees files before) both in
     let named : begins (files name) (octets ++ piece) ≡ true =
-        subst (λ (n : List ℕ). begins (files n) (octets ++ piece) ≡ true) was
-        (subst (λ (o : List ℕ). begins (files (opened before)) (o ++ piece) ≡ true) read front) in
+    subst (λ (n : List ℕ). begins (files n) (octets ++ piece) ≡ true) was
+    (subst (λ (o : List ℕ). begins (files (opened before)) (o ++ piece) ≡ true) read front) in
     has_more (files name) (octets ++ piece) most named (subst (λ (k : ℕ). most < k) (sym (length-append octets piece)) more)

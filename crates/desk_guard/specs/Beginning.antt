@@ -2,9 +2,15 @@
 use Rattle.std.specs.Prelude.{◌≡◌, ℕ, Bool, true, false}
 use Rattle.std.specs.declared.option.Option.{Option}
 use Rattle.std.specs.declared.option.Option.TheVariants.{None, Some}
+use Rattle.std.specs.declared.result.Result.{Result}
+use Rattle.std.specs.declared.result.Result.TheVariants.{Ok, Err}
+use Rattle.std.specs.IoError.{error_kind}
+use Rattle.std.specs.declared.io.Error.{Error}
 use Rattle.std.specs.declared.io.ErrorKind.{ErrorKind}
 use Rattle.std.specs.declared.io.ErrorKind.TheVariants as kinds
 use Rattle.road_command.specs.Requests.{Request, Publish, Links, Prove, Serve, ServeSigned, Reach}
+use Rattle.desk_guard.specs.declared.beginning.Answer.{Answer}
+use Rattle.desk_guard.specs.declared.beginning.Answer.TheVariants.{Given, Cut}
 use Rattle.desk_guard.specs.declared.beginning.Unbegun.{Unbegun}
 use Rattle.desk_guard.specs.declared.beginning.Unbegun.TheVariants.{Memory, NotGiven, NotText}
 use Rattle.desk_guard.specs.declared.streams.Clash.{Clash}
@@ -49,8 +55,16 @@ clash_exit (OutputIsInput name) = 6
 
 -- ---- answers to questions about the program
 
--- The status by the error with which the answer was printed, if there was one. An early end of the reader is none.
-abbrev pub answer_exit : Option ErrorKind → ℕ
-answer_exit None = 0
-answer_exit (Some kinds.BrokenPipe) = 0
-answer_exit (Some kind) = 6
+-- how the printing ended, by the system's answer; an early end of the reader is no error
+abbrev pub unless_read : Error → ErrorKind → Answer
+unless_read e kinds.BrokenPipe = Given
+unless_read e kind = Cut e
+
+abbrev pub answer_by : {T : Type 0} → Result T Error → Answer
+answer_by (Ok done) = Given
+answer_by (Err e) = unless_read e (error_kind e)
+
+-- the status
+abbrev pub answer_exit : Answer → ℕ
+answer_exit Given = 0
+answer_exit (Cut e) = 6

@@ -1,9 +1,9 @@
 //! The status of a process that runs no command.
 ghost use Rattle.std.specs.Prelude.{◌≡◌};
-ghost use Rattle.desk_guard.specs.Beginning.{answer_exit, unbegun_exit, unbegun_by};
+ghost use Rattle.desk_guard.specs.Beginning.{answer_by, answer_exit, unbegun_exit, unbegun_by};
 
 use octet_text::NoMemory;
-use std::io::ErrorKind;
+use std::io::{self, ErrorKind};
 
 /// Why a run cannot have its arguments.
 #[derive(Clone, Copy, Debug, PartialEq, Eq)]
@@ -38,13 +38,34 @@ impl Unbegun {
     }
 }
 
-/// Returns the status of a process that printed the answer to a question about the program, or could not print it for
-/// this reason. A reader that closes early has read enough.
-pub fn answer_status(failure: Option<ErrorKind>) -> u8
-    ensures { result ≡ answer_exit failure }
-{
-    match failure {
-        None | Some(ErrorKind::BrokenPipe) => 0,
-        Some(_) => 6,
+/// How the printing of the answer to a question about the program ended.
+#[derive(Clone, Copy, Debug)]
+pub enum Answer {
+    /// It was printed. A reader that closes early has read enough.
+    Given,
+    /// It was not written whole, for this reason.
+    Cut(io::Error),
+}
+
+impl Answer {
+    /// Returns how the printing ended.
+    pub fn of(printed: io::Result<()>) -> Answer
+        ensures { result ≡ answer_by printed }
+    {
+        match printed {
+            Ok(()) => Answer::Given,
+            Err(e) if e.kind() == ErrorKind::BrokenPipe => Answer::Given,
+            Err(e) => Answer::Cut(e),
+        }
+    }
+
+    /// Returns the status of the process.
+    pub fn status(self) -> u8
+        ensures { result ≡ answer_exit self }
+    {
+        match self {
+            Answer::Given => 0,
+            Answer::Cut(_) => 6,
+        }
     }
 }

@@ -1,4 +1,5 @@
 -- Why a run ended as it did, and what else its owner is to know.
+use Rattle.std.specs.Prelude.{Bool, true, false}
 use Rattle.std.specs.declared.option.Option.{Option}
 use Rattle.std.specs.declared.option.Option.TheVariants.{None, Some}
 use Rattle.command_files.specs.declared.fault.Fault.{Fault}
@@ -25,6 +26,16 @@ reason_of (ends.Refused unfit.OtherKey) unopened = reasons.OtherKey
 reason_of (ends.Unsigned ended) unopened = reasons.Unsigned
 reason_of (ends.Ran ended) (Some why) = reasons.Unsafe why
 reason_of (ends.Ran ended) None = reasons.Ended ended
+
+-- whether the desk failed
+abbrev pub is_disk : Option Fault → Bool
+is_disk (Some faults.Disk) = true
+is_disk fault = false
+
+abbrev pub is_of_desk : Reason → Bool
+is_of_desk (reasons.Failed fault) = is_disk (Some fault)
+is_of_desk (reasons.Ended ended) = is_disk ended.fault
+is_of_desk reason = false
 
 -- ---- news, by the fault with which a run ended, if it had one
 

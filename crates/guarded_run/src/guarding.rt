@@ -8,7 +8,7 @@ ghost use Rattle.mirror_out.specs.Gone.{HasRoom};
 ghost use Rattle.desk_disk.specs.States.{WasFound};
 ghost use Rattle.road_io.specs.Disk.{Narrows};
 ghost use Rattle.guarded_run.specs.Guarding.{EndsBehind, Guards, IfRun, exit_of};
-ghost use Rattle.guarded_run.specs.OwnerKey.{IsKnown, key_known};
+ghost use Rattle.guarded_run.specs.OwnerKey.{IsKnown, TellsSpecial, key_known};
 ghost use Rattle.guarded_run.specs.Shipping.{AreFresh};
 ghost use Rattle.guarded_run.specs.Uses.{does_sign, keys_used};
 ghost use Rattle.guarded_run.specs.declared.owner_key.TheConstants.{OWNER_KEY};
@@ -22,6 +22,7 @@ use desk_disk::DeskDisk;
 use desk_fit::{Looked, Told, fit_desk};
 use desk_sight::{Sight, Spending, Unfit};
 use mirror_out::{FileMirror, Mirror};
+use outside::NotedNames;
 use road_command::Words;
 use road_io::{
     Disk, FileLibrary, KeptLibrary, KeptSink, Library, Sink, Source, StdSink, StdSource,
@@ -48,7 +49,7 @@ pub type Unsynced = [Option<(u32, io::Error)>; 8];
 
 /// The results of a guarded run, and what it leaves.
 #[derive(Drop)]
-pub struct Guarded<L: Drop, S: Drop, K: Sink + Drop, D: Drop, F: Drop> {
+pub struct Guarded<L: Drop, S: Drop, K: Sink + Drop, D: Drop, F: Drop, N: Drop> {
     /// How it ended.
     pub end: End,
     /// What the look at the desk spent.
@@ -71,6 +72,8 @@ pub struct Guarded<L: Drop, S: Drop, K: Sink + Drop, D: Drop, F: Drop> {
     pub disk: D,
     /// The files by which `owner.key` was read.
     pub keys: F,
+    /// The names by which it was looked at.
+    pub names: N,
     /// The mirrors that were not lost.
     pub mirrors: Vec<FileMirror>,
     /// The mirrors that were lost.
@@ -81,7 +84,7 @@ pub struct Guarded<L: Drop, S: Drop, K: Sink + Drop, D: Drop, F: Drop> {
     pub unsynced: Unsynced,
 }
 
-impl<L: Drop, S: Drop, K: Sink + Drop, D: Drop, F: Drop> Guarded<L, S, K, D, F> {
+impl<L: Drop, S: Drop, K: Sink + Drop, D: Drop, F: Drop, N: Drop> Guarded<L, S, K, D, F, N> {
     /// Returns the status of the process.
     pub fn status(&self) -> u8
         ensures { result ≡ exit_of self.now.end self.now.is_synced }
@@ -146,6 +149,7 @@ pub fn guarded_run<R: Files<File = File> + Print + Input + Drop + Copy>(
     KeptSink<StdSink<R>>,
     DeskDisk<R>,
     FileLibrary<R>,
+    NotedNames<R>,
 >
     requires fresh { AreFresh ⟦<KeptLibrary<FileLibrary<R>> as Library>⟧ ⟦<StdSource<R> as Source>⟧
         ⟦<KeptSink<StdSink<R>> as Sink>⟧ ⟦<DeskDisk<R> as Disk>⟧ ⟦<FileLibrary<R> as Library>⟧
@@ -163,6 +167,7 @@ pub fn guarded_run<R: Files<File = File> + Print + Input + Drop + Copy>(
     ensures known { does_sign (keys_used (request_of words.now)) ≡ true →
         IfSome (⟦<FileLibrary<R> as Library>⟧.files result.keys)
         (λ folder. IsKnown (folder OWNER_KEY.now) result.known) }
+    ensures special { TellsSpecial OWNER_KEY.now result.names.answers.events result.known }
     ensures key_files { Narrows (⟦<FileLibrary<R> as Library>⟧.files objects.keys)
         (⟦<FileLibrary<R> as Library>⟧.files result.keys) }
     ensures first { result.first ≡ key_known result.known }
@@ -181,7 +186,8 @@ pub fn guarded_run<R: Files<File = File> + Print + Input + Drop + Copy>(
     } = objects;
     let mut mirrors = mirrors;
     let mut gone = gone;
-    let known = key_file(&rt, alloc, words, &mut keys);
+    let mut names = NotedNames::new(rt);
+    let known = key_file(&mut names, alloc, words, &mut keys);
     let first = known.key();
     let Looked { spending, told } = fit_desk(alloc, keys_used(words), first, &mut disk);
     let Told { sight, signer } = match told {
@@ -200,6 +206,7 @@ pub fn guarded_run<R: Files<File = File> + Print + Input + Drop + Copy>(
                 sink: SignedSink::new(sink, None),
                 disk,
                 keys,
+                names,
                 mirrors,
                 gone,
                 is_synced: true,
@@ -232,6 +239,7 @@ pub fn guarded_run<R: Files<File = File> + Print + Input + Drop + Copy>(
         sink,
         disk,
         keys,
+        names,
         mirrors,
         gone,
         is_synced: unsynced.iter().all(|lost| lost.is_none()),

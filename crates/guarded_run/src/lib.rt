@@ -9,7 +9,7 @@ pub use on_files::run_on_files;
 pub use owner_key::KeyFile;
 pub use shipping::{Objects, shipped};
 pub use sights::{left_after, sight_on};
-pub use telling::{News, Reason, news_of, reason_of};
+pub use telling::{News, Reason, folder_fault, news_of, reason_of};
 pub use uses::{keys_used, uses_desk, writes_desk};
 
 mod guarding;

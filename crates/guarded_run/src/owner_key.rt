@@ -1,9 +1,9 @@
 //! The file `owner.key`.
-ghost use Rattle.std.specs.Prelude.{◌≡◌, ℕ, List, Option, false, true, take, IfSome};
+ghost use Rattle.std.specs.Prelude.{◌≡◌, ◌↔◌, ℕ, List, [], Option, false, true, take, IfSome};
 ghost use Rattle.road_io.specs.Contents.{Gives};
 ghost use Rattle.road_command.specs.Requests.{request_of};
 ghost use Rattle.road_io.specs.Disk.{Narrows};
-ghost use Rattle.guarded_run.specs.OwnerKey.{IsKnown, key_in, key_known};
+ghost use Rattle.guarded_run.specs.OwnerKey.{IsKnown, ShowsSpecial, TellsSpecial, is_broken, key_in, key_known};
 ghost use Rattle.guarded_run.specs.Uses.{does_sign, keys_used};
 ghost use Rattle.guarded_run.specs.declared.owner_key.TheConstants.{OWNER_KEY};
 
@@ -46,7 +46,9 @@ impl KeyFile {
     }
 
     /// Tests whether the file exists, and no key was read from it.
-    pub fn is_broken(self) -> bool {
+    pub fn is_broken(self) -> bool
+        ensures { result ≡ is_broken self }
+    {
         matches!(self, KeyFile::Special | KeyFile::Unread(_) | KeyFile::NoKey)
     }
 }
@@ -73,9 +75,12 @@ fn key_in(text: &[u8]) -> Option<[u8; 56]>
     }
 }
 
-/// Tests whether the file exists and is not a regular file. Opening such a file might wait.
-fn is_special<R: Files>(rt: &R) -> bool {
-    match NotedNames::new(rt).look(OWNER_KEY) {
+/// Tests whether the file exists and is not a regular file, by a look at it. Opening such a file might wait.
+fn is_special<R: Files + Drop>(names: &mut NotedNames<R>) -> bool
+    requires { names.old.answers.events ≡ [] }
+    ensures { (result ≡ true) ↔ ShowsSpecial OWNER_KEY.now names.new.answers.events }
+{
+    match names.look(OWNER_KEY) {
         Ok(file) => file.kind != REGULAR,
         Err(_) => false,
     }
@@ -99,12 +104,14 @@ fn known_by(loaded: Result<Vec<u8>, LoadError>) -> KeyFile
 
 /// Returns the state of the file `owner.key` in a library, for a command that signs. For another, makes no call.
 #[tactic(auto, using(crate::proofs::KeyFiles::by_gives, crate::proofs::KeyFiles::special))]
-pub fn key_file<R: Files, L: Library>(
-    rt: &R,
+pub fn key_file<R: Files + Drop, L: Library>(
+    names: &mut NotedNames<R>,
     alloc: Global,
     words: &Words,
     library: &mut L,
 ) -> KeyFile
+    requires { names.old.answers.events ≡ [] }
+    ensures special { TellsSpecial OWNER_KEY.now names.new.answers.events result }
     ensures unused { does_sign (keys_used (request_of words.now)) ≡ false →
         (result ≡ KeyFile.Unused) × (library.new ≡ library.old) }
     ensures known { does_sign (keys_used (request_of words.now)) ≡ true →
@@ -114,7 +121,7 @@ pub fn key_file<R: Files, L: Library>(
     if !signs(words) {
         return KeyFile::Unused;
     }
-    if is_special(rt) {
+    if is_special(names) {
         return KeyFile::Special;
     }
     known_by(library.load(alloc, OWNER_KEY, 4096))

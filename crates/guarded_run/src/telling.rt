@@ -1,14 +1,18 @@
 //! Why a run ended as it did, and what else its owner is to know. The sentences stand in the program.
-ghost use Rattle.std.specs.Prelude.{◌≡◌};
+ghost use Rattle.std.specs.Prelude.{◌≡◌, None, false};
 ghost use Rattle.road_command.specs.Requests.{request_of};
 ghost use Rattle.guarded_run.specs.declared.guarding.End.TheVariants.{Refused};
-ghost use Rattle.guarded_run.specs.Telling.{done_news, key_news, map_news, news_by, news_of, reason_of, signed_news};
+ghost use Rattle.guarded_run.specs.Telling.{done_news, is_of_desk, key_news, map_news, news_by, news_of, reason_of, signed_news};
 
 use crate::guarding::End;
 use command_files::{Ended, Fault};
 use desk_disk::Unsafe;
 use desk_sight::{Sight, Strange, Unfit};
+use outside::sync_folder;
 use road_command::{Command, Words, command_of};
+use std::fs::File;
+use std::io;
+use std::rt::Files;
 
 /// Why a run ended as it did.
 #[derive(Clone, Copy)]
@@ -54,6 +58,33 @@ fn refusal_of(why: Unfit, unopened: Option<Unsafe>) -> Reason
         Unfit::BadBlock => Reason::Failed(Fault::BadBlock),
         Unfit::Strange(strange) => Reason::Strange(strange),
         Unfit::OtherKey => Reason::OtherKey,
+    }
+}
+
+impl Reason {
+    /// Tests whether the desk failed.
+    fn is_of_desk(self) -> bool
+        ensures { result ≡ is_of_desk self }
+    {
+        match self {
+            Reason::Failed(fault) => matches!(fault, Fault::Disk),
+            Reason::Ended(ended) => matches!(ended.fault, Some(Fault::Disk)),
+            Reason::Unsafe(_) | Reason::Strange(_) | Reason::OtherKey | Reason::Unsigned => false,
+        }
+    }
+}
+
+/// Returns why the working folder cannot be listed or synced, if the desk failed and this is so. The names of its files
+/// would not survive a crash. Makes no call for another reason.
+pub fn folder_fault<R: Files<File = File>>(rt: &R, reason: Reason) -> Option<io::Error>
+    ensures { is_of_desk reason ≡ false → result ≡ None }
+{
+    if !reason.is_of_desk() {
+        return None;
+    }
+    match sync_folder(rt) {
+        Ok(()) => None,
+        Err(e) => Some(e),
     }
 }
 

@@ -1,7 +1,7 @@
 //! Desks that are inspected before they sign.
 
 use crate::same::{assert_printed, assert_row, assert_same};
-use desk_guard::{Signing, has_few_octets};
+use desk_guard::{SecretDoubt, Signing, secret_doubts};
 use desk_sight::{Sight, Signed, Strange, sight_of};
 use mem_io::MemSink;
 use road_io::{Failed, Sink};
@@ -256,11 +256,12 @@ fn a_signing_is_told(rt: HostRuntime) -> Result<(), Fail> {
 #[test]
 fn a_secret_of_few_octets_is_known(rt: HostRuntime) {
     let zeros = [b'0'; 96];
-    assert_same(&rt, has_few_octets(&zeros), true);
+    let few = [Some(SecretDoubt::FewOctets), None];
+    assert_same(&rt, secret_doubts(&rt, "no file", &zeros), few);
     let digits =
         b"000102030405060708090a0b0c0d0e0f000102030405060708090a0b0c0d0e0f000102030405060708090a0b0c0d0e0f\n";
-    assert_same(&rt, has_few_octets(digits), false);
-    assert_same(&rt, has_few_octets(b"00"), false);
+    assert_same(&rt, secret_doubts(&rt, "no file", digits), [None; 2]);
+    assert_same(&rt, secret_doubts(&rt, "no file", b"00"), [None; 2]);
 }
 
 #[test]

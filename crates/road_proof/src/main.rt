@@ -12,14 +12,15 @@ mod serve_hint;
 
 use command_files::Ended;
 use desk_disk::DeskDisk;
-use desk_guard::{Clash, Unbegun, answer_status, desk_clash, output_clash};
+use desk_guard::{Answer, Clash, Unbegun, desk_clash, output_clash};
 use guarded_run::{
-    Guarded, News, Reason, guarded_run, left_after, news_of, reason_of, room_for_lost, shipped,
-    sight_on,
+    Guarded, News, Reason, folder_fault, guarded_run, left_after, news_of, reason_of,
+    room_for_lost, shipped, sight_on,
 };
 use long_work::tell_long_work;
 use mirror_files::{labels_of, tell_lost, tell_unsynced, told_mirrors};
 use octet_text::NoMemory;
+use outside::NotedNames;
 use owner_words::{
     tell_folder, tell_key_again, tell_key_file, tell_opening, tell_places, tell_secret,
     tell_signing, tell_spending, tell_versions,
@@ -88,14 +89,11 @@ fn tell_overwritten(rt: HostRuntime, name: &str) {
 
 /// Prints the answer to a question about the program itself on standard output, and returns the status.
 fn tell(rt: HostRuntime, asked: Asked) -> ExitCode {
-    let Err(e) = println!(rt; "{asked}") else {
-        return ExitCode::from(answer_status(None));
-    };
-    let status = answer_status(Some(e.kind()));
-    if status != 0 {
+    let answer = Answer::of(println!(rt; "{asked}"));
+    if let Answer::Cut(e) = answer {
         let _ = eprintln!(rt; "road_proof: standard output: It was not written whole: {e}.");
     }
-    ExitCode::from(status)
+    ExitCode::from(answer.status())
 }
 
 /// Reports why a run ended as it did, if there is anything to say.
@@ -103,7 +101,6 @@ fn tell_end(rt: HostRuntime, words: &Words, ended: Ended, facts: Facts<'_>) {
     if let Some(message) = message_on(words, ended, facts) {
         let _ = eprintln!(rt; "{message}");
     }
-    tell_folder(rt, ended);
 }
 
 /// The results of a run.
@@ -113,6 +110,7 @@ type Done = Guarded<
     KeptSink<StdSink<HostRuntime>>,
     DeskDisk<HostRuntime>,
     FileLibrary<HostRuntime>,
+    NotedNames<HostRuntime>,
 >;
 
 /// Returns the front of a file that was loaded, or nothing for another.
@@ -160,8 +158,8 @@ fn facts_of_look(done: &Done) -> Facts<'_> {
 }
 
 /// Reports why a run ended as it did.
-fn tell_reason(rt: HostRuntime, words: &Words, done: &Done) {
-    let _ = match reason_of(done.end, done.disk.why_unsafe()) {
+fn tell_reason(rt: HostRuntime, words: &Words, reason: Reason, done: &Done) {
+    let _ = match reason {
         Reason::Unsafe(why) => eprintln!(rt; "road_proof: owner.desk: {why}"),
         Reason::Strange(strange) => eprintln!(rt; "road_proof: owner.desk: {strange}"),
         Reason::OtherKey => eprintln!(rt;
@@ -237,7 +235,9 @@ fn run_words(
     tell_unsynced(rt, &done.unsynced);
     let news = news_of(words, done.sight, done.end);
     tell_signed(rt, words, news, &done);
-    tell_reason(rt, words, &done);
+    let reason = reason_of(done.end, done.disk.why_unsafe());
+    tell_reason(rt, words, reason, &done);
+    tell_folder(rt, folder_fault(&rt, reason));
     tell_news(rt, alloc, words, news, &mut done, begun);
     Ok(ExitCode::from(done.status()))
 }

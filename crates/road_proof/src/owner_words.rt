@@ -1,12 +1,12 @@
 //! Messages to an owner about the files that her command uses, before the command begins and after it.
 
-use command_files::{Ended, Fault};
 use desk_disk::DeskDisk;
-use desk_guard::{Signing, folder_fault, has_few_octets, is_open_to_others, unsafe_folder};
+use desk_guard::{Signing, secret_doubts, unsafe_folder};
 use desk_sight::{Sight, Spending};
 use guarded_run::{KeyFile, uses_desk};
 use road_command::Words;
 use road_tell::zero_roads;
+use std::io;
 
 /// Reports why the desk's folder is not safe.
 pub fn tell_places(rt: HostRuntime, words: &Words) {
@@ -77,12 +77,9 @@ pub fn tell_versions(rt: HostRuntime, sight: Option<Sight>) {
     }
 }
 
-/// Reports after a disk error of the desk that its folder cannot be listed or synced, if this is so.
-pub fn tell_folder(rt: HostRuntime, ended: Ended) {
-    if !matches!(ended.fault, Some(Fault::Disk)) {
-        return;
-    }
-    if let Some(e) = folder_fault(&rt) {
+/// Reports why the desk's folder cannot be listed or synced.
+pub fn tell_folder(rt: HostRuntime, fault: Option<io::Error>) {
+    if let Some(e) = fault {
         let _ = eprintln!(rt;
             "road_proof: owner.desk: Its folder cannot be listed or synced: {e}."
         );
@@ -92,15 +89,10 @@ pub fn tell_folder(rt: HostRuntime, ended: Ended) {
 /// Reports why the text of a secret's file is not secret. A key was made from this file, and `text` has its first
 /// octets.
 pub fn tell_secret(rt: HostRuntime, secret: &str, text: &[u8]) {
-    if has_few_octets(text) {
-        let _ = eprintln!(rt;
-            "road_proof: {secret}: It has fewer than 16 different octets and is no secret: anybody can sign in your name."
-        );
-    }
-    if is_open_to_others(&rt, secret) {
-        let _ = eprintln!(rt;
-            "road_proof: {secret}: Others may read or write it. Destroy it now that the key is made."
-        );
+    for doubt in secret_doubts(&rt, secret, text) {
+        if let Some(doubt) = doubt {
+            let _ = eprintln!(rt; "road_proof: {secret}: {doubt}");
+        }
     }
 }
 

@@ -8,15 +8,6 @@ use desk_areas::{StartError, build_key};
 use octet_text::{NoMemory, array_at};
 use std::alloc::Global;
 
-/// Returns the public key whose 112 hex digits begin a text.
-pub fn key_in(text: &[u8]) -> Option<[u8; 56]> {
-    let mut public = [0u8; 56];
-    match hex::decode_to_slice(text.get(..112)?, &mut public) {
-        Ok(()) => Some(public),
-        Err(_) => None,
-    }
-}
-
 // Returns the kind that the block at a base names.
 pub(crate) fn kind_at(image: &[u8], base: usize) -> u32
     requires { base + 5 ≤ length image.now }

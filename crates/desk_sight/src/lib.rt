@@ -6,7 +6,6 @@
 //! there.
 #![tactic(auto)]
 
-pub use first_key::key_in;
 pub use image::{Unseen, image_of};
 pub use laws::{
     desks_stay_in_order, free_headers_stand_lowest, fresh_images_are_tidy,

@@ -51,7 +51,8 @@ def owner_of(text: str, place: int) -> tuple[str | None, bool]:
         return None, False
     words = re.sub(r"<[^<>]*(?:<[^<>]*>[^<>]*)*>", "", block[2]).strip()
     named = re.match(r"\s*(\w+)", words)
-    assert named
+    if named is None:
+        return None, True
     if block[1] != "impl":
         return named[1], True
     if " for " in words:

@@ -1,5 +1,6 @@
 //! The one call that does the look, the opening, the run and the sink in order.
-ghost use Rattle.std.specs.Prelude.{◌≡◌, false, true, IfSome};
+ghost use Rattle.std.specs.Prelude.{◌≡◌, false, true, is_none, IfSome};
+ghost use Rattle.std.specs.List.{list_all};
 ghost use Rattle.std.specs.declared.option.Option.TheVariants.{Some};
 ghost use Rattle.road_command.specs.Requests.{request_of};
 ghost use Rattle.road_io.specs.Noted.{noted};
@@ -123,6 +124,13 @@ fn synced(mirrors: &[FileMirror]) -> Unsynced {
     unsynced
 }
 
+/// Tests whether each mirror could be synced.
+fn are_synced(unsynced: &[Option<(u32, io::Error)>]) -> bool
+    ensures { result ≡ list_all is_none unsynced.now }
+{
+    unsynced.iter().all(|lost| lost.is_none())
+}
+
 /// Does everything that the program does over these objects, after a look at the owner's desk. No call was made to them.
 ///
 /// The disk inspects the desk's file after it is opened and before it is written. Then, for a command that uses the
@@ -168,6 +176,7 @@ pub fn guarded_run<R: Files<File = File> + Print + Input + Drop + Copy>(
         IfSome (⟦<FileLibrary<R> as Library>⟧.files result.keys)
         (λ folder. IsKnown (folder OWNER_KEY.now) result.known) }
     ensures special { TellsSpecial OWNER_KEY.now result.names.answers.events result.known }
+    ensures synced { result.is_synced ≡ list_all is_none result.unsynced }
     ensures key_files { Narrows (⟦<FileLibrary<R> as Library>⟧.files objects.keys)
         (⟦<FileLibrary<R> as Library>⟧.files result.keys) }
     ensures first { result.first ≡ key_known result.known }
@@ -242,7 +251,7 @@ pub fn guarded_run<R: Files<File = File> + Print + Input + Drop + Copy>(
         names,
         mirrors,
         gone,
-        is_synced: unsynced.iter().all(|lost| lost.is_none()),
+        is_synced: are_synced(&unsynced),
         unsynced,
     }
 }

@@ -1,5 +1,5 @@
 //! The file `owner.key`.
-ghost use Rattle.std.specs.Prelude.{◌≡◌, ◌↔◌, ℕ, List, [], Option, false, true, take, IfSome};
+ghost use Rattle.std.specs.Prelude.{◌≡◌, ◌≢◌, ◌↔◌, ℕ, List, [], Option, false, true, take, IfSome};
 ghost use Rattle.road_io.specs.Contents.{Gives};
 ghost use Rattle.road_command.specs.Requests.{request_of};
 ghost use Rattle.road_io.specs.Disk.{Narrows};
@@ -89,7 +89,8 @@ fn is_special<R: Files + Drop>(names: &mut NotedNames<R>) -> bool
 /// Returns the state of the file by what its load gave.
 #[tactic(auto, using(crate::proofs::KeyFiles::some_and))]
 fn known_by(loaded: Result<Vec<u8>, LoadError>) -> KeyFile
-    ensures { (file : Option (List ℕ)) → Gives file 4096 loaded → IsKnown file result }
+    ensures known { (file : Option (List ℕ)) → Gives file 4096 loaded → IsKnown file result }
+    ensures read { result ≢ KeyFile.Special }
 {
     let text = match loaded {
         Ok(text) => text,

@@ -1,5 +1,5 @@
 -- What answers that show a handle to be safe imply for every file system that gave them.
-use Rattle.std.proofs.Common.{◌≡◌, ℕ, zero, suc, List, [], ◌∷◌, ◌==◌, ◌&&◌, Bool, true, false, length, slice_index, bit_and, refl, sym, ◌∙◌, ap, subst, arith, Option, None, Some}
+use Rattle.std.proofs.Common.{◌≡◌, ℕ, suc, List, [], ◌∷◌, ◌==◌, ◌&&◌, Bool, true, false, length, slice_index, bit_and, refl, sym, ◌∙◌, ap, subst, arith, Option, None, Some}
 use Rattle.std.specs.Str.{bytes_eq}
 use Rattle.std.proofs.lemmas.Bool.Decides.{nat_tests}
 use Rattle.std.proofs.lemmas.Slice.Eq.{bytes_eq-Decides}
@@ -7,7 +7,7 @@ use Rattle.outside.specs.declared.look.Look.{Look}
 use Rattle.outside.specs.Looks.{seen_as}
 use Rattle.road_io.specs.Shelves.{Note}
 use Rattle.desk_disk.specs.Looks.{part, shown, is_own, is_closed, is_under, are_looks, is_seen_own, is_seen}
-use Rattle.desk_disk.specs.Systems.{System, Moment, Inode, IsShown, AnswersAt, Answers, TellsFilesApart, IsOwnAt, IsSafeAt, WasOwn, WasSafe}
+use Rattle.desk_disk.specs.Systems.{System, Moment, Inode, IsShown, AnswersAt, IsOwnAt, WasOwn, WasSafe}
 
 left : (a b : Bool) → (a && b) ≡ true → a ≡ true
 left true b h = refl

@@ -227,12 +227,12 @@ def play_interrupted(it: Place, front: Any, whole: str) -> None:
     def has_rows() -> bool:
         return (it.at / "part.csv").read_text().count("\n") >= 30
 
+    let_through = threading.Semaphore(10)
+
     def held(path: str, *_: Any) -> None:
-        """Holds the asks after the first rows until the signal is sent, so that the table cannot end before it."""
-        if "from=" in path:
-            time.sleep(0.05)
-            if has_rows():
-                is_sent.wait(60)
+        """Holds the asks after the first ten until the signal is sent, so that the table cannot end before it."""
+        if "from=" in path and not let_through.acquire(blocking=False):
+            is_sent.wait(60)
 
     front.wrong = held
     words = [sys.executable, TOOLS / "table.py", front.origin, it.owner.path("owner.key"), "sources", "targets"]
@@ -386,10 +386,14 @@ def play_guides(it: Place, front: Any, wanted: dict[tuple[int, int], str]) -> No
 def of_another(gateway: Any) -> Callable[..., Any]:
     """Passes on the answers of another gateway over its newest publication."""
 
+    from parties import Place as Address
+
+    newest = gateway.newest()
+
     def wrong(path: str, *_: Any) -> Any:
         if "from=" not in path:
             return None
-        status, headers, octets = gateway.place.ask(f"/v1/p/{gateway.newest()}/{path.rpartition('/')[2]}")
+        status, _headers, octets = Address(gateway.address).ask(f"/v1/p/{newest}/{path.rpartition('/')[2]}")
         return status, [("Content-Type", "application/octet-stream")], octets
 
     return wrong

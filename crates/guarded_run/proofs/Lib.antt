@@ -3,3 +3,7 @@ mod SignSteps
 mod CallLaws
 mod Fresh
 mod KeyFiles
+mod UsesWorked
+mod TellingWorked
+mod GuardsWorked
+mod CallsWorked

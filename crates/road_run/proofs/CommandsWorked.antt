@@ -1,6 +1,6 @@
 -- The definitions of commands, of complete runs and of sources, evaluated for some requests, each where it holds and
 -- where it does not.
-use Rattle.std.proofs.Common.{◌≡◌, ◌≢◌, ◌⊎◌, inl, inr, ℕ, List, [], ◌∷◌, refl, arith}
+use Rattle.std.proofs.Common.{◌≡◌, ◌≢◌, inl, inr, ℕ, List, [], ◌∷◌, refl, arith}
 use Rattle.std.specs.declared.option.Option.{Option}
 use Rattle.std.specs.declared.option.Option.TheVariants.{None, Some}
 use Rattle.std.specs.declared.result.Result.{Result}
@@ -17,7 +17,7 @@ use Rattle.proof_octets.specs.declared.publication.Publication.{Publication}
 use Rattle.proof_octets.specs.Publications.{publication_text}
 use Rattle.near_proof.specs.Honest.{AreKnown}
 use Rattle.route_service.specs.Inputs.{split}
-use Rattle.road_command.specs.Requests.{Route, Key, Links, Desk, Publish, Prove, Serve, ServeSigned, Check, Survey}
+use Rattle.road_command.specs.Requests.{Route, Links, Desk, Publish, Prove, Serve, ServeSigned, Check, Survey}
 use Rattle.map_commands.specs.RouteLine.{ends_route}
 use Rattle.command_books.specs.Installing.{IsInstallable}
 use Rattle.command_files.specs.Endings.{NoEnd}
@@ -144,12 +144,25 @@ links_ask_for_no_source content e = cc
 links_ask_for_the_disk_too : (left : Option (List ℕ)) → AreTold None left Links → ⊥
 links_ask_for_the_disk_too left told = told refl
 
--- a file, spent keys, a desk and frames prevent work; work that was done, refused, or ended for lack of memory was not
+-- a file, spent keys, a desk and frames prevent work; a failed library does not; work that was done, refused, or ended for
+-- lack of memory was not
 file_hinders : Hinders 3
 file_hinders = inl refl
 
 frames_hinder : Hinders 13
 frames_hinder = inr (inr (inr refl))
+
+used_keys_hinder : Hinders 8
+used_keys_hinder = inr (inl refl)
+
+desk_hinders : Hinders 12
+desk_hinders = inr (inr (inl refl))
+
+library_does_not_hinder : Hinders 4 → ⊥
+library_does_not_hinder (inl e) = cc
+library_does_not_hinder (inr (inl e)) = cc
+library_does_not_hinder (inr (inr (inl e))) = cc
+library_does_not_hinder (inr (inr (inr e))) = cc
 
 done_was_not_hindered : Hinders 0 → ⊥
 done_was_not_hindered (inl e) = cc
@@ -180,6 +193,9 @@ missing_hinders free = free (Err Missing) [] refl (inl refl)
 unhindered_work_is_done : (o : Result Conclusion Fault) → IsComplete NoEnd (Unit {0}) o → Answers (status_of o)
 unhindered_work_is_done o h = h nothing_hinders tt
 
+unhindered_work_is_not_missing : IsComplete NoEnd (Unit {0}) (Err Missing) → ⊥
+unhindered_work_is_not_missing h = file_does_not_answer (h nothing_hinders tt)
+
 hindered_work_may_end : IsComplete (λ o text. o ≡ Err Missing) (Unit {0}) (Err Missing)
 hindered_work_may_end free enough = absurd (missing_hinders free)
 
@@ -193,6 +209,9 @@ missing_is_no_failure = record { library_gave = λ e. cc; sink_stays = λ rose. 
 
 sink_failed : NoneElseFailed (Err Missing) 0 1 0 0 → ⊥
 sink_failed n = n.sink_stays (omega arith)
+
+disk_failed : NoneElseFailed (Err Missing) 0 0 0 1 → ⊥
+disk_failed n = n.disk_stays (omega arith)
 
 -- `prove` over a publication that can be installed is not refused
 refusal_proves_nothing : (folder : Folder) (file : List ℕ) (q : Query) (old new : Option (List ℕ)) (p : Publication) → publication_at folder file ≡ Ok p → IsInstallable p → AreKnown p.parts q → ProvesKnown (Prove file q) (Some folder) old new (Ok Refused) → ⊥

@@ -13,3 +13,15 @@ pub mod WorkLemmas
 mod RunWorked
 mod CommandsWorked
 mod AcceptingWorked
+pub mod WorkedObjects
+pub mod WorkedRuns
+pub mod WholeRunsWorked
+mod ServeRunsWorked
+mod PublishRunsWorked
+mod HonestRunsWorked
+pub mod StepsWorked
+mod StandWorked
+mod OrderlyWorked
+mod LinesWorked
+mod HonestWorked
+mod FormsWorked
